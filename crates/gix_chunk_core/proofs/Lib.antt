@@ -1,0 +1,4 @@
+pub mod FaultLemmas
+pub mod FirstLemmas
+pub mod RangeLemmas
+pub mod TableLemmas
