@@ -1,0 +1,45 @@
+"""Runs of the program under test."""
+
+import subprocess
+from typing import NamedTuple, Optional
+
+SECONDS = 20
+"""A run that takes longer is taken to hang."""
+
+MOST_HANGS = 3
+"""After so many runs that hang, the program is not run any more."""
+
+
+class Answer(NamedTuple):
+    """How a run ended: its exit status, None where it did not end, and what it wrote."""
+
+    status: Optional[int]
+    out: bytes
+    err: bytes
+
+
+HUNG = Answer(None, b"", b"")
+
+
+class Program:
+    """The program in the file at a path."""
+
+    def __init__(self, path):
+        self.path = path
+        self.hangs = 0
+
+    def run(self, *words, **streams):
+        """The answer to some words; the streams are those of subprocess.run."""
+        if self.hangs >= MOST_HANGS:
+            return HUNG
+        streams = {"stdout": subprocess.PIPE, "stderr": subprocess.PIPE, **streams}
+        try:
+            run = subprocess.run((self.path,) + words, env={}, timeout=SECONDS, check=False, **streams)
+        except subprocess.TimeoutExpired:
+            self.hangs += 1
+            return HUNG
+        return Answer(run.returncode, run.stdout or b"", run.stderr)
+
+    def list(self, layer):
+        """The answer to `list` with these bytes on standard input."""
+        return self.run("list", input=layer)

@@ -1,0 +1,134 @@
+"""A repository that the installed Git makes and answers for."""
+
+import os
+import subprocess
+from typing import NamedTuple, Tuple
+
+ID_LENGTH = {"sha1": 20, "sha256": 32}
+"""The length of an id in bytes, by the name of the object format."""
+
+PERSON = "A Committer <committer@example.com>"
+
+
+class Words(NamedTuple):
+    """What Git says of a commit; ids are in hexadecimal."""
+
+    parents: Tuple[str, ...]
+    tree: str
+    time: int
+
+
+class Repository:
+    """A new bare repository in a folder, made with no settings of the machine or the user."""
+
+    def __init__(self, folder, object_format):
+        self.folder = folder
+        self.object_format = object_format
+        self.surroundings = {
+            "PATH": os.environ["PATH"],
+            "HOME": folder,
+            "GIT_DIR": folder,
+            "GIT_CONFIG_GLOBAL": os.devnull,
+            "GIT_CONFIG_SYSTEM": os.devnull,
+            "GIT_CONFIG_NOSYSTEM": "1",
+            "LC_ALL": "C",
+        }
+        self.git("init", "--quiet", "--bare", "--template=", "--object-format=" + object_format, folder)
+
+    def git(self, *words, stdin=b""):
+        """What a git command writes. A command that fails is an error with what it said."""
+        command = ("git",) + words
+        run = subprocess.run(command, input=stdin, env=self.surroundings, capture_output=True, check=False)
+        if run.returncode != 0:
+            raise RuntimeError("git %s: %s" % (" ".join(words), run.stderr.decode()))
+        return run.stdout
+
+    def add(self, history):
+        """Makes the commits of a history, with a branch at each that has no child; answers their ids."""
+        marks = os.path.join(self.folder, "marks")
+        self.git("fast-import", "--quiet", "--export-marks=" + marks, stdin=import_stream(history))
+        with open(marks, encoding="ascii") as lines:
+            named = dict(line.split() for line in lines)
+        return [named[":%d" % (place + 1)] for place in range(len(history))]
+
+    def words(self):
+        """What Git says of each commit, by id, read from the objects and from no commit-graph."""
+        plain = ("-c", "core.commitGraph=false")
+        lines = self.git(*plain, "rev-list", "--all", "--topo-order", "--reverse", "--parents").decode().splitlines()
+        ids = "".join(line.split()[0] + "\n" for line in lines).encode()
+        bodies = commit_texts(self.git(*plain, "cat-file", "--batch", stdin=ids))
+        return {
+            commit: Words(tuple(parents), *tree_and_time(body))
+            for (commit, *parents), body in zip(map(str.split, lines), bodies)
+        }
+
+    def write_graph(self, *flags, generation_version=2, tips=None):
+        """Writes a commit-graph of all commits, or of those that lead to the tips."""
+        setting = "commitGraph.generationVersion=%d" % generation_version
+        start = "--reachable" if tips is None else "--stdin-commits"
+        listed = "".join(tip + "\n" for tip in tips or []).encode()
+        self.git("-c", setting, "commit-graph", "write", "--no-progress", start, *flags, stdin=listed)
+
+    def graph_path(self):
+        """Where Git writes a commit-graph of a single file."""
+        return os.path.join(self.folder, "objects", "info", "commit-graph")
+
+    def new_graph(self, *flags, generation_version=2):
+        """The bytes of the single-file commit-graph that Git writes from nothing."""
+        if os.path.exists(self.graph_path()):
+            os.remove(self.graph_path())
+        self.write_graph(*flags, generation_version=generation_version)
+        return read_bytes(self.graph_path())
+
+    def chain(self):
+        """The layers of a split commit-graph, lowest first: each one's checksum and bytes."""
+        folder = os.path.join(self.folder, "objects", "info", "commit-graphs")
+        sums = read_bytes(os.path.join(folder, "commit-graph-chain")).decode().split()
+        return [(checksum, read_bytes(os.path.join(folder, "graph-%s.graph" % checksum))) for checksum in sums]
+
+
+def read_bytes(path):
+    """All bytes of a file."""
+    with open(path, "rb") as file:
+        return file.read()
+
+
+def import_stream(history):
+    """The history as git fast-import reads it."""
+    childless = set(range(len(history))) - {parent for commit in history for parent in commit.parents}
+    stream = [commit_command(place, commit) for place, commit in enumerate(history)]
+    stream += ["reset refs/heads/tip-%d\nfrom :%d\n\n" % (place, place + 1) for place in sorted(childless)]
+    return "".join(stream).encode()
+
+
+def commit_command(place, commit):
+    """One commit for git fast-import: it writes one of a few files, so that trees recur and differ."""
+    joins = ["%s :%d\n" % ("merge" if which else "from", parent + 1) for which, parent in enumerate(commit.parents)]
+    message = "commit %d\n" % place
+    content = "%d\n" % (place // 3)
+    return "".join(
+        [
+            "reset refs/heads/work\n\n",
+            "commit refs/heads/work\nmark :%d\n" % (place + 1),
+            "committer %s %d +0000\n" % (PERSON, commit.time),
+            "data %d\n%s" % (len(message), message),
+            *joins,
+            "M 100644 inline folder-%d/file\ndata %d\n%s\n" % (place % 4, len(content), content),
+        ]
+    )
+
+
+def commit_texts(batch):
+    """The commits' own texts, from what git cat-file --batch writes."""
+    start = 0
+    while start < len(batch):
+        stop = batch.index(b"\n", start)
+        size = int(batch[start:stop].split()[2])
+        yield batch[stop + 1 : stop + 1 + size].decode()
+        start = stop + 1 + size + 1
+
+
+def tree_and_time(body):
+    """The root tree and the committer's time in a commit's text."""
+    headers = dict(line.split(" ", 1) for line in body.split("\n\n", 1)[0].splitlines())
+    return headers["tree"], int(headers["committer"].split()[-2])
