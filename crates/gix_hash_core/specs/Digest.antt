@@ -5,7 +5,7 @@ use Rattle.sha2.specs.Sha256.{sha256}
 use Rattle.gix_hash_core.specs.declared.kind.Kind.{Kind}
 use Rattle.gix_hash_core.specs.declared.kind.Kind.TheVariants.{Sha1, Sha256}
 
--- the digest of a message: FIPS 180-4, by the kind
+-- the digest of a message by the hash of the kind, as FIPS 180-4 defines it
 abbrev pub digest_of : Kind → List ℕ → List ℕ
 digest_of Sha1 message = sha1 message
 digest_of Sha256 message = sha256 message

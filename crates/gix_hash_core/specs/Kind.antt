@@ -8,7 +8,8 @@ abbrev pub id_len : Kind → ℕ
 id_len Sha1 = 20
 id_len Sha256 = 32
 
--- the kind that a byte of a file's header stands for: 1 is SHA-1 and 2 is SHA-256
+-- the kind that the hash version in a file's header stands for: 1 is SHA-1 and 2 is SHA-256
+-- (gitformat-commit-graph, "HEADER")
 abbrev pub kind_of : ℕ → Option Kind
 kind_of byte = if byte == 1 then Some Sha1 else (if byte == 2 then Some Sha256 else None)
 

@@ -1,7 +1,8 @@
 -- What holds of all ids, as lists of bytes.
 use Rattle.std.specs.Prelude.{◌≡◌, ◌↔◌, ◌⊎◌, ◌<◌, ℕ, List, IsTrue, length, nat_eq, slice_index, take}
 use Rattle.std.specs.Cmp.Lexicographic.{pointwise, slice_cmp}
-use Rattle.std.specs.Ordering.{Less, Equal, Greater, nat_cmp}
+use Rattle.std.specs.Ordering.{nat_cmp}
+use Rattle.std.specs.declared.cmp.Ordering.TheVariants.{Less, Equal, Greater}
 use Rattle.hex.specs.Hex.{IsBytes, encode_lower}
 use Rattle.gix_hash_core.specs.Hexadecimal.{SpellsId}
 use Rattle.gix_hash_core.specs.Kind.{id_len, is_id_len}
@@ -15,14 +16,14 @@ pub record IsBefore (first second : List ℕ) : Type 0 where
   pub goes_on : place < length second
   pub comes_first : (place ≡ length first) ⊎ ((place < length first) × (slice_index first place < slice_index second place))
 
--- the comparisons of ids say of two lists whether they are the same, and whether one comes before the other
+-- the comparisons of ids tell of two lists whether they are the same, and else which comes first
 pub record AreOrdered (first second : List ℕ) : Type 0 where
   pub equal : IsTrue (pointwise nat_eq first second) ↔ (first ≡ second)
   pub same : (slice_cmp nat_cmp first second ≡ Equal) ↔ (first ≡ second)
   pub before : (slice_cmp nat_cmp first second ≡ Less) ↔ IsBefore first second
   pub after : (slice_cmp nat_cmp first second ≡ Greater) ↔ IsBefore second first
 
--- a list that is as long as an id of either kind shows that the kinds are one
+-- kinds whose ids are both as long as one list are one kind
 abbrev pub AreOfOneKind : Kind → Kind → List ℕ → Type 0
 AreOfOneKind one other id = length id ≡ id_len one → length id ≡ id_len other → one ≡ other
 

@@ -1,0 +1,126 @@
+use crate::{IdError, Kind, ObjectId, digest, oid};
+use std::hash::{DefaultHasher, Hash, Hasher};
+use std::test::Fail;
+
+// The examples of FIPS 180-4.
+#[test]
+fn digests_are_the_published_ones(rt: HostRuntime) -> Result<(), Fail> {
+    let rows: [(Kind, &[u8], &str); 4] = [
+        (Kind::Sha1, b"", "da39a3ee5e6b4b0d3255bfef95601890afd80709"),
+        (
+            Kind::Sha1,
+            b"abc",
+            "a9993e364706816aba3e25717850c26c9cd0d89d",
+        ),
+        (
+            Kind::Sha256,
+            b"",
+            "e3b0c44298fc1c149afbf4c8996fb92427ae41e4649b934ca495991b7852b855",
+        ),
+        (
+            Kind::Sha256,
+            b"abc",
+            "ba7816bf8f01cfea414140de5dae2223b00361a396177a9cb410ff61f20015ad",
+        ),
+    ];
+    for (kind, message, want) in rows {
+        let id = digest(kind, message);
+        let text = id.to_string(rt.alloc())?;
+        assert_eq!(rt; text.as_str(), want);
+        let text = id.as_oid().to_string(rt.alloc())?;
+        assert_eq!(rt; text.as_str(), want);
+        assert_eq!(rt; ObjectId::from_hex(want.as_bytes()), Ok(id));
+    }
+    Ok(())
+}
+
+#[test]
+fn reads_hexadecimal(rt: HostRuntime) {
+    let mut bad_end = [b'a'; 40];
+    bad_end[39] = b'g';
+    let mut both_cases = [b'a'; 64];
+    both_cases[0] = b'B';
+    let mut bytes = [0xaa; 32];
+    bytes[0] = 0xba;
+    let rows: [(&[u8], Result<ObjectId, IdError>); 8] = [
+        (b"", Err(IdError::Length)),
+        (&[b'g'; 39], Err(IdError::Length)),
+        (&[b'g'; 41], Err(IdError::Length)),
+        (&[b'a'; 63], Err(IdError::Length)),
+        (&bad_end, Err(IdError::Digit)),
+        (&[b'g'; 64], Err(IdError::Digit)),
+        (&[b'A'; 40], Ok(ObjectId::from([0xaa; 20]))),
+        (&both_cases, Ok(ObjectId::from(bytes))),
+    ];
+    for (text, want) in rows {
+        assert_eq!(rt; ObjectId::from_hex(text), want);
+    }
+}
+
+#[test]
+fn reads_ids(rt: HostRuntime) -> Result<(), Fail> {
+    for length in [0, 19, 21, 31, 33] {
+        assert!(rt; oid::try_from_bytes(&[0; 40][..length]).is_none());
+    }
+    let rows: [(&[u8], Kind); 2] = [(&[0x11; 20], Kind::Sha1), (&[0x11; 32], Kind::Sha256)];
+    for (bytes, kind) in rows {
+        let id = oid::try_from_bytes(bytes).ok_or("an id")?;
+        assert_eq!(rt; id.kind(), kind);
+        assert_eq!(rt; id.as_bytes(), bytes);
+        assert_eq!(rt; id.as_bytes().len(), kind.len_in_bytes());
+        assert_eq!(rt; id.first_byte(), 0x11);
+        assert!(rt; !id.is_null());
+        assert_eq!(rt; id.to_owned().as_oid(), id);
+        assert!(rt; kind.null().as_oid().is_null());
+        assert_eq!(rt; kind.null(), ObjectId::null(kind));
+    }
+    Ok(())
+}
+
+#[test]
+fn names_kinds(rt: HostRuntime) {
+    assert_eq!(rt; Kind::try_from(1), Ok(Kind::Sha1));
+    assert_eq!(rt; Kind::try_from(2), Ok(Kind::Sha256));
+    assert_eq!(rt; Kind::try_from(0), Err(0));
+    assert_eq!(rt; Kind::try_from(3), Err(3));
+    assert_eq!(rt; Kind::shortest(), Kind::Sha1);
+}
+
+fn hash_of<T: Hash>(value: &T) -> u64 {
+    let mut state = DefaultHasher::new();
+    value.hash(&mut state);
+    state.finish()
+}
+
+#[test]
+fn compares_bytes(rt: HostRuntime) {
+    let low = ObjectId::from([0x11; 20]);
+    let longer = ObjectId::from([0x11; 32]);
+    let high = ObjectId::from([0x12; 20]);
+    let rows = [(low, longer), (longer, high), (Kind::Sha1.null(), low)];
+    for (first, second) in rows {
+        assert!(rt; first < second);
+        assert!(rt; first.as_oid() < second.as_oid());
+        assert_ne!(rt; first, second);
+        assert_ne!(rt; first.as_oid(), second.as_oid());
+        assert_eq!(rt; hash_of(&first), hash_of(&first.as_oid()));
+    }
+}
+
+#[test]
+fn writes_debug_texts(rt: HostRuntime) -> Result<(), Fail> {
+    let id = Kind::Sha1.null();
+    let want = "Sha1(0000000000000000000000000000000000000000)";
+    let text = format!(in rt.alloc(); "{id:?}")?;
+    assert_eq!(rt; text.as_str(), want);
+    let id = id.as_oid();
+    let text = format!(in rt.alloc(); "{id:?}")?;
+    assert_eq!(rt; text.as_str(), want);
+    for (error, want) in [(IdError::Length, "Length"), (IdError::Digit, "Digit")] {
+        let text = format!(in rt.alloc(); "{error} {error:?}")?;
+        let (display, debug) = text.as_str().split_once(" ").ok_or("two words")?;
+        assert_eq!(rt; display, want);
+        assert_eq!(rt; debug, want);
+    }
+    Ok(())
+}
