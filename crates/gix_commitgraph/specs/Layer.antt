@@ -1,11 +1,12 @@
--- A layer, and when bytes are a file of it
+-- A layer of a commit-graph, and when bytes are a file of it (gitformat-commit-graph, version 1).
 use Rattle.std.specs.Prelude.{◌≡◌, ℕ, ◌+◌, ◌*◌, ◌/◌, ◌<◌, ◌≤◌, List, [], map, length, take, drop, slice_get, slice_index, Option, Some, unwrap_or, IfSome, IsSomeAnd, MatchOption, ◌++◌}
 use Rattle.gix_chunk_core.specs.Table.{Chunks}
 use Rattle.gix_hash_core.specs.declared.kind.Kind.{Kind}
 use Rattle.gix_hash_core.specs.Kind.{id_len, kind_of}
 use Rattle.gix_commitgraph.specs.Format.{Record, record_of, record_len, commits_of, kind_in, fan_of, signature, least_size, table_of, chunk_of, pieces, words, fan_id, ids_id, records_id, edges_id, bases_id}
 
--- What a file says, and the path that it was handed in with.
+-- What a file says, and the path that came with it. The edges are bytes, none where the chunk is missing, and the body is
+-- all bytes before the checksum.
 pub record Layer : Type 0 where
   pub kind : Kind
   pub bases : List (List ℕ)
@@ -19,28 +20,29 @@ pub record Layer : Type 0 where
 
 -- The bytes are a file of this layer.
 pub record IsLayer (bytes path : List ℕ) (layer : Layer) : Type 0 where
+  -- "HEADER"
   pub size : least_size ≤ length bytes
   pub starts : take 4 bytes ≡ signature
   pub version : slice_index bytes 4 ≡ 1
   pub kind : kind_of (slice_index bytes 5) ≡ Some layer.kind
-  -- a table of chunks follows the header, whose byte 6 is their number
+  -- "CHUNK LOOKUP": a table of chunks follows the header, whose byte 6 is their number
   pub table : Chunks bytes 8 (slice_index bytes 6) (table_of bytes)
-  -- 256 numbers, which do not fall
+  -- "OID Fanout": 256 numbers, which do not fall
   pub fan : IsSomeAnd (chunk_of bytes fan_id) (λ chunk. (length chunk ≡ 1024) × (layer.fan ≡ words chunk))
   pub rising : (i : ℕ) → i < 255 → slice_index layer.fan i ≤ slice_index layer.fan (i + 1)
-  -- as many ids and records as the fan counts
+  -- "OID Lookup" and "Commit Data": as many ids and records as the fan counts
   pub ids : IsSomeAnd (chunk_of bytes ids_id)
       (λ chunk. (length chunk ≡ id_len layer.kind * commits_of layer.fan) × (layer.ids ≡ pieces (id_len layer.kind) chunk))
   pub records : IsSomeAnd (chunk_of bytes records_id)
       (λ chunk. (length chunk ≡ record_len layer.kind * commits_of layer.fan)
       × (layer.records ≡ map (record_of layer.kind) (pieces (record_len layer.kind) chunk)))
-  -- as many base ids as the header's byte 7 says
+  -- "Base Graphs List": as many ids as the header's byte 7 says, and no chunk is needed for none
   pub bases : MatchOption (chunk_of bytes bases_id) ((slice_index bytes 7 ≡ 0) × (layer.bases ≡ []))
       (λ chunk. (length chunk ≡ id_len layer.kind * slice_index bytes 7) × (layer.bases ≡ pieces (id_len layer.kind) chunk))
-  -- an index of a word of the edges fits 32 bits
+  -- "Extra Edge List": so few words that a number of parents fits 32 bits
   pub edges : layer.edges ≡ chunk_of bytes edges_id
   pub few_edges : IfSome layer.edges (λ chunk. length chunk / 4 ≤ 4294967294)
-  -- what follows the last chunk is the checksum of what is before it
+  -- "TRAILER": what follows the last chunk is the checksum, as long as an id
   pub body : layer.body ≡ take (table_of bytes).end bytes
   pub checksum : layer.checksum ≡ drop (table_of bytes).end bytes
   pub whole : length layer.checksum ≡ id_len layer.kind
@@ -50,7 +52,7 @@ pub record IsLayer (bytes path : List ℕ) (layer : Layer) : Type 0 where
 abbrev pub contents : List ℕ → List ℕ → List ℕ
 contents bytes id = unwrap_or (chunk_of bytes id) []
 
--- what the parts of the bytes say, where they are a file of a layer
+-- the layer that the parts of the bytes spell, where they are a file of one
 unfoldable pub decoded_layer : List ℕ → List ℕ → Layer
 decoded_layer bytes path =
     let kind = kind_in bytes in
@@ -66,7 +68,7 @@ decoded_layer bytes path =
       path = path;
     }
 
--- what stands past the last record
+-- a record without content, for positions past the last record
 abbrev pub no_record : Record
 no_record = record { tree = []; parent1 = 0; parent2 = 0; generation = 0; time = 0 }
 

@@ -1,0 +1,13 @@
+pub mod Accepted
+pub mod Chunks
+pub mod Counts
+pub mod Listed
+pub mod Edges
+pub mod Pieces
+pub mod Views
+pub mod Decided
+pub mod Elements
+pub mod FanLemmas
+pub mod Falls
+pub mod Grouped
+pub mod Whole

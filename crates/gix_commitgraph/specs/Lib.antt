@@ -1,0 +1,15 @@
+pub mod Faults
+pub mod Format
+pub mod Layer
+pub mod Places
+pub mod Refusal
+pub mod Checks
+pub mod Opened
+pub mod Layout
+pub mod Commit
+pub mod Parents
+pub mod Law
+pub mod EdgeLaw
+pub mod ParentsLeft
+pub mod Left
+pub mod Kept

@@ -1,0 +1,226 @@
+//! The commits of a layer: the section "Commit Data" of Git's commit-graph format.
+
+ghost use Rattle.std.specs.Prelude.{◌≡◌, ◌<◌, ◌↔◌, length, slice_get, IsTrue, Some};
+
+use crate::file::File;
+pub use crate::file::parents::Parents;
+use crate::{Position, file};
+use gix_hash_core::oid;
+use std::fmt;
+use thiserror::Error;
+
+/// What a parent field has in place of a position where no parent is there.
+const NO_PARENT: u32 = 0x7000_0000;
+
+/// The top bit of a word. A parent field with it is an index into the extra edge list, and a word
+/// of that list with it is the last parent.
+const TOP_BIT: u32 = 0x8000_0000;
+
+/// How many bits of a record's last eight bytes are the committer's time; the generation number is
+/// in the others, above them.
+const TIME_BITS: u32 = 34;
+
+/// Why the parents of a commit cannot be told, or not all of them. Displayed as the name of the
+/// variant.
+#[derive(Clone, Copy, Debug, PartialEq, Eq, Error)]
+pub enum ParentError {
+    /// There is a second parent, or an index into the extra edge list, and no first parent.
+    #[error("SecondWithoutFirst")]
+    SecondWithoutFirst,
+    /// The first parent field is an index into the extra edge list.
+    #[error("FirstIsEdgeIndex")]
+    FirstIsEdgeIndex,
+    /// The second parent field is an index into the extra edge list, and the file has no such list.
+    #[error("NoEdgeList")]
+    NoEdgeList,
+    /// The extra edge list ends before a word that is a last parent. The parents up to its end were
+    /// given; there are none where the index is past its end.
+    #[error("EdgeOverflow")]
+    EdgeOverflow,
+}
+
+/// What a parent field of a commit says: the section "Commit Data".
+#[derive(Clone, Copy, Debug, PartialEq, Eq)]
+pub enum ParentEdge {
+    /// No parent.
+    None,
+    /// The position of the parent in the graph.
+    GraphPosition(Position),
+    /// The index of the word of the extra edge list at which the parents from the second on begin.
+    ExtraEdgeIndex(u32),
+}
+
+impl ParentEdge {
+    ghost use Rattle.gix_commitgraph.specs.Parents.{edge_of};
+
+    /// Reads a parent field: `None` for 0x70000000; else, with the top bit set, the index that the
+    /// other bits are; else a position.
+    pub fn from_raw(raw: u32) -> ParentEdge
+        ensures { result ≡ edge_of raw }
+    {
+        if raw == NO_PARENT {
+            ParentEdge::None
+        } else if raw >= TOP_BIT {
+            ParentEdge::ExtraEdgeIndex(raw - TOP_BIT)
+        } else {
+            ParentEdge::GraphPosition(Position(raw))
+        }
+    }
+}
+
+/// What a word of the section "Extra Edge List" says.
+#[derive(Clone, Copy, Debug, PartialEq, Eq)]
+pub enum ExtraEdge {
+    /// The position of a parent, after which the next word is one too.
+    Internal(Position),
+    /// The position of the last parent.
+    Last(Position),
+}
+
+impl ExtraEdge {
+    ghost use Rattle.gix_commitgraph.specs.Parents.{extra_edge_of};
+
+    /// Reads a word: with the top bit set, the last parent, at the position that the other bits
+    /// are; else the position of a parent. No word stands for "no parent": 0x70000000 is the
+    /// position 1879048192.
+    pub fn from_raw(raw: u32) -> ExtraEdge
+        ensures { result ≡ extra_edge_of raw }
+    {
+        if raw >= TOP_BIT {
+            ExtraEdge::Last(Position(raw - TOP_BIT))
+        } else {
+            ExtraEdge::Internal(Position(raw))
+        }
+    }
+}
+
+/// A commit of a layer, as its record in the section "Commit Data" tells it.
+///
+/// Two commits are equal where the bytes of their files are equal, and their positions.
+#[derive(Clone, Copy)]
+pub struct Commit<'a> {
+    file: &'a File,
+    pos: file::Position,
+    ghost in_range: { pos.0 < length file.now.ids },
+}
+
+impl<'a> Commit<'a> {
+    ghost use Rattle.gix_hash_core.specs.Oid.{oid_bytes};
+    ghost use Rattle.gix_commitgraph.specs.Commit.{commit_layer, commit_pos, commit_record, commit_parents};
+    ghost use Rattle.gix_commitgraph.specs.Parents.{edge_of, items_of, first_of};
+    ghost use Rattle.gix_commitgraph.specs.ParentsLeft.{parents_left, parents_hint, first_hint};
+
+    pub(crate) fn new(file: &'a File, pos: file::Position) -> Commit<'a>
+        requires { pos.0 < length file.now.ids }
+        ensures layer { commit_layer result ≡ file.now }
+        ensures pos { commit_pos result ≡ pos.0 }
+    {
+        Commit { file, pos }
+    }
+
+    /// The commit's id. It is lent from the file, and outlives the `Commit`.
+    pub fn id(&self) -> oid<'a>
+        ensures { slice_get (commit_layer self.now).ids (commit_pos self.now) ≡ Some (oid_bytes result) }
+    {
+        self.file.id_at(self.pos)
+    }
+
+    /// The id of the commit's root tree. It is lent from the file, and outlives the `Commit`.
+    pub fn root_tree_id(&self) -> oid<'a>
+        ensures { oid_bytes result ≡ (commit_record self.now).tree }
+    {
+        self.file.root_tree_at(self.pos)
+    }
+
+    /// The commit's position in its layer.
+    pub fn position(&self) -> file::Position
+        ensures value { result.0 ≡ commit_pos self.now }
+        ensures in_layer { result.0 < length (commit_layer self.now).ids }
+    {
+        self.pos
+    }
+
+    /// The commit's generation number (its topological level), at most 1073741823.
+    pub fn generation(&self) -> u32
+        ensures { result ≡ (commit_record self.now).generation }
+    {
+        (self.file.dates_at(self.pos) >> TIME_BITS) as u32
+    }
+
+    /// When the commit was made: the committer's time, in seconds since 1970-01-01 00:00:00 UTC, at
+    /// most 17179869183.
+    pub fn committer_timestamp(&self) -> u64
+        ensures { result ≡ (commit_record self.now).time }
+    {
+        self.file.dates_at(self.pos) % (1 << TIME_BITS)
+    }
+
+    /// The first parent, or `None` where the commit has none: the first item of `iter_parents`. An
+    /// error is `SecondWithoutFirst` or `FirstIsEdgeIndex`.
+    pub fn parent1(&self) -> Result<Option<Position>, ParentError>
+        ensures { result ≡ first_of (items_of (commit_parents self.now)) }
+    {
+        self.iter_parents().next().transpose()
+    }
+
+    /// The parents in their order, and after them the error that keeps further ones from being
+    /// told, if there is one.
+    pub fn iter_parents(self) -> Parents<'a>
+        ensures items { parents_left result ≡ items_of (commit_parents self.entry) }
+        ensures hint { parents_hint result ≡ first_hint (edge_of (commit_record self.entry).parent1) (edge_of (commit_record self.entry).parent2) }
+    {
+        let (first, second) = self.parent_edges();
+        Parents::new(self.file, first, second)
+    }
+
+    /// What both parent fields say.
+    fn parent_edges(&self) -> (ParentEdge, ParentEdge)
+        ensures first { result.0 ≡ edge_of (commit_record self.now).parent1 }
+        ensures second { result.1 ≡ edge_of (commit_record self.now).parent2 }
+    {
+        let (first, second) = self.file.edges_at(self.pos);
+        (ParentEdge::from_raw(first), ParentEdge::from_raw(second))
+    }
+}
+
+/// The ids in hexadecimal, and the other fields as numbers and as what the parent fields say.
+impl<'a> fmt::Debug for Commit<'a> {
+    fn fmt<W: fmt::Write>(&self, f: &mut fmt::Formatter<W>) -> fmt::Result {
+        let (first, second) = self.parent_edges();
+        write!(
+            f,
+            "Commit {{ id: {}, lex_pos: {}, generation: {}, root_tree_id: {}, parent1: {:?}, parent2: {:?} }}",
+            self.id(),
+            self.pos.0,
+            self.generation(),
+            self.root_tree_id(),
+            first,
+            second
+        )
+    }
+}
+
+impl<'a> PartialEq for Commit<'a> {
+    ghost use Rattle.std.proofs.Common.{rules};
+    ghost use Rattle.std.specs.Cmp.Rules.{comparing};
+    ghost use Rattle.gix_commitgraph.specs.Commit.{commit_bytes, commit_pos, commit_eq};
+
+    ghost eq = { commit_eq };
+
+    ghost laws = { Prim.search (comparing, rules) };
+
+    /// Whether the commits have equal positions, in files with equal bytes.
+    fn eq(&self, other: &Commit<'a>) -> bool
+        ensures value { result ≡ commit_eq self.now other.now }
+        ensures same { IsTrue result ↔ ((commit_bytes self.now ≡ commit_bytes other.now) × (commit_pos self.now ≡ commit_pos other.now)) }
+    {
+        self.pos == other.pos && self.file.has_bytes_of(other.file)
+    }
+}
+
+impl<'a> Eq for Commit<'a> {
+    ghost use Rattle.std.proofs.Common.{rules};
+    ghost use Rattle.std.specs.Cmp.Rules.{comparing};
+
+    ghost laws = { Prim.search (comparing, rules) };
+}

@@ -1,0 +1,33 @@
+//! Laws of the format: what its definitions say of all bytes. Each function does nothing, and its
+//! contract is the law.
+
+pub mod edges;
+
+ghost use Rattle.std.specs.Prelude.{ℕ, List};
+ghost use Rattle.gix_commitgraph.specs.Law.{IsDecided, NamesFirstFall, FallIntoPieces};
+ghost use Rattle.gix_commitgraph.specs.Opened.{IsAnswered};
+
+/// For all bytes and each path: the bytes are refused, and are then a file of no layer, or they are
+/// not, and are then a file of exactly one.
+#[tactic(auto, using(crate::proofs::Decided::decided))]
+pub fn each_is_refused_or_read()
+    ensures { (bytes path : List ℕ) → IsDecided bytes path }
+{}
+
+/// For all bytes and each path: what opening answers where there is memory is a layer exactly where
+/// the bytes are a file of that layer, and an error exactly where that is their refusal.
+#[tactic(auto, using(crate::proofs::Decided::answered))]
+pub fn each_is_answered()
+    ensures { (bytes path : List ℕ) → IsAnswered bytes path }
+{}
+
+/// A fan is refused for the first byte at which it falls, and a fan that falls nowhere is not.
+pub fn falling_fans_are_named()
+    ensures { (fan : List ℕ) → NamesFirstFall fan }
+{}
+
+/// The pieces into which bytes fall, as ids, records and words, have the same size and leave out
+/// fewer bytes at the end than a piece has.
+pub fn bytes_fall_into_pieces()
+    ensures { (size : ℕ) (bytes : List ℕ) → FallIntoPieces size bytes }
+{}
