@@ -1,0 +1,92 @@
+//! What a file is to say.
+
+ghost use Rattle.std.specs.Prelude.{◌≡◌, ◌<◌, ◌↔◌, IsTrue, All, length};
+ghost use Rattle.gix_hash_core.specs.Kind.{id_len};
+
+use crate::edges::{NO_PARENT, has_few_extra_words};
+use gix_hash_core::{Kind, ObjectId};
+
+/// What one file is to say: the commits of a layer, and the ids of the layers below it. It may say
+/// whatever a file can hold: ids need not ascend, ids and trees may be null, parents need not exist,
+/// and generations may be wrong.
+#[derive(Debug, Drop)]
+pub struct LayerPlan {
+    /// The kind of all ids.
+    pub kind: Kind,
+    /// The checksums of the files below, the lowest first ("Base Graphs List").
+    pub bases: Vec<ObjectId>,
+    /// The commits in the order of the file.
+    pub commits: Vec<PlanCommit>,
+}
+
+/// What a file is to say of one commit ("Commit Data").
+#[derive(Debug, Drop)]
+pub struct PlanCommit {
+    /// The commit's own id.
+    pub id: ObjectId,
+    /// The id of its root tree.
+    pub tree: ObjectId,
+    /// The graph positions of its parents, in order.
+    pub parents: Vec<u32>,
+    /// The generation number, right or wrong.
+    pub generation: u32,
+    /// The committer time, in seconds since 1970-01-01 00:00:00 UTC.
+    pub time: u64,
+}
+
+/// The greatest generation that 30 bits hold.
+const MAX_GENERATION: u32 = 1073741823;
+
+/// The greatest time that 34 bits hold.
+const MAX_TIME: u64 = 17179869183;
+
+/// The most bases that the header's byte can count.
+const MAX_BASES: usize = 255;
+
+/// A file has fewer commits.
+const COMMITS_LIMIT: usize = 2147483648;
+
+impl LayerPlan {
+    ghost use Rattle.graph_vectors.specs.Plan.{IsPlan};
+
+    /// Whether a file can say all of it: all ids are of its kind, there are at most 255 bases and
+    /// fewer than 2147483648 commits, each generation is at most 1073741823 and each time at most
+    /// 17179869183, each parent is below 0x70000000, and the commits with more than two parents
+    /// have fewer than 2147483648 parents together from the second of each on.
+    pub fn is_buildable(&self) -> bool
+        ensures { IsTrue result ↔ IsPlan self.now }
+    {
+        self.bases.len() <= MAX_BASES
+            && are_of_kind(&self.bases, self.kind)
+            && self.commits.len() < COMMITS_LIMIT
+            && self.commits.iter().all(|commit| commit.fits(self.kind))
+            && has_few_extra_words(&self.commits)
+    }
+}
+
+impl PlanCommit {
+    ghost use Rattle.graph_vectors.specs.Plan.{IsPlannedCommit};
+
+    // Whether a record can say it.
+    fn fits(&self, kind: Kind) -> bool
+        ensures { IsTrue result ↔ IsPlannedCommit kind self.now }
+    {
+        is_of_kind(&self.id, kind)
+            && is_of_kind(&self.tree, kind)
+            && self.parents.iter().all(|parent| *parent < NO_PARENT)
+            && self.generation <= MAX_GENERATION
+            && self.time <= MAX_TIME
+    }
+}
+
+fn is_of_kind(id: &ObjectId, kind: Kind) -> bool
+    ensures { IsTrue result ↔ (length id.now ≡ id_len kind) }
+{
+    id.as_oid().as_bytes().len() == kind.len_in_bytes()
+}
+
+fn are_of_kind(ids: &[ObjectId], kind: Kind) -> bool
+    ensures { IsTrue result ↔ All (λ id. length id ≡ id_len kind) ids.now }
+{
+    ids.iter().all(|id| is_of_kind(id, kind))
+}

@@ -1,0 +1,15 @@
+-- What is written is the text of the answer.
+use Rattle.graphtool.proofs.ListAnswers.{writes_listing, writes_refusal}
+use Rattle.graphtool.proofs.run.run_list.Goals as goal
+
+pub returns-in_ok-write_all-in-Ok : goal.returns-in_ok-write_all-in-Ok
+returns-in_ok-write_all-in-Ok g c = record {
+  written =
+      writes_listing _ _ _ _ c.in-Ok.ensures.listed
+      (rw c.as_bytes.ensures.value at c.in_ok-write_all-in-Ok.ensures.bytes);
+}
+
+pub returns-in_ok-writeln-in-Err : goal.returns-in_ok-writeln-in-Err
+returns-in_ok-writeln-in-Err g c = record {
+  written = writes_refusal _ _ _ _ c.in-Err.ensures.refused c.in_ok-writeln-in-Err.ensures.bytes;
+}

@@ -1,0 +1,6 @@
+pub mod Text
+pub mod Numbers
+pub mod Refusal
+pub mod Listing
+pub mod Places
+pub mod List

@@ -1,0 +1,52 @@
+-- the numbers by which errors are told
+use Rattle.std.specs.Prelude.{ℕ}
+use Rattle.gix_chunk_core.specs.declared.error.ChunkError.{ChunkError}
+use Rattle.gix_chunk_core.specs.declared.error.ChunkError.TheVariants as chunk
+use Rattle.gix_commitgraph.specs.declared.error.FileError.{FileError}
+use Rattle.gix_commitgraph.specs.declared.error.FileError.TheVariants as file
+use Rattle.gix_commitgraph.specs.declared.file.commit.ParentError.{ParentError}
+use Rattle.gix_commitgraph.specs.declared.file.commit.ParentError.TheVariants as parent
+use Rattle.graphtool.specs.declared.read.ReadError.{ReadError}
+use Rattle.graphtool.specs.declared.read.ReadError.TheVariants as read
+
+abbrev pub read_number : ReadError → ℕ
+read_number read.NotOpened = 1
+read_number read.Device = 2
+read_number read.OutOfMemory = 3
+
+abbrev pub chunk_number : ChunkError → ℕ
+chunk_number chunk.NoChunks = 1
+chunk_number chunk.TableTooSmall = 2
+chunk_number (chunk.EarlyEnd entry) = 3
+chunk_number (chunk.Duplicate id) = 4
+chunk_number (chunk.OutOfFile entry) = 5
+chunk_number (chunk.Falling entry) = 6
+chunk_number (chunk.NoEnd id) = 7
+
+abbrev pub file_number : FileError → ℕ
+file_number file.TooSmall = 1
+file_number file.Signature = 2
+file_number (file.Version byte) = 3
+file_number (file.Hash byte) = 4
+file_number (file.Chunks error) = 5
+file_number file.BaseSize = 6
+file_number file.BaseCount = 7
+file_number file.NoCommitData = 8
+file_number file.CommitDataSize = 9
+file_number file.NoFan = 10
+file_number file.FanSize = 11
+file_number file.NoIds = 12
+file_number file.IdsSize = 13
+file_number file.TooManyEdges = 14
+file_number file.Trailer = 15
+file_number file.BaseMissing = 16
+file_number (file.FanFalls at) = 17
+file_number file.IdCount = 18
+file_number file.RecordCount = 19
+file_number file.OutOfMemory = 20
+
+abbrev pub parent_number : ParentError → ℕ
+parent_number parent.SecondWithoutFirst = 1
+parent_number parent.FirstIsEdgeIndex = 2
+parent_number parent.NoEdgeList = 3
+parent_number parent.EdgeOverflow = 4
