@@ -11,3 +11,12 @@ pub mod FanLemmas
 pub mod Falls
 pub mod Grouped
 pub mod Whole
+pub mod Buckets
+pub mod Ascending
+pub mod Digits
+pub mod Scans
+pub mod Searches
+pub mod Layers
+pub mod GraphLookups
+pub mod Positions
+pub mod GraphLaws

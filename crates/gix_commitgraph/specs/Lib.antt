@@ -13,3 +13,11 @@ pub mod EdgeLaw
 pub mod ParentsLeft
 pub mod Left
 pub mod Kept
+pub mod Order
+pub mod Lookup
+pub mod LookupLaw
+pub mod Graph
+pub mod GraphRefusal
+pub mod GraphLookup
+pub mod GraphLeft
+pub mod GraphLaw

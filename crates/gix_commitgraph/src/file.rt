@@ -3,6 +3,7 @@
 mod access;
 pub mod commit;
 mod init;
+mod lookup;
 mod parents;
 
 ghost use Rattle.std.specs.Prelude.{Some};

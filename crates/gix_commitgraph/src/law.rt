@@ -2,6 +2,8 @@
 //! contract is the law.
 
 pub mod edges;
+pub mod graph;
+pub mod lookup;
 
 ghost use Rattle.std.specs.Prelude.{ℕ, List};
 ghost use Rattle.gix_commitgraph.specs.Law.{IsDecided, NamesFirstFall, FallIntoPieces};

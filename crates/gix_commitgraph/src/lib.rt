@@ -8,8 +8,12 @@
 ghost use Rattle.std.specs.Prelude.{Some};
 ghost use Rattle.std.specs.Fmt.{styled_decimal};
 
+mod access;
 mod error;
 pub mod file;
+mod graph;
+pub mod init;
+mod iter;
 pub mod law;
 mod numbers;
 #[cfg(test)]
@@ -19,6 +23,9 @@ mod tests_commit;
 
 pub use error::FileError;
 pub use file::File;
+pub use graph::Graph;
+pub use init::GraphError;
+pub use iter::{GraphCommits, GraphIds};
 use std::fmt;
 
 /// The generation number of a commit that has none yet, which is above every other.

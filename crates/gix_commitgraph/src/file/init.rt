@@ -12,6 +12,7 @@ ghost use Rattle.gix_commitgraph.specs.Refusal.{refusal};
 
 use crate::error::FileError;
 use crate::file::File;
+pub use fan::fan_at;
 pub use layout::Layout;
 use layout::layout_of;
 pub use places::{record_len, start_of};

@@ -1,0 +1,10 @@
+use Rattle.std.proofs.Common.{◌≡◌, ◌*◌, ◌^◌, ◌≤◌, All, take}
+use Rattle.gix_commitgraph.specs.Graph.{IsOpened, start}
+use Rattle.gix_commitgraph.proofs.access.commits_of_all.Given as goal
+
+abbrev pub invariant-loop-file : goal.invariant-loop-file
+invariant-loop-file l = record {
+  sum : l.commits ≡ start l.files l.file-index;
+  small : l.commits ≤ l.file-index * 2 ^ 32;
+  opened : All IsOpened (take l.file-index l.files);
+}

@@ -1,0 +1,36 @@
+-- what the lookup of an id in a graph answers
+use Rattle.std.specs.Prelude.{◌≡◌, ℕ, ◌+◌, List, length, position, slice_get, Option, Some, None, unwrap_or, option_map, option_and_then, is_some}
+use Rattle.gix_commitgraph.specs.Layer.{Layer}
+use Rattle.gix_commitgraph.specs.Commit.{commit_place}
+use Rattle.gix_commitgraph.specs.Graph.{graph_commits, start}
+use Rattle.gix_commitgraph.specs.Lookup.{Found}
+use Rattle.gix_commitgraph.specs.declared.Position.{Position}
+use Rattle.gix_commitgraph.specs.declared.file.commit.Commit.{Commit}
+
+-- the answer of a layer
+unfoldable pub answer_at : List (Option ℕ) → ℕ → Option ℕ
+answer_at answers i = unwrap_or (slice_get answers i) None
+
+-- the first answer that is a position, counted from the start of its layer
+unfoldable pub first_answer : List Layer → List (Option ℕ) → Option ℕ
+first_answer layers answers =
+    option_and_then (λ i. option_map (λ pos. start layers i + pos) (answer_at answers i)) (position is_some answers)
+
+-- An answer to the lookup of an id in a graph.
+pub record FoundIn (layers : List Layer) (id : List ℕ) (answer : Option ℕ) : Type 0 where
+  -- one answer for each layer
+  pub answers : List (Option ℕ)
+  pub one_each : length answers ≡ length layers
+  pub each : (i : ℕ) (layer : Layer) → slice_get layers i ≡ Some layer → Found layer id (answer_at answers i)
+  -- of which the first that is a position decides
+  pub first : answer ≡ first_answer layers answers
+
+-- a position of a graph as a number
+abbrev pub graph_place : Option Position → Option ℕ
+graph_place pos = option_map (λ p. p.0) pos
+
+-- The commit at an answer to the lookup of an id, none where the answer is none.
+pub record CommitFoundIn (layers : List Layer) (id : List ℕ) (commit : Option Commit) : Type 0 where
+  pub answer : Option ℕ
+  pub found : FoundIn layers id answer
+  pub there : option_map commit_place commit ≡ option_and_then (slice_get (graph_commits layers)) answer

@@ -1,0 +1,139 @@
+//! What a graph shows.
+
+ghost use Rattle.std.specs.Prelude.{◌≡◌, ◌+◌, ◌^◌, ◌<◌, ◌≤◌, All, length, slice_get, option_map, Some, IfSome};
+ghost use Rattle.gix_hash_core.specs.Oid.{oid_bytes};
+ghost use Rattle.gix_commitgraph.specs.Commit.{commit_layer, commit_pos, commit_place};
+ghost use Rattle.gix_commitgraph.specs.Graph.{IsGraph, IsOpened, graph_ids, graph_commits, total};
+ghost use Rattle.gix_commitgraph.specs.GraphLookup.{FoundIn, CommitFoundIn, graph_place};
+ghost use Rattle.gix_commitgraph.specs.GraphLeft.{graph_ids_left, graph_commits_left};
+
+use crate::Position;
+use crate::file::{self, Commit, File};
+use crate::graph::Graph;
+use crate::iter::{GraphCommits, GraphIds};
+use gix_hash_core::{Kind, oid};
+
+impl Graph {
+    /// The kind of the ids of all layers.
+    #[tactic(auto, using(crate::proofs::Layers::kind_laws))]
+    pub fn object_hash(&self) -> Kind
+        ensures { All (λ layer. layer.kind ≡ result) self.now }
+    {
+        self.files[0].object_hash()
+    }
+
+    /// How many commits the layers have together, which is at most `MAX_COMMITS`.
+    pub fn num_commits(&self) -> u32
+        ensures commits { result ≡ total self.now }
+
+        // There is a layer, all are of one kind, and each is that of a file that was opened.
+        ensures graph { IsGraph self.now }
+    {
+        commits_of_all(&self.files) as u32
+    }
+
+    /// The id at a position, which is below `num_commits()`. The positions of a graph are those of
+    /// its layers, one layer after another.
+    pub fn id_at(&self, pos: Position) -> oid<'_>
+        requires { pos.0 < total self.now }
+        ensures { slice_get (graph_ids self.now) pos.0 ≡ Some (oid_bytes result) }
+    {
+        let (file, place) = self.layer_at(pos);
+        file.id_at(place)
+    }
+
+    /// The commit at a position, which is below `num_commits()`.
+    pub fn commit_at(&self, pos: Position) -> Commit<'_>
+        requires { pos.0 < total self.now }
+        ensures { slice_get (graph_commits self.now) pos.0 ≡ Some (commit_place result) }
+    {
+        let (file, place) = self.layer_at(pos);
+        file.commit_at(place)
+    }
+
+    /// The ids, in order.
+    pub fn iter_ids(&self) -> GraphIds<'_>
+        ensures { graph_ids_left result ≡ graph_ids self.now }
+    {
+        GraphIds::new(self)
+    }
+
+    /// The commits, in order.
+    pub fn iter_commits(&self) -> GraphCommits<'_>
+        ensures { graph_commits_left result ≡ graph_commits self.now }
+    {
+        GraphCommits::new(self)
+    }
+
+    /// The position of an id. The layers are searched from the lowest on, each as `File::lookup`
+    /// does, and the first that finds the id decides.
+    ///
+    /// A position that is answered always holds the id. Where in each layer the ids strictly ascend
+    /// and the fan is exact, the answer is the least position that holds the id, and `None` only
+    /// where none does. In a damaged file an id may be missed that is there.
+    pub fn lookup(&self, id: oid<'_>) -> Option<Position>
+        ensures found { FoundIn self.now (oid_bytes id.entry) (graph_place result) }
+        ensures holds { IfSome result (λ pos. slice_get (graph_ids self.now) pos.0 ≡ Some (oid_bytes id.entry)) }
+    {
+        let (_, start, pos) = self.find(id)?;
+        Some(Position(start + pos.0))
+    }
+
+    /// The commit with an id: the one at a position that `lookup` may answer, or `None`.
+    pub fn commit_by_id(&self, id: oid<'_>) -> Option<Commit<'_>>
+        ensures found { CommitFoundIn self.now (oid_bytes id.entry) result }
+        ensures holds { IfSome result (λ commit. slice_get (commit_layer commit).ids (commit_pos commit) ≡ Some (oid_bytes id.entry)) }
+    {
+        let (file, _, pos) = self.find(id)?;
+        Some(file.commit_at(pos))
+    }
+
+    /// The layer of a position, and the position there.
+    fn layer_at(&self, pos: Position) -> (&File, file::Position)
+        requires { pos.0 < total self.now }
+        ensures commit { slice_get (graph_commits self.now) pos.0 ≡ Some (result.0.now, result.1.0) }
+        ensures id { slice_get (graph_ids self.now) pos.0 ≡ slice_get result.0.now.ids result.1.0 }
+        ensures within { result.1.0 < length result.0.now.ids }
+    {
+        let mut left = pos.0;
+        for file in &self.files {
+            let commits = file.num_commits();
+            if left < commits {
+                return (file, file::Position(left));
+            }
+            left -= commits;
+        }
+        unreachable!()
+    }
+
+    /// The first layer that finds an id, how many commits stand before it, and the position there.
+    fn find(&self, id: oid<'_>) -> Option<(&File, u32, file::Position)>
+        ensures found { FoundIn self.now (oid_bytes id.entry) (option_map (λ f. f.1 + f.2.0) result) }
+        ensures commit { IfSome result (λ f. slice_get (graph_commits self.now) (f.1 + f.2.0) ≡ Some (f.0.now, f.2.0)) }
+        ensures id { IfSome result (λ f. slice_get (graph_ids self.now) (f.1 + f.2.0) ≡ Some (oid_bytes id.entry)) }
+        ensures holds { IfSome result (λ f. slice_get f.0.now.ids f.2.0 ≡ Some (oid_bytes id.entry)) }
+        ensures within { IfSome result (λ f. f.2.0 < length f.0.now.ids) }
+        ensures few { IfSome result (λ f. f.1 + f.2.0 < 2 ^ 32) }
+    {
+        let mut start = 0;
+        for file in &self.files {
+            match file.lookup(id) {
+                Some(pos) => return Some((file, start, pos)),
+                None => start += file.num_commits(),
+            }
+        }
+        None
+    }
+}
+
+/// How many commits the files have together.
+pub(crate) fn commits_of_all(files: &[File]) -> u128
+    ensures sum { result ≡ total files.now }
+    ensures opened { All IsOpened files.now }
+{
+    let mut commits = 0;
+    for file in files {
+        commits += file.num_commits() as u128;
+    }
+    commits
+}

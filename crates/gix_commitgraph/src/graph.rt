@@ -1,0 +1,26 @@
+//! A graph of several layers.
+
+#[cfg(test)]
+mod tests;
+
+use crate::file::File;
+use std::marker::Model;
+
+/// A commit-graph: layers of one kind of hash, from the lowest on, each of which may name commits
+/// of the layers before it. A contract sees it as the list of its layers.
+#[derive(Drop)]
+pub struct Graph {
+    pub(crate) files: Vec<File>,
+}
+
+impl Model for Graph {
+    ghost use Rattle.std.specs.Prelude.{List};
+    ghost use Rattle.gix_commitgraph.specs.Layer.{Layer};
+    ghost use Rattle.gix_commitgraph.specs.Graph.{IsGraph};
+
+    ghost Value = { List Layer };
+
+    ghost view = { λ a. a.files.items };
+
+    ghost invariant = { λ a. IsGraph a.files.items };
+}

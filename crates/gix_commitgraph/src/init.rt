@@ -1,0 +1,75 @@
+//! How a graph comes about.
+
+ghost use Rattle.std.specs.Prelude.{◌≡◌, ◌+◌, ◌-◌, ◌<◌, ◌⊎◌, All, length, Some, None, IfOk, MatchResult};
+ghost use Rattle.gix_commitgraph.specs.Faults.{Reports};
+ghost use Rattle.gix_commitgraph.specs.Graph.{IsOpened, total};
+ghost use Rattle.gix_commitgraph.specs.GraphRefusal.{mismatch_refusal, graph_refusal};
+
+use crate::MAX_COMMITS;
+use crate::access::commits_of_all;
+use crate::file::File;
+use crate::graph::Graph;
+use std::alloc::Global;
+use thiserror::Error;
+
+/// Why files are no graph: the first of these conditions that holds, or want of memory.
+#[derive(Debug, PartialEq, Eq, Drop, Error)]
+pub enum GraphError {
+    /// There is no file.
+    #[error("NoFiles")]
+    NoFiles,
+    /// The files have so many commits together, which is more than [`MAX_COMMITS`].
+    #[error("TooManyCommits")]
+    TooManyCommits(u128),
+    /// The file of this layer, counted from 0, has ids of another kind than the file before it, and
+    /// no earlier one has.
+    #[error("HashMismatch")]
+    HashMismatch { layer: usize },
+    /// A growth was refused, and the files would make a graph.
+    #[error("OutOfMemory")]
+    OutOfMemory,
+}
+
+impl Graph {
+    /// The graph of these files, which are its layers, the lowest first. It takes any files of one
+    /// kind, at least one, that have no more than [`MAX_COMMITS`] commits together: that each file
+    /// names those before it as its base layers is not checked here. Where it answers an error, the
+    /// files are dropped.
+    pub fn new(_alloc: Global, files: Vec<File>) -> Result<Graph, GraphError>
+        ensures layers { IfOk result (λ graph. graph ≡ files.items) }
+        ensures refusal { MatchResult result (λ _. graph_refusal files.items ≡ None)
+            (λ e. (graph_refusal files.items ≡ Some e) ⊎ ((e ≡ GraphError.OutOfMemory) × (graph_refusal files.items ≡ None))) }
+    {
+        check(&files)?;
+        Ok(Graph { files })
+    }
+}
+
+/// Refuses files that are no graph.
+#[tactic(auto, unfolding(crate::specs::GraphRefusal::graph_refusal))]
+fn check(files: &[File]) -> Result<(), GraphError>
+    ensures refusal { Reports result (graph_refusal files.now) }
+    ensures opened { All IsOpened files.now }
+{
+    let commits = commits_of_all(files);
+    if files.is_empty() {
+        return Err(GraphError::NoFiles);
+    }
+    if commits > MAX_COMMITS as u128 {
+        return Err(GraphError::TooManyCommits(commits));
+    }
+    check_kinds(files)
+}
+
+/// Refuses files of two kinds.
+fn check_kinds(files: &[File]) -> Result<(), GraphError>
+    requires { 0 < length files.now }
+    ensures { Reports result (mismatch_refusal files.now) }
+{
+    for below in 0..files.len() - 1 {
+        if files[below].object_hash() != files[below + 1].object_hash() {
+            return Err(GraphError::HashMismatch { layer: below + 1 });
+        }
+    }
+    Ok(())
+}

@@ -1,0 +1,33 @@
+//! What the words of the contracts of graphs mean.
+
+ghost use Rattle.std.specs.Prelude.{ℕ, ◌<◌, List};
+ghost use Rattle.gix_commitgraph.specs.Layer.{Layer};
+ghost use Rattle.gix_commitgraph.specs.Graph.{total};
+ghost use Rattle.gix_commitgraph.specs.GraphLaw.{LiesIn, LiesInOne, IsPlaceIn, AreCounted, AreScanned, IsJudged};
+
+/// Each position of a graph lies in one layer, and in no other.
+pub fn a_position_lies_in_one_layer()
+    ensures { (layers : List Layer) (pos : ℕ) → pos < total layers → LiesInOne layers pos }
+{}
+
+/// The id and the commit at a position are those of its layer, at the position less the number of
+/// commits before the layer.
+pub fn a_position_is_a_place_in_its_layer()
+    ensures { (layers : List Layer) (pos i : ℕ) (layer : Layer) → LiesIn layers pos i layer → IsPlaceIn layers pos i layer }
+{}
+
+/// A graph has as many ids and commits as its layers have together.
+pub fn the_commits_of_layers_add_up()
+    ensures { (layers : List Layer) → AreCounted layers }
+{}
+
+/// Where in each layer the ids ascend under an exact fan, an answer to a lookup is that of a plain
+/// scan of all ids.
+pub fn a_lookup_in_ordered_layers_is_a_scan()
+    ensures { (layers : List Layer) → AreScanned layers }
+{}
+
+/// The refusal of layers says what is wrong, and layers that are not refused make a graph.
+pub fn layers_are_refused_or_make_a_graph()
+    ensures { (layers : List Layer) → IsJudged layers }
+{}
