@@ -17,12 +17,13 @@ impl Graph {
     /// The kind of the ids of all layers.
     #[tactic(auto, using(crate::proofs::Layers::kind_laws))]
     pub fn object_hash(&self) -> Kind
-        ensures { All (λ layer. layer.kind ≡ result) self.now }
+        ensures kind { All (λ layer. layer.kind ≡ result) self.now }
+        ensures some { 0 < length self.now }
     {
         self.files[0].object_hash()
     }
 
-    /// How many commits the layers have together, which is at most `MAX_COMMITS`.
+    /// The number of commits that the layers have together, at most `MAX_COMMITS`.
     pub fn num_commits(&self) -> u32
         ensures commits { result ≡ total self.now }
 

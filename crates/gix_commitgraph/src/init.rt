@@ -33,8 +33,16 @@ pub enum GraphError {
 impl Graph {
     /// The graph of these files, which are its layers, the lowest first. It takes any files of one
     /// kind, at least one, that have no more than [`MAX_COMMITS`] commits together: that each file
-    /// names those before it as its base layers is not checked here. Where it answers an error, the
-    /// files are dropped.
+    /// names those before it as its base layers is not checked here.
+    ///
+    /// # Errors
+    ///
+    /// The first of these that holds; the files are then dropped:
+    ///
+    /// 1. `NoFiles`: there is no file.
+    /// 2. `TooManyCommits`: the files have more commits together, so many.
+    /// 3. `HashMismatch`: the first file of another kind than the one before it.
+    /// 4. `OutOfMemory`: a growth was refused.
     pub fn new(_alloc: Global, files: Vec<File>) -> Result<Graph, GraphError>
         ensures layers { IfOk result (λ graph. graph ≡ files.items) }
         ensures refusal { MatchResult result (λ _. graph_refusal files.items ≡ None)
@@ -51,6 +59,7 @@ fn check(files: &[File]) -> Result<(), GraphError>
     ensures refusal { Reports result (graph_refusal files.now) }
     ensures opened { All IsOpened files.now }
 {
+    // The sum comes first, since its contract says besides that each file was opened.
     let commits = commits_of_all(files);
     if files.is_empty() {
         return Err(GraphError::NoFiles);

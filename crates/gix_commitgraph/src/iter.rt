@@ -69,7 +69,8 @@ impl<'a> Places<'a> {
     }
 }
 
-/// An iterator over the ids of a graph: those of its layers, one layer after another.
+/// An iterator over the ids of a graph: those of its layers, one layer after another. It gives each
+/// once, and then `None` for good.
 #[derive(Drop)]
 pub struct GraphIds<'a> {
     places: Places<'a>,
@@ -114,7 +115,8 @@ impl<'a> Iterator for GraphIds<'a> {
     }
 }
 
-/// An iterator over the commits of a graph: those of its layers, one layer after another.
+/// An iterator over the commits of a graph: those of its layers, one layer after another. It gives
+/// each once, and then `None` for good.
 #[derive(Drop)]
 pub struct GraphCommits<'a> {
     places: Places<'a>,

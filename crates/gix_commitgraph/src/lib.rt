@@ -1,8 +1,9 @@
 //! Git's commit-graph files, version 1: reading them and what they say of commits.
 //!
 //! A [`File`] is one layer of a commit-graph, opened from its bytes. It is opened exactly where the
-//! bytes have the written format; else a [`FileError`] names the first rule that they break. An
-//! opened file is read in place: nothing but opening may need memory.
+//! bytes have the written format; else a [`FileError`] names the first rule that they break. A
+//! [`Graph`] is a list of such layers, the lowest first. Both are read in place: only [`File::new`]
+//! and [`Graph::new`] may answer want of memory.
 #![tactic(auto)]
 
 ghost use Rattle.std.specs.Prelude.{Some};

@@ -64,12 +64,8 @@ fn empty_layer(alloc: Global) -> Result<Vec<u8>, Fail> {
 fn a_file_shows_its_path(rt: HostRuntime) -> Result<(), Fail> {
     let bytes = empty_layer(rt.alloc())?;
     let path = String::from_str(rt.alloc(), "a \"graph\"")?;
-    match File::new(rt.alloc(), bytes, path) {
-        Ok(file) => {
-            let text = format!(in rt.alloc(); "{file:?}")?;
-            assert_eq!(rt; text.as_str(), "File(\"a \\\"graph\\\"\")");
-        }
-        Err(error) => assert_eq!(rt; error, FileError::TooSmall),
-    }
+    let file = File::new(rt.alloc(), bytes, path)?;
+    let text = format!(in rt.alloc(); "{file:?}")?;
+    assert_eq!(rt; text.as_str(), "File(\"a \\\"graph\\\"\")");
     Ok(())
 }

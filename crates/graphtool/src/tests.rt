@@ -177,6 +177,17 @@ fn lists_layers(rt: HostRuntime) -> Result<(), Fail> {
             Plan {
                 hash: 1,
                 bases: &[],
+                commits: &[(NONE, 0x8000_0000, FIRST)],
+                edges: None,
+            },
+            1156,
+            "layer sha1 bases 0 commits 1\n\
+            0 1111111111111111111111111111111111111111 2222222222222222222222222222222222222222 1 0 !1\n",
+        ),
+        (
+            Plan {
+                hash: 1,
+                bases: &[],
                 commits: &[
                     (5, 0x8000_0000, 0x7_ffff_ffff),
                     (5, 0x8000_0002, u64::MAX),

@@ -221,8 +221,8 @@ impl<'a> Iterator for Ids<'a> {
         ensures lower { IsWithinCount result.0 (item_count ids_left self.now) }
         ensures upper { IfSome result.1 (UpTo (item_count ids_left self.now)) }
     {
-        let left = (self.file.num_commits() - self.next) as usize;
-        (left, Some(left))
+        let ids = (self.file.num_commits() - self.next) as usize;
+        (ids, Some(ids))
     }
 }
 
@@ -323,7 +323,7 @@ impl<'a> Iterator for Commits<'a> {
         ensures lower { IsWithinCount result.0 (item_count commits_left self.now) }
         ensures upper { IfSome result.1 (UpTo (item_count commits_left self.now)) }
     {
-        let left = (self.file.num_commits() - self.next) as usize;
-        (left, Some(left))
+        let commits = (self.file.num_commits() - self.next) as usize;
+        (commits, Some(commits))
     }
 }

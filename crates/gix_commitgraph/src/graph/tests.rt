@@ -39,7 +39,7 @@ fn layer(alloc: Global, byte: usize, ids: &[[u8; 20]]) -> Result<File, Fail>
     }
     bytes.extend_from_slice(&[0; 20])?;
     let path = String::from_str(alloc, "layer")?;
-    Ok(File::new(alloc, bytes, path).map_err(|_| "no layer")?)
+    Ok(File::new(alloc, bytes, path)?)
 }
 
 #[test]
@@ -116,7 +116,7 @@ fn empty_sha256_layer(alloc: Global) -> Result<File, Fail> {
     bytes.extend_from_slice(&[0; 1024])?;
     bytes.extend_from_slice(&[0; 32])?;
     let path = String::from_str(alloc, "layer")?;
-    Ok(File::new(alloc, bytes, path).map_err(|_| "no layer")?)
+    Ok(File::new(alloc, bytes, path)?)
 }
 
 // A graph of layers whose ids begin with 11.
@@ -128,7 +128,7 @@ fn graph_of(alloc: Global, layers: &[&[[u8; 20]]]) -> Result<Graph, Fail> {
         }
         files.push(layer(alloc, 0x11, ids)?)?;
     }
-    Ok(Graph::new(alloc, files).map_err(|_| "no graph")?)
+    Ok(Graph::new(alloc, files)?)
 }
 
 #[test]
@@ -157,6 +157,11 @@ fn empty_layers_have_no_positions(rt: HostRuntime) -> Result<(), Fail> {
     let two = [id(0x11, 1), id(0x11, 2)];
     let one = [id(0x11, 3)];
     let graph = graph_of(rt.alloc(), &[&[], &two, &[], &one])?;
+    assert_eq!(rt; graph.num_commits(), 3);
+    assert_eq!(rt; graph.commit_at(Position(0)).position(), file::Position(0));
+    assert_eq!(rt; graph.id_at(Position(0)).as_bytes(), two[0].as_slice());
+    assert_eq!(rt; graph.commit_at(Position(2)).position(), file::Position(0));
+    assert_eq!(rt; graph.id_at(Position(2)).as_bytes(), one[0].as_slice());
     let mut places = Vec::new(rt.alloc());
     for (id, commit) in graph.iter_ids().zip(graph.iter_commits()) {
         assert_eq!(rt; id, commit.id());

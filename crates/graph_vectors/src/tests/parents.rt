@@ -1,4 +1,5 @@
 use crate::tests::{END, opened, words, written};
+use gix_commitgraph::file::commit::ParentError;
 use gix_commitgraph::file::{self, Commit};
 use gix_commitgraph::{File, Position};
 use std::alloc::Global;
@@ -145,6 +146,12 @@ fn the_first_parent(rt: HostRuntime) -> Result<(), Fail> {
     let file = one_commit(rt.alloc(), b"\x70\0\0\0\x70\0\0\0\0\0\0\x04\0\0\0\0", None)?;
     assert_eq!(rt; file.num_commits(), 1);
     assert_eq!(rt; file.commit_at(file::Position(0)).parent1(), Ok(None));
+    let file = one_commit(rt.alloc(), b"\x70\0\0\0\x80\0\0\0\0\0\0\x04\0\0\0\0", None)?;
+    assert_eq!(rt; file.num_commits(), 1);
+    assert_eq!(rt;
+        file.commit_at(file::Position(0)).parent1(),
+        Err(ParentError::SecondWithoutFirst)
+    );
     let file = one_commit(
         rt.alloc(),
         b"\0\0\0\x05\x80\0\0\0\0\0\0\x04\0\0\0\0",
