@@ -1,4 +1,5 @@
 pub mod Accepted
+pub mod Checksums
 pub mod Chunks
 pub mod Counts
 pub mod Listed
@@ -20,3 +21,4 @@ pub mod Layers
 pub mod GraphLookups
 pub mod Positions
 pub mod GraphLaws
+pub mod Fronts

@@ -5,6 +5,7 @@ pub mod commit;
 mod init;
 mod lookup;
 mod parents;
+pub mod verify;
 
 ghost use Rattle.std.specs.Prelude.{Some};
 ghost use Rattle.std.specs.Fmt.{styled_decimal};

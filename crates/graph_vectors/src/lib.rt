@@ -16,7 +16,9 @@ mod sizes;
 mod table;
 #[cfg(test)]
 mod tests;
+mod trailer;
 
 pub use builder::build;
 pub use law::planned_files_say_their_plans;
 pub use plan::{LayerPlan, PlanCommit};
+pub use trailer::reseal;

@@ -1,4 +1,5 @@
 mod building;
+mod checking;
 mod opening;
 mod parents;
 

@@ -1,14 +1,37 @@
 //! Lookup of an id by the fan.
 
-ghost use Rattle.std.specs.Prelude.{◌≡◌, ◌+◌, ◌-◌, ◌*◌, ◌<◌, ◌≤◌, length, slice_index, slice_range, slice_get, Some, OnSome};
+ghost use Rattle.std.specs.Prelude.{◌≡◌, ℕ, ◌+◌, ◌-◌, ◌*◌, ◌<◌, ◌≤◌, length, slice_index, slice_range, slice_get, Some, OnSome};
+ghost use Rattle.std.specs.Ordering.{nat_cmp};
+ghost use Rattle.std.specs.Cmp.Lexicographic.{slice_cmp};
 ghost use Rattle.gix_hash_core.specs.Kind.{id_len};
 ghost use Rattle.gix_hash_core.specs.Oid.{oid_bytes};
 ghost use Rattle.gix_commitgraph.specs.Lookup.{Found, file_place, bucket_start, bucket_size, digits};
 
 use crate::file::init::fan_at;
 use crate::file::{File, Position};
+use crate::numbers::word_at;
 use gix_hash_core::oid;
 use std::cmp::Ordering;
+
+/// How two ids compare. Their first four bytes, which hardly ever agree, are compared as numbers.
+#[inline(always)]
+fn order(one: &[u8], other: &[u8]) -> Ordering
+    requires one { 4 ≤ length one.now }
+    requires same { length one.now ≡ length other.now }
+    requires one_bytes { (i : ℕ) → slice_index one.now i < 256 }
+    requires other_bytes { (i : ℕ) → slice_index other.now i < 256 }
+    ensures { result ≡ slice_cmp nat_cmp one.now other.now }
+{
+    let first = word_at(one, 0);
+    let second = word_at(other, 0);
+    if first < second {
+        Ordering::Less
+    } else if second < first {
+        Ordering::Greater
+    } else {
+        one.cmp(&other)
+    }
+}
 
 #[tactic(auto, using(crate::proofs::Buckets::bucket_laws))]
 impl File {
@@ -46,7 +69,8 @@ impl File {
         while low < high {
             let middle = low + (high - low) / 2;
             comparisons += 1;
-            match wanted.cmp(&self.id_bytes_at(middle, size)) {
+            let other = self.id_bytes_at(middle, size);
+            match order(wanted, other) {
                 Ordering::Less => high = middle,
                 Ordering::Equal => return (Some(Position(middle)), comparisons),
                 Ordering::Greater => low = middle + 1,
@@ -83,7 +107,8 @@ impl File {
     fn id_bytes_at(&self, pos: u32, size: usize) -> &[u8]
         requires within { pos < length self.now.ids }
         requires size { size ≡ id_len self.now.kind }
-        ensures { slice_get self.now.ids pos ≡ Some result.now }
+        ensures id { slice_get self.now.ids pos ≡ Some result.now }
+        ensures len { length result.now ≡ size }
     {
         let start = self.layout.places.ids.start + size * pos as usize;
         &self.bytes[start..start + size]

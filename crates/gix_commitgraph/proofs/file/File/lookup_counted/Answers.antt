@@ -30,14 +30,14 @@ overflow_add-comparisons c =
 
 pub loop-low-preserved-in-Less : goal.loop-low-preserved-in-Less
 loop-low-preserved-in-Less c = record {
-  stands = stands_within-lower _ _ _ _ _ _ c.loop-low.invariant.stands c.id_bytes_at.ensures (sym c.in-Less.ensures);
+  stands = stands_within-lower _ _ _ _ _ _ c.loop-low.invariant.stands c.id_bytes_at-other.ensures.id (sym c.in-Less.ensures);
   order = omega arith;
   within = omega arith;
   counted = omega (arith, digits-lower (c.loop-low.high - c.loop-low.low) (c.loop-low.low + (c.loop-low.high - c.loop-low.low) / 2 - c.loop-low.low) (omega arith) (omega arith));
 }
 
 pub returns-in-Equal-clause-found : goal.returns-in-Equal-clause-found
-returns-in-Equal-clause-found c = rw (← c.as_bytes-wanted.ensures.bytes) (found-equal _ _ _ _ c.id_bytes_at.ensures (sym c.in-Equal.ensures))
+returns-in-Equal-clause-found c = rw (← c.as_bytes-wanted.ensures.bytes) (found-equal _ _ _ _ c.id_bytes_at-other.ensures.id (sym c.in-Equal.ensures))
 
 pub returns-in-Equal-clause-most : goal.returns-in-Equal-clause-most
 returns-in-Equal-clause-most c =
@@ -45,7 +45,7 @@ returns-in-Equal-clause-most c =
 
 pub loop-low-preserved : goal.loop-low-preserved
 loop-low-preserved c = record {
-  stands = stands_within-upper _ _ _ _ _ _ c.loop-low.invariant.stands c.id_bytes_at.ensures (sym c.in-Greater.ensures);
+  stands = stands_within-upper _ _ _ _ _ _ c.loop-low.invariant.stands c.id_bytes_at-other.ensures.id (sym c.in-Greater.ensures);
   order = omega arith;
   within = omega arith;
   counted = omega (arith, digits-lower (c.loop-low.high - c.loop-low.low) (c.loop-low.high - (c.loop-low.low + (c.loop-low.high - c.loop-low.low) / 2 + 1)) (omega arith) (omega arith));

@@ -1,0 +1,246 @@
+#!/usr/bin/env python3
+"""Measures lookups and reads of commits, beside the same work in plain Rust.
+
+usage: python3 bench/lookup.py [FOLDER]
+
+FOLDER keeps the files and both programs for further runs; without it all is made anew, which takes
+some minutes. The files are one layer of a million commits, and a chain of ten layers of the same
+commits. Both programs read the same files, in turn, and have to give the same sums. A line a
+figure: ours and the baseline's, in nanoseconds an item, each the best of all runs, and their ratio.
+The items are lookups of ids that are there and of ids that are not, in an order by chance that is
+always the same; commits with all their parents, in order; and commits at positions by chance, each
+with its generation number, its time and its parents.
+
+Ours is bench/lookup/main.rt.txt, which is proved and built by LLVM, over the repository's crates.
+The baseline is bench/lookup/baseline.rs, by `rustc -O` for the same processor. The status is 1
+where the two disagree.
+"""
+
+import hashlib
+import os
+import shutil
+import struct
+import subprocess
+import sys
+import tempfile
+
+TOP = os.path.dirname(os.path.dirname(os.path.abspath(__file__)))
+SOURCES = os.path.join(TOP, "bench", "lookup")
+
+COMMITS = 1_000_000
+LAYERS = 10
+ROUNDS = 7
+"""How often each program is run. The two take turns."""
+
+LIBRARIES = {
+    "gix_hash_core": "sha1 sha2 hex thiserror",
+    "gix_chunk_core": "thiserror",
+    "gix_commitgraph": "gix_hash_core gix_chunk_core thiserror",
+}
+PROGRAM = "lookup_bench"
+PROGRAM_LIBRARIES = "gix_hash_core gix_commitgraph anyhow"
+
+NO_PARENT = 0x70000000
+TOP_BIT = 0x80000000
+
+
+def main(folder=None):
+    """Prints the figures, and answers the exit status."""
+    with tempfile.TemporaryDirectory() as scratch:
+        folder = os.path.abspath(folder or scratch)
+        os.makedirs(folder, exist_ok=True)
+        files = written_files(folder)
+        ours, baseline = our_program(folder), baseline_program(folder)
+        print("load     %.2f" % os.getloadavg()[0])
+        rounds = [(figures(ours, files), figures(baseline, files)) for _ in range(ROUNDS)]
+        return report([first for first, _ in rounds], [second for _, second in rounds])
+
+
+def report(ours, baseline):
+    """Prints a line a figure, and answers the exit status."""
+    agreed = True
+    print("%-16s %10s %10s %10s %7s" % ("figure", "items", "ours ns", "rust ns", "ratio"))
+    for name in ours[0]:
+        best, sums = best_and_sums(name, ours)
+        other, other_sums = best_and_sums(name, baseline)
+        items = COMMITS
+        print("%-16s %10d %10.2f %10.2f %7.3f" % (name, items, best / items, other / items, best / other))
+        if len(sums | other_sums) != 1:
+            print("%-16s the sums differ: %s and %s" % (name, sums, other_sums))
+            agreed = False
+    return 0 if agreed else 1
+
+
+def best_and_sums(name, runs):
+    """The least time of a figure, and the sums that the runs gave."""
+    times = [time for run in runs for time, _ in run[name]]
+    return min(times), {sums for run in runs for _, sums in run[name]}
+
+
+def figures(program, files):
+    """What one run of a program prints: for each figure its times, each with its sums."""
+    found = {}
+    for line in subprocess.check_output([program] + files, text=True).splitlines():
+        name, time, count, total = line.split()
+        found.setdefault(name, []).append((int(time), (int(count), int(total))))
+    return found
+
+
+def baseline_program(folder):
+    """The path of the baseline, built."""
+    program = os.path.join(folder, "baseline")
+    source = os.path.join(SOURCES, "baseline.rs")
+    flags = ["--edition", "2021", "-O", "-C", "target-cpu=x86-64-v2"]
+    subprocess.check_call(["rustc"] + flags + [source, "-o", program])
+    return program
+
+
+def our_program(folder):
+    """The path of our program, proved and built in a repository of its own over copies of the crates."""
+    repository = os.path.join(folder, "repository")
+    crate = os.path.join(repository, "crates", PROGRAM)
+    os.makedirs(os.path.join(crate, "src"), exist_ok=True)
+    if not os.path.exists(os.path.join(repository, ".git")):
+        subprocess.check_call(["git", "init", "--quiet", repository])
+    lines = ["%s: %s\n" % line for line in [*LIBRARIES.items(), (PROGRAM, PROGRAM_LIBRARIES)]]
+    with open(os.path.join(repository, "crates.txt"), "w") as file:
+        file.writelines(lines)
+    for library in LIBRARIES:
+        copy_crate(library, repository)
+    shutil.copyfile(os.path.join(SOURCES, "main.rt.txt"), os.path.join(crate, "src", "main.rt"))
+    built = os.path.join(crate, "out", PROGRAM)
+    if os.path.exists(built):
+        os.remove(built)
+    # With no arguments the program says how it is called, and fails.
+    told = subprocess.run(["rt", "run"], cwd=crate, stdin=subprocess.DEVNULL, stdout=subprocess.PIPE, stderr=subprocess.STDOUT)
+    if not os.path.exists(built):
+        raise RuntimeError(told.stdout.decode())
+    return built
+
+
+def copy_crate(library, repository):
+    """Copies a crate's files, and at first what earlier proofs of it have kept."""
+    source = os.path.join(TOP, "crates", library)
+    target = os.path.join(repository, "crates", library)
+    for part in ("src", "specs", "proofs"):
+        shutil.rmtree(os.path.join(target, part), ignore_errors=True)
+        shutil.copytree(os.path.join(source, part), os.path.join(target, part))
+    kept = os.path.join(source, "out")
+    if os.path.isdir(kept) and not os.path.isdir(os.path.join(target, "out")):
+        shutil.copytree(kept, os.path.join(target, "out"), symlinks=True)
+
+
+def written_files(folder):
+    """The paths of the inputs: ids that are there, ids that are not, positions, the layer, the chain's layers."""
+    names = ["present", "absent", "positions", "layer"] + ["chain-%d" % layer for layer in range(LAYERS)]
+    paths = [os.path.join(folder, name) for name in names]
+    if not all(os.path.exists(path) for path in paths):
+        for path, data in zip(paths, inputs()):
+            with open(path, "wb") as file:
+                file.write(data)
+    return paths
+
+
+def inputs():
+    """The bytes of the inputs, in their order."""
+    order = sorted(range(COMMITS), key=lambda place: digest("order", place))
+    yield b"".join(digest("commit", place) for place in order)
+    yield b"".join(digest("absent", place) for place in range(COMMITS))
+    yield struct.pack(">%dI" % COMMITS, *sorted(range(COMMITS), key=lambda place: digest("position", place)))
+    yield layer_file(range(COMMITS), positions_of([range(COMMITS)]), [])
+    size = COMMITS // LAYERS
+    parts = [range(start, start + size) for start in range(0, COMMITS, size)]
+    positions = positions_of(parts)
+    bases = []
+    for part in parts:
+        data = layer_file(part, positions, bases)
+        bases.append(data[-20:])
+        yield data
+
+
+def digest(what, place):
+    """Twenty bytes by chance, always the same."""
+    return hashlib.sha1(b"%s %d" % (what.encode(), place)).digest()
+
+
+def positions_of(parts):
+    """The position in the graph of each commit, where each layer has one part of them."""
+    positions = [0] * COMMITS
+    start = 0
+    for part in parts:
+        for rank, place in enumerate(ordered(part)):
+            positions[place] = start + rank
+        start += len(part)
+    return positions
+
+
+def ordered(part):
+    """The commits of a part in the order of their ids."""
+    return sorted(part, key=lambda place: digest("commit", place))
+
+
+def layer_file(part, positions, bases):
+    """The bytes of a layer's file: see Git's commit-graph format."""
+    places = ordered(part)
+    ids = [digest("commit", place) for place in places]
+    edges, records = [], []
+    for place, name in zip(places, ids):
+        records.append(record(place, name, positions, edges))
+    chunks = [
+        (b"OIDF", fan(ids)),
+        (b"OIDL", b"".join(ids)),
+        (b"CDAT", b"".join(records)),
+        (b"EDGE", struct.pack(">%dI" % len(edges), *edges)),
+    ]
+    if bases:
+        chunks.append((b"BASE", b"".join(bases)))
+    return with_trailer(struct.pack(">4s4B", b"CGPH", 1, 1, len(chunks), len(bases)) + table(chunks))
+
+
+def fan(ids):
+    """For each byte, how many ids begin with it or a lesser one."""
+    counts = [0] * 256
+    for name in ids:
+        counts[name[0]] += 1
+    totals = []
+    for count in counts:
+        totals.append((totals[-1] if totals else 0) + count)
+    return struct.pack(">256I", *totals)
+
+
+def record(place, name, positions, edges):
+    """A commit's record. Its words of the extra edge list, if it has any, are put after the others."""
+    first, *others = [positions[parent] for parent in parents(place)] or [NO_PARENT]
+    second = others[0] if others else NO_PARENT
+    if len(others) > 1:
+        second = TOP_BIT + len(edges)
+        edges.extend(others[:-1] + [TOP_BIT + others[-1]])
+    dates = ((place + 1) << 34) + 1_000_000_000 + 60 * place
+    return name[::-1] + struct.pack(">2IQ", first, second, dates)
+
+
+def parents(place):
+    """The commit before. Each tenth is a merge, and each thousandth one of four parents."""
+    steps = (1, 5, 50, 500) if place % 1000 == 999 else (1, 5) if place % 10 == 9 else (1,)
+    return [place - step for step in steps if place >= step]
+
+
+def table(chunks):
+    """The table of the chunks, which lie one after another, and then they themselves."""
+    at = 8 + 12 * (len(chunks) + 1)
+    rows = []
+    for name, data in chunks + [(bytes(4), b"")]:
+        rows.append(struct.pack(">4sQ", name, at))
+        at += len(data)
+    return b"".join(rows) + b"".join(data for _, data in chunks)
+
+
+def with_trailer(data):
+    """The bytes, and their digest."""
+    return data + hashlib.sha1(data).digest()
+
+
+if __name__ == "__main__":
+    if len(sys.argv) > 2:
+        sys.exit(__doc__)
+    sys.exit(main(*sys.argv[1:]))

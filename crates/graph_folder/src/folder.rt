@@ -1,0 +1,68 @@
+//! Files and folders by their paths, whose reads a device may fail.
+
+ghost use Rattle.std.specs.Prelude.{◌≡◌, ℕ, Option, Some, None, IfOk, IsErrOf};
+ghost use Rattle.std.specs.Option.{ForSome};
+ghost use Rattle.graph_folder.specs.Tree.{Tree, is_file, is_folder, file_at};
+ghost use Rattle.graph_folder.specs.Failures.{failures_after};
+
+mod in_memory;
+mod on_disk;
+mod whole;
+
+pub use in_memory::Memory;
+pub use on_disk::Disk;
+use std::alloc::{AllocError, Global};
+use thiserror::Error;
+pub use whole::read_all;
+
+/// Why a file could not be read whole.
+///
+/// It is displayed as the name of the variant.
+#[derive(Debug, PartialEq, Eq, Drop, Error)]
+pub enum ReadError {
+    /// No file stands at the path, or it may not be read.
+    #[error("NotOpened")]
+    NotOpened,
+    /// A read of the file failed.
+    #[error("Device")]
+    Device,
+    /// There is no memory for the bytes.
+    #[error("OutOfMemory")]
+    OutOfMemory,
+}
+
+/// Files and folders by their paths, which are texts. Where it is known what stands at each path,
+/// the calls answer by that, and none of them changes it.
+pub trait Folder {
+    /// What stands at each path, where that is known.
+    ghost tree: { Self → Option Tree };
+
+    /// How many reads the device has failed so far, which stays at the greatest `u64`.
+    ghost failure_count: { Self → ℕ };
+
+    /// How many reads the device has failed so far: the reads that answered `Device`, counted up
+    /// to the greatest `u64`.
+    fn failures(&self) -> u64
+        ensures { result ≡ failure_count self.now };
+
+    /// Whether a file stands at the path. `AllocError` comes only where a growth was refused.
+    fn is_file(&mut self, alloc: Global, path: &str) -> Result<bool, AllocError>
+        ensures answer { ForSome (tree self.old) (λ t. IfOk result (λ found. found ≡ is_file t path.now)) }
+        ensures tree { tree self.new ≡ tree self.old }
+        ensures failures { failure_count self.new ≡ failure_count self.old };
+
+    /// Whether a folder stands at the path. `AllocError` comes only where a growth was refused.
+    fn is_dir(&mut self, alloc: Global, path: &str) -> Result<bool, AllocError>
+        ensures answer { ForSome (tree self.old) (λ t. IfOk result (λ found. found ≡ is_folder t path.now)) }
+        ensures tree { tree self.new ≡ tree self.old }
+        ensures failures { failure_count self.new ≡ failure_count self.old };
+
+    /// All bytes of the file at the path. `NotOpened` comes where no file stands there or it may
+    /// not be read, `Device` where a read of it failed, and `OutOfMemory` where there is no memory
+    /// for the bytes. The count of failures rises by one with each `Device`, and with nothing else.
+    fn read(&mut self, alloc: Global, path: &str) -> Result<Vec<u8>, ReadError>
+        ensures bytes { ForSome (tree self.old) (λ t. IfOk result (λ bytes. file_at t path.now ≡ Some bytes.items)) }
+        ensures not_opened { ForSome (tree self.old) (λ t. IsErrOf result ReadError.NotOpened → file_at t path.now ≡ None) }
+        ensures tree { tree self.new ≡ tree self.old }
+        ensures failures { failure_count self.new ≡ failures_after result (failure_count self.old) };
+}

@@ -1,0 +1,75 @@
+//! The file system as a folder.
+
+ghost use Rattle.std.specs.Prelude.{◌≡◌, None, IsOk};
+ghost use Rattle.graph_folder.specs.Failures.{failures_after};
+
+use super::{Folder, ReadError, read_all};
+use std::alloc::{AllocError, Global};
+use std::fs;
+use std::fs::OpenFile;
+use std::rt::Files;
+
+/// The file system of a host. What stands in it is not known.
+#[derive(Drop)]
+pub struct Disk<'r, R> {
+    rt: &'r R,
+    failures: u64,
+}
+
+impl<'r, R: Files> Disk<'r, R> {
+    /// The file system that the runtime gives. No read of it has failed yet.
+    pub fn new(rt: &'r R) -> Disk<'r, R>
+        ensures { ⟦<Disk<'r, R> as Folder>⟧.failure_count result ≡ 0 }
+    {
+        Disk { rt, failures: 0 }
+    }
+
+    // All bytes of the file at the path. A host may open a folder as it opens a file.
+    fn read_file(&self, alloc: Global, path: &str) -> Result<Vec<u8>, ReadError> {
+        let mut file = fs::open(self.rt, path).map_err(|_| ReadError::NotOpened)?;
+        if file.metadata().is_ok_and(|metadata| metadata.is_dir()) {
+            return Err(ReadError::NotOpened);
+        }
+        read_all(alloc, &mut file)
+    }
+}
+
+impl<R: Files> Folder for Disk<'_, R> {
+    ghost tree = { λ _. None };
+
+    ghost failure_count = { λ disk. disk.failures };
+
+    /// How many reads the device has failed so far.
+    fn failures(&self) -> u64 {
+        self.failures
+    }
+
+    /// Whether the host calls the path a file. Where it refuses to tell, the answer is no.
+    /// `AllocError` never comes.
+    fn is_file(&mut self, _alloc: Global, path: &str) -> Result<bool, AllocError>
+        ensures answered { IsOk result }
+        ensures unchanged { self.new ≡ self.old }
+    {
+        Ok(fs::metadata(self.rt, path).is_ok_and(|metadata| metadata.is_file()))
+    }
+
+    /// Whether the host calls the path a folder. Where it refuses to tell, the answer is no.
+    /// `AllocError` never comes.
+    fn is_dir(&mut self, _alloc: Global, path: &str) -> Result<bool, AllocError>
+        ensures answered { IsOk result }
+        ensures unchanged { self.new ≡ self.old }
+    {
+        Ok(fs::metadata(self.rt, path).is_ok_and(|metadata| metadata.is_dir()))
+    }
+
+    /// All bytes of the file at the path. `NotOpened` comes where the host does not open it or
+    /// calls it a folder, `Device` where a later read fails, and `OutOfMemory` where there is no
+    /// memory for the bytes.
+    fn read(&mut self, alloc: Global, path: &str) -> Result<Vec<u8>, ReadError> {
+        let answer = self.read_file(alloc, path);
+        if let Err(ReadError::Device) = answer {
+            self.failures = self.failures.saturating_add(1);
+        }
+        answer
+    }
+}

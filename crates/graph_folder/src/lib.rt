@@ -1,0 +1,11 @@
+//! Where commit-graph files are read from: folders on disk and in memory, whole reads, and the
+//! lines of a chain file.
+#![tactic(auto)]
+
+pub mod chain;
+pub mod folder;
+mod law;
+#[cfg(test)]
+mod tests;
+
+pub use law::texts_are_cut_into_lines;
