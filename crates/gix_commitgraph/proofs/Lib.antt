@@ -22,3 +22,4 @@ pub mod GraphLookups
 pub mod Positions
 pub mod GraphLaws
 pub mod Fronts
+pub mod Points

@@ -21,3 +21,14 @@ pub mod GraphRefusal
 pub mod GraphLookup
 pub mod GraphLeft
 pub mod GraphLaw
+pub mod Points
+pub mod Called
+pub mod Names
+pub mod Counts
+pub mod History
+pub mod Wrong
+pub mod Traverse
+pub mod Generations
+pub mod Verify
+pub mod Walks
+pub mod Sound

@@ -21,6 +21,7 @@ mod numbers;
 mod tests;
 #[cfg(test)]
 mod tests_commit;
+pub mod verify;
 
 pub use error::FileError;
 pub use file::File;

@@ -1,0 +1,94 @@
+-- what the check of a graph looks for, in its order, and what it answers
+use Rattle.std.specs.Prelude.{◌≡◌, ◌==◌, ◌+◌, ◌-◌, ◌∷◌, [], ℕ, List, not, nat_lt, bytes_eq, slice_get, unwrap_or, length, map, Option, Some, None, option_map, Result, Ok, Err, if◌then◌else◌}
+use Rattle.std.specs.BTreeMap.{get, IsUnchanged}
+use Rattle.std.specs.List.{flat_map, range_with_len, enumerate_from}
+use Rattle.std.specs.Ordering.{nat_cmp}
+use Rattle.gix_chunk_core.specs.First.{◌when◌, ◌otherwise◌, first_below}
+use Rattle.gix_commitgraph.specs.Layer.{Layer, record_at}
+use Rattle.gix_commitgraph.specs.Parents.{position_of, parents_of, items_of}
+use Rattle.gix_commitgraph.specs.Graph.{start, stop, total}
+use Rattle.gix_commitgraph.specs.Wrong.{layer_fault, commit_fault}
+use Rattle.gix_commitgraph.specs.Points.{Point, check, call, first_some, Stop, refused, by_processor, no_memory}
+use Rattle.gix_commitgraph.specs.Counts.{greatest, count_of}
+use Rattle.gix_commitgraph.specs.History.{Node, history_of, generation_at, generations, parent_numbers}
+use Rattle.gix_commitgraph.specs.Generations.{expected_generation}
+use Rattle.gix_commitgraph.specs.declared.TheConstants.{GENERATION_NUMBER_MAX}
+use Rattle.gix_commitgraph.specs.declared.Position.{Position}
+use Rattle.gix_commitgraph.specs.declared.file.commit.ParentError.{ParentError}
+use Rattle.gix_commitgraph.specs.declared.verify.VerifyError.{VerifyError}
+use Rattle.gix_commitgraph.specs.declared.verify.VerifyError.TheVariants as error
+use Rattle.gix_commitgraph.specs.declared.verify.Outcome.{Outcome}
+
+-- the base ids of a layer that is to be layer i: one for each layer before it, and that layer's checksum
+abbrev pub base_at : Layer → ℕ → List ℕ
+base_at layer j = unwrap_or (slice_get layer.bases j) []
+
+abbrev pub checksum_at : List Layer → ℕ → List ℕ
+checksum_at layers j = unwrap_or (slice_get (map (λ layer. layer.checksum) layers) j) []
+
+module _ {E : Type 0} where
+  abbrev pub base_refusal : List Layer → ℕ → Layer → ℕ → Option (VerifyError E)
+  base_refusal layers i layer j = error.BaseId i j when not (bytes_eq (base_at layer j) (checksum_at layers j))
+
+  abbrev pub bases_refusal : List Layer → ℕ → Layer → Option (VerifyError E)
+  bases_refusal layers i layer =
+      error.BaseCount i when not (length layer.bases == i) otherwise first_below (base_refusal layers i layer) i
+
+  -- one item of the parents of the commit at p, whose layer ends before stop
+  abbrev pub item_refusal : ℕ → ℕ → Result Position ParentError → Option (VerifyError E)
+  item_refusal p stop (Ok parent) = error.ParentOutOfRange (position_of p) parent when not (nat_lt parent.0 stop)
+  item_refusal p stop (Err fault) = Some (error.Parent (position_of p) fault)
+
+  -- the parents of the commit at a position of layer i, one after another
+  abbrev pub parents_refusal : List Layer → ℕ → Layer → ℕ → Option (VerifyError E)
+  parents_refusal layers i layer pos =
+      first_some (map (item_refusal (start layers i + pos) (stop layers i)) (items_of (parents_of (record_at layer pos) layer.edges)))
+
+  -- the generation number of the commit at p
+  abbrev pub generation_refusal : List Node → ℕ → Option (VerifyError E)
+  generation_refusal history p =
+      error.Generation (position_of p) (expected_generation history p) when not (generation_at history p == expected_generation history p)
+
+  -- the commit at a position of layer i: its ids, its parents, its generation number, the processor
+  abbrev pub commit_points : List Layer → ℕ → Layer → ℕ → List (Point (VerifyError E))
+  commit_points layers i layer pos =
+      check (option_map (error.Commit (position_of (start layers i + pos))) (commit_fault layer pos))
+      ∷ check (parents_refusal layers i layer pos)
+      ∷ check (generation_refusal (history_of layers) (start layers i + pos))
+      ∷ call (start layers i + pos)
+      ∷ []
+
+  -- layer i: its base ids, the layer as a whole, and then each commit
+  abbrev pub layer_points : List Layer → ℕ → Layer → List (Point (VerifyError E))
+  layer_points layers i layer =
+      check (bases_refusal layers i layer)
+      ∷ check (option_map (error.Layer i) (layer_fault layer))
+      ∷ flat_map (commit_points layers i layer) (range_with_len 0 (length layer.ids))
+
+  -- the number of layers, and then each layer
+  abbrev pub graph_points : List Layer → List (Point (VerifyError E))
+  graph_points layers =
+      check (error.TooManyFiles when nat_lt 256 (length layers))
+      ∷ flat_map (λ e. layer_points layers e.0 e.1) (enumerate_from 0 layers)
+
+  -- why the check stopped
+  abbrev pub stop_of : VerifyError E → Stop (VerifyError E) E
+  stop_of (error.Processor pos e) = by_processor pos.0 e
+  stop_of error.OutOfMemory = no_memory
+  stop_of x = refused x
+
+-- one less than the greatest of some generation numbers, 0 where there are none, and none where one is at the cap
+abbrev pub longest_path : List ℕ → Option ℕ
+longest_path numbers = if nat_lt (greatest numbers) GENERATION_NUMBER_MAX then Some (greatest numbers - 1) else None
+
+-- What some commits come to.
+pub record Summarizes (history : List Node) (outcome : Outcome) : Type 0 where
+  pub longest_path_length : outcome.longest_path_length ≡ longest_path (generations history)
+  pub num_commits : outcome.num_commits ≡ length history
+  pub parent_counts : (k : ℕ) → get nat_cmp outcome.parent_counts k ≡ count_of (parent_numbers history) k
+
+-- A second outcome that is equal in each field: its counts are the same, in the same order.
+pub record IsCopy (outcome copy : Outcome) : Type 0 where
+  pub longest_path_length : copy.longest_path_length ≡ outcome.longest_path_length
+  pub num_commits : copy.num_commits ≡ outcome.num_commits
+  pub parent_counts : IsUnchanged outcome.parent_counts copy.parent_counts

@@ -1,0 +1,103 @@
+//! The check of a graph: what may be wrong with it, and what its commits come to.
+
+ghost use Rattle.std.specs.Prelude.{IfOk};
+
+use crate::Position;
+use crate::file::commit::ParentError;
+use std::alloc::AllocError;
+use std::collections::BTreeMap;
+use thiserror::Error;
+
+/// What is wrong with a layer as a whole.
+#[derive(Clone, Copy, Debug, PartialEq, Eq, Error)]
+pub enum LayerFault {
+    /// The checksum is not the digest of the bytes before it ("TRAILER").
+    #[error("Checksum")]
+    Checksum,
+    /// The file is named as a layer of a chain, and not after its checksum ("Commit-Graph Chains" of
+    /// Git's commit-graph design).
+    #[error("FileName")]
+    FileName,
+    /// The fan's number at this byte is not the number of ids whose first byte is at most that. It
+    /// is the least such byte ("OID Fanout").
+    #[error("Fan")]
+    Fan { byte: u8 },
+}
+
+/// What is wrong with the ids of a commit.
+#[derive(Clone, Copy, Debug, PartialEq, Eq, Error)]
+pub enum CommitFault {
+    /// The id is null ("OID Lookup").
+    #[error("NullId")]
+    NullId,
+    /// The id is not above the one before it in the layer ("OID Lookup").
+    #[error("Order")]
+    Order,
+    /// The id of the root tree is null ("Commit Data").
+    #[error("NullTree")]
+    NullTree,
+}
+
+/// Why a graph is refused: the first of its checks that fails, in their order, or want of memory.
+/// Positions are those of the graph, and layers and base ids count from 0.
+#[derive(Debug, Drop, PartialEq, Eq, Error)]
+pub enum VerifyError<E> {
+    /// There are more than 256 layers.
+    #[error("TooManyFiles")]
+    TooManyFiles,
+    /// The layer does not have one base id for each layer before it ("Base Graphs List").
+    #[error("BaseCount")]
+    BaseCount { layer: usize },
+    /// The base id of this index is not the checksum of the layer of that index ("Base Graphs List").
+    #[error("BaseId")]
+    BaseId { layer: usize, index: usize },
+    /// Something is wrong with the layer as a whole.
+    #[error("Layer")]
+    Layer { layer: usize, fault: LayerFault },
+    /// Something is wrong with the ids of the commit at this position.
+    #[error("Commit")]
+    Commit { pos: Position, fault: CommitFault },
+    /// The parents of the commit at this position cannot be told ("Commit Data", "Extra Edge List").
+    #[error("Parent")]
+    Parent { pos: Position, error: ParentError },
+    /// A parent of the commit at this position stands neither in the commit's layer nor in an
+    /// earlier one ("Commit Data").
+    #[error("ParentOutOfRange")]
+    ParentOutOfRange { pos: Position, parent: Position },
+    /// The generation number of the commit at this position is not the one that those of its parents
+    /// make ("Commit Data").
+    #[error("Generation")]
+    Generation { pos: Position, expected: u32 },
+    /// The processor answered this error on the commit at this position.
+    #[error("Processor")]
+    Processor { pos: Position, error: E },
+    /// A growth was refused.
+    #[error("OutOfMemory")]
+    OutOfMemory,
+}
+
+/// What the commits of a graph come to.
+#[derive(Debug, Drop, PartialEq, Eq)]
+pub struct Outcome {
+    /// The number of edges of the longest walk along parents, 0 where there is no commit. It is not
+    /// known where some generation number is [`GENERATION_NUMBER_MAX`](crate::GENERATION_NUMBER_MAX).
+    pub longest_path_length: Option<u32>,
+    /// The number of commits.
+    pub num_commits: u32,
+    /// For each number of parents that some commit has, the number of commits that have it.
+    pub parent_counts: BTreeMap<u32, u32>,
+}
+
+impl Outcome {
+    ghost use Rattle.gix_commitgraph.specs.Verify.{IsCopy};
+
+    /// An equal outcome. The error is want of memory.
+    pub fn try_clone(&self) -> Result<Outcome, AllocError>
+        ensures { IfOk result (IsCopy self.now) }
+    {
+        Ok(Outcome {
+            parent_counts: self.parent_counts.clone()?,
+            ..*self
+        })
+    }
+}
