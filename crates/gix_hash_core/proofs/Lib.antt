@@ -1,3 +1,4 @@
 pub mod HexText
 pub mod OrderLemmas
 pub mod DigestLemmas
+pub mod Spelling
