@@ -24,3 +24,4 @@ pub mod GraphLaws
 pub mod Fronts
 pub mod Points
 pub mod NameSteps
+pub mod FirstBytes

@@ -1,11 +1,14 @@
 //! What is wrong with a layer as a whole.
 
-ghost use Rattle.std.specs.Prelude.{◌≡◌, if◌then◌else◌, option_map, Some, None};
+ghost use Rattle.std.specs.Prelude.{◌≡◌, ◌==◌, ◌^◌, ◌<◌, ℕ, if◌then◌else◌, option_map, Some, None, count_by, slice_index, length};
+ghost use Rattle.gix_chunk_core.specs.First.{first_below};
 ghost use Rattle.gix_hash_core.specs.Hexadecimal.{spells_id};
 ghost use Rattle.gix_hash_core.specs.Oid.{oid_bytes};
 ghost use Rattle.gix_commitgraph.specs.Names.{is_name, name_of, is_chain_name, hash_text, is_named_right};
+ghost use Rattle.gix_commitgraph.specs.Wrong.{wrong_fan};
 
-use crate::file::File;
+use crate::file::{File, Position};
+use crate::verify::LayerFault;
 use gix_hash_core::{ObjectId, oid};
 
 impl File {
@@ -17,6 +20,34 @@ impl File {
             Some(text) => spells(text, self.checksum()),
             None => true,
         }
+    }
+
+    /// The least byte for which the fan does not have the number of ids whose first byte is at most
+    /// that.
+    fn wrong_byte(&self) -> Option<u8>
+        ensures { option_map LayerFault.Fan result ≡ first_below (wrong_fan self.now) 256 }
+    {
+        let mut ids = 0;
+        for (byte, count) in self.first_bytes().iter().enumerate() {
+            ids += *count;
+            if self.fan_number(byte as u8) != ids {
+                return Some(byte as u8);
+            }
+        }
+        None
+    }
+
+    /// How many ids have each first byte. The ids may stand in any order.
+    fn first_bytes(&self) -> [u32; 256]
+        ensures counts { (byte : ℕ) → byte < 256 → slice_index result byte
+            ≡ count_by (λ id. slice_index id 0 == byte) self.now.ids }
+        ensures few { length self.now.ids < 2 ^ 32 }
+    {
+        let mut counts = [0; 256];
+        for pos in 0..self.num_commits() {
+            counts[self.id_at(Position(pos)).first_byte() as usize] += 1;
+        }
+        counts
     }
 }
 

@@ -95,7 +95,7 @@ impl File {
     }
 
     /// The number that the fan has at a byte.
-    fn fan_number(&self, byte: u8) -> u32
+    pub(super) fn fan_number(&self, byte: u8) -> u32
         ensures number { result ≡ slice_index self.now.fan byte }
         ensures rises { 0 < byte → slice_index self.now.fan (byte - 1) ≤ result }
         ensures within { result ≤ length self.now.ids }
