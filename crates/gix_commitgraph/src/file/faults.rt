@@ -5,13 +5,27 @@ ghost use Rattle.gix_chunk_core.specs.First.{first_below};
 ghost use Rattle.gix_hash_core.specs.Hexadecimal.{spells_id};
 ghost use Rattle.gix_hash_core.specs.Oid.{oid_bytes};
 ghost use Rattle.gix_commitgraph.specs.Names.{is_name, name_of, is_chain_name, hash_text, is_named_right};
-ghost use Rattle.gix_commitgraph.specs.Wrong.{wrong_fan};
+ghost use Rattle.gix_commitgraph.specs.Wrong.{wrong_fan, layer_fault};
 
 use crate::file::{File, Position};
 use crate::verify::LayerFault;
 use gix_hash_core::{ObjectId, oid};
 
 impl File {
+    /// The first thing that is wrong with the layer as a whole: its checksum ("TRAILER"), the name of
+    /// its file ("Commit-Graph Chains" of Git's commit-graph design), or its fan ("OID Fanout").
+    pub(crate) fn layer_fault(&self) -> Option<LayerFault>
+        ensures { result ≡ layer_fault self.now }
+    {
+        if self.verify_checksum().is_err() {
+            return Some(LayerFault::Checksum);
+        }
+        if !self.is_named_right() {
+            return Some(LayerFault::FileName);
+        }
+        self.wrong_byte().map(|byte| LayerFault::Fan { byte })
+    }
+
     /// Whether the file is named after its checksum, if it is named as a layer of a chain.
     fn is_named_right(&self) -> bool
         ensures { result ≡ is_named_right self.now.path self.now.checksum }
