@@ -23,3 +23,6 @@ pub mod Positions
 pub mod GraphLaws
 pub mod Fronts
 pub mod Points
+pub mod Greatest
+pub mod Paths
+pub mod WalkLaws

@@ -4,6 +4,7 @@
 pub mod edges;
 pub mod graph;
 pub mod lookup;
+pub mod walk;
 
 ghost use Rattle.std.specs.Prelude.{ℕ, List};
 ghost use Rattle.gix_commitgraph.specs.Law.{IsDecided, NamesFirstFall, FallIntoPieces};
