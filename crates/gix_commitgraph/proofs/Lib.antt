@@ -26,3 +26,4 @@ pub mod Points
 pub mod Greatest
 pub mod Paths
 pub mod WalkLaws
+pub mod NamesLaws

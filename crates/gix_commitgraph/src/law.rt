@@ -3,6 +3,7 @@
 
 pub mod edges;
 pub mod graph;
+pub mod layer;
 pub mod lookup;
 pub mod walk;
 
