@@ -27,3 +27,4 @@ pub mod Greatest
 pub mod Paths
 pub mod WalkLaws
 pub mod NamesLaws
+pub mod HistoryLaws
