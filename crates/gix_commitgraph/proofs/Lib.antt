@@ -27,4 +27,9 @@ pub mod Greatest
 pub mod Paths
 pub mod WalkLaws
 pub mod NamesLaws
+pub mod FaultFree
 pub mod HistoryLaws
+pub mod SoundLayers
+pub mod SoundCommits
+pub mod SoundParents
+pub mod SoundLaws

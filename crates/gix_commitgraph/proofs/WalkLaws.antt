@@ -1,13 +1,14 @@
 -- Generation numbers and walks: what each commit and its parents say, and what whole walks say.
-use Rattle.std.proofs.Common.{◌≡◌, Option, ℕ, suc, zero, ◌+◌, ◌-◌, ◌<◌, ◌≤◌, min, List, [], ◌∷◌, map, length, slice_get, Some, None, Contains, refl, ap, ◌∙◌, subst, ⊎_elim, arith}
+use Rattle.std.proofs.Common.{◌≡◌, Option, ℕ, suc, zero, ◌+◌, ◌-◌, ◌<◌, ◌≤◌, min, List, [], ◌∷◌, map, length, slice_get, Some, None, Contains, if◌then◌else◌, refl, sym, ap, ◌∙◌, subst, ⊎_elim, arith}
 use Rattle.std.proofs.lemmas.Option.{slice_get_past, slice_get_within, slice_get-get_or, get_or_from_slice_get}
-use Rattle.std.proofs.lemmas.Bool.{cases_lt}
+use Rattle.std.proofs.lemmas.Bool.{cases_lt, lt-ltb, le-ltb}
 use Rattle.std.specs.Option.{option_map_or}
 use Rattle.gix_commitgraph.specs.declared.TheConstants.{GENERATION_NUMBER_MAX}
 use Rattle.gix_commitgraph.specs.History.{Node, IsParent, generation_at, parents_at, generations}
-use Rattle.gix_commitgraph.specs.Walks.{HasWalk, CountWalks, Reaches, ReachesAbove, IsLongestWalk}
+use Rattle.gix_commitgraph.specs.Walks.{HasWalk, CountWalks, Reaches, ReachesAbove, IsLongestWalk, TellsLongest}
 use Rattle.gix_commitgraph.specs.Counts.{greatest}
 use Rattle.gix_commitgraph.specs.Generations.{expected_generation, AreLocal}
+use Rattle.gix_commitgraph.specs.Verify.{longest_path}
 use Rattle.gix_commitgraph.proofs.Paths.{Path, has_walk_from_path, path_from_has_walk, path_from_between, begins_within, front_of_path}
 use Rattle.gix_commitgraph.proofs.Greatest.{greatest_bounds, greatest_reached}
 
@@ -234,3 +235,21 @@ longest_from_greatest h counts low = record {
   no_commits : (cs : List Node) → length cs ≡ 0 → greatest (generations cs) - 1 ≡ 0
   no_commits [] empty = refl
   no_commits (c ∷ cs) empty = absurd (omega arith)
+
+-- what the generation numbers tell of the longest walk
+pub longest_is_told : (h : List Node) → CountWalks h → TellsLongest h (longest_path (generations h))
+longest_is_told h counts =
+    let most = greatest (generations h) in
+    ⊎_elim
+    (λ (low : most < GENERATION_NUMBER_MAX).
+    let some : longest_path (generations h) ≡ Some (most - 1) = ap (λ b. if b then Some (most - 1) else None) (lt-ltb most GENERATION_NUMBER_MAX low) in
+    let below : (p : ℕ) → generation_at h p < GENERATION_NUMBER_MAX = λ p. omega (arith, generation_bound h p) in
+    subst (TellsLongest h) (sym some) (λ capped. omega (arith, below capped.0, capped.2), longest_from_greatest h counts (λ p within. below p)))
+    (λ (high : GENERATION_NUMBER_MAX ≤ most).
+    let none : longest_path (generations h) ≡ None = ap (λ b. if b then Some (most - 1) else None) (le-ltb most GENERATION_NUMBER_MAX high) in
+    let found = greatest_reached (λ (c : Node). c.generation) h (omega arith) in
+    let within : found.0 < length h = slice_get_within h found.0 found.1 found.2 in
+    let same : generation_at h found.0 ≡ found.1.generation = generation_is h found.0 found.1 found.2 in
+    let capped : generation_at h found.0 ≤ GENERATION_NUMBER_MAX = (counts found.0 within).capped in
+    subst (TellsLongest h) (sym none) (found.0, within, omega (arith, found.3)))
+    (cases_lt most GENERATION_NUMBER_MAX)

@@ -5,6 +5,7 @@ pub mod edges;
 pub mod graph;
 pub mod layer;
 pub mod lookup;
+pub mod sound;
 pub mod walk;
 
 ghost use Rattle.std.specs.Prelude.{ℕ, List};

@@ -23,7 +23,8 @@ pub fn generations_that_count_walks_are_local()
 
 /// Along a walk the generation number never rises, also at the cap.
 pub fn generations_never_rise_along_walks()
-    ensures { (history : List Node) (p q : ℕ) → CountWalks history → Reaches history p q → generation_at history q ≤ generation_at history p }
+    ensures { (history : List Node) (p q : ℕ) → CountWalks history → Reaches history p q
+        → generation_at history q ≤ generation_at history p }
 {}
 
 /// Along a walk of two commits or more it falls, unless the walk ends at the cap.
@@ -34,7 +35,8 @@ pub fn generations_fall_along_walks()
 
 /// No commit with a generation number below the cap lies on a cycle.
 pub fn cycles_are_at_the_cap()
-    ensures { (history : List Node) (p : ℕ) → CountWalks history → ReachesAbove history p p → generation_at history p ≡ GENERATION_NUMBER_MAX }
+    ensures { (history : List Node) (p : ℕ) → CountWalks history → ReachesAbove history p p
+        → generation_at history p ≡ GENERATION_NUMBER_MAX }
 {}
 
 /// Where no generation number is at the cap, the greatest of them less one is the number of edges of
