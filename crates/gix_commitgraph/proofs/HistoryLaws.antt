@@ -1,5 +1,5 @@
 -- The history of a graph by the layers that its commits lie in.
-use Rattle.std.proofs.Common.{◌≡◌, ℕ, ◌+◌, ◌*◌, ◌/◌, ◌<◌, List, [], ◌∷◌, map, length, take, get_or, Option, Some, None, All, IsSomeAnd, slice_get, refl, sym, ap, subst, ◌∙◌, arith, length-append}
+use Rattle.std.proofs.Common.{◌≡◌, ℕ, ◌+◌, ◌-◌, ◌*◌, ◌/◌, ◌<◌, List, [], ◌∷◌, map, length, take, get_or, Option, Some, None, All, IsSomeAnd, slice_get, refl, sym, ap, subst, ◌∙◌, arith, length-append}
 use Rattle.std.specs.List.{flat_map}
 use Rattle.std.specs.Option.{option_map, option_map_or}
 use Rattle.std.proofs.Math.Nat.{mul-div_cancel_left}
@@ -14,6 +14,7 @@ use Rattle.gix_hash_core.specs.Kind.{id_len}
 use Rattle.gix_commitgraph.specs.Format.{Record, record_of, record_len, pieces}
 use Rattle.gix_commitgraph.specs.Layer.{Layer, no_record, record_at}
 use Rattle.gix_commitgraph.specs.Graph.{total, start, IsOpened}
+use Rattle.gix_commitgraph.specs.GraphLaw.{LiesIn}
 use Rattle.gix_commitgraph.specs.History.{Node, node_of, layer_history, history_of, generation_at, parents_at}
 use Rattle.gix_commitgraph.proofs.Layers.{size, start-more, start-fits}
 use Rattle.gix_commitgraph.proofs.Pieces.{length-pieces}
@@ -99,3 +100,13 @@ generation_at-is layers i pos layer paired here within =
 pub parents_at-is : (layers : List Layer) (i pos : ℕ) (layer : Layer) → All IsPaired layers → slice_get layers i ≡ Some layer → pos < size layer → parents_at (history_of layers) (start layers i + pos) ≡ (node_of layer (record_at layer pos)).parents
 parents_at-is layers i pos layer paired here within =
     ap (λ (o : Option Node). option_map_or (λ (node : Node). node.parents) o []) (history-at layers i pos layer paired here within)
+
+-- the same, by the position in the graph
+pub history-placed : (layers : List Layer) (pos i : ℕ) (layer : Layer) → All IsOpened layers → LiesIn layers pos i layer → slice_get (history_of layers) pos ≡ Some (node_of layer (record_at layer (pos - start layers i)))
+history-placed layers pos i layer opened lies =
+    let whole : pos ≡ start layers i + (pos - start layers i) = omega (arith, lies.from) in
+    let within : pos - start layers i < size layer = omega (arith, lies.from, lies.below, start-more layers i layer lies.there) in
+    ap (slice_get (history_of layers)) whole ∙ history-at layers i (pos - start layers i) layer (all-paired layers opened) lies.there within
+
+pub history-counted : (layers : List Layer) → All IsOpened layers → length (history_of layers) ≡ total layers
+history-counted layers opened = length-history_of layers (all-paired layers opened)

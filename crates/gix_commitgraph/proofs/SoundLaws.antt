@@ -1,9 +1,9 @@
 -- The check of a graph names no fault exactly where the graph is right.
-use Rattle.std.proofs.Common.{◌≡◌, ℕ, ◌+◌, ◌<◌, ◌≤◌, List, length, get_or, slice_get, All, Option, Some, None, refl, sym, subst}
+use Rattle.std.proofs.Common.{◌≡◌, ℕ, ◌+◌, ◌<◌, ◌≤◌, List, length, get_or, slice_get, All, Option, Some, None, Result, refl, sym, ◌∙◌, subst}
 use Rattle.std.specs.Prelude.{◌↔◌, option_map}
 use Rattle.std.proofs.lemmas.Bool.{ltb-false, le-ltb}
 use Rattle.std.proofs.lemmas.List.Elements.{All-weaker}
-use Rattle.std.proofs.lemmas.Option.{slice_get_within, slice_get-get_or, get_or_from_slice_get}
+use Rattle.std.proofs.lemmas.Option.{none-some, slice_get_within, slice_get-get_or, get_or_from_slice_get}
 use Rattle.gix_chunk_core.proofs.FirstLemmas.{then_some-false}
 use Rattle.gix_commitgraph.specs.Layer.{Layer}
 use Rattle.gix_commitgraph.specs.Graph.{graph_ids, start, IsOpened}
@@ -13,10 +13,11 @@ use Rattle.gix_commitgraph.specs.Lookup.{scan}
 use Rattle.gix_commitgraph.specs.History.{history_of, generations}
 use Rattle.gix_commitgraph.specs.Walks.{TellsLongest}
 use Rattle.gix_commitgraph.specs.Wrong.{layer_fault, commit_fault}
-use Rattle.gix_commitgraph.specs.Points.{first_fault}
+use Rattle.gix_commitgraph.specs.Points.{first_fault, Passes, IsRefused}
 use Rattle.gix_commitgraph.specs.Verify.{bases_refusal, parents_refusal, generation_refusal, commit_points, layer_points, graph_points, longest_path, Summarizes}
 use Rattle.gix_commitgraph.specs.Sound.{IsRightLayer, Sound}
 use Rattle.gix_commitgraph.specs.declared.verify.Outcome.{Outcome}
+use Rattle.gix_commitgraph.specs.declared.verify.VerifyError.{VerifyError}
 use Rattle.gix_commitgraph.proofs.Layers.{when-none}
 use Rattle.gix_commitgraph.proofs.GraphLaws.{scanned}
 use Rattle.gix_commitgraph.proofs.FaultFree.{check-none, enumerate-none, range-none}
@@ -135,6 +136,16 @@ module _ {E : Type 0} where
   pub none-from_sound : (layers : List Layer) → All IsOpened layers → Sound layers → first_fault (graph_points {E = E} layers) ≡ None
   none-from_sound layers opened sound =
       (graph_points-iff layers).1 (sound.rules.few, passed-from_sound layers (all-paired layers opened) sound)
+
+-- What a check of a graph says of it, with a processor and its states before and after the check.
+module _ {F E : Type 0} (step : F → ℕ → Result (Unit {0}) E → F → Type 0) (layers : List Layer) (f g : F) where
+  -- only a right graph passes
+  pub sound-from_passes : All IsOpened layers → Passes step (graph_points {E = E} layers) f g → Sound layers
+  sound-from_passes opened passes = sound-from_none layers opened passes.no_fault
+
+  -- and a right graph is never refused
+  pub sound-not_refused : All IsOpened layers → Sound layers → (x : VerifyError E) → IsRefused step (graph_points {E = E} layers) f g x → ⊥
+  sound-not_refused opened sound x refused = none-some x (sym (none-from_sound layers opened sound) ∙ refused.fault)
 
 -- the layers of a right graph are ordered
 ordered-right : (layer : Layer) → IsRightLayer layer → IsOrdered layer

@@ -1,13 +1,24 @@
 //! What generation numbers mean: laws of walks along parents ("topological level" in Git's
 //! commit-graph design). They hold of every history, whether or not it has cycles.
 
-ghost use Rattle.std.specs.Prelude.{◌≡◌, ◌<◌, ◌≤◌, ◌-◌, ℕ, List, length};
+ghost use Rattle.std.specs.Prelude.{◌≡◌, ◌<◌, ◌≤◌, ◌-◌, ℕ, List, All, Some, length, slice_get};
 ghost use Rattle.gix_commitgraph.specs.Counts.{greatest};
-ghost use Rattle.gix_commitgraph.specs.History.{Node, generation_at, generations};
+ghost use Rattle.gix_commitgraph.specs.Graph.{total, start, IsOpened};
+ghost use Rattle.gix_commitgraph.specs.GraphLaw.{LiesIn};
+ghost use Rattle.gix_commitgraph.specs.History.{Node, node_of, history_of, generation_at, generations};
+ghost use Rattle.gix_commitgraph.specs.Layer.{Layer, record_at};
 ghost use Rattle.gix_commitgraph.specs.Generations.{AreLocal};
 ghost use Rattle.gix_commitgraph.specs.Walks.{Reaches, ReachesAbove, CountWalks, IsLongestWalk};
 
 use crate::GENERATION_NUMBER_MAX;
+
+/// The history of a graph of opened layers has one commit for each position, and says of it what
+/// its record in its layer says.
+pub fn the_history_of_a_graph_is_that_of_its_layers()
+    ensures counted { (layers : List Layer) → All IsOpened layers → length (history_of layers) ≡ total layers }
+    ensures placed { (layers : List Layer) (pos i : ℕ) (layer : Layer) → All IsOpened layers → LiesIn layers pos i layer
+        → slice_get (history_of layers) pos ≡ Some (node_of layer (record_at layer (pos - start layers i))) }
+{}
 
 /// Where each generation number is one more than the greatest of its parents', up to the cap, each
 /// counts the commits of the longest walk, up to the cap.
