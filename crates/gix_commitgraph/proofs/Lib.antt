@@ -25,3 +25,13 @@ pub mod Fronts
 pub mod Points
 pub mod NameSteps
 pub mod FirstBytes
+pub mod Greatest
+pub mod WalkPaths
+pub mod WalkLaws
+pub mod NamesLaws
+pub mod FaultFree
+pub mod HistoryLaws
+pub mod SoundLayers
+pub mod SoundCommits
+pub mod SoundParents
+pub mod SoundLaws

@@ -1,5 +1,5 @@
 -- when a graph is right: its layers, its parents and its generation numbers
-use Rattle.std.specs.Prelude.{◌≡◌, ◌+◌, ◌<◌, ◌≤◌, ℕ, List, All, length, map, take, slice_get, Some, None}
+use Rattle.std.specs.Prelude.{◌≡◌, ◌<◌, ◌≤◌, ℕ, List, All, length, map, take, slice_get, Some, None}
 use Rattle.gix_hash_core.specs.Digest.{digest_of}
 use Rattle.gix_commitgraph.specs.Layer.{Layer}
 use Rattle.gix_commitgraph.specs.Order.{AreAscending, IsExactFan}

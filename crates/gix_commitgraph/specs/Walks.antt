@@ -1,6 +1,6 @@
 -- Walks along parents, and what Git's commit-graph design calls a generation number ("topological level"): the number of
 -- commits of the longest walk, which stays at a cap where walks are longer.
-use Rattle.std.specs.Prelude.{◌≡◌, ◌↔◌, ℕ, ◌+◌, ◌-◌, ◌<◌, ◌≤◌, List, [], ◌∷◌, length, slice_get, Some}
+use Rattle.std.specs.Prelude.{◌≡◌, ◌↔◌, ℕ, ◌+◌, ◌-◌, ◌<◌, ◌≤◌, List, [], ◌∷◌, length, slice_get, Option, Some, None}
 use Rattle.gix_commitgraph.specs.History.{Node, IsParent, generation_at}
 use Rattle.gix_commitgraph.specs.declared.TheConstants.{GENERATION_NUMBER_MAX}
 
@@ -42,3 +42,12 @@ pub record IsLongestWalk (history : List Node) (k : ℕ) : Type 0 where
   pub reached : 0 < length history → (p : ℕ) × HasWalk history p (k + 1)
   pub none : length history ≡ 0 → k ≡ 0
   pub longest : (p m : ℕ) → HasWalk history p (m + 1) → m ≤ k
+
+-- some commit has the greatest generation number that can be stored
+abbrev pub ReachesCap : List Node → Type 0
+ReachesCap history = (p : ℕ) × (p < length history) × (generation_at history p ≡ GENERATION_NUMBER_MAX)
+
+-- what is told of the longest walk: how many edges it has, and nothing where a commit's generation number is at the cap
+abbrev pub TellsLongest : List Node → Option ℕ → Type 0
+TellsLongest history None = ReachesCap history
+TellsLongest history (Some k) = (¬ ReachesCap history) × IsLongestWalk history k

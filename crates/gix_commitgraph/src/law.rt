@@ -3,7 +3,10 @@
 
 pub mod edges;
 pub mod graph;
+pub mod layer;
 pub mod lookup;
+pub mod sound;
+pub mod walk;
 
 ghost use Rattle.std.specs.Prelude.{ℕ, List};
 ghost use Rattle.gix_commitgraph.specs.Law.{IsDecided, NamesFirstFall, FallIntoPieces};

@@ -1,0 +1,37 @@
+//! When a graph is right, and that its check finds this out. A graph is right where its layers
+//! keep their rules, each parent stands in the layer of its commit or an earlier one, and each
+//! generation number counts the commits of the longest walk along parents.
+
+ghost use Rattle.std.specs.Prelude.{◌≡◌, ℕ, List, All, Option, None};
+ghost use Rattle.gix_commitgraph.specs.Layer.{Layer};
+ghost use Rattle.gix_commitgraph.specs.Graph.{graph_ids, IsOpened};
+ghost use Rattle.gix_commitgraph.specs.GraphLookup.{FoundIn};
+ghost use Rattle.gix_commitgraph.specs.History.{history_of, generations};
+ghost use Rattle.gix_commitgraph.specs.Lookup.{scan};
+ghost use Rattle.gix_commitgraph.specs.Points.{first_fault};
+ghost use Rattle.gix_commitgraph.specs.Sound.{Sound};
+ghost use Rattle.gix_commitgraph.specs.Verify.{graph_points, longest_path};
+ghost use Rattle.gix_commitgraph.specs.Walks.{TellsLongest};
+
+/// Where no condition of its check fails, a graph of opened layers is right.
+pub fn a_graph_without_fault_is_right<E>()
+    ensures { (layers : List Layer) → All IsOpened layers → first_fault (graph_points {E = E} layers) ≡ None → Sound layers }
+{}
+
+/// Where a graph of opened layers is right, no condition of its check fails.
+pub fn a_right_graph_is_without_fault<E>()
+    ensures { (layers : List Layer) → All IsOpened layers → Sound layers → first_fault (graph_points {E = E} layers) ≡ None }
+{}
+
+/// In a graph that is right, an answer to a lookup is that of a plain scan of all ids.
+pub fn a_lookup_in_a_right_graph_is_a_scan()
+    ensures { (layers : List Layer) (id : List ℕ) (answer : Option ℕ) → Sound layers → FoundIn layers id answer
+        → answer ≡ scan (graph_ids layers) id }
+{}
+
+/// In a graph that is right, the greatest generation number less one is the number of edges of the
+/// longest walk along parents, and nothing is told of it where a generation number is at the cap.
+pub fn the_longest_path_of_a_right_graph_is_its_longest_walk()
+    ensures { (layers : List Layer) → Sound layers
+        → TellsLongest (history_of layers) (longest_path (generations (history_of layers))) }
+{}
