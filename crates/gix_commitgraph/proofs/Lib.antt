@@ -23,3 +23,4 @@ pub mod Positions
 pub mod GraphLaws
 pub mod Fronts
 pub mod Points
+pub mod Opens

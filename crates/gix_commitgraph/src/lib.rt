@@ -17,6 +17,7 @@ pub mod init;
 mod iter;
 pub mod law;
 mod numbers;
+pub mod opening;
 #[cfg(test)]
 mod tests;
 #[cfg(test)]
