@@ -24,3 +24,7 @@ pub mod GraphLaws
 pub mod Fronts
 pub mod Points
 pub mod Opens
+pub mod Paths
+pub mod Chains
+pub mod InfoFolders
+pub mod Texts

@@ -1,9 +1,9 @@
 -- What the steps of an opener answer, as expected.
-use Rattle.std.proofs.Common.{◌≡◌, ℕ, List, ◌⊎◌, Option, Some, None, Result, Ok, Err, IfOk, refl, sym, ap, subst, ◌∙◌, ⊎_elim}
-use Rattle.std.specs.Prelude.{MatchResult, IsErrAnd}
+use Rattle.std.proofs.Common.{◌≡◌, ℕ, List, Some, None, Result, Ok, Err, IfOk, refl, sym, ap, subst, ⊎_elim}
+use Rattle.std.specs.Prelude.{MatchResult}
 use Rattle.gix_commitgraph.specs.Layer.{Layer, IsLayer}
 use Rattle.gix_commitgraph.specs.OpenAnswer.{IsAsExpected, result_map_err}
-use Rattle.gix_commitgraph.specs.Opened.{layer_of, unless_refused, MayRefuse}
+use Rattle.gix_commitgraph.specs.Opened.{MayRefuse}
 use Rattle.gix_commitgraph.specs.Opening.{layer_of_bytes}
 use Rattle.gix_commitgraph.specs.OpenRefusals.{layer_refused}
 use Rattle.gix_commitgraph.specs.Refusal.{refusal}

@@ -1,5 +1,4 @@
-use Rattle.std.proofs.Common.{◌≡◌, arith, rules}
-use Rattle.std.proofs.lemmas.Grind.{common_steps}
+use Rattle.std.proofs.Common.{◌≡◌, rules}
 use Rattle.gix_commitgraph.specs.OpenAnswer.{result_map_err}
 use Rattle.gix_commitgraph.specs.OpenRefusals.{layer_refused}
 use Rattle.gix_commitgraph.proofs.Opens.{layer_opens}
