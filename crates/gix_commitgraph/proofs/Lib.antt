@@ -35,3 +35,8 @@ pub mod SoundLayers
 pub mod SoundCommits
 pub mod SoundParents
 pub mod SoundLaws
+pub mod Opens
+pub mod Paths
+pub mod Chains
+pub mod InfoFolders
+pub mod Texts

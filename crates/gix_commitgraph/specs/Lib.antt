@@ -32,3 +32,7 @@ pub mod Generations
 pub mod Verify
 pub mod Walks
 pub mod Sound
+pub mod Paths
+pub mod OpenRefusals
+pub mod OpenAnswer
+pub mod Opening

@@ -17,6 +17,7 @@ pub mod init;
 mod iter;
 pub mod law;
 mod numbers;
+pub mod opening;
 #[cfg(test)]
 mod tests;
 #[cfg(test)]
@@ -28,7 +29,10 @@ pub use file::File;
 pub use graph::Graph;
 pub use init::GraphError;
 pub use iter::{GraphCommits, GraphIds};
+use opening::OpenError;
+use std::alloc::Global;
 use std::fmt;
+use std::rt::Files;
 
 /// The generation number of a commit that has none yet, which is above every other.
 pub const GENERATION_NUMBER_INFINITY: u32 = 0xffff_ffff;
@@ -52,4 +56,10 @@ impl fmt::Display for Position {
     fn fmt<W: fmt::Write>(&self, f: &mut fmt::Formatter<W>) -> fmt::Result {
         self.0.fmt(f)
     }
+}
+
+/// Opens the commit-graph at a path, which is that of a file, a chain folder or an info folder:
+/// [`Graph::at`].
+pub fn at<R: Files>(rt: &R, alloc: Global, path: &str) -> Result<Graph, OpenError> {
+    Graph::at(rt, alloc, path)
 }

@@ -1,0 +1,24 @@
+-- What an opener answers for the refusals of the calls beneath it. Want of memory stays want of memory.
+use Rattle.std.specs.Prelude.{ℕ}
+use Rattle.graph_folder.specs.declared.folder.ReadError.{ReadError}
+use Rattle.graph_folder.specs.declared.folder.ReadError.TheVariants.{NotOpened as read_NotOpened, Device as read_Device, OutOfMemory as read_OutOfMemory}
+use Rattle.gix_commitgraph.specs.declared.error.FileError.{FileError}
+use Rattle.gix_commitgraph.specs.declared.error.FileError.TheVariants.{OutOfMemory as file_OutOfMemory}
+use Rattle.gix_commitgraph.specs.declared.init.GraphError.{GraphError}
+use Rattle.gix_commitgraph.specs.declared.init.GraphError.TheVariants.{OutOfMemory as graph_OutOfMemory}
+use Rattle.gix_commitgraph.specs.declared.opening.error.OpenError.{OpenError}
+use Rattle.gix_commitgraph.specs.declared.opening.error.OpenError.TheVariants.{NotOpened, Device, Layer, Graph, OutOfMemory}
+
+abbrev pub read_refused : ReadError → OpenError
+read_refused read_NotOpened = NotOpened
+read_refused read_Device = Device
+read_refused read_OutOfMemory = OutOfMemory
+
+-- the file that is to be layer i is refused
+abbrev pub layer_refused : ℕ → FileError → OpenError
+layer_refused i file_OutOfMemory = OutOfMemory
+layer_refused i error = Layer i error
+
+abbrev pub graph_refused : GraphError → OpenError
+graph_refused graph_OutOfMemory = OutOfMemory
+graph_refused error = Graph error

@@ -1,0 +1,101 @@
+-- What the openers answer for the contents of a tree. ("Commit-Graphs Chains" of Git's commit-graph design.)
+use Rattle.std.specs.Prelude.{◌≡◌, ℕ, ◌<◌, ◌-◌, ◌^◌, List, [], ◌∷◌, Option, Some, None, map, codes, if◌then◌else◌, IsErrOf}
+use Rattle.std.specs.Bool.{MatchBool}
+use Rattle.std.specs.List.{enumerate_from}
+use Rattle.std.specs.Option.{ok_or}
+use Rattle.std.specs.Result.{result_or}
+use Rattle.std.specs.Str.{is_utf8}
+use Rattle.std.specs.Str.Lines.{lines}
+use Rattle.std.specs.declared.result.Result.{Result}
+use Rattle.std.specs.declared.result.Result.TheVariants.{Ok, Err}
+use Rattle.graph_folder.specs.Tree.{Tree, file_at, is_file, is_folder}
+use Rattle.gix_commitgraph.specs.GraphRefusal.{graph_refusal}
+use Rattle.gix_commitgraph.specs.Layer.{Layer}
+use Rattle.gix_commitgraph.specs.OpenAnswer.{and_then, result_map_err, all_values, IsAsExpected, failures_after_opening}
+use Rattle.gix_commitgraph.specs.Opened.{layer_of}
+use Rattle.gix_commitgraph.specs.OpenRefusals.{layer_refused, graph_refused}
+use Rattle.gix_commitgraph.specs.Paths.{join_path, chain_path, layer_path}
+use Rattle.gix_commitgraph.specs.declared.init.GraphError.{GraphError}
+use Rattle.gix_commitgraph.specs.declared.opening.error.OpenError.{OpenError}
+use Rattle.gix_commitgraph.specs.declared.opening.error.OpenError.TheVariants.{NothingFound, NotOpened, Device, ChainNotText}
+
+-- the bytes of the file at a path
+abbrev pub bytes_at : Tree → List ℕ → Result (List ℕ) OpenError
+bytes_at tree path = ok_or (file_at tree path) NotOpened
+
+-- the layer of a file's bytes, which is to be layer i
+abbrev pub layer_of_bytes : ℕ → List ℕ → List ℕ → Result Layer OpenError
+layer_of_bytes i bytes path = result_map_err (layer_refused i) (layer_of bytes path)
+
+-- the layer of the file at a path
+abbrev pub layer_at : Tree → ℕ → List ℕ → Result Layer OpenError
+layer_at tree i path = and_then (bytes_at tree path) (λ bytes. layer_of_bytes i bytes path)
+
+-- the refusal of layers as a graph, else the layers
+abbrev pub graph_unless_refused : Option GraphError → List Layer → Result (List Layer) OpenError
+graph_unless_refused None layers = Ok layers
+graph_unless_refused (Some error) layers = Err (graph_refused error)
+
+abbrev pub graph_of_layers : List Layer → Result (List Layer) OpenError
+graph_of_layers layers = graph_unless_refused (graph_refusal layers) layers
+
+-- a file is the one layer of its graph
+abbrev pub file_opened : Tree → List ℕ → Result (List Layer) OpenError
+file_opened tree path = and_then (layer_at tree 0 path) (λ layer. graph_of_layers (layer ∷ []))
+
+-- the layer that line i of a chain names
+abbrev pub layer_of_line : Tree → List ℕ → ℕ → List ℕ → Result Layer OpenError
+layer_of_line tree folder i line = if is_utf8 line then layer_at tree i (layer_path folder line) else Err (ChainNotText i)
+
+-- the layers that the lines of a chain name, the lowest first
+abbrev pub layers_of_lines : Tree → List ℕ → List (List ℕ) → Result (List Layer) OpenError
+layers_of_lines tree folder names = all_values (map (λ p. layer_of_line tree folder p.0 p.1) (enumerate_from 0 names))
+
+-- a chain folder has the layers that its chain file names, line by line
+abbrev pub chain_opened : Tree → List ℕ → Result (List Layer) OpenError
+chain_opened tree folder =
+    and_then (bytes_at tree (chain_path folder)) (λ text. and_then (layers_of_lines tree folder (lines text)) graph_of_layers)
+
+-- the file and the chain folder of an info folder
+abbrev pub info_file : List ℕ → List ℕ
+info_file folder = join_path folder (codes "commit-graph")
+
+abbrev pub info_chain : List ℕ → List ℕ
+info_chain folder = join_path folder (codes "commit-graphs")
+
+-- an info folder's graph is that of its file, and else that of its chain folder
+abbrev pub info_opened : Tree → List ℕ → Result (List Layer) OpenError
+info_opened tree folder = result_or (file_opened tree (info_file folder)) (chain_opened tree (info_chain folder))
+
+-- a call that took the count of device failures from old to new met none
+abbrev pub MetNoFailure : ℕ → ℕ → Type 0
+MetNoFailure old new = (old < 2 ^ 64 - 1) × (new ≡ old)
+
+-- it met one
+abbrev pub MetFailure : ℕ → ℕ → Type 0
+MetFailure old new = old < new
+
+-- a failed device is answered only where a device failed; the count stays at the greatest `u64`
+abbrev pub MetFailureIfDevice : {A : Type 0} → Result A OpenError → ℕ → ℕ → Type 0
+MetFailureIfDevice answer old new = IsErrOf answer Device → old < 2 ^ 64 - 1 → MetFailure old new
+
+-- what an opener answers that stops at the first failed device
+abbrev pub StopsAtFailure : Result (List Layer) OpenError → ℕ → ℕ → Result (List Layer) OpenError → Type 0
+StopsAtFailure expected old new answer = IsAsExpected answer expected × (new ≡ failures_after_opening answer old)
+
+-- what the opener of an info folder answers: where a device failed it may have been at the file, and then the chain decides
+abbrev pub InfoOpens : Tree → List ℕ → ℕ → ℕ → Result (List Layer) OpenError → Type 0
+InfoOpens tree folder old new answer =
+    (MetNoFailure old new → IsAsExpected answer (info_opened tree folder))
+    × (MetFailure old new → IsAsExpected answer (chain_opened tree (info_chain folder)))
+
+-- a folder with a chain file is a chain folder, and else an info folder
+abbrev pub FolderOpens : Tree → List ℕ → ℕ → ℕ → Result (List Layer) OpenError → Type 0
+FolderOpens tree path old new answer =
+    MatchBool (is_file tree (chain_path path)) (StopsAtFailure (chain_opened tree path) old new answer) (InfoOpens tree path old new answer)
+
+-- a file and a folder are opened as such, and nothing is found at any other path
+abbrev pub Opens : Tree → List ℕ → ℕ → ℕ → Result (List Layer) OpenError → Type 0
+Opens tree path old new answer =
+    MatchBool (is_file tree path) (StopsAtFailure (file_opened tree path) old new answer)
+    (MatchBool (is_folder tree path) (FolderOpens tree path old new answer) (StopsAtFailure (Err NothingFound) old new answer))

@@ -1,0 +1,185 @@
+//! Opening a commit-graph by the path of a file or of a folder.
+//!
+//! Each opener reads from a [`Folder`]: a tree of files whose reads a device may fail. A contract
+//! says what is opened where it is known what stands in the tree, and that no opener changes it.
+//! Over the file system, a [`Disk`](graph_folder::folder::Disk), these openers are [`Graph::at`]
+//! and its kin.
+
+ghost use Rattle.std.specs.Prelude.{◌≡◌, IfOk, IsErrOf, string_bytes};
+ghost use Rattle.std.specs.Option.{ForSome};
+ghost use Rattle.graph_folder.specs.Tree.{is_file};
+ghost use Rattle.gix_commitgraph.specs.OpenAnswer.{IsAsExpected, is_settled, failures_after_opening, result_map};
+ghost use Rattle.gix_commitgraph.specs.Opening.{bytes_at, layer_of_bytes, layer_at, graph_of_layers, file_opened};
+ghost use Rattle.gix_commitgraph.specs.Opening.{InfoOpens, FolderOpens, Opens, MetFailureIfDevice};
+ghost use Rattle.gix_commitgraph.specs.Paths.{chain_path};
+
+mod by_path;
+mod chain;
+mod error;
+mod path;
+#[cfg(test)]
+mod tests;
+
+use crate::file::File;
+use crate::graph::Graph;
+pub use chain::open_chain_dir_in;
+pub use error::OpenError;
+use error::refused_layer;
+use graph_folder::folder::Folder;
+use path::join;
+use std::alloc::{AllocError, Global};
+
+const CHAIN: &str = "commit-graph-chain";
+
+/// Opens the file at the path as a graph of one layer.
+///
+/// # Errors
+///
+/// The first of these that holds:
+///
+/// 1. `NotOpened`: no file stands at the path, or it may not be read.
+/// 2. `Device`: a read of it failed. The folder's count of failures has risen then, and in no other
+///    case.
+/// 3. `Layer`: the bytes are refused, as layer 0.
+/// 4. `Graph`: the layer has more commits than a graph can have.
+///
+/// `OutOfMemory` comes where a growth was refused.
+pub fn open_file_in<T: Folder>(
+    alloc: Global,
+    folder: &mut T,
+    path: &str,
+) -> Result<Graph, OpenError>
+    ensures opens { ForSome (T.tree folder.old) (λ tree. IsAsExpected result (file_opened tree path.now)) }
+    ensures tree { T.tree folder.new ≡ T.tree folder.old }
+    ensures failures { T.failure_count folder.new ≡ failures_after_opening result (T.failure_count folder.old) }
+{
+    let file = open_layer(alloc, folder, 0, String::from_str(alloc, path)?)?;
+    let mut files = Vec::new(alloc);
+    files.push(file)?;
+    new_graph(alloc, files)
+}
+
+/// Opens the info folder at the path: the file `commit-graph` in it, or where that is refused the
+/// chain folder `commit-graphs` in it. So damage of the file is hidden where the chain opens.
+///
+/// # Errors
+///
+/// Those of [`open_chain_dir_in`] for the chain folder, and `OutOfMemory` where a growth was
+/// refused, also while the file is opened: want of memory is no damage. `Device` comes only where
+/// the folder's count of failures has risen.
+pub fn open_info_dir_in<T: Folder>(
+    alloc: Global,
+    folder: &mut T,
+    path: &str,
+) -> Result<Graph, OpenError>
+    ensures opens { ForSome (T.tree folder.old)
+        (λ tree. InfoOpens tree path.now (T.failure_count folder.old) (T.failure_count folder.new) result) }
+    ensures device { MetFailureIfDevice result (T.failure_count folder.old) (T.failure_count folder.new) }
+    ensures tree { T.tree folder.new ≡ T.tree folder.old }
+{
+    let file = join(alloc, path, "commit-graph")?;
+    let answer = open_file_in(alloc, folder, file.as_str());
+    if is_settled(&answer) {
+        return answer;
+    }
+    let chain = join(alloc, path, "commit-graphs")?;
+    open_chain_dir_in(alloc, folder, chain.as_str())
+}
+
+// Whether nothing else is tried after this answer.
+fn is_settled(answer: &Result<Graph, OpenError>) -> bool
+    ensures { result ≡ is_settled answer.now }
+{
+    matches!(answer, Ok(_) | Err(OpenError::OutOfMemory))
+}
+
+/// Opens what stands at the path: a file as [`open_file_in`] does, a folder in which a file
+/// `commit-graph-chain` stands as [`open_chain_dir_in`] does, and any other folder as
+/// [`open_info_dir_in`] does.
+///
+/// # Errors
+///
+/// `NothingFound` where neither a file nor a folder stands at the path, else those of the opener,
+/// and `OutOfMemory` where a growth was refused. `Device` comes only where the folder's count of
+/// failures has risen.
+pub fn open_in<T: Folder>(alloc: Global, folder: &mut T, path: &str) -> Result<Graph, OpenError>
+    ensures opens { ForSome (T.tree folder.old)
+        (λ tree. Opens tree path.now (T.failure_count folder.old) (T.failure_count folder.new) result) }
+    ensures device { MetFailureIfDevice result (T.failure_count folder.old) (T.failure_count folder.new) }
+    ensures tree { T.tree folder.new ≡ T.tree folder.old }
+{
+    if folder.is_file(alloc, path)? {
+        return open_file_in(alloc, folder, path);
+    }
+    if folder.is_dir(alloc, path)? {
+        return open_folder_in(alloc, folder, path);
+    }
+    Err(OpenError::NothingFound)
+}
+
+// Opens the chain folder or the info folder at the path.
+fn open_folder_in<T: Folder>(alloc: Global, folder: &mut T, path: &str) -> Result<Graph, OpenError>
+    ensures opens { ForSome (T.tree folder.old)
+        (λ tree. FolderOpens tree path.now (T.failure_count folder.old) (T.failure_count folder.new) result) }
+    ensures device { MetFailureIfDevice result (T.failure_count folder.old) (T.failure_count folder.new) }
+    ensures tree { T.tree folder.new ≡ T.tree folder.old }
+{
+    if has_chain(alloc, folder, path)? {
+        open_chain_dir_in(alloc, folder, path)
+    } else {
+        open_info_dir_in(alloc, folder, path)
+    }
+}
+
+// Whether a chain file stands in the folder.
+fn has_chain<T: Folder>(alloc: Global, folder: &mut T, path: &str) -> Result<bool, AllocError>
+    ensures answer { ForSome (T.tree folder.old) (λ tree. IfOk result (λ found. found ≡ is_file tree (chain_path path.now))) }
+    ensures tree { T.tree folder.new ≡ T.tree folder.old }
+    ensures failures { T.failure_count folder.new ≡ T.failure_count folder.old }
+{
+    let chain = join(alloc, path, CHAIN)?;
+    folder.is_file(alloc, chain.as_str())
+}
+
+// The file at the path, as a layer.
+fn open_layer<T: Folder>(
+    alloc: Global,
+    folder: &mut T,
+    layer: usize,
+    path: String,
+) -> Result<File, OpenError>
+    ensures opens { ForSome (T.tree folder.old) (λ tree. IsAsExpected result (layer_at tree layer (string_bytes path))) }
+    ensures path { IfOk result (λ file. file.path ≡ string_bytes path) }
+    ensures tree { T.tree folder.new ≡ T.tree folder.old }
+    ensures failures { T.failure_count folder.new ≡ failures_after_opening result (T.failure_count folder.old) }
+{
+    let bytes = read_file(alloc, folder, path.as_str())?;
+    new_layer(alloc, layer, bytes, path)
+}
+
+// The bytes of the file at the path.
+fn read_file<T: Folder>(alloc: Global, folder: &mut T, path: &str) -> Result<Vec<u8>, OpenError>
+    ensures opens { ForSome (T.tree folder.old)
+        (λ tree. IsAsExpected (result_map (λ bytes. bytes.items) result) (bytes_at tree path.now)) }
+    ensures tree { T.tree folder.new ≡ T.tree folder.old }
+    ensures failures { T.failure_count folder.new ≡ failures_after_opening result (T.failure_count folder.old) }
+{
+    Ok(folder.read(alloc, path)?)
+}
+
+// The layer of a file's bytes.
+fn new_layer(alloc: Global, layer: usize, bytes: Vec<u8>, path: String) -> Result<File, OpenError>
+    ensures opens { IsAsExpected result (layer_of_bytes layer bytes.items (string_bytes path)) }
+    ensures path { IfOk result (λ file. file.path ≡ string_bytes path) }
+    ensures no_device { ¬ (IsErrOf result OpenError.Device) }
+{
+    File::new(alloc, bytes, path).map_err(|error| refused_layer(layer, error))
+}
+
+// The graph of layers.
+fn new_graph(alloc: Global, files: Vec<File>) -> Result<Graph, OpenError>
+    ensures opens { IsAsExpected result (graph_of_layers files.items) }
+    ensures no_device { ¬ (IsErrOf result OpenError.Device) }
+{
+    Ok(Graph::new(alloc, files)?)
+}

@@ -1,0 +1,106 @@
+//! The opener of a chain folder.
+
+ghost use Rattle.std.specs.Prelude.{◌≡◌, IfSome, is_some};
+ghost use Rattle.std.specs.Option.{ForSome};
+ghost use Rattle.std.specs.Str.{is_utf8};
+ghost use Rattle.std.specs.Str.Lines.{lines};
+ghost use Rattle.gix_commitgraph.specs.OpenAnswer.{IsAsExpected, failures_after_opening, result_map};
+ghost use Rattle.gix_commitgraph.specs.Opening.{bytes_at, layer_of_line, layers_of_lines, chain_opened};
+ghost use Rattle.gix_commitgraph.specs.Paths.{chain_path};
+
+use crate::file::File;
+use crate::graph::Graph;
+use crate::opening::path::{join, layer_path};
+use crate::opening::{CHAIN, OpenError, new_graph, open_layer, read_file};
+use graph_folder::chain::Lines;
+use graph_folder::folder::Folder;
+use std::alloc::Global;
+
+/// Opens the chain folder at the path: the graph of the layers that the lines of its file
+/// `commit-graph-chain` name, the lowest first. The line L names the file `graph-L.graph` in the
+/// same folder ("Commit-Graphs Chains" of Git's commit-graph design). The chain file is read whole
+/// before the first layer, and it is not checked that a line is hexadecimal.
+///
+/// # Errors
+///
+/// The first of these that holds; those of a layer come line by line:
+///
+/// 1. `NotOpened`, `Device`: the chain file, or the file of a layer, does not stand at its path or
+///    may not be read, or a read of it failed. The folder's count of failures rises with each
+///    `Device`, and in no other case.
+/// 2. `ChainNotText`: a line is not UTF-8.
+/// 3. `Layer`: the bytes of a layer are refused.
+/// 4. `Graph`: the layers are refused as a graph.
+///
+/// `OutOfMemory` comes where a growth was refused.
+pub fn open_chain_dir_in<T: Folder>(
+    alloc: Global,
+    folder: &mut T,
+    path: &str,
+) -> Result<Graph, OpenError>
+    ensures opens { ForSome (T.tree folder.old) (λ tree. IsAsExpected result (chain_opened tree path.now)) }
+    ensures tree { T.tree folder.new ≡ T.tree folder.old }
+    ensures failures { T.failure_count folder.new ≡ failures_after_opening result (T.failure_count folder.old) }
+{
+    let text = read_chain(alloc, folder, path)?;
+    let files = open_layers(alloc, folder, path, text.as_slice())?;
+    new_graph(alloc, files)
+}
+
+// The bytes of the chain file in the folder.
+fn read_chain<T: Folder>(alloc: Global, folder: &mut T, path: &str) -> Result<Vec<u8>, OpenError>
+    ensures opens { ForSome (T.tree folder.old)
+        (λ tree. IsAsExpected (result_map (λ text. text.items) result) (bytes_at tree (chain_path path.now))) }
+    ensures tree { T.tree folder.new ≡ T.tree folder.old }
+    ensures failures { T.failure_count folder.new ≡ failures_after_opening result (T.failure_count folder.old) }
+{
+    let chain = join(alloc, path, CHAIN)?;
+    read_file(alloc, folder, chain.as_str())
+}
+
+// The layers that the lines of a chain name, in order.
+fn open_layers<T: Folder>(
+    alloc: Global,
+    folder: &mut T,
+    path: &str,
+    text: &[u8],
+) -> Result<Vec<File>, OpenError>
+    ensures opens { ForSome (T.tree folder.old)
+        (λ tree. IsAsExpected (result_map (λ files. files.items) result) (layers_of_lines tree path.now (lines text.now))) }
+    ensures tree { T.tree folder.new ≡ T.tree folder.old }
+    ensures failures { T.failure_count folder.new ≡ failures_after_opening result (T.failure_count folder.old) }
+{
+    let mut files = Vec::new(alloc);
+    for line in Lines::new(text) {
+        let layer = files.len();
+        files.push(open_line(alloc, folder, path, layer, line)?)?;
+    }
+    Ok(files)
+}
+
+// The layer that a line of a chain names.
+fn open_line<T: Folder>(
+    alloc: Global,
+    folder: &mut T,
+    path: &str,
+    layer: usize,
+    line: &[u8],
+) -> Result<File, OpenError>
+    ensures opens { ForSome (T.tree folder.old) (λ tree. IsAsExpected result (layer_of_line tree path.now layer line.now)) }
+    ensures tree { T.tree folder.new ≡ T.tree folder.old }
+    ensures failures { T.failure_count folder.new ≡ failures_after_opening result (T.failure_count folder.old) }
+{
+    let Some(name) = text_of(line) else {
+        return Err(OpenError::ChainNotText { line: layer });
+    };
+    let path = layer_path(alloc, path, name)?;
+    open_layer(alloc, folder, layer, path)
+}
+
+// The bytes as text, if they are UTF-8.
+fn text_of(bytes: &[u8]) -> Option<&str>
+    ensures variant { is_some result ≡ is_utf8 bytes.now }
+    ensures value { IfSome result (λ text. text.now ≡ bytes.now) }
+{
+    str::from_utf8(bytes).ok()
+}

@@ -1,0 +1,30 @@
+//! The paths of a graph's files.
+
+ghost use Rattle.std.specs.Prelude.{◌≡◌, IfOk, string_bytes};
+ghost use Rattle.gix_commitgraph.specs.Paths.{join_path, layer_path};
+
+use std::alloc::{AllocError, Global};
+
+/// The path of `name` below `folder`: a slash stands between them unless the folder's path is empty
+/// or ends with one.
+pub fn join(alloc: Global, folder: &str, name: &str) -> Result<String, AllocError>
+    ensures { IfOk result (λ path. string_bytes path ≡ join_path folder.now name.now) }
+{
+    let mut path = String::from_str(alloc, folder)?;
+    if !folder.is_empty() && !folder.ends_with('/') {
+        path.push('/')?;
+    }
+    path.push_str(name)?;
+    Ok(path)
+}
+
+/// The path of the layer that a line of the folder's chain file names.
+#[tactic(auto, using(crate::proofs::Paths::join_laws))]
+pub fn layer_path(alloc: Global, folder: &str, line: &str) -> Result<String, AllocError>
+    ensures { IfOk result (λ path. string_bytes path ≡ layer_path folder.now line.now) }
+{
+    let mut path = join(alloc, folder, "graph-")?;
+    path.push_str(line)?;
+    path.push_str(".graph")?;
+    Ok(path)
+}
