@@ -40,3 +40,4 @@ pub mod Paths
 pub mod Chains
 pub mod InfoFolders
 pub mod Texts
+pub mod CommitFaults

@@ -4,6 +4,7 @@ ghost use Rattle.std.specs.Prelude.{◌≡◌, ◌<◌, ◌↔◌, length, slice
 
 use crate::file::File;
 pub use crate::file::parents::Parents;
+use crate::verify::CommitFault;
 use crate::{Position, file};
 use gix_hash_core::oid;
 use std::fmt;
@@ -109,6 +110,7 @@ impl<'a> Commit<'a> {
     ghost use Rattle.gix_commitgraph.specs.Commit.{commit_layer, commit_pos, commit_record, commit_parents};
     ghost use Rattle.gix_commitgraph.specs.Parents.{edge_of, items_of, first_of};
     ghost use Rattle.gix_commitgraph.specs.ParentsLeft.{parents_left, parents_hint, first_hint};
+    ghost use Rattle.gix_commitgraph.specs.Wrong.{commit_fault, is_out_of_order};
 
     pub(crate) fn new(file: &'a File, pos: file::Position) -> Commit<'a>
         requires { pos.0 < length file.now.ids }
@@ -171,6 +173,32 @@ impl<'a> Commit<'a> {
     {
         let (first, second) = self.parent_edges();
         Parents::new(self.file, first, second)
+    }
+
+    /// The first thing that is wrong with the commit's ids.
+    pub(crate) fn fault(&self) -> Option<CommitFault>
+        ensures { result ≡ commit_fault (commit_layer self.now) (commit_pos self.now) }
+    {
+        if self.id().is_null() {
+            Some(CommitFault::NullId)
+        } else if self.is_out_of_order() {
+            Some(CommitFault::Order)
+        } else if self.root_tree_id().is_null() {
+            Some(CommitFault::NullTree)
+        } else {
+            None
+        }
+    }
+
+    /// Whether the id is not above the one before it in the layer, if there is one.
+    fn is_out_of_order(&self) -> bool
+        ensures { result ≡ is_out_of_order (commit_layer self.now) (commit_pos self.now) }
+    {
+        if self.pos.0 == 0 {
+            return false;
+        }
+        let before = self.file.id_at(file::Position(self.pos.0 - 1));
+        before.cmp(&self.id()).is_ge()
     }
 
     /// What both parent fields say.
