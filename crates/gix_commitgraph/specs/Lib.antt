@@ -36,3 +36,4 @@ pub mod Paths
 pub mod OpenRefusals
 pub mod OpenAnswer
 pub mod Opening
+pub mod Tallies

@@ -1,5 +1,7 @@
 //! The check of a graph: what may be wrong with it, and what its commits come to.
 
+mod tally;
+
 ghost use Rattle.std.specs.Prelude.{IfOk};
 
 use crate::Position;
@@ -74,6 +76,17 @@ pub enum VerifyError<E> {
     /// A growth was refused.
     #[error("OutOfMemory")]
     OutOfMemory,
+}
+
+impl<E> From<AllocError> for VerifyError<E> {
+    ghost use Rattle.std.specs.Prelude.{◌≡◌};
+    ghost use Rattle.gix_commitgraph.specs.declared.verify.VerifyError.TheVariants.{OutOfMemory};
+
+    ghost from_gives = { λ _ error. error ≡ OutOfMemory };
+
+    fn from(_error: AllocError) -> VerifyError<E> {
+        VerifyError::OutOfMemory
+    }
 }
 
 /// What the commits of a graph come to.

@@ -1,0 +1,72 @@
+//! What the commits of a graph come to, one after another.
+
+ghost use Rattle.std.specs.Prelude.{◌≡◌, ◌==◌, ◌+◌, ◌<◌, ◌^◌, ◌∷◌, ◌++◌, [], ℕ, List, Some, length, OnOk, unwrap_or, if◌then◌else◌};
+ghost use Rattle.std.specs.Ordering.{nat_cmp};
+ghost use Rattle.std.specs.BTreeMap.{get};
+
+use crate::GENERATION_NUMBER_MAX;
+use crate::verify::Outcome;
+use std::alloc::{AllocError, Global};
+use std::collections::BTreeMap;
+
+/// The statistics of the commits so far.
+#[derive(Drop)]
+pub(super) struct Tally {
+    max_generation: u32,
+    num_commits: u32,
+    parent_counts: BTreeMap<u32, u32>,
+}
+
+impl Tally {
+    ghost use Rattle.gix_commitgraph.specs.History.{Node};
+    ghost use Rattle.gix_commitgraph.specs.Verify.{Summarizes};
+    ghost use Rattle.gix_commitgraph.specs.Tallies.{Tallies};
+
+    /// That of no commits.
+    pub(super) fn new(alloc: Global) -> Tally
+        ensures { Tallies [] result }
+    {
+        Tally {
+            max_generation: 0,
+            num_commits: 0,
+            parent_counts: BTreeMap::new(alloc),
+        }
+    }
+
+    /// Adds a commit with this generation number and so many parents.
+    pub(super) fn add(&mut self, generation: u32, parents: u32) -> Result<(), AllocError>
+        requires { (seen : List Node) × Tallies seen self.old × (length seen + 1 < 2 ^ 32) }
+        ensures { OnOk result ((seen : List Node) (node : Node) → Tallies seen self.old → generation ≡ node.generation → parents ≡ length node.parents
+            → Tallies (seen ++ node ∷ []) self.new) }
+    {
+        count_one(&mut self.parent_counts, parents)?;
+        self.max_generation = self.max_generation.max(generation);
+        self.num_commits += 1;
+        Ok(())
+    }
+
+    /// What all commits come to.
+    pub(super) fn outcome(self) -> Outcome
+        ensures { (seen : List Node) → Tallies seen self → Summarizes seen result }
+    {
+        Outcome {
+            longest_path_length: if self.max_generation < GENERATION_NUMBER_MAX {
+                Some(self.max_generation.saturating_sub(1))
+            } else {
+                None
+            },
+            num_commits: self.num_commits,
+            parent_counts: self.parent_counts,
+        }
+    }
+}
+
+/// Counts one more under a number.
+fn count_one(counts: &mut BTreeMap<u32, u32>, number: u32) -> Result<(), AllocError>
+    requires { unwrap_or (get nat_cmp counts.old number) 0 + 1 < 2 ^ 32 }
+    ensures { OnOk result ((k : ℕ) → get nat_cmp counts.new k
+        ≡ (if k == number then Some (unwrap_or (get nat_cmp counts.old number) 0 + 1) else get nat_cmp counts.old k)) }
+{
+    *counts.entry(number)?.or_insert(0) += 1;
+    Ok(())
+}
