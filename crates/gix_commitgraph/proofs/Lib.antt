@@ -41,3 +41,6 @@ pub mod Chains
 pub mod InfoFolders
 pub mod Texts
 pub mod CommitFaults
+pub mod Histories
+pub mod Spans
+pub mod Bases

@@ -37,3 +37,4 @@ pub mod OpenRefusals
 pub mod OpenAnswer
 pub mod Opening
 pub mod Tallies
+pub mod Spans

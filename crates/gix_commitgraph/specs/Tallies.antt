@@ -1,13 +1,19 @@
 -- what the tally of some commits is
-use Rattle.std.specs.Prelude.{◌≡◌, ℕ, List, length}
+use Rattle.std.specs.Prelude.{◌≡◌, ℕ, List, length, map}
 use Rattle.std.specs.BTreeMap.{get}
 use Rattle.std.specs.Ordering.{nat_cmp}
 use Rattle.gix_commitgraph.specs.Counts.{greatest, count_of}
-use Rattle.gix_commitgraph.specs.History.{Node, generations, parent_numbers}
+use Rattle.gix_commitgraph.specs.History.{Node, generations, parent_numbers, generation_at, parents_at}
 use Rattle.gix_commitgraph.specs.declared.verify.tally.Tally.{Tally}
+use Rattle.gix_commitgraph.specs.declared.verify.span.ParentTally.{ParentTally}
 
 -- The statistics of the commits so far.
 pub record Tallies (seen : List Node) (tally : Tally) : Type 0 where
   pub max_generation : tally.max_generation ≡ greatest (generations seen)
   pub num_commits : tally.num_commits ≡ length seen
   pub parent_counts : (k : ℕ) → get nat_cmp tally.parent_counts k ≡ count_of (parent_numbers seen) k
+
+-- What the parents of the commit at a position come to.
+pub record ParentsTally (history : List Node) (p : ℕ) (tally : ParentTally) : Type 0 where
+  pub count : tally.count ≡ length (parents_at history p)
+  pub max_generation : tally.max_generation ≡ greatest (map (generation_at history) (parents_at history p))

@@ -1,14 +1,21 @@
 //! The check of a graph: what may be wrong with it, and what its commits come to.
 
+mod span;
 mod tally;
 
 ghost use Rattle.std.specs.Prelude.{IfOk};
 
 use crate::Position;
+use crate::file::Commit;
 use crate::file::commit::ParentError;
-use std::alloc::AllocError;
+use crate::graph::Graph;
+use crate::verify::tally::Tally;
+use std::alloc::{AllocError, Global};
 use std::collections::BTreeMap;
 use thiserror::Error;
+
+/// The greatest number of layers of a right graph.
+const MOST_LAYERS: usize = 256;
 
 /// What is wrong with a layer as a whole.
 #[derive(Clone, Copy, Debug, PartialEq, Eq, Error)]
@@ -112,5 +119,37 @@ impl Outcome {
             parent_counts: self.parent_counts.clone()?,
             ..*self
         })
+    }
+}
+
+impl Graph {
+    ghost use Rattle.gix_commitgraph.specs.Points.{Agrees};
+    ghost use Rattle.gix_commitgraph.specs.Called.{MayBeCalled, CalledOn, InGraph};
+    ghost use Rattle.gix_commitgraph.specs.History.{history_of};
+    ghost use Rattle.gix_commitgraph.specs.Verify.{graph_points, stop_of, Summarizes};
+
+    /// Checks the graph.
+    pub fn verify_integrity<'a, F, E>(
+        &'a self,
+        alloc: Global,
+        processor: &mut F,
+    ) -> Result<Outcome, VerifyError<E>>
+    where
+        F: FnMut(&Commit<'a>) -> Result<(), E>,
+        requires { MayBeCalled F.FnMut (InGraph self.now) }
+        ensures agrees { Agrees (CalledOn F.FnMut (InGraph self.now)) (graph_points self.now) processor.old processor.new stop_of result }
+        ensures outcome { IfOk result (Summarizes (history_of self.now)) }
+    {
+        if self.files.len() > MOST_LAYERS {
+            return Err(VerifyError::TooManyFiles);
+        }
+        let mut tally = Tally::new(alloc);
+        let mut first = 0;
+        for layer in 0..self.files.len() {
+            let span = self.span_at(layer, first);
+            self.verify_layer(span, &mut tally, processor)?;
+            first = span.stop;
+        }
+        Ok(tally.outcome())
     }
 }

@@ -107,7 +107,7 @@ impl File {
     }
 
     /// The id of a layer below this one.
-    fn base_id_at(&self, index: u8) -> oid<'_>
+    pub(crate) fn base_id_at(&self, index: u8) -> oid<'_>
         requires { index < length self.now.bases }
         ensures { slice_get self.now.bases index ≡ Some (oid_bytes result) }
     {
