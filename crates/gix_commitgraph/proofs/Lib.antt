@@ -42,5 +42,6 @@ pub mod InfoFolders
 pub mod Texts
 pub mod CommitFaults
 pub mod Histories
+pub mod ParentItems
 pub mod Spans
 pub mod Bases

@@ -1,15 +1,19 @@
 -- laws of the layers of a graph, each with the positions of its commits
 use Rattle.std.proofs.Common.{◌≡◌, ℕ, ◌+◌, ◌-◌, ◌^◌, ◌<◌, ◌≤◌, List, Some, length, slice_get, sym, ap, subst, ◌∙◌, arith}
+use Rattle.std.proofs.lemmas.List.{length-map}
+use Rattle.std.proofs.lemmas.Option.{get_or_from_slice_get, slice_get_within}
 use Rattle.gix_commitgraph.specs.Layer.{Layer}
-use Rattle.gix_commitgraph.specs.Commit.{commit_layer, commit_pos, commit_record}
-use Rattle.gix_commitgraph.specs.Graph.{graph_commits, total, start, stop}
+use Rattle.gix_commitgraph.specs.Commit.{commit_layer, commit_pos, commit_record, commit_parents}
+use Rattle.gix_commitgraph.specs.Parents.{edge_of, items_of}
+use Rattle.gix_commitgraph.specs.Graph.{graph_commits, total, start, stop, IsOpened}
 use Rattle.gix_commitgraph.specs.Called.{InGraph}
-use Rattle.gix_commitgraph.specs.History.{history_of, generation_at}
+use Rattle.gix_commitgraph.specs.History.{history_of, generation_at, parents_at}
 use Rattle.gix_commitgraph.specs.Spans.{IsSpan, IsInSpan}
 use Rattle.gix_commitgraph.specs.declared.file.commit.Commit.{Commit}
 use Rattle.gix_commitgraph.specs.declared.verify.span.Span.{Span}
 use Rattle.gix_commitgraph.proofs.Layers.{size, start-more, start-fits, graph_commits-counted}
-use Rattle.gix_commitgraph.proofs.Histories.{generation-at}
+use Rattle.gix_commitgraph.proofs.Histories.{generation-at, parents-at}
+use Rattle.gix_commitgraph.proofs.ParentItems.{numbers_of, numbers-parents, parents-few}
 
 -- where a layer ends
 pub span-stop : (layers : List Layer) (span : Span) → IsSpan layers span → span.stop ≡ span.first + size span.file.now
@@ -29,3 +33,19 @@ span-commit layers span commit p is at =
 -- what is stored of a commit is what the history tells
 pub generation-in_graph : (layers : List Layer) (span : Span) (commit : Commit) (p : ℕ) → IsSpan layers span → InGraph layers p commit → (commit_record commit).generation ≡ generation_at (history_of layers) p
 generation-in_graph layers span commit p is here = sym (generation-at layers p (commit_pos commit) (commit_layer commit) is.graph.opened here)
+
+-- and so are its parents
+pub numbers-in_graph : (layers : List Layer) (span : Span) (commit : Commit) (p : ℕ) → IsSpan layers span → InGraph layers p commit → numbers_of (items_of (commit_parents commit)) ≡ parents_at (history_of layers) p
+numbers-in_graph layers span commit p is here = numbers-parents (commit_parents commit) ∙ sym (parents-at layers p (commit_pos commit) (commit_layer commit) is.graph.opened here)
+
+span-opened : (layers : List Layer) (span : Span) → IsSpan layers span → IsOpened span.file.now
+span-opened layers span is =
+    subst IsOpened (get_or_from_slice_get layers span.layer span.file.now span.file.now is.there)
+    (is.graph.opened span.layer span.file.now (slice_get_within layers span.layer span.file.now is.there))
+
+-- their number fits 32 bits
+pub numbers-few : (layers : List Layer) (span : Span) (commit : Commit) (p : ℕ) → IsSpan layers span → IsInSpan span commit p → length (numbers_of (items_of (commit_parents commit))) ≤ 4294967295
+numbers-few layers span commit p is at =
+    let opened : IsOpened (commit_layer commit) = subst IsOpened (sym at.layer) (span-opened layers span is) in
+    let few = parents-few (edge_of (commit_record commit).parent1) (edge_of (commit_record commit).parent2) (commit_layer commit).edges opened.few_edges in
+    omega (arith, few, ap length (numbers-parents (commit_parents commit)), length-map (commit_parents commit).positions (λ pos. pos.0))
