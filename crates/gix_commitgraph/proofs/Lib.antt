@@ -45,3 +45,4 @@ pub mod Histories
 pub mod ParentItems
 pub mod Spans
 pub mod Bases
+pub mod CommitChecks
