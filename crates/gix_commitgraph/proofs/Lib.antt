@@ -46,3 +46,5 @@ pub mod ParentItems
 pub mod Spans
 pub mod Bases
 pub mod CommitChecks
+pub mod LayerChecks
+pub mod GraphChecks

@@ -1,9 +1,9 @@
 -- laws of the layers of a graph, each with the positions of its commits
-use Rattle.std.proofs.Common.{◌≡◌, ℕ, ◌+◌, ◌-◌, ◌^◌, ◌<◌, ◌≤◌, List, Some, length, slice_get, sym, ap, subst, ◌∙◌, arith}
+use Rattle.std.proofs.Common.{◌≡◌, ℕ, ◌+◌, ◌-◌, ◌^◌, ◌<◌, ◌≤◌, List, [], ◌∷◌, ◌++◌, Some, length, take, slice_get, sym, ap, subst, ◌∙◌, arith, length-take}
 use Rattle.std.proofs.lemmas.List.{length-map}
 use Rattle.std.proofs.lemmas.Option.{get_or_from_slice_get, slice_get_within}
 use Rattle.gix_commitgraph.specs.Layer.{Layer}
-use Rattle.gix_commitgraph.specs.Commit.{commit_layer, commit_pos, commit_record, commit_parents}
+use Rattle.gix_commitgraph.specs.Commit.{commit_layer, commit_pos, commit_place, commit_record, commit_parents}
 use Rattle.gix_commitgraph.specs.Parents.{edge_of, items_of}
 use Rattle.gix_commitgraph.specs.Graph.{graph_commits, total, start, stop, IsOpened}
 use Rattle.gix_commitgraph.specs.Called.{InGraph}
@@ -12,7 +12,7 @@ use Rattle.gix_commitgraph.specs.Spans.{IsSpan, IsInSpan}
 use Rattle.gix_commitgraph.specs.declared.file.commit.Commit.{Commit}
 use Rattle.gix_commitgraph.specs.declared.verify.span.Span.{Span}
 use Rattle.gix_commitgraph.proofs.Layers.{size, start-more, start-fits, graph_commits-counted}
-use Rattle.gix_commitgraph.proofs.Histories.{generation-at, parents-at}
+use Rattle.gix_commitgraph.proofs.Histories.{node_at, generation-at, parents-at, take-history}
 use Rattle.gix_commitgraph.proofs.ParentItems.{numbers_of, numbers-parents, parents-few}
 
 -- where a layer ends
@@ -49,3 +49,19 @@ numbers-few layers span commit p is at =
     let opened : IsOpened (commit_layer commit) = subst IsOpened (sym at.layer) (span-opened layers span is) in
     let few = parents-few (edge_of (commit_record commit).parent1) (edge_of (commit_record commit).parent2) (commit_layer commit).edges opened.few_edges in
     omega (arith, few, ap length (numbers-parents (commit_parents commit)), length-map (commit_parents commit).positions (λ pos. pos.0))
+
+-- the commits up to and with one
+pub take-next : (layers : List Layer) (span : Span) (commit : Commit) (q next p : ℕ) → IsSpan layers span → InGraph layers p commit → p ≡ span.first + q → next ≡ q + 1
+    → take (span.first + next) (history_of layers) ≡ take (span.first + q) (history_of layers) ++ node_at (commit_place commit) ∷ []
+take-next layers span commit q next p is here at more =
+    ap (λ (n : ℕ). take n (history_of layers)) (omega arith)
+    ∙ take-history layers p (commit_pos commit) (commit_layer commit) is.graph.opened here
+    ∙ ap (λ (n : ℕ). take n (history_of layers) ++ node_at (commit_place commit) ∷ []) at
+
+-- how many commits stand before one
+pub take-fits : (layers : List Layer) (span : Span) (q : ℕ) → IsSpan layers span → q < size span.file.now → length (take (span.first + q) (history_of layers)) + 1 < 2 ^ 32
+take-fits layers span q is below =
+    omega (arith, length-take (span.first + q) (history_of layers), span-stop layers span is, span-total layers span is, is.graph.makes.few)
+
+pub parents-told : (layers : List Layer) (span : Span) (commit : Commit) (p n : ℕ) → IsSpan layers span → InGraph layers p commit → n ≡ length (parents_at (history_of layers) p) → n ≡ length (node_at (commit_place commit)).parents
+parents-told layers span commit p n is here counted = counted ∙ ap length (parents-at layers p (commit_pos commit) (commit_layer commit) is.graph.opened here)

@@ -45,6 +45,7 @@ impl Graph {
         requires first { first ≡ start self.now layer }
         ensures span { IsSpan self.now result }
         ensures layer { result.layer ≡ layer }
+        ensures first { result.first ≡ first }
     {
         let file = &self.files[layer];
         Span {

@@ -1,0 +1,13 @@
+use Rattle.std.proofs.Common.{◌≡◌, take}
+use Rattle.gix_commitgraph.specs.Graph.{start}
+use Rattle.gix_commitgraph.specs.History.{history_of}
+use Rattle.gix_commitgraph.specs.Tallies.{Tallies}
+use Rattle.gix_commitgraph.proofs.GraphChecks.{ReachesLayer}
+use Rattle.gix_commitgraph.proofs.graph.Graph.verify_integrity.Given as goal
+
+abbrev pub invariant-loop-layer : goal.invariant-loop-layer
+invariant-loop-layer g l = record {
+  reached : ReachesLayer g.F.FnMut l.self l.fn.processor l.layer l.processor;
+  first : l.first ≡ start l.self l.layer;
+  tally : Tallies (take l.first (history_of l.self)) l.tally;
+}

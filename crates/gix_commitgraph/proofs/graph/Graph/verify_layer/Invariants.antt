@@ -1,0 +1,14 @@
+use Rattle.std.proofs.Common.{◌≡◌, ◌+◌, ◌≤◌, length, take}
+use Rattle.gix_commitgraph.specs.History.{history_of}
+use Rattle.gix_commitgraph.specs.Left.{commits_left, places_from}
+use Rattle.gix_commitgraph.specs.Tallies.{Tallies}
+use Rattle.gix_commitgraph.proofs.LayerChecks.{ReachesCommit}
+use Rattle.gix_commitgraph.proofs.graph.Graph.verify_layer.Given as goal
+
+abbrev pub invariant-loop-commit : goal.invariant-loop-commit
+invariant-loop-commit g l = record {
+  left : commits_left l.commit-iterator ≡ places_from l.span.file.now (length l.yielded);
+  within : length l.yielded ≤ length l.span.file.now.ids;
+  reached : ReachesCommit g.F.FnMut l.self l.span l.fn.processor (length l.yielded) l.processor;
+  tally : Tallies (take (l.span.first + length l.yielded) (history_of l.self)) l.tally;
+}
