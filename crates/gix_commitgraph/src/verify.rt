@@ -128,7 +128,34 @@ impl Graph {
     ghost use Rattle.gix_commitgraph.specs.History.{history_of};
     ghost use Rattle.gix_commitgraph.specs.Verify.{graph_points, stop_of, Summarizes};
 
-    /// Checks the graph.
+    /// Checks the graph, calls the processor on each commit, and answers what its commits come to.
+    ///
+    /// The checks go over the layers from the lowest on, and over the commits of each in the order
+    /// of their positions. A commit's processor is called once its own checks have passed. After an
+    /// `Ok` it was called on each commit, once and in order, and accepted all of them.
+    ///
+    /// # Errors
+    ///
+    /// The first check that fails is answered. The processor was then called, once and in order, on
+    /// the commits before it alone, and accepted them.
+    ///
+    /// 1. `TooManyFiles`: there are more than 256 layers.
+    /// 2. For each layer:
+    ///    1. `BaseCount`: it does not have one base id for each layer below it ("Base Graphs List").
+    ///    2. `BaseId`: a base id is not the checksum of its layer; the first such one.
+    ///    3. `Layer`: its checksum, its file's name or its fan is wrong, in this order.
+    ///    4. For each commit of it:
+    ///       1. `Commit`: its id is null, or not above the one before it in the layer ("OID
+    ///          Lookup"), or its root tree's id is null ("Commit Data"), in this order.
+    ///       2. `Parent`, `ParentOutOfRange`: for each parent in turn, it cannot be told ("Commit
+    ///          Data", "Extra Edge List"), or stands neither in this layer nor in one below it.
+    ///       3. `Generation`: its generation number is not 1 more than the greatest of its parents',
+    ///          1 where it has none, at most [`GENERATION_NUMBER_MAX`](crate::GENERATION_NUMBER_MAX).
+    ///       4. `Processor`: the processor was called on it, and answered this error. No commit
+    ///          after it was looked at.
+    ///
+    /// `OutOfMemory` comes where a growth was refused. The processor was then called, once and in
+    /// order, on the first of the commits, whose checks had passed, and accepted each.
     pub fn verify_integrity<'a, F, E>(
         &'a self,
         alloc: Global,

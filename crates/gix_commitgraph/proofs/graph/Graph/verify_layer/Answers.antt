@@ -45,7 +45,7 @@ returns-in_err-parents-clause-agrees g c =
 pub add-requires : goal.add-requires
 add-requires g c =
     let this = turn c.args.span c.in-Some-commit.commit (length c.loop-commit.yielded) (c.args.span.first + c.position.result.0) _ _ _ c.loop-commit.invariant.left c.in-Some-commit.ensures.steps c.position.ensures.value refl in
-    (_, c.loop-commit.invariant.tally, take-fits c.args.self.now c.args.span (length c.loop-commit.yielded) c.requires.span this.below)
+    (take (c.args.span.first + length c.loop-commit.yielded) (history_of c.args.self.now), c.loop-commit.invariant.tally, take-fits c.args.self.now c.args.span (length c.loop-commit.yielded) c.requires.span this.below)
 
 pub returns-in_err-add-clause-agrees : goal.returns-in_err-add-clause-agrees
 returns-in_err-add-clause-agrees g c =
