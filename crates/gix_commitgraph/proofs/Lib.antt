@@ -48,3 +48,4 @@ pub mod Bases
 pub mod CommitChecks
 pub mod LayerChecks
 pub mod GraphChecks
+pub mod Headline

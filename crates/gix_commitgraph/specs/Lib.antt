@@ -38,3 +38,4 @@ pub mod OpenAnswer
 pub mod Opening
 pub mod Tallies
 pub mod Spans
+pub mod Headline

@@ -1,0 +1,33 @@
+-- What the check of a graph says of it.
+use Rattle.std.specs.Prelude.{◌≡◌, ℕ, List, Option, ⊤}
+use Rattle.std.specs.BTreeMap.{get}
+use Rattle.std.specs.Ordering.{nat_cmp}
+use Rattle.gix_commitgraph.specs.Layer.{Layer}
+use Rattle.gix_commitgraph.specs.Graph.{graph_ids, total}
+use Rattle.gix_commitgraph.specs.GraphLookup.{FoundIn}
+use Rattle.gix_commitgraph.specs.Lookup.{scan}
+use Rattle.gix_commitgraph.specs.Counts.{count_of}
+use Rattle.gix_commitgraph.specs.History.{history_of, parent_numbers}
+use Rattle.gix_commitgraph.specs.Walks.{TellsLongest}
+use Rattle.gix_commitgraph.specs.Sound.{Sound}
+use Rattle.gix_commitgraph.specs.declared.verify.Outcome.{Outcome}
+use Rattle.gix_commitgraph.specs.declared.verify.VerifyError.{VerifyError}
+use Rattle.gix_commitgraph.specs.declared.verify.VerifyError.TheVariants as error
+
+-- What the commits of a graph come to.
+pub record Stats (layers : List Layer) (outcome : Outcome) : Type 0 where
+  pub num_commits : outcome.num_commits ≡ total layers
+  -- for each number of parents, repeats counted, how many commits have so many; no entry where none has
+  pub parent_counts : (k : ℕ) → get nat_cmp outcome.parent_counts k ≡ count_of (parent_numbers (history_of layers)) k
+  -- the most edges on a walk along parents, and nothing where a generation number is at the cap
+  pub longest_path_length : TellsLongest (history_of layers) outcome.longest_path_length
+
+-- each answer that a lookup may give is that of a plain scan of all ids
+abbrev pub AreScanned : List Layer → Type 0
+AreScanned layers = (id : List ℕ) (answer : Option ℕ) → FoundIn layers id answer → answer ≡ scan (graph_ids layers) id
+
+-- a refusal is that of a graph that is not right; the processor's own error and want of memory say nothing of the graph
+abbrev pub IsDeserved : {E : Type 0} → List Layer → VerifyError E → Type 0
+IsDeserved layers (error.Processor pos e) = ⊤
+IsDeserved layers error.OutOfMemory = ⊤
+IsDeserved layers x = ¬ Sound layers
