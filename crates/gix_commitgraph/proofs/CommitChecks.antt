@@ -77,11 +77,11 @@ module _ {F E : Type 0} (step : F → ℕ → Result (Unit {0}) E → F → Type
   at_ids =
       let here : start layers span.layer + commit_pos commit ≡ p = omega (arith, is.first, at.at) in
       let from : ℕ → Layer → List (Point (VerifyError E)) = λ q layer.
-          check (option_map (error.Commit (position_of q)) (commit_fault layer (commit_pos commit)))
-          ∷ check (parents_refusal layers span.layer span.file.now (commit_pos commit))
-          ∷ check (generation_refusal (history_of layers) q)
-          ∷ call q
-          ∷ [] in
+      check (option_map (error.Commit (position_of q)) (commit_fault layer (commit_pos commit)))
+      ∷ check (parents_refusal layers span.layer span.file.now (commit_pos commit))
+      ∷ check (generation_refusal (history_of layers) q)
+      ∷ call q
+      ∷ [] in
       let P : List (Point (VerifyError E)) → Type 0 = λ rest. Reaches step points f rest f in
       subst P (ap (λ (q : ℕ). from q span.file.now) here ∙ ap (from p) (sym at.layer)) (reached_start step points f)
 

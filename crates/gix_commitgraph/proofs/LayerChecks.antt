@@ -100,8 +100,8 @@ module _ {F E : Type 0} (processor : Mut F (Bor Commit × Unit {0}) (Result (Uni
     at_layer =
         let all : length span.file.now.ids ≡ length span.file.now.ids - 0 = omega arith in
         let P : ℕ → Type 0 = λ n.
-            Reaches (CalledOn processor (InGraph layers)) here f
-            (check (option_map (error.Layer span.layer) (layer_fault span.file.now)) ∷ flat_map (commit_points layers span.layer span.file.now) (range_with_len 0 n)) f in
+        Reaches (CalledOn processor (InGraph layers)) here f
+        (check (option_map (error.Layer span.layer) (layer_fault span.file.now)) ∷ flat_map (commit_points layers span.layer span.file.now) (range_with_len 0 n)) f in
         subst P all (reached_past_check (CalledOn processor (InGraph layers)) here f _ _ f (sym bases) (reached_start _ here f))
 
     pub refused_by_layer : (fault : LayerFault) → Some fault ≡ layer_fault span.file.now → IsRefused (CalledOn processor (InGraph layers)) here f f (error.Layer span.layer fault)

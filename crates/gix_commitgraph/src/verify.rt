@@ -3,7 +3,7 @@
 mod span;
 mod tally;
 
-ghost use Rattle.std.specs.Prelude.{IfOk};
+ghost use Rattle.std.specs.Prelude.{IfOk, MatchResult};
 
 use crate::Position;
 use crate::file::Commit;
@@ -127,6 +127,9 @@ impl Graph {
     ghost use Rattle.gix_commitgraph.specs.Called.{MayBeCalled, CalledOn, InGraph};
     ghost use Rattle.gix_commitgraph.specs.History.{history_of};
     ghost use Rattle.gix_commitgraph.specs.Verify.{graph_points, stop_of, Summarizes};
+    ghost use Rattle.gix_commitgraph.specs.Graph.{IsGraph};
+    ghost use Rattle.gix_commitgraph.specs.Sound.{Sound};
+    ghost use Rattle.gix_commitgraph.specs.Headline.{Stats, AreScanned, IsDeserved};
 
     /// Checks the graph, calls the processor on each commit, and answers what its commits come to.
     ///
@@ -164,8 +167,35 @@ impl Graph {
     where
         F: FnMut(&Commit<'a>) -> Result<(), E>,
         requires { MayBeCalled F.FnMut (InGraph self.now) }
+
+        // It is `Ok` exactly where no check fails and the processor accepts each commit, once and in
+        // order; else it names the first check that fails, or hands back the processor's error.
         ensures agrees { Agrees (CalledOn F.FnMut (InGraph self.now)) (graph_points self.now) processor.old processor.new stop_of result }
         ensures outcome { IfOk result (Summarizes (history_of self.now)) }
+
+        // A graph that passes is right, and a graph that is right is refused for want of memory or
+        // by the processor alone.
+        ensures sound { MatchResult result (λ _. Sound self.now) (IsDeserved self.now) }
+
+        // In a graph that passes, the statistics are exact, and a lookup is a plain scan.
+        ensures statistics { IfOk result (Stats self.now) }
+        ensures lookup { IfOk result (λ _. AreScanned self.now) }
+    {
+        self.verify_layers(alloc, processor)
+    }
+
+    /// Goes over the layers, from the lowest on.
+    fn verify_layers<'a, F, E>(
+        &'a self,
+        alloc: Global,
+        processor: &mut F,
+    ) -> Result<Outcome, VerifyError<E>>
+    where
+        F: FnMut(&Commit<'a>) -> Result<(), E>,
+        requires { MayBeCalled F.FnMut (InGraph self.now) }
+        ensures agrees { Agrees (CalledOn F.FnMut (InGraph self.now)) (graph_points self.now) processor.old processor.new stop_of result }
+        ensures outcome { IfOk result (Summarizes (history_of self.now)) }
+        ensures graph { IsGraph self.now }
     {
         if self.files.len() > MOST_LAYERS {
             return Err(VerifyError::TooManyFiles);

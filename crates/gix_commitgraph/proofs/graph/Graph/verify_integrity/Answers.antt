@@ -1,46 +1,14 @@
-use Rattle.std.proofs.Common.{◌≡◌, ◌≤◌, ℕ, length, take, sym, ap, subst, ◌∙◌, arith}
-use Rattle.std.proofs.lemmas.Result.{err_from_is_err_and}
-use Rattle.gix_commitgraph.specs.Graph.{stop, IsGraph}
-use Rattle.gix_commitgraph.specs.History.{history_of}
-use Rattle.gix_commitgraph.proofs.Histories.{take-all}
-use Rattle.gix_commitgraph.proofs.Layers.{start-none}
-use Rattle.gix_commitgraph.proofs.GraphChecks.{reached_layers, stops_in_layer, reached_next_layer, graph_passed}
+use Rattle.gix_commitgraph.proofs.Headline.{judged, right_stats, right_lookups}
 use Rattle.gix_commitgraph.proofs.graph.Graph.verify_integrity.Goals as goal
 
-pub loop-layer-init : goal.loop-layer-init
-loop-layer-init g c =
-    let few : length c.args.self.now ≤ 256 = omega (arith, c.len.ensures, c.self.inside.files.ok.0, ap length c.self.view_is, c.if-len-gt-MOST_LAYERS.false) in
-    record {
-      reached = reached_layers g.F.FnMut c.args.self.now _ few;
-      first = sym (start-none c.args.self.now);
-      tally = c.new-tally.ensures;
-    }
+pub returns-clause-sound : goal.returns-clause-sound
+returns-clause-sound g c =
+    judged _ c.args.self.now _ _ c.verify_layers.ensures.graph.opened c.verify_layers.result c.verify_layers.ensures.agrees
 
-pub returns-in_err-verify_layer-clause-agrees : goal.returns-in_err-verify_layer-clause-agrees
-returns-in_err-verify_layer-clause-agrees g c =
-    let handed = err_from_is_err_and c.from_residual.result c.from_residual.ensures.1 in
-    rw (handed.1, handed.2)
-    (stops_in_layer g.F.FnMut c.args.self.now _ c.loop-layer.layer c.span_at-span.result.file.now (rw c.span_at-span.ensures.layer at c.span_at-span.ensures.span.there) _ _ c.loop-layer.invariant.reached _
-    (rw c.span_at-span.ensures.layer at c.in_err-verify_layer.ensures.agrees))
+pub returns-clause-statistics : goal.returns-clause-statistics
+returns-clause-statistics g c =
+    right_stats _ c.args.self.now _ _ c.verify_layers.ensures.graph.opened c.verify_layers.result c.verify_layers.ensures.agrees c.verify_layers.ensures.outcome
 
-pub loop-layer-preserved : goal.loop-layer-preserved
-loop-layer-preserved g c = record {
-  reached =
-      reached_next_layer g.F.FnMut c.args.self.now _ c.loop-layer.layer c.span_at-span.result.file.now (rw c.span_at-span.ensures.layer at c.span_at-span.ensures.span.there) _ _ c.loop-layer.invariant.reached
-      (rw c.span_at-span.ensures.layer at c.in_ok-verify_layer.ensures.agrees);
-  first = c.span_at-span.ensures.span.stop ∙ ap (stop c.args.self.now) c.span_at-span.ensures.layer;
-  tally = c.in_ok-verify_layer.ensures.tally;
-}
-
-pub returns-clause-agrees : goal.returns-clause-agrees
-returns-clause-agrees g c =
-    let past : length c.args.self.now ≤ c.loop-layer.layer = omega (arith, c.len-layer-end.ensures, c.self.inside.files.ok.0, ap length c.self.view_is, c.loop-layer-test.false) in
-    graph_passed g.F.FnMut c.args.self.now _ c.loop-layer.layer _ past c.loop-layer.invariant.reached
-
-pub returns-clause-outcome : goal.returns-clause-outcome
-returns-clause-outcome g c =
-    let past : length c.args.self.now ≤ c.loop-layer.layer = omega (arith, c.len-layer-end.ensures, c.self.inside.files.ok.0, ap length c.self.view_is, c.loop-layer-test.false) in
-    let graph : IsGraph c.args.self.now = subst IsGraph c.self.view_is c.self.invariant in
-    let all : take c.loop-layer.first (history_of c.args.self.now) ≡ history_of c.args.self.now =
-    ap (λ (n : ℕ). take n (history_of c.args.self.now)) c.loop-layer.invariant.first ∙ take-all c.args.self.now c.loop-layer.layer graph.opened past in
-    rw all at (c.outcome.ensures _ c.loop-layer.invariant.tally)
+pub returns-clause-lookup : goal.returns-clause-lookup
+returns-clause-lookup g c =
+    right_lookups _ c.args.self.now _ _ c.verify_layers.ensures.graph.opened c.verify_layers.result c.verify_layers.ensures.agrees

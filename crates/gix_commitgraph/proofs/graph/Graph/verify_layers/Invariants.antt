@@ -3,7 +3,7 @@ use Rattle.gix_commitgraph.specs.Graph.{start}
 use Rattle.gix_commitgraph.specs.History.{history_of}
 use Rattle.gix_commitgraph.specs.Tallies.{Tallies}
 use Rattle.gix_commitgraph.proofs.GraphChecks.{ReachesLayer}
-use Rattle.gix_commitgraph.proofs.graph.Graph.verify_integrity.Given as goal
+use Rattle.gix_commitgraph.proofs.graph.Graph.verify_layers.Given as goal
 
 abbrev pub invariant-loop-layer : goal.invariant-loop-layer
 invariant-loop-layer g l = record {
