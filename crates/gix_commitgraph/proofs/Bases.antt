@@ -1,5 +1,5 @@
 -- laws of the base ids of a layer
-use Rattle.std.proofs.Common.{◌≡◌, ℕ, List, [], Bool, true, not, ◌==◌, length, Option, Some, option_map, unwrap_or, map, bytes_eq, slice_get, refl, sym, ap, ◌∙◌}
+use Rattle.std.proofs.Common.{◌≡◌, ℕ, List, [], Bool, true, not, ◌==◌, length, Option, Some, option_map, unwrap_or, bytes_eq, slice_get, refl, sym, ap, ◌∙◌}
 use Rattle.std.proofs.lemmas.Bool.{eq-eqb}
 use Rattle.std.proofs.lemmas.Option.{slice_get-map}
 use Rattle.gix_chunk_core.specs.First.{◌when◌, first_below}

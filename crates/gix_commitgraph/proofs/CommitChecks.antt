@@ -1,8 +1,8 @@
 -- How the check of a graph goes over the points of one commit.
 use Rattle.std.proofs.Common.{◌≡◌, ℕ, ◌+◌, Bool, true, false, not, ◌==◌, List, [], ◌∷◌, map, min, Option, Some, None, option_map, Result, Ok, Err, nat_lt, eq-eqb, ne_eqb, refl, sym, ap, subst, ◌∙◌, arith}
-use Rattle.gix_chunk_core.specs.First.{◌when◌, ◌otherwise◌, first_below}
+use Rattle.gix_chunk_core.specs.First.{◌when◌}
 use Rattle.gix_commitgraph.specs.Layer.{Layer, record_at}
-use Rattle.gix_commitgraph.specs.Commit.{commit_layer, commit_pos, commit_record}
+use Rattle.gix_commitgraph.specs.Commit.{commit_layer, commit_pos}
 use Rattle.gix_commitgraph.specs.Parents.{position_of, items_of, parents_of}
 use Rattle.gix_commitgraph.specs.Graph.{start, stop}
 use Rattle.gix_commitgraph.specs.Wrong.{commit_fault}
@@ -15,7 +15,6 @@ use Rattle.gix_commitgraph.specs.Spans.{IsSpan, IsInSpan}
 use Rattle.gix_commitgraph.specs.declared.Position.{Position}
 use Rattle.gix_commitgraph.specs.declared.file.commit.Commit.{Commit}
 use Rattle.gix_commitgraph.specs.declared.file.commit.ParentError.{ParentError}
-use Rattle.gix_commitgraph.specs.declared.verify.CommitFault.{CommitFault}
 use Rattle.gix_commitgraph.specs.declared.verify.VerifyError.{VerifyError}
 use Rattle.gix_commitgraph.specs.declared.verify.VerifyError.TheVariants as error
 use Rattle.gix_commitgraph.specs.declared.verify.span.Span.{Span}
@@ -84,9 +83,6 @@ module _ {F E : Type 0} (step : F → ℕ → Result (Unit {0}) E → F → Type
       ∷ [] in
       let P : List (Point (VerifyError E)) → Type 0 = λ rest. Reaches step points f rest f in
       subst P (ap (λ (q : ℕ). from q span.file.now) here ∙ ap (from p) (sym at.layer)) (reached_start step points f)
-
-  pub refused_by_ids : (fault : CommitFault) → Some fault ≡ commit_fault (commit_layer commit) (commit_pos commit) → IsRefused step points f f (error.Commit (position_of p) fault)
-  refused_by_ids fault some = refused_at_check step points f _ _ f _ (ap (option_map (error.Commit (position_of p))) (sym some)) at_ids
 
   module _ (ids : None ≡ commit_fault (commit_layer commit) (commit_pos commit)) where
     at_parents : Reaches step points f (check (parents_refusal layers span.layer span.file.now (commit_pos commit)) ∷ check (generation_refusal (history_of layers) p) ∷ call p ∷ []) f

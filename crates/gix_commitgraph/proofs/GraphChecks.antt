@@ -1,5 +1,5 @@
 -- How the check of a graph goes over the points of its layers.
-use Rattle.std.proofs.Common.{◌≡◌, ℕ, ◌+◌, ◌<◌, ◌≤◌, false, List, [], ◌∷◌, ◌++◌, length, drop, Some, None, Result, nat_lt, slice_get, refl, sym, ap, subst, ◌∙◌, arith}
+use Rattle.std.proofs.Common.{◌≡◌, ℕ, ◌+◌, ◌≤◌, false, List, [], ◌++◌, length, drop, Some, Result, nat_lt, slice_get, refl, ap, subst}
 use Rattle.std.specs.List.{flat_map, enumerate_from}
 use Rattle.std.specs.Fn.{Mut}
 use Rattle.std.proofs.lemmas.Bool.{le-ltb}
@@ -8,7 +8,7 @@ use denote.Ref.{Bor}
 use Rattle.gix_chunk_core.specs.First.{◌when◌}
 use Rattle.gix_commitgraph.specs.Layer.{Layer}
 use Rattle.gix_commitgraph.specs.Called.{CalledOn, InGraph}
-use Rattle.gix_commitgraph.specs.Points.{Point, check, Stop, StopsBy, Passes}
+use Rattle.gix_commitgraph.specs.Points.{Point, Stop, StopsBy, Passes}
 use Rattle.gix_commitgraph.specs.Verify.{layer_points, graph_points}
 use Rattle.gix_commitgraph.specs.declared.file.commit.Commit.{Commit}
 use Rattle.gix_commitgraph.specs.declared.verify.VerifyError.{VerifyError}

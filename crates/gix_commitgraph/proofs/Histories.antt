@@ -1,5 +1,5 @@
 -- laws of the history that the layers of a graph tell
-use Rattle.std.proofs.Common.{◌≡◌, ℕ, zero, suc, ◌+◌, ◌-◌, ◌*◌, ◌/◌, ◌<◌, ◌≤◌, List, [], ◌∷◌, ◌++◌, map, length, take, drop, Option, Some, None, option_map, unwrap_or, IsSomeAnd, IfSome, slice_get, get_or, All, refl, sym, ap, subst, ◌∙◌, arith}
+use Rattle.std.proofs.Common.{◌≡◌, ℕ, suc, ◌+◌, ◌-◌, ◌*◌, ◌/◌, ◌<◌, ◌≤◌, List, [], ◌∷◌, ◌++◌, map, length, take, Option, Some, None, option_map, unwrap_or, IsSomeAnd, slice_get, get_or, All, refl, sym, ap, ◌∙◌, arith}
 use Rattle.std.specs.List.{flat_map, range_with_len}
 use Rattle.std.specs.Option.{option_map_or}
 use Rattle.std.proofs.lemmas.List.{map-append, same_lists, length-map, take_all, take_more}
@@ -10,7 +10,7 @@ use Rattle.gix_hash_core.specs.declared.kind.Kind.{Kind}
 use Rattle.gix_hash_core.specs.declared.kind.Kind.TheVariants.{Sha1, Sha256}
 use Rattle.gix_hash_core.specs.Kind.{id_len}
 use Rattle.gix_commitgraph.specs.Format.{Record, record_of, record_len, commits_of, pieces, chunk_of, ids_id, records_id}
-use Rattle.gix_commitgraph.specs.Layer.{Layer, IsLayer, record_at, no_record, bytes_of}
+use Rattle.gix_commitgraph.specs.Layer.{Layer, record_at, no_record, bytes_of}
 use Rattle.gix_commitgraph.specs.Left.{places_from}
 use Rattle.gix_commitgraph.specs.Graph.{graph_commits, total, start, IsOpened}
 use Rattle.gix_commitgraph.specs.Parents.{parents_of}

@@ -1,5 +1,5 @@
 -- How the check of a graph goes over the points of one layer.
-use Rattle.std.proofs.Common.{◌≡◌, ℕ, suc, ◌+◌, ◌-◌, ◌<◌, ◌≤◌, Bool, true, false, not, ◌==◌, List, [], ◌∷◌, ◌++◌, map, length, take, Option, Some, None, option_map, Result, Ok, Err, bytes_eq, refl, sym, ap, subst, ◌∙◌, arith, ⊎_elim}
+use Rattle.std.proofs.Common.{◌≡◌, ℕ, suc, ◌+◌, ◌-◌, ◌<◌, ◌≤◌, Bool, true, false, not, ◌==◌, List, [], ◌∷◌, ◌++◌, map, length, Some, None, option_map, Result, bytes_eq, refl, sym, ap, subst, ◌∙◌, arith, ⊎_elim}
 use Rattle.std.specs.List.{flat_map, range_with_len}
 use Rattle.std.specs.Fn.{Mut}
 use Rattle.std.proofs.lemmas.Bool.{cases_lt}
@@ -7,15 +7,14 @@ use denote.Ref.{Bor}
 use Rattle.gix_chunk_core.specs.First.{◌when◌, ◌otherwise◌, first_below}
 use Rattle.gix_chunk_core.proofs.FirstLemmas.{first_below-least}
 use Rattle.gix_commitgraph.specs.Layer.{Layer}
-use Rattle.gix_commitgraph.specs.Commit.{commit_layer, commit_pos, commit_place}
+use Rattle.gix_commitgraph.specs.Commit.{commit_pos, commit_place}
 use Rattle.gix_commitgraph.specs.Left.{places_from}
 use Rattle.gix_commitgraph.specs.Wrong.{layer_fault}
 use Rattle.gix_commitgraph.specs.Called.{CalledOn, InGraph}
-use Rattle.gix_commitgraph.specs.Points.{Point, check, call, Stop, refused, IsRefused, StopsBy, Passes}
+use Rattle.gix_commitgraph.specs.Points.{Point, check, Stop, refused, StopsBy, Passes}
 use Rattle.gix_commitgraph.specs.Verify.{base_at, checksum_at, base_refusal, bases_refusal, commit_points, layer_points, stop_of}
-use Rattle.gix_commitgraph.specs.Spans.{IsSpan, IsInSpan}
+use Rattle.gix_commitgraph.specs.Spans.{IsInSpan}
 use Rattle.gix_commitgraph.specs.declared.file.commit.Commit.{Commit}
-use Rattle.gix_commitgraph.specs.declared.verify.LayerFault.{LayerFault}
 use Rattle.gix_commitgraph.specs.declared.verify.VerifyError.{VerifyError}
 use Rattle.gix_commitgraph.specs.declared.verify.VerifyError.TheVariants as error
 use Rattle.gix_commitgraph.specs.declared.verify.span.Span.{Span}
@@ -103,9 +102,6 @@ module _ {F E : Type 0} (processor : Mut F (Bor Commit × Unit {0}) (Result (Uni
         Reaches (CalledOn processor (InGraph layers)) here f
         (check (option_map (error.Layer span.layer) (layer_fault span.file.now)) ∷ flat_map (commit_points layers span.layer span.file.now) (range_with_len 0 n)) f in
         subst P all (reached_past_check (CalledOn processor (InGraph layers)) here f _ _ f (sym bases) (reached_start _ here f))
-
-    pub refused_by_layer : (fault : LayerFault) → Some fault ≡ layer_fault span.file.now → IsRefused (CalledOn processor (InGraph layers)) here f f (error.Layer span.layer fault)
-    refused_by_layer fault some = refused_at_check (CalledOn processor (InGraph layers)) here f _ _ f _ (ap (option_map (error.Layer span.layer)) (sym some)) at_layer
 
     pub reached_first : None ≡ layer_fault span.file.now → ReachesCommit 0 f
     reached_first none = reached_past_check (CalledOn processor (InGraph layers)) here f _ _ f (ap (option_map (error.Layer span.layer)) (sym none)) at_layer

@@ -1,6 +1,6 @@
 -- laws of the items that an iterator over parents gives
-use Rattle.std.proofs.Common.{◌≡◌, ℕ, ◌+◌, ◌/◌, ◌<◌, ◌≤◌, List, [], ◌∷◌, ◌++◌, map, fold, max, length, drop, Option, Some, None, Result, Ok, Err, IfSome, refl, sym, ap, ◌∙◌, arith, append-nil, length-drop}
-use Rattle.gix_commitgraph.specs.Parents.{Parents, edge_of, extra_edge_of, extra_parent, extra_parents, second_parents, both_parents, listed, fault_items, items_of}
+use Rattle.std.proofs.Common.{◌≡◌, ℕ, ◌+◌, ◌/◌, ◌≤◌, List, [], ◌∷◌, ◌++◌, map, length, drop, Option, Some, None, Result, Ok, Err, IfSome, refl, ap, ◌∙◌, arith, length-drop}
+use Rattle.gix_commitgraph.specs.Parents.{Parents, extra_edge_of, extra_parent, extra_parents, both_parents, listed, fault_items, items_of}
 use Rattle.gix_commitgraph.specs.Format.{words}
 use Rattle.gix_commitgraph.specs.declared.Position.{Position}
 use Rattle.gix_commitgraph.specs.declared.file.commit.ParentEdge.{ParentEdge}

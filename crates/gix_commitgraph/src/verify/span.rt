@@ -1,6 +1,6 @@
 //! The check of one layer of a graph.
 
-ghost use Rattle.std.specs.Prelude.{◌≡◌, ◌+◌, ◌<◌, length, map, take, IfOk, OnOk};
+ghost use Rattle.std.specs.Prelude.{◌≡◌, ◌+◌, ◌<◌, length, take, IfOk, OnOk};
 ghost use Rattle.std.specs.Result.{result_err};
 ghost use Rattle.std.specs.Fn.{TakesAt};
 
@@ -34,7 +34,6 @@ impl Graph {
     ghost use Rattle.gix_commitgraph.specs.History.{history_of, generation_at, parents_at};
     ghost use Rattle.gix_commitgraph.specs.Points.{Agrees};
     ghost use Rattle.gix_commitgraph.specs.Called.{MayBeCalled, CalledOn, InGraph};
-    ghost use Rattle.gix_commitgraph.specs.Counts.{greatest};
     ghost use Rattle.gix_commitgraph.specs.Verify.{bases_refusal, parents_refusal, commit_points, layer_points, stop_of};
     ghost use Rattle.gix_commitgraph.specs.Tallies.{Tallies, ParentsTally};
     ghost use Rattle.gix_commitgraph.specs.Spans.{IsSpan, IsInSpan};

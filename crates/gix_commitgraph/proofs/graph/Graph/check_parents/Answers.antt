@@ -1,8 +1,6 @@
 use Rattle.std.proofs.Common.{◌≡◌, [], length, map, fold, max, sym, ap, ◌∙◌, arith}
-use Rattle.gix_commitgraph.specs.Commit.{commit_parents}
 use Rattle.gix_commitgraph.specs.Counts.{greatest}
-use Rattle.gix_commitgraph.specs.History.{history_of, generation_at, parents_at}
-use Rattle.gix_commitgraph.specs.Parents.{items_of}
+use Rattle.gix_commitgraph.specs.History.{history_of, generation_at}
 use Rattle.gix_commitgraph.specs.ParentsLeft.{parents_left}
 use Rattle.gix_commitgraph.proofs.ParentItems.{numbers_of, numbers-taken}
 use Rattle.gix_commitgraph.proofs.Spans.{span-commit, numbers-in_graph, numbers-few}

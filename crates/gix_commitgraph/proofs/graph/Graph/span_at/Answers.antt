@@ -2,7 +2,6 @@ use Rattle.std.proofs.Common.{◌≡◌, ◌<◌, Some, length, slice_get, refl,
 use Rattle.std.proofs.lemmas.Option.{slice_get_read}
 use Rattle.gix_commitgraph.specs.Graph.{IsGraph}
 use Rattle.gix_commitgraph.proofs.Layers.{start-more, counted-fits}
-use Rattle.gix_commitgraph.proofs.Histories.{take-all}
 use Rattle.gix_commitgraph.proofs.graph.Graph.span_at.Goals as goal
 
 -- the layer is the one of this number

@@ -1,9 +1,6 @@
-use Rattle.std.proofs.Common.{◌≡◌, map, refl, ap, ◌∙◌, arith}
+use Rattle.std.proofs.Common.{refl, ◌∙◌}
 use Rattle.std.proofs.lemmas.Result.{err_from_is_err_and}
-use Rattle.gix_commitgraph.specs.Commit.{commit_record}
-use Rattle.gix_commitgraph.specs.Counts.{greatest}
-use Rattle.gix_commitgraph.specs.Generations.{expected_generation}
-use Rattle.gix_commitgraph.specs.History.{history_of, generation_at, parents_at}
+use Rattle.gix_commitgraph.specs.History.{history_of}
 use Rattle.gix_commitgraph.proofs.Spans.{span-commit, generation-in_graph}
 use Rattle.gix_commitgraph.proofs.CommitChecks.{refused_by_parents, refused_by_generation, stopped_by_processor, commit_passed, wrong_generation, right_generation, expected-is}
 use Rattle.gix_commitgraph.proofs.graph.Graph.verify_commit.Goals as goal
