@@ -49,3 +49,4 @@ pub mod CommitChecks
 pub mod LayerChecks
 pub mod GraphChecks
 pub mod Headline
+pub mod ParentCounts

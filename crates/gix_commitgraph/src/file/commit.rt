@@ -1,6 +1,6 @@
 //! The commits of a layer: the section "Commit Data" of Git's commit-graph format.
 
-ghost use Rattle.std.specs.Prelude.{◌≡◌, ◌<◌, ◌↔◌, length, slice_get, IsTrue, Some};
+ghost use Rattle.std.specs.Prelude.{◌≡◌, ◌<◌, ◌^◌, ◌↔◌, length, slice_get, IsTrue, MatchResult, Some, None};
 
 use crate::file::File;
 pub use crate::file::parents::Parents;
@@ -199,6 +199,22 @@ impl<'a> Commit<'a> {
         }
         let before = self.file.id_at(file::Position(self.pos.0 - 1));
         before.cmp(&self.id()).is_ge()
+    }
+
+    /// The number of the commit's parents, repeats counted, or the error that keeps them from being
+    /// told.
+    pub(crate) fn count_parents(&self) -> Result<u32, ParentError>
+        requires { length (commit_parents self.now).positions < 2 ^ 32 }
+        ensures { MatchResult result
+            (λ count. (count ≡ length (commit_parents self.now).positions) × ((commit_parents self.now).fault ≡ None))
+            (λ error. (commit_parents self.now).fault ≡ Some error) }
+    {
+        let mut count = 0;
+        for parent in self.iter_parents() {
+            parent?;
+            count += 1;
+        }
+        Ok(count)
     }
 
     /// What both parent fields say.
