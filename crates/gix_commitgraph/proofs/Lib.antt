@@ -50,3 +50,5 @@ pub mod LayerChecks
 pub mod GraphChecks
 pub mod Headline
 pub mod ParentCounts
+pub mod Summaries
+pub mod Traverses

@@ -1,12 +1,14 @@
 //! Checks of what one layer says.
 
-ghost use Rattle.std.specs.Prelude.{◌≡◌, ◌≢◌, IfOk, MatchResult};
+ghost use Rattle.std.specs.Prelude.{◌≡◌, ◌≢◌, ◌==◌, ℕ, ◌+◌, ◌<◌, ◌^◌, length, nat_eq, if◌then◌else◌, unwrap_or, Some, IfOk, OnOk, MatchResult};
+ghost use Rattle.std.specs.HashMap.{get};
 ghost use Rattle.gix_hash_core.specs.Digest.{digest_of};
 
 use crate::file::commit::ParentError;
-use crate::file::{File, Position};
+use crate::file::{Commit, File, Position};
+use crate::verify::{CommitFault, LayerFault};
 use gix_hash_core::{ObjectId, digest};
-use std::alloc::AllocError;
+use std::alloc::{AllocError, Global};
 use std::collections::HashMap;
 use thiserror::Error;
 
@@ -49,8 +51,20 @@ pub struct Outcome {
     pub parent_counts: HashMap<u32, u32>,
 }
 
+/// Counts one more under a number.
+fn count_one(counts: &mut HashMap<u32, u32>, number: u32) -> Result<(), AllocError>
+    requires { unwrap_or (get nat_eq counts.old number) 0 + 1 < 2 ^ 32 }
+    ensures { OnOk result ((k : ℕ) → get nat_eq counts.new k
+        ≡ (if k == number then Some (unwrap_or (get nat_eq counts.old number) 0 + 1) else get nat_eq counts.old k)) }
+{
+    *counts.entry(number)?.or_insert(0) += 1;
+    Ok(())
+}
+
 impl Outcome {
-    ghost use Rattle.gix_commitgraph.specs.Traverse.{IsCopy};
+    ghost use Rattle.gix_commitgraph.specs.Commit.{commit_layer, commit_pos, commit_parents};
+    ghost use Rattle.gix_commitgraph.specs.Layer.{Layer};
+    ghost use Rattle.gix_commitgraph.specs.Traverse.{IsCopy, Summarizes};
 
     /// An equal outcome. The error is want of memory.
     pub fn try_clone(&self) -> Result<Outcome, AllocError>
@@ -60,6 +74,40 @@ impl Outcome {
             parent_counts: self.parent_counts.clone()?,
             ..*self
         })
+    }
+
+    /// What no commit comes to.
+    fn new(alloc: Global) -> Outcome
+        ensures { (layer : Layer) → Summarizes layer 0 result }
+    {
+        Outcome {
+            max_generation: 0,
+            min_generation: 0,
+            max_parents: 0,
+            num_commits: 0,
+            parent_counts: HashMap::new(alloc),
+        }
+    }
+
+    /// Adds a commit, which has so many parents, to those before it in its layer.
+    fn add(&mut self, commit: &Commit<'_>, parents: u32) -> Result<(), AllocError>
+        requires small { commit_pos commit.now + 1 < 2 ^ 32 }
+        requires record { commit_pos commit.now < length (commit_layer commit.now).records }
+        requires parents { parents ≡ length (commit_parents commit.now).positions }
+        requires before { Summarizes (commit_layer commit.now) (commit_pos commit.now) self.old }
+        ensures { OnOk result (Summarizes (commit_layer commit.now) (commit_pos commit.now + 1) self.new) }
+    {
+        count_one(&mut self.parent_counts, parents)?;
+        let generation = commit.generation();
+        self.min_generation = if self.num_commits == 0 {
+            generation
+        } else {
+            self.min_generation.min(generation)
+        };
+        self.max_generation = self.max_generation.max(generation);
+        self.max_parents = self.max_parents.max(parents);
+        self.num_commits += 1;
+        Ok(())
     }
 }
 
@@ -95,4 +143,118 @@ pub enum TraverseError<E> {
     /// A growth was refused.
     #[error("OutOfMemory")]
     OutOfMemory,
+}
+
+impl<E> TraverseError<E> {
+    ghost use Rattle.gix_commitgraph.specs.Traverse.{layer_refusal, commit_refusal};
+
+    /// The error for a fault of the layer as a whole.
+    fn of_layer(fault: LayerFault) -> TraverseError<E>
+        ensures { result ≡ layer_refusal fault }
+    {
+        match fault {
+            LayerFault::Checksum => TraverseError::Checksum,
+            LayerFault::FileName => TraverseError::FileName,
+            LayerFault::Fan { byte } => TraverseError::Fan { byte },
+        }
+    }
+
+    /// The error for a fault of the ids of the commit at a position.
+    fn of_commit(pos: Position, fault: CommitFault) -> TraverseError<E>
+        ensures { result ≡ commit_refusal pos.0 fault }
+    {
+        match fault {
+            CommitFault::NullId => TraverseError::NullId { pos },
+            CommitFault::Order => TraverseError::Order { pos },
+            CommitFault::NullTree => TraverseError::NullTree { pos },
+        }
+    }
+}
+
+impl<E> From<AllocError> for TraverseError<E> {
+    ghost use Rattle.std.specs.Prelude.{◌≡◌};
+    ghost use Rattle.gix_commitgraph.specs.declared.file.verify.TraverseError.TheVariants.{OutOfMemory};
+
+    ghost from_gives = { λ _ error. error ≡ OutOfMemory };
+
+    fn from(_error: AllocError) -> TraverseError<E> {
+        TraverseError::OutOfMemory
+    }
+}
+
+impl<'a> Commit<'a> {
+    ghost use Rattle.std.specs.Fn.{TakesAt};
+    ghost use Rattle.gix_commitgraph.specs.Called.{CalledOn, InLayer};
+    ghost use Rattle.gix_commitgraph.specs.Commit.{commit_layer, commit_pos, commit_parents};
+    ghost use Rattle.gix_commitgraph.specs.Points.{Agrees};
+    ghost use Rattle.gix_commitgraph.specs.Traverse.{commit_points, stop_of};
+
+    /// Checks the commit's ids, calls the processor on it, and decodes its parents. The answer is
+    /// how many these are.
+    fn check<F, E>(&self, processor: &mut F) -> Result<u32, TraverseError<E>>
+    where
+        F: FnMut(&Commit<'a>) -> Result<(), E>,
+        requires callable { (state : F) → TakesAt F.FnMut state self.now }
+        requires few { length (commit_parents self.now).positions < 2 ^ 32 }
+        ensures agrees { Agrees (CalledOn F.FnMut (InLayer (commit_layer self.now))) (commit_points (commit_layer self.now) (commit_pos self.now))
+            processor.old processor.new stop_of result }
+        ensures parents { IfOk result (λ parents. parents ≡ length (commit_parents self.now).positions) }
+    {
+        let pos = self.position();
+        if let Some(fault) = self.fault() {
+            return Err(TraverseError::of_commit(pos, fault));
+        }
+        if let Err(error) = processor(self) {
+            return Err(TraverseError::Processor { pos, error });
+        }
+        match self.count_parents() {
+            Ok(parents) => Ok(parents),
+            Err(error) => Err(TraverseError::Parent { pos, error }),
+        }
+    }
+}
+
+impl File {
+    ghost use Rattle.gix_commitgraph.specs.Called.{MayBeCalled, CalledOn, InLayer};
+    ghost use Rattle.gix_commitgraph.specs.Points.{Agrees};
+    ghost use Rattle.gix_commitgraph.specs.Traverse.{layer_points, stop_of, FileStats};
+
+    /// Checks the layer, and calls the processor on its commits, in the order of their positions.
+    ///
+    /// The checks come in this order: the checksum ("TRAILER"), the name of the file, and the fan
+    /// ("OID Fanout"); then of each commit its id, which is not null and is above the one before it
+    /// ("OID Lookup"), the id of its root tree, which is not null ("Commit Data"), the processor,
+    /// and the decoding of its parents ("Extra Edge List"). The error names the first that fails. A
+    /// file whose name is `graph-`, some text and `.graph` is named right where the text is the
+    /// checksum in hexadecimal, and any other name is right.
+    ///
+    /// Where the answer is `Ok`, the processor accepted every commit, and the outcome is what the
+    /// commits come to. Otherwise it was called once on each commit of a beginning of the layer, and
+    /// accepted them; only with `Processor` did it refuse the last of them. With `Processor` and
+    /// `Parent` the last call was on the commit that the error names, and with `NullId`, `Order` and
+    /// `NullTree` on the one before that commit. With `Checksum`, `FileName` and `Fan` there was no
+    /// call. `OutOfMemory` comes only where a growth was refused, and no check that comes before the
+    /// last call failed.
+    pub fn traverse<'a, F, E>(
+        &'a self,
+        alloc: Global,
+        processor: &mut F,
+    ) -> Result<Outcome, TraverseError<E>>
+    where
+        F: FnMut(&Commit<'a>) -> Result<(), E>,
+        requires { MayBeCalled F.FnMut (InLayer self.now) }
+        ensures agrees { Agrees (CalledOn F.FnMut (InLayer self.now)) (layer_points self.now) processor.old processor.new stop_of result }
+        ensures outcome { IfOk result (FileStats self.now) }
+    {
+        if let Some(fault) = self.layer_fault() {
+            return Err(TraverseError::of_layer(fault));
+        }
+        let mut outcome = Outcome::new(alloc);
+        for number in 0..self.num_commits() {
+            let commit = self.commit_at(Position(number));
+            let parents = commit.check(processor)?;
+            outcome.add(&commit, parents)?;
+        }
+        Ok(outcome)
+    }
 }
