@@ -16,6 +16,8 @@ mod sizes;
 mod table;
 #[cfg(test)]
 mod tests;
+#[cfg(test)]
+mod tests_opening;
 mod trailer;
 
 pub use builder::build;
