@@ -9,7 +9,8 @@ commits. Both programs read the same files, in turn, and have to give the same s
 figure: ours and the baseline's, in nanoseconds an item, each the best of all runs, and their ratio.
 The items are lookups of ids that are there and of ids that are not, in an order by chance that is
 always the same; commits with all their parents, in order; and commits at positions by chance, each
-with its generation number, its time and its parents.
+with its generation number, its time and its parents. Then two figures of ours alone: the check of
+the checksums, and the check of the whole graph, which has that one in it.
 
 Ours is bench/lookup/main.rt.txt, which is proved and built by LLVM, over the repository's crates.
 The baseline is bench/lookup/baseline.rs, by `rustc -O` for the same processor. The status is 1
@@ -35,7 +36,8 @@ ROUNDS = 7
 LIBRARIES = {
     "gix_hash_core": "sha1 sha2 hex thiserror",
     "gix_chunk_core": "thiserror",
-    "gix_commitgraph": "gix_hash_core gix_chunk_core thiserror",
+    "graph_folder": "thiserror",
+    "gix_commitgraph": "gix_hash_core gix_chunk_core graph_folder thiserror",
 }
 PROGRAM = "lookup_bench"
 PROGRAM_LIBRARIES = "gix_hash_core gix_commitgraph anyhow"
@@ -60,7 +62,7 @@ def report(ours, baseline):
     """Prints a line a figure, and answers the exit status."""
     agreed = True
     print("%-16s %10s %10s %10s %7s" % ("figure", "items", "ours ns", "rust ns", "ratio"))
-    for name in ours[0]:
+    for name in baseline[0]:
         best, sums = best_and_sums(name, ours)
         other, other_sums = best_and_sums(name, baseline)
         items = COMMITS
@@ -68,7 +70,16 @@ def report(ours, baseline):
         if len(sums | other_sums) != 1:
             print("%-16s the sums differ: %s and %s" % (name, sums, other_sums))
             agreed = False
-    return 0 if agreed else 1
+    return 0 if all([agreed, report_checks("layer", ours), report_checks("chain", ours)]) else 1
+
+
+def report_checks(name, ours):
+    """Prints how long the check of a graph takes beside that of its checksums alone."""
+    checksum, _ = best_and_sums(name + "-checksum", ours)
+    whole, sums = best_and_sums(name + "-integrity", ours)
+    print("%-16s %10.2f ns a commit" % (name + "-checksum", checksum / COMMITS))
+    print("%-16s %10.2f ns a commit, %.3f times the checksum" % (name + "-integrity", whole / COMMITS, whole / checksum))
+    return sums == {(1, COMMITS)}
 
 
 def best_and_sums(name, runs):
