@@ -4,7 +4,7 @@ use Rattle.std.specs.Io.KnownBytes.{Appends}
 use Rattle.gix_commitgraph.specs.declared.error.FileError.TheVariants as file
 use Rattle.gix_commitgraph.specs.Layer.{Layer, IsLayer}
 use Rattle.gix_commitgraph.specs.Refusal.{refusal}
-use Rattle.graphtool.specs.declared.read.ReadError.TheVariants as read
+use Rattle.graph_folder.specs.declared.folder.ReadError.TheVariants as read
 use Rattle.graphtool.specs.declared.refusal.Refusal.{Refusal}
 use Rattle.graphtool.specs.declared.refusal.Refusal.TheVariants.{Read, File}
 use Rattle.graphtool.specs.Refusal.{refusal_text}

@@ -6,8 +6,8 @@ use Rattle.gix_commitgraph.specs.declared.error.FileError.{FileError}
 use Rattle.gix_commitgraph.specs.declared.error.FileError.TheVariants as file
 use Rattle.gix_commitgraph.specs.declared.file.commit.ParentError.{ParentError}
 use Rattle.gix_commitgraph.specs.declared.file.commit.ParentError.TheVariants as parent
-use Rattle.graphtool.specs.declared.read.ReadError.{ReadError}
-use Rattle.graphtool.specs.declared.read.ReadError.TheVariants as read
+use Rattle.graph_folder.specs.declared.folder.ReadError.{ReadError}
+use Rattle.graph_folder.specs.declared.folder.ReadError.TheVariants as read
 
 abbrev pub read_number : ReadError → ℕ
 read_number read.NotOpened = 1

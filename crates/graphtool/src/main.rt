@@ -5,7 +5,6 @@
 #![tactic(auto)]
 
 mod listing;
-mod read;
 mod refusal;
 mod run;
 #[cfg(test)]

@@ -3,10 +3,10 @@
 ghost use Rattle.std.specs.Prelude.{◌≡◌, Some};
 ghost use Rattle.graphtool.specs.Numbers.{read_number, chunk_number, file_number, parent_number};
 
-use crate::read::ReadError;
 use gix_chunk_core::ChunkError;
 use gix_commitgraph::FileError;
 use gix_commitgraph::file::commit::ParentError;
+use graph_folder::folder::ReadError;
 use std::fmt;
 
 /// Why a command was refused. It is shown as its line, without the line's end.

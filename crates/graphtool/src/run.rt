@@ -5,9 +5,9 @@ ghost use Rattle.std.specs.String.{string_bytes};
 ghost use Rattle.graphtool.specs.List.{MayList, SpellsListing, WritesAnswer, list_text, list_status};
 
 use crate::listing::listing;
-use crate::read::read_all;
 use crate::refusal::Refusal;
 use gix_commitgraph::{File, FileError};
+use graph_folder::folder::read_all;
 use std::alloc::Global;
 use std::io;
 use std::io::{Read, Write};

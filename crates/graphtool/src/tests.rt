@@ -1,8 +1,8 @@
-use crate::read::{ReadError, read_all};
 use crate::refusal::Refusal;
 use crate::run::{WriteFailed, run_list};
 use gix_chunk_core::ChunkError;
 use gix_commitgraph::FileError;
+use graph_folder::folder::ReadError;
 use std::alloc::{AllocError, Global};
 use std::io;
 use std::io::{ErrorKind, Read, Write};
@@ -332,23 +332,6 @@ fn tells_each_refusal(rt: HostRuntime) -> Result<(), Fail> {
 
 fn chunks(error: ChunkError) -> Refusal {
     Refusal::File(FileError::Chunks(error))
-}
-
-#[test]
-fn reads_to_the_end(rt: HostRuntime) -> Result<(), Fail> {
-    let alloc = rt.alloc();
-    let text = b"ten bytes.".as_slice();
-    for most in [1, 3, 10, 11] {
-        assert_eq!(rt;
-            read_all(alloc, &mut reader(text, most, None))?.as_slice(),
-            text
-        );
-    }
-    for read in 0..=4 {
-        let failed = read_all(alloc, &mut reader(text, 3, Some(read)));
-        assert_eq!(rt; failed, Err(ReadError::Device));
-    }
-    Ok(())
 }
 
 #[test]
