@@ -1,13 +1,23 @@
 -- the numbers by which errors are told
 use Rattle.std.specs.Prelude.{ℕ}
+use Rattle.gix_hash_core.specs.declared.object_id.IdError.{IdError}
+use Rattle.gix_hash_core.specs.declared.object_id.IdError.TheVariants as hexadecimal
 use Rattle.gix_chunk_core.specs.declared.error.ChunkError.{ChunkError}
 use Rattle.gix_chunk_core.specs.declared.error.ChunkError.TheVariants as chunk
 use Rattle.gix_commitgraph.specs.declared.error.FileError.{FileError}
 use Rattle.gix_commitgraph.specs.declared.error.FileError.TheVariants as file
 use Rattle.gix_commitgraph.specs.declared.file.commit.ParentError.{ParentError}
 use Rattle.gix_commitgraph.specs.declared.file.commit.ParentError.TheVariants as parent
+use Rattle.gix_commitgraph.specs.declared.init.GraphError.{GraphError}
+use Rattle.gix_commitgraph.specs.declared.init.GraphError.TheVariants as graph
+use Rattle.gix_commitgraph.specs.declared.verify.CommitFault.{CommitFault}
+use Rattle.gix_commitgraph.specs.declared.verify.CommitFault.TheVariants as commit
 use Rattle.graph_folder.specs.declared.folder.ReadError.{ReadError}
 use Rattle.graph_folder.specs.declared.folder.ReadError.TheVariants as read
+
+abbrev pub id_number : IdError → ℕ
+id_number hexadecimal.Length = 1
+id_number hexadecimal.Digit = 2
 
 abbrev pub read_number : ReadError → ℕ
 read_number read.NotOpened = 1
@@ -50,3 +60,14 @@ parent_number parent.SecondWithoutFirst = 1
 parent_number parent.FirstIsEdgeIndex = 2
 parent_number parent.NoEdgeList = 3
 parent_number parent.EdgeOverflow = 4
+
+abbrev pub graph_number : GraphError → ℕ
+graph_number graph.NoFiles = 1
+graph_number (graph.TooManyCommits sum) = 2
+graph_number (graph.HashMismatch layer) = 3
+graph_number graph.OutOfMemory = 4
+
+abbrev pub commit_number : CommitFault → ℕ
+commit_number commit.NullId = 1
+commit_number commit.Order = 2
+commit_number commit.NullTree = 3

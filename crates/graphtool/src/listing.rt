@@ -7,7 +7,7 @@ ghost use Rattle.gix_commitgraph.specs.ParentsLeft.{parents_left};
 ghost use Rattle.graphtool.specs.Listing.{kind_text, item_text, parents_text, listing_text};
 ghost use Rattle.graphtool.specs.Places.{place_line};
 
-use crate::refusal::parent_number;
+use crate::numbers::parent_number;
 use gix_commitgraph::file::commit::{ParentError, Parents};
 use gix_commitgraph::{File, Position, file};
 use gix_hash_core::Kind;

@@ -5,7 +5,9 @@
 #![tactic(auto)]
 
 mod listing;
+mod numbers;
 mod refusal;
+mod report;
 mod run;
 #[cfg(test)]
 mod tests;

@@ -2,7 +2,8 @@
 
 ghost use Rattle.std.specs.Prelude.{IfOk, IfErr, IfSome, Err};
 ghost use Rattle.std.specs.String.{string_bytes};
-ghost use Rattle.graphtool.specs.List.{MayList, SpellsListing, WritesAnswer, list_text, list_status};
+ghost use Rattle.graphtool.specs.Answer.{WritesAnswer, WritesRefusal};
+ghost use Rattle.graphtool.specs.List.{MayList, SpellsListing, list_text, list_status};
 
 use crate::listing::listing;
 use crate::refusal::Refusal;
@@ -14,9 +15,6 @@ use std::io::{Read, Write};
 
 // The exit status of a command that did what was asked.
 const DONE: u8 = 0;
-
-// The exit status of a command that was refused.
-const REFUSED: u8 = 1;
 
 /// A write failed. How much went out before is not known.
 #[derive(Clone, Copy, Debug, PartialEq, Eq)]
@@ -44,10 +42,7 @@ pub fn run_list<R: Read, W: Write>(
             writer.write_all(text.as_bytes())?;
             Ok(DONE)
         }
-        Err(refusal) => {
-            writeln!(writer, "{refusal}")?;
-            Ok(REFUSED)
-        }
+        Err(refusal) => refuse(writer, &refusal),
     }
 }
 
@@ -63,4 +58,12 @@ fn list<R: Read>(alloc: Global, reader: &mut R) -> Result<String, Refusal>
     let layer = File::new(alloc, input, path)?;
     let text = listing(alloc, &layer).map_err(|_| FileError::OutOfMemory)?;
     Ok(text)
+}
+
+// Writes the line of a refusal, and answers its exit status.
+fn refuse<W: Write>(writer: &mut W, refusal: &Refusal) -> Result<u8, WriteFailed>
+    ensures { IfOk result (WritesRefusal refusal.now (W.contents writer.old) (W.contents writer.new)) }
+{
+    writeln!(writer, "{refusal}")?;
+    Ok(refusal.status())
 }

@@ -9,7 +9,5 @@ returns-in_ok-write_all-in-Ok g c = record {
       (rw c.as_bytes.ensures.value at c.in_ok-write_all-in-Ok.ensures.bytes);
 }
 
-pub returns-in_ok-writeln-in-Err : goal.returns-in_ok-writeln-in-Err
-returns-in_ok-writeln-in-Err g c = record {
-  written = writes_refusal _ _ _ _ c.in-Err.ensures.refused c.in_ok-writeln-in-Err.ensures.bytes;
-}
+pub returns-in-Err : goal.returns-in-Err
+returns-in-Err g c = record { written = writes_refusal _ _ _ _ _ c.in-Err.ensures.refused c.refuse.ensures }
