@@ -6,3 +6,6 @@ pub mod Listing
 pub mod Places
 pub mod List
 pub mod Report
+pub mod Opening
+pub mod Verify
+pub mod Find

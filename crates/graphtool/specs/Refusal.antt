@@ -3,8 +3,8 @@ use Rattle.std.specs.Prelude.{ℕ, List, codes, decimal}
 use Rattle.std.specs.declared.convert.Infallible.{Infallible}
 use Rattle.gix_commitgraph.specs.declared.error.FileError.{FileError}
 use Rattle.gix_commitgraph.specs.declared.error.FileError.TheVariants.{Chunks}
-use Rattle.gix_commitgraph.specs.declared.opening.OpenError.{OpenError}
-use Rattle.gix_commitgraph.specs.declared.opening.OpenError.TheVariants as opening
+use Rattle.gix_commitgraph.specs.declared.opening.error.OpenError.{OpenError}
+use Rattle.gix_commitgraph.specs.declared.opening.error.OpenError.TheVariants as opening
 use Rattle.gix_commitgraph.specs.declared.verify.LayerFault.{LayerFault}
 use Rattle.gix_commitgraph.specs.declared.verify.LayerFault.TheVariants.{Checksum, FileName, Fan}
 use Rattle.gix_commitgraph.specs.declared.verify.VerifyError.{VerifyError}

@@ -1,7 +1,8 @@
-//! `graphtool`: lists the layers of Git's commit-graphs.
+//! `graphtool`: lists the layers of Git's commit-graphs, checks commit-graphs, and finds commits in
+//! them.
 //!
-//! The exit status is 0 where the command did what was asked, 1 where it was refused, and 2 for
-//! other words than a command and for a failed write.
+//! The exit status is 0 where the command did what was asked, 1 where it was refused or nothing was
+//! found, and 2 for other words than a command, for a text that is no id and for a failed write.
 #![tactic(auto)]
 
 mod listing;
@@ -12,11 +13,12 @@ mod run;
 #[cfg(test)]
 mod tests;
 
-use run::{WriteFailed, run_list};
+use graph_folder::folder::Disk;
+use run::{WriteFailed, run_find, run_list, run_verify};
 use std::process::ExitCode;
 use std::{env, io};
 
-const USAGE: &str = "usage: graphtool list";
+const USAGE: &str = "usage: graphtool list | verify PATH | find PATH HEX";
 
 // The exit status of words that are no command, and of a failed write.
 const FAILED: u8 = 2;
@@ -45,16 +47,27 @@ fn usage(rt: &impl Eprint) -> u8 {
 
 // What the program is asked to do.
 #[derive(Clone, Copy, Debug, PartialEq, Eq)]
-enum Command {
+enum Command<'a> {
     // The layer on standard input is to be listed.
     List,
+    // The graph at a path is to be checked.
+    Verify { path: &'a str },
+    // The commit with an id is to be found in the graph at a path.
+    Find { path: &'a str, hex: &'a str },
 }
 
-impl Command {
+impl<'a> Command<'a> {
     // The first word is the program's own name.
-    fn from_words(words: &[String]) -> Option<Command> {
+    fn from_words(words: &'a [String]) -> Option<Command<'a>> {
         match words {
             [_, name] if name.as_str() == "list" => Some(Command::List),
+            [_, name, path] if name.as_str() == "verify" => Some(Command::Verify {
+                path: path.as_str(),
+            }),
+            [_, name, path, hex] if name.as_str() == "find" => Some(Command::Find {
+                path: path.as_str(),
+                hex: hex.as_str(),
+            }),
             _ => None,
         }
     }
@@ -64,6 +77,10 @@ impl Command {
         let mut writer = io::writer(rt);
         match self {
             Command::List => run_list(alloc, &mut rt.reader(), &mut writer),
+            Command::Verify { path } => { run_verify(alloc, &mut Disk::new(rt), path, &mut writer) }
+            Command::Find { path, hex } => {
+                run_find(alloc, &mut Disk::new(rt), path, hex, &mut writer)
+            }
         }
     }
 }

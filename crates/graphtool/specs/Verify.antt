@@ -1,0 +1,49 @@
+-- the answers of `verify`, their texts and their exit statuses
+use Rattle.std.specs.Prelude.{◌≡◌, ◌⊎◌, ℕ, List, Result, Ok, Err, Some, None}
+use Rattle.std.specs.BTreeMap.{IsOrdered}
+use Rattle.std.specs.Ordering.{nat_cmp}
+use Rattle.std.specs.declared.convert.Infallible.{Infallible}
+use Rattle.gix_commitgraph.specs.Layer.{Layer}
+use Rattle.gix_commitgraph.specs.Points.{first_fault}
+use Rattle.gix_commitgraph.specs.History.{history_of}
+use Rattle.gix_commitgraph.specs.Verify.{graph_points, Summarizes}
+use Rattle.gix_commitgraph.specs.declared.opening.error.OpenError.{OpenError}
+use Rattle.gix_commitgraph.specs.declared.verify.Outcome.{Outcome}
+use Rattle.gix_commitgraph.specs.declared.verify.VerifyError.{VerifyError}
+use Rattle.gix_commitgraph.specs.declared.verify.VerifyError.TheVariants.{OutOfMemory}
+use Rattle.graphtool.specs.declared.refusal.Refusal.{Refusal}
+use Rattle.graphtool.specs.declared.refusal.Refusal.TheVariants.{Id, Read, File, Open, Verify}
+use Rattle.graphtool.specs.Refusal.{refusal_text, refusal_status}
+use Rattle.graphtool.specs.Report.{outcome_text}
+use Rattle.graphtool.specs.Text.{◌⧺◌, newline}
+
+-- no point of the check of a graph has a fault, and its commits come to this. The processor of the check accepts each commit
+abbrev pub Passes : List Layer → Outcome → Type 0
+Passes layers outcome = (first_fault (graph_points {E = Infallible} layers) ≡ None) × Summarizes (history_of layers) outcome
+
+-- this is the first fault of the check of a graph, or there was no memory
+abbrev pub Fails : List Layer → VerifyError Infallible → Type 0
+Fails layers error = (first_fault (graph_points layers) ≡ Some error) ⊎ (error ≡ OutOfMemory)
+
+-- a graph that the opener may answer passes its check so
+abbrev pub MayPass : (Result (List Layer) OpenError → Type 0) → Outcome → Type 0
+MayPass MayOpen outcome = (layers : List Layer) × MayOpen (Ok layers) × Passes layers outcome
+
+-- what `verify` may answer, where the opener may answer so. The numbers of parents are told ascending
+abbrev pub MayVerify : (Result (List Layer) OpenError → Type 0) → Result Outcome Refusal → Type 0
+MayVerify MayOpen (Ok outcome) = MayPass MayOpen outcome × IsOrdered nat_cmp outcome.parent_counts
+MayVerify MayOpen (Err (Verify error)) = (layers : List Layer) × MayOpen (Ok layers) × Fails layers error
+MayVerify MayOpen (Err (Open error)) = MayOpen (Err error)
+MayVerify MayOpen (Err (Id error)) = ⊥
+MayVerify MayOpen (Err (Read error)) = ⊥
+MayVerify MayOpen (Err (File error)) = ⊥
+
+-- what the check found, or the line of a refusal
+abbrev pub verify_text : Result Outcome Refusal → List ℕ
+verify_text (Ok outcome) = outcome_text outcome
+verify_text (Err refusal) = refusal_text refusal ⧺ newline
+
+-- 0 for a graph that is right, and else the status of the refusal
+abbrev pub verify_status : Result Outcome Refusal → ℕ
+verify_status (Ok outcome) = 0
+verify_status (Err refusal) = refusal_status refusal
