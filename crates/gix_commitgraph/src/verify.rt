@@ -170,7 +170,8 @@ impl Graph {
 
         // It is `Ok` exactly where no check fails and the processor accepts each commit, once and in
         // order; else it names the first check that fails, or hands back the processor's error.
-        ensures agrees { Agrees (CalledOn F.FnMut (InGraph self.now)) (graph_points self.now) processor.old processor.new stop_of result }
+        ensures agrees { Agrees (CalledOn F.FnMut (InGraph self.now)) (graph_points self.now)
+            processor.old processor.new stop_of result }
         ensures outcome { IfOk result (Summarizes (history_of self.now)) }
 
         // A graph that passes is right, and a graph that is right is refused for want of memory or
@@ -193,7 +194,8 @@ impl Graph {
     where
         F: FnMut(&Commit<'a>) -> Result<(), E>,
         requires { MayBeCalled F.FnMut (InGraph self.now) }
-        ensures agrees { Agrees (CalledOn F.FnMut (InGraph self.now)) (graph_points self.now) processor.old processor.new stop_of result }
+        ensures agrees { Agrees (CalledOn F.FnMut (InGraph self.now)) (graph_points self.now)
+            processor.old processor.new stop_of result }
         ensures outcome { IfOk result (Summarizes (history_of self.now)) }
         ensures graph { IsGraph self.now }
     {

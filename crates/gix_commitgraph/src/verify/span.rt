@@ -122,7 +122,8 @@ impl Graph {
         requires span { IsSpan self.now span }
         requires commit { IsInSpan span commit.now pos.0 }
         requires callable { (state : F) → TakesAt F.FnMut state commit.now }
-        ensures agrees { Agrees (CalledOn F.FnMut (InGraph self.now)) (commit_points self.now span.entry.layer span.entry.file.now (commit_pos commit.now))
+        ensures agrees { Agrees (CalledOn F.FnMut (InGraph self.now))
+            (commit_points self.now span.entry.layer span.entry.file.now (commit_pos commit.now))
             processor.old processor.new stop_of result }
         ensures parents { IfOk result (λ parents. parents ≡ length (parents_at (history_of self.now) pos.0)) }
     {
@@ -152,7 +153,8 @@ impl Graph {
     ) -> Result<ParentTally, VerifyError<E>>
         requires span { IsSpan self.now span }
         requires commit { IsInSpan span commit.now pos.0 }
-        ensures refusal { result_err result ≡ parents_refusal self.now span.entry.layer span.entry.file.now (commit_pos commit.now) }
+        ensures refusal { result_err result
+            ≡ parents_refusal self.now span.entry.layer span.entry.file.now (commit_pos commit.now) }
         ensures parents { IfOk result (ParentsTally (history_of self.now) pos.0) }
     {
         let mut count = 0;

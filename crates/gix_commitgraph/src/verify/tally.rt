@@ -36,7 +36,8 @@ impl Tally {
     /// Adds a commit with this generation number and so many parents.
     pub(super) fn add(&mut self, generation: u32, parents: u32) -> Result<(), AllocError>
         requires { (seen : List Node) × Tallies seen self.old × (length seen + 1 < 2 ^ 32) }
-        ensures { OnOk result ((seen : List Node) (node : Node) → Tallies seen self.old → generation ≡ node.generation → parents ≡ length node.parents
+        ensures { OnOk result ((seen : List Node) (node : Node) → Tallies seen self.old
+            → generation ≡ node.generation → parents ≡ length node.parents
             → Tallies (seen ++ node ∷ []) self.new) }
     {
         count_one(&mut self.parent_counts, parents)?;
