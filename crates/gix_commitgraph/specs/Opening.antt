@@ -92,7 +92,8 @@ InfoOpens tree folder old new answer =
 -- a folder with a chain file is a chain folder, and else an info folder
 abbrev pub FolderOpens : Tree → List ℕ → ℕ → ℕ → Result (List Layer) OpenError → Type 0
 FolderOpens tree path old new answer =
-    MatchBool (is_file tree (chain_path path)) (StopsAtFailure (chain_opened tree path) old new answer) (InfoOpens tree path old new answer)
+    MatchBool (is_file tree (chain_path path)) (StopsAtFailure (chain_opened tree path) old new answer)
+    (InfoOpens tree path old new answer)
 
 -- a file and a folder are opened as such, and nothing is found at any other path
 abbrev pub Opens : Tree → List ℕ → ℕ → ℕ → Result (List Layer) OpenError → Type 0
