@@ -52,3 +52,4 @@ pub mod Headline
 pub mod ParentCounts
 pub mod Summaries
 pub mod Traverses
+pub mod Tallies

@@ -6,6 +6,7 @@ pub mod graph;
 pub mod layer;
 pub mod lookup;
 pub mod sound;
+pub mod stats;
 pub mod walk;
 
 ghost use Rattle.std.specs.Prelude.{ℕ, List};
