@@ -1,10 +1,14 @@
-"""Checks `graphtool list` on real data: commit-graphs that the installed Git writes, and damaged ones.
+"""Checks `graphtool` on real data: commit-graphs that the installed Git writes, and damaged ones.
 
 usage: python3 scripts/real_data PROGRAM
 
 What a listing has to be is made from Git's own words, `git rev-list --parents` and `git cat-file`,
-with Git's use of commit-graphs off; the generations are counted up from the parents. Each comparison
-is a check and has a line; the last line is `N passed, M failed`.
+with Git's use of commit-graphs off; the generations are counted up from the parents. So is what `verify`
+and `find` have to answer; what they have to answer to damaged files is made by a plain reading of the
+format. Commands that the program's usage text does not name are left out.
+
+Each comparison is a check and has a line; the last line is `N passed, M failed`. Before it stands a table
+of the files of which Git's own check says something else.
 """
 
 import os
@@ -20,23 +24,33 @@ import damage
 import histories
 import judge
 import named
+import paths
+import verifying
+from differences import Differences
 from layer import Outline
 from listing import listing
+from paths import new_folder
 from program import Program
 from repository import ID_LENGTH, Repository
 from tally import Tally
 
-USAGE = "usage: graphtool list\n"
+COMMANDS = ["list", "verify PATH", "find PATH HEX"]
+"""The commands, each with its words. The program may have the first of them alone."""
+
 OTHER_WORDS = [[], ["bogus"], ["list", "extra"], ["LIST"], [""], ["list", ""], [b"li\xffst"], ["--help"]]
+OTHER_WORDS += [["verify"], ["verify", "a", "b"], ["verify", b"\xff"], ["Verify", "a"], ["verify a"]]
+OTHER_WORDS += [["find"], ["find", "a"], ["find", "a", "b", "c"], ["find", b"a\xff", "b"], ["find", "a", b"\xff"]]
 MEGABYTE = 2**20
 
 
 def main(path):
     """Runs all checks on the program at a path, and answers the exit status."""
-    program, tally = Program(os.path.abspath(path)), Tally()
-    check_words(program, tally)
+    program, tally, differences = Program(os.path.abspath(path)), Tally(), Differences()
+    commands = check_words(program, tally)
     check_streams(program, tally)
     with tempfile.TemporaryDirectory() as folder:
+        if commands == COMMANDS:
+            check_graphs(program, tally, differences, folder)
         for object_format in ID_LENGTH:
             new = partial(new_repository, folder, object_format)
             check_empty(new("empty"), tally)
@@ -46,7 +60,42 @@ def main(path):
             check_named_damage(program, tally, new("named damage"))
             check_damage(program, tally, new("damage"))
     check_family(program, tally, "bytes by chance", damage.noise(300, seed=2))
+    differences.show()
     return tally.finish()
+
+
+def check_graphs(program, tally, differences, folder):
+    """The checks of `verify` and `find`."""
+    paths.check_words(program, tally, new_folder(folder, "words"))
+    check_large_graphs(program, tally, new_folder(folder, "large"))
+    for object_format in ID_LENGTH:
+        new = partial(new_repository, new_folder(folder, object_format), object_format)
+        scratch = new_folder(folder, "scratch " + object_format)
+        for name, history in histories.ALL.items():
+            verifying.check_history(program, tally, differences, new(name), name, history)
+        verifying.check_damage(program, tally, differences, new("damage"))
+        verifying.check_families(program, tally, new("families"))
+        paths.check_file(program, tally, new("file"), new_folder(scratch, "file"))
+        for count in (3, 20):
+            paths.check_chain(program, tally, new("chain %d" % count), scratch, count)
+        paths.check_damaged_chain(program, tally, new("damaged chain"), scratch)
+        paths.check_alternates(program, tally, differences, new("lender"), new("borrower"))
+    first, second = (new_repository(folder, kind, "kinds") for kind in ID_LENGTH)
+    paths.check_kinds(program, tally, first, second, folder)
+
+
+def check_large_graphs(program, tally, folder):
+    """A file beyond the memory, and output that cannot be written."""
+    path = os.path.join(folder, "zeros")
+    with open(path, "wb") as zeros:
+        zeros.truncate(256 * MEGABYTE)
+    answer = program.run("verify", path, preexec_fn=partial(limit_memory, 64 * MEGABYTE))
+    tally.check("a graph beyond the memory", judge.exactly(1, "refused open 7\n", "", answer))
+    if os.path.exists("/dev/full"):
+        with open("/dev/full", "wb") as full:
+            for words in (["verify", path], ["find", path, "a" * 40], ["find", path, ""]):
+                answer = program.run(*words, stdout=full)
+                tally.check("output of %s that has no room" % words[0], judge.exactly(2, "", "", answer))
 
 
 def new_repository(folder, object_format, name):
@@ -55,10 +104,14 @@ def new_repository(folder, object_format, name):
 
 
 def check_words(program, tally):
-    """Other words than a command end with the usage text and status 2."""
+    """Other words than a command end with the usage text and status 2. The answer is the commands."""
+    commands = program.commands()
+    tally.check("commands %s" % commands, None if commands in (COMMANDS[:1], COMMANDS) else "other commands")
+    usage = "usage: graphtool %s\n" % " | ".join(commands)
     for words in OTHER_WORDS:
-        complaint = judge.exactly(2, "", USAGE, program.run(*words, input=b""))
+        complaint = judge.exactly(2, "", usage, program.run(*words, input=b""))
         tally.check("usage after the words %r" % words, complaint)
+    return commands
 
 
 def check_streams(program, tally):

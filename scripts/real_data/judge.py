@@ -1,4 +1,4 @@
-"""What an answer of `graphtool list` may be.
+"""What an answer of the program may be.
 
 Each judge takes the answer last, and says None where it is right, or else a complaint.
 """
@@ -29,6 +29,13 @@ def exactly(status, out, err, answer):
     if answer.status != status:
         return "status %s and %r, expected %d" % (answer.status, answer.out[:60], status)
     return first_difference(answer.out.decode(), out) or first_difference(answer.err.decode(), err)
+
+
+def passes(commits, answer):
+    """The answer is that a graph of so many commits is right, whatever they come to."""
+    if answer.status == 0 and answer.out.startswith(b"ok commits %d longest " % commits) and not answer.err:
+        return None
+    return "status %s and %r, expected 0 and that the graph is right" % (answer.status, answer.out[:60])
 
 
 def same(listing, answer):

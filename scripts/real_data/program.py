@@ -40,6 +40,12 @@ class Program:
             return HUNG
         return Answer(run.returncode, run.stdout or b"", run.stderr)
 
+    def commands(self):
+        """The commands that the usage text names, each with its words."""
+        usage = self.run(input=b"").err.decode()
+        prefix = "usage: graphtool "
+        return usage[len(prefix) :].rstrip("\n").split(" | ") if usage.startswith(prefix) else []
+
     def list(self, layer):
         """The answer to `list` with these bytes on standard input."""
         return self.run("list", input=layer)

@@ -7,6 +7,9 @@ from typing import NamedTuple, Tuple
 ID_LENGTH = {"sha1": 20, "sha256": 32}
 """The length of an id in bytes, by the name of the object format."""
 
+PASSES = "passes"
+"""What a check says of a file in which it finds nothing wrong."""
+
 PERSON = "A Committer <committer@example.com>"
 
 
@@ -43,6 +46,14 @@ class Repository:
             raise RuntimeError("git %s: %s" % (" ".join(words), run.stderr.decode()))
         return run.stdout
 
+    def verdict(self):
+        """What Git's own check says of the commit-graph: it passes, or how the check ends."""
+        command = ("git", "commit-graph", "verify", "--no-progress")
+        run = subprocess.run(command, env=self.surroundings, capture_output=True, check=False)
+        if run.returncode in (0, 1, 2):
+            return PASSES if run.returncode == 0 else "refuses"
+        return "crashes" if run.returncode < 0 else "stops"
+
     def add(self, history):
         """Makes the commits of a history, with a branch at each that has no child; answers their ids."""
         marks = os.path.join(self.folder, "marks")
@@ -73,6 +84,13 @@ class Repository:
         """Where Git writes a commit-graph of a single file."""
         return os.path.join(self.folder, "objects", "info", "commit-graph")
 
+    def replace_graph(self, data):
+        """Puts other bytes in the place of the single-file commit-graph."""
+        if os.path.exists(self.graph_path()):
+            os.remove(self.graph_path())
+        with open(self.graph_path(), "wb") as file:
+            file.write(data)
+
     def new_graph(self, *flags, generation_version=2):
         """The bytes of the single-file commit-graph that Git writes from nothing."""
         if os.path.exists(self.graph_path()):
@@ -80,9 +98,17 @@ class Repository:
         self.write_graph(*flags, generation_version=generation_version)
         return read_bytes(self.graph_path())
 
+    def info_path(self):
+        """The folder in which Git keeps commit-graphs."""
+        return os.path.dirname(self.graph_path())
+
+    def chain_path(self):
+        """The folder of the layers of a split commit-graph."""
+        return os.path.join(self.info_path(), "commit-graphs")
+
     def chain(self):
         """The layers of a split commit-graph, lowest first: each one's checksum and bytes."""
-        folder = os.path.join(self.folder, "objects", "info", "commit-graphs")
+        folder = self.chain_path()
         sums = read_bytes(os.path.join(folder, "commit-graph-chain")).decode().split()
         return [(checksum, read_bytes(os.path.join(folder, "graph-%s.graph" % checksum))) for checksum in sums]
 
