@@ -2,6 +2,7 @@ mod building;
 mod checking;
 mod opening;
 mod parents;
+mod traversing;
 
 use gix_commitgraph::{File, FileError};
 use std::alloc::{AllocError, Global};
