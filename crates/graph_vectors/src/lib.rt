@@ -16,8 +16,6 @@ mod sizes;
 mod table;
 #[cfg(test)]
 mod tests;
-#[cfg(test)]
-mod tests_opening;
 mod trailer;
 
 pub use builder::build;

@@ -1,8 +1,10 @@
 mod building;
 mod checking;
+mod folders;
 mod opening;
 mod parents;
 mod traversing;
+mod verifying;
 
 use gix_commitgraph::{File, FileError};
 use std::alloc::{AllocError, Global};
