@@ -2,8 +2,9 @@
 //!
 //! A [`File`] is one layer of a commit-graph, opened from its bytes. It is opened exactly where the
 //! bytes have the written format; else a [`FileError`] names the first rule that they break. A
-//! [`Graph`] is a list of such layers, the lowest first. Both are read in place: only [`File::new`]
-//! and [`Graph::new`] may answer want of memory.
+//! [`Graph`] is a list of such layers, the lowest first. [`Graph::verify_integrity`] checks whether
+//! it is right, and the openers of the module [`opening`] find one by its path. All is read in
+//! place: opening, and the counts that a check makes, are what may answer want of memory.
 #![tactic(auto)]
 
 ghost use Rattle.std.specs.Prelude.{Some};
