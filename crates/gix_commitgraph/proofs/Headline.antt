@@ -7,7 +7,7 @@ use Rattle.gix_commitgraph.specs.History.{history_of}
 use Rattle.gix_commitgraph.specs.Points.{Agrees}
 use Rattle.gix_commitgraph.specs.Sound.{Sound}
 use Rattle.gix_commitgraph.specs.Verify.{graph_points, stop_of, Summarizes}
-use Rattle.gix_commitgraph.specs.Headline.{Stats, AreScanned, IsDeserved}
+use Rattle.gix_commitgraph.specs.Headline.{Stats, LookupsAreScans, IsDeserved}
 use Rattle.gix_commitgraph.specs.declared.verify.Outcome.{Outcome}
 use Rattle.gix_commitgraph.specs.declared.verify.VerifyError.{VerifyError}
 use Rattle.gix_commitgraph.specs.declared.verify.VerifyError.TheVariants as error
@@ -43,6 +43,6 @@ module _ {F E : Type 0} (step : F → ℕ → Result (Unit {0}) E → F → Type
   right_stats (Ok outcome) agrees sums = counted outcome (sound-from_passes step layers f g opened agrees) sums
   right_stats (Err x) agrees sums = tt
 
-  pub right_lookups : (r : Result Outcome (VerifyError E)) → Agrees step (graph_points layers) f g stop_of r → IfOk r (λ _. AreScanned layers)
+  pub right_lookups : (r : Result Outcome (VerifyError E)) → Agrees step (graph_points layers) f g stop_of r → IfOk r (λ _. LookupsAreScans layers)
   right_lookups (Ok outcome) agrees = λ id answer found. sound-scanned layers id answer (sound-from_passes step layers f g opened agrees) found
   right_lookups (Err x) agrees = tt

@@ -23,8 +23,8 @@ pub record Stats (layers : List Layer) (outcome : Outcome) : Type 0 where
   pub longest_path_length : TellsLongest (history_of layers) outcome.longest_path_length
 
 -- each answer that a lookup may give is that of a plain scan of all ids
-abbrev pub AreScanned : List Layer → Type 0
-AreScanned layers = (id : List ℕ) (answer : Option ℕ) → FoundIn layers id answer → answer ≡ scan (graph_ids layers) id
+abbrev pub LookupsAreScans : List Layer → Type 0
+LookupsAreScans layers = (id : List ℕ) (answer : Option ℕ) → FoundIn layers id answer → answer ≡ scan (graph_ids layers) id
 
 -- a refusal is that of a graph that is not right; the processor's own error and want of memory say nothing of the graph
 abbrev pub IsDeserved : {E : Type 0} → List Layer → VerifyError E → Type 0

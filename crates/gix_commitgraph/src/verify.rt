@@ -129,7 +129,7 @@ impl Graph {
     ghost use Rattle.gix_commitgraph.specs.Verify.{graph_points, stop_of, Summarizes};
     ghost use Rattle.gix_commitgraph.specs.Graph.{IsGraph};
     ghost use Rattle.gix_commitgraph.specs.Sound.{Sound};
-    ghost use Rattle.gix_commitgraph.specs.Headline.{Stats, AreScanned, IsDeserved};
+    ghost use Rattle.gix_commitgraph.specs.Headline.{Stats, LookupsAreScans, IsDeserved};
 
     /// Checks the graph, calls the processor on each commit, and answers what its commits come to.
     ///
@@ -180,7 +180,7 @@ impl Graph {
 
         // In a graph that passes, the statistics are exact, and a lookup is a plain scan.
         ensures statistics { IfOk result (Stats self.now) }
-        ensures lookup { IfOk result (λ _. AreScanned self.now) }
+        ensures lookup { IfOk result (λ _. LookupsAreScans self.now) }
     {
         self.verify_layers(alloc, processor)
     }
