@@ -48,6 +48,7 @@ pub mod Bases
 pub mod CommitChecks
 pub mod LayerChecks
 pub mod GraphChecks
+pub mod Calls
 pub mod Headline
 pub mod ParentCounts
 pub mod Summaries

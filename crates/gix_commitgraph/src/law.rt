@@ -1,6 +1,7 @@
 //! Laws of the format: what its definitions say of all bytes. Each function does nothing, and its
 //! contract is the law.
 
+pub mod check;
 pub mod edges;
 pub mod graph;
 pub mod layer;

@@ -1,0 +1,69 @@
+-- The checks call on each position once, in order.
+use Rattle.std.proofs.Common.{◌≡◌, ℕ, zero, suc, ◌+◌, List, [], ◌∷◌, ◌++◌, length, refl, sym, ap, ◌∙◌, arith}
+use Rattle.std.specs.List.{flat_map, range_with_len, enumerate_from}
+use Rattle.std.proofs.lemmas.List.Sums.{sum_by-cons}
+use Rattle.gix_commitgraph.specs.Layer.{Layer}
+use Rattle.gix_commitgraph.specs.Graph.{total, start}
+use Rattle.gix_commitgraph.specs.Points.{Point, calls}
+use Rattle.gix_commitgraph.specs.Traverse as traverse
+use Rattle.gix_commitgraph.specs.Verify.{commit_points, layer_points, graph_points}
+use Rattle.gix_commitgraph.specs.declared.verify.VerifyError.{VerifyError}
+use Rattle.gix_commitgraph.proofs.Layers.{size, start-none, start-cons}
+use Rattle.gix_commitgraph.proofs.Points.{calls-append}
+
+-- numbers, and then those that follow them
+range-append : (a m n : ℕ) → range_with_len a m ++ range_with_len (a + m) n ≡ range_with_len a (m + n)
+range-append a zero n = ap (λ (k : ℕ). range_with_len k n) (omega arith) ∙ ap (range_with_len a) (omega arith)
+range-append a (suc m) n =
+    let more : suc (m + n) ≡ suc m + n = omega arith in
+    let next : a + suc m ≡ a + 1 + m = omega arith in
+    ap (λ (k : ℕ). a ∷ (range_with_len (a + 1) m ++ range_with_len k n)) next
+    ∙ ap (λ (ns : List ℕ). a ∷ ns) (range-append (a + 1) m n)
+    ∙ ap (range_with_len a) more
+
+-- parts by number, each of which calls once, at the position so many past its number
+module _ {X : Type 0} (part : ℕ → List (Point X)) (before : ℕ) (once : (pos : ℕ) → calls (part pos) ≡ (before + pos) ∷ []) where
+  calls-range : (a n : ℕ) → calls (flat_map part (range_with_len a n)) ≡ range_with_len (before + a) n
+  calls-range a zero = refl
+  calls-range a (suc n) =
+      let rest : List ℕ = calls (flat_map part (range_with_len (a + 1) n)) in
+      calls-append (part a) (flat_map part (range_with_len (a + 1) n))
+      ∙ ap (λ (ps : List ℕ). ps ++ rest) (once a)
+      ∙ ap (λ (ps : List ℕ). (before + a) ∷ ps) (calls-range (a + 1) n ∙ ap (λ (p : ℕ). range_with_len p n) (omega arith))
+
+module _ (E : Type 0) where
+  -- the check of one layer
+  pub calls-layer : (layer : Layer) → calls (traverse.layer_points {E = E} layer) ≡ range_with_len 0 (length layer.ids)
+  calls-layer layer =
+      calls-range (traverse.commit_points layer) 0 (λ pos. ap (λ (p : ℕ). p ∷ []) (omega arith)) 0 (length layer.ids)
+      ∙ ap (λ (p : ℕ). range_with_len p (length layer.ids)) (omega arith)
+
+  calls-layer_at : (layers : List Layer) (i : ℕ) (layer : Layer) → calls (layer_points {E = E} layers i layer) ≡ range_with_len (start layers i) (size layer)
+  calls-layer_at layers i layer =
+      calls-range (commit_points layers i layer) (start layers i) (λ pos. refl) 0 (size layer)
+      ∙ ap (λ (p : ℕ). range_with_len p (size layer)) (omega arith)
+
+  -- the layers from layer i on, which are the last of all
+  calls-layers : (layers rest : List Layer) (i : ℕ) → ((j : ℕ) → start layers (i + j) ≡ start layers i + start rest j)
+      → calls (flat_map (λ e. layer_points {E = E} layers e.0 e.1) (enumerate_from i rest)) ≡ range_with_len (start layers i) (total rest)
+  calls-layers layers [] i follow = refl
+  calls-layers layers (layer ∷ rest) i follow =
+      let later : List (Point (VerifyError E)) = flat_map (λ e. layer_points {E = E} layers e.0 e.1) (enumerate_from (i + 1) rest) in
+      let next : start layers (i + 1) ≡ start layers i + size layer =
+      follow 1 ∙ ap (λ (n : ℕ). start layers i + n) (start-cons layer rest 0 ∙ ap (λ (n : ℕ). size layer + n) (start-none rest) ∙ omega arith) in
+      let follow_next : (j : ℕ) → start layers (i + 1 + j) ≡ start layers (i + 1) + start rest j =
+      λ j. ap (start layers) (omega arith) ∙ follow (suc j) ∙ omega (arith, next, start-cons layer rest j) in
+      calls-append (layer_points layers i layer) later
+      ∙ ap (λ (ps : List ℕ). ps ++ calls later) (calls-layer_at layers i layer)
+      ∙ ap (λ (ps : List ℕ). range_with_len (start layers i) (size layer) ++ ps) (calls-layers layers rest (i + 1) follow_next)
+      ∙ ap (λ (p : ℕ). range_with_len (start layers i) (size layer) ++ range_with_len p (total rest)) next
+      ∙ range-append (start layers i) (size layer) (total rest)
+      ∙ ap (range_with_len (start layers i)) (sym (sum_by-cons size layer rest))
+
+  -- the check of a graph
+  pub calls-graph : (layers : List Layer) → calls (graph_points {E = E} layers) ≡ range_with_len 0 (total layers)
+  calls-graph layers =
+      let none : start layers 0 ≡ 0 = start-none layers in
+      let follow : (j : ℕ) → start layers (0 + j) ≡ start layers 0 + start layers j =
+      λ j. let same : 0 + j ≡ j = omega arith in ap (start layers) same ∙ omega (arith, none) in
+      calls-layers layers layers 0 follow ∙ ap (λ (p : ℕ). range_with_len p (total layers)) none
