@@ -1,4 +1,4 @@
--- a graph: its layers, from the lowest on ("Base Graphs List" and "commit-graph chains")
+-- a graph: its layers, from the lowest on ("Base Graphs List"; "Commit-Graphs Chains" of Git's commit-graph design)
 use Rattle.std.specs.Prelude.{◌≡◌, ℕ, ◌+◌, ◌<◌, ◌≤◌, List, AllPairs, All, length, sum_by, take}
 use Rattle.std.specs.List.{flat_map}
 use Rattle.gix_commitgraph.specs.Layer.{Layer, IsLayer, bytes_of}

@@ -40,7 +40,8 @@ IsOrdered layer = AreAscending layer.ids × IsExactFan layer.fan layer.ids
 
 -- where all layers are so, each answer to a lookup is that of a plain scan of all ids
 abbrev pub AreScanned : List Layer → Type 0
-AreScanned layers = All IsOrdered layers → (id : List ℕ) (answer : Option ℕ) → FoundIn layers id answer → answer ≡ scan (graph_ids layers) id
+AreScanned layers =
+    All IsOrdered layers → (id : List ℕ) (answer : Option ℕ) → FoundIn layers id answer → answer ≡ scan (graph_ids layers) id
 
 -- The kind of this layer differs from that of the layer before it, and no earlier one's does.
 pub record IsMismatch (layers : List Layer) (layer : ℕ) : Type 0 where

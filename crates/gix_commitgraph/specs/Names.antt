@@ -1,5 +1,5 @@
 -- The file name rule: what the name of a layer's file may be, beside its checksum. A layer of a chain is the file
--- `graph-{hash}.graph`, where {hash} is its checksum. (Git's commit-graph design, "Commit-Graph Chains"; "TRAILER".)
+-- `graph-{hash}.graph`, where {hash} is its checksum. (Git's commit-graph design, "Commit-Graphs Chains"; "TRAILER".)
 use Rattle.std.specs.Prelude.{◌≡◌, ◌==◌, ◌-◌, ◌&&◌, ◌||◌, ℕ, Bool, true, not, List, [], ◌++◌, filter, length, take, drop, codes, slice_get, slice_range, bytes_eq, nat_le, Option, Some}
 use Rattle.std.specs.List.{slice_split}
 use Rattle.std.specs.Option.{option_map_or}
@@ -23,7 +23,9 @@ Names path checksum = (text : List ℕ) → name_of path ≡ Some (codes "graph-
 
 -- the name is `graph-`, a text and `.graph`
 abbrev pub is_chain_name : List ℕ → Bool
-is_chain_name name = nat_le 12 (length name) && (bytes_eq (take 6 name) (codes "graph-") && bytes_eq (drop (length name - 6) name) (codes ".graph"))
+is_chain_name name =
+    nat_le 12 (length name)
+    && (bytes_eq (take 6 name) (codes "graph-") && bytes_eq (drop (length name - 6) name) (codes ".graph"))
 
 -- that text
 abbrev pub hash_text : List ℕ → List ℕ
@@ -31,4 +33,5 @@ hash_text name = slice_range name 6 (length name - 6)
 
 -- the rule as a test, which holds exactly where `Names` does
 unfoldable pub is_named_right : List ℕ → List ℕ → Bool
-is_named_right path checksum = option_map_or (λ name. not (is_chain_name name) || spells_id (hash_text name) checksum) (name_of path) true
+is_named_right path checksum =
+    option_map_or (λ name. not (is_chain_name name) || spells_id (hash_text name) checksum) (name_of path) true

@@ -46,7 +46,8 @@ hint_in state.Exhausted = (0, Some 0)
 abbrev pub parents_hint : Parents → ℕ × Option ℕ
 parents_hint parents = hint_in parents.state
 
--- The bounds once an item is taken, by those before it and the items then left: none, where none is left; else at least one, and one less at most, where the greatest number is known.
+-- The bounds once an item is taken, by those before it and the items then left: none, where none is left; else at least one,
+-- and one less at most, where the greatest number is known.
 abbrev pub hint_after : ℕ × Option ℕ → List (Result Position ParentError) → ℕ × Option ℕ
 hint_after hint [] = (0, Some 0)
 hint_after hint (item ∷ items) = (1, option_map (λ most. most - 1) hint.1)

@@ -35,4 +35,5 @@ pub record ArePlaces (bytes : List ℕ) (places : Places) : Type 0 where
 -- These are the pieces of so many bytes that lie one after another from here on.
 pub record ArePieces (bytes : List ℕ) (start size : ℕ) (parts : List (List ℕ)) : Type 0 where
   pub room : start + size * length parts ≤ length bytes
-  pub each : (i : ℕ) → i < length parts → slice_get parts i ≡ Some (slice_range bytes (start + size * i) (start + size * i + size))
+  pub each : (i : ℕ) → i < length parts
+      → slice_get parts i ≡ Some (slice_range bytes (start + size * i) (start + size * i + size))

@@ -6,7 +6,7 @@ use Rattle.std.specs.Ordering.{nat_cmp}
 use Rattle.gix_chunk_core.specs.First.{◌when◌, ◌otherwise◌, first_below}
 use Rattle.gix_commitgraph.specs.Layer.{Layer, record_at}
 use Rattle.gix_commitgraph.specs.Parents.{position_of, parents_of, items_of}
-use Rattle.gix_commitgraph.specs.Graph.{start, stop, total}
+use Rattle.gix_commitgraph.specs.Graph.{start, stop}
 use Rattle.gix_commitgraph.specs.Wrong.{layer_fault, commit_fault}
 use Rattle.gix_commitgraph.specs.Points.{Point, check, call, first_some, Stop, refused, by_processor, no_memory}
 use Rattle.gix_commitgraph.specs.Counts.{greatest, count_of}
@@ -19,17 +19,20 @@ use Rattle.gix_commitgraph.specs.declared.verify.VerifyError.{VerifyError}
 use Rattle.gix_commitgraph.specs.declared.verify.VerifyError.TheVariants as error
 use Rattle.gix_commitgraph.specs.declared.verify.Outcome.{Outcome}
 
--- the base ids of a layer that is to be layer i: one for each layer before it, and that layer's checksum
+-- the base id at place j of a layer, and no bytes where it has none there
 abbrev pub base_at : Layer → ℕ → List ℕ
 base_at layer j = unwrap_or (slice_get layer.bases j) []
 
+-- the checksum of layer j, and no bytes where there is no such layer
 abbrev pub checksum_at : List Layer → ℕ → List ℕ
 checksum_at layers j = unwrap_or (slice_get (map (λ layer. layer.checksum) layers) j) []
 
 module _ {E : Type 0} where
+  -- the base id at place j of a layer that is to be layer i: the checksum of layer j
   abbrev pub base_refusal : List Layer → ℕ → Layer → ℕ → Option (VerifyError E)
   base_refusal layers i layer j = error.BaseId i j when not (bytes_eq (base_at layer j) (checksum_at layers j))
 
+  -- all of its base ids: one for each layer before it
   abbrev pub bases_refusal : List Layer → ℕ → Layer → Option (VerifyError E)
   bases_refusal layers i layer =
       error.BaseCount i when not (length layer.bases == i) otherwise first_below (base_refusal layers i layer) i
@@ -42,12 +45,14 @@ module _ {E : Type 0} where
   -- the parents of the commit at a position of layer i, one after another
   abbrev pub parents_refusal : List Layer → ℕ → Layer → ℕ → Option (VerifyError E)
   parents_refusal layers i layer pos =
-      first_some (map (item_refusal (start layers i + pos) (stop layers i)) (items_of (parents_of (record_at layer pos) layer.edges)))
+      first_some
+      (map (item_refusal (start layers i + pos) (stop layers i)) (items_of (parents_of (record_at layer pos) layer.edges)))
 
   -- the generation number of the commit at p
   abbrev pub generation_refusal : List Node → ℕ → Option (VerifyError E)
   generation_refusal history p =
-      error.Generation (position_of p) (expected_generation history p) when not (generation_at history p == expected_generation history p)
+      error.Generation (position_of p) (expected_generation history p)
+      when not (generation_at history p == expected_generation history p)
 
   -- the commit at a position of layer i: its ids, its parents, its generation number, the processor
   abbrev pub commit_points : List Layer → ℕ → Layer → ℕ → List (Point (VerifyError E))

@@ -1,5 +1,5 @@
--- Walks along parents, and what Git's commit-graph design calls a generation number ("topological level"): the number of
--- commits of the longest walk, which stays at a cap where walks are longer.
+-- Walks along parents, and Git's topological level of a commit ("generation number v1" in its commit-graph design): the
+-- number of commits of the longest walk from it, which stays at a cap where walks are longer.
 use Rattle.std.specs.Prelude.{◌≡◌, ◌↔◌, ℕ, ◌+◌, ◌-◌, ◌<◌, ◌≤◌, List, [], ◌∷◌, length, slice_get, Option, Some, None}
 use Rattle.gix_commitgraph.specs.History.{Node, IsParent, generation_at}
 use Rattle.gix_commitgraph.specs.declared.TheConstants.{GENERATION_NUMBER_MAX}

@@ -23,8 +23,8 @@ pub enum LayerFault {
     /// The checksum is not the digest of the bytes before it ("TRAILER").
     #[error("Checksum")]
     Checksum,
-    /// The file is named as a layer of a chain, and not after its checksum ("Commit-Graph Chains" of
-    /// Git's commit-graph design).
+    /// The file is named as a layer of a chain, and not after its checksum ("Commit-Graphs Chains"
+    /// of Git's commit-graph design).
     #[error("FileName")]
     FileName,
     /// The fan's number at this byte is not the number of ids whose first byte is at most that. It

@@ -13,7 +13,8 @@ use gix_hash_core::{ObjectId, oid};
 
 impl File {
     /// The first thing that is wrong with the layer as a whole: its checksum ("TRAILER"), the name
-    /// of its file ("Commit-Graph Chains" of Git's commit-graph design), or its fan ("OID Fanout").
+    /// of its file ("Commit-Graphs Chains" of Git's commit-graph design), or its fan ("OID
+    /// Fanout").
     pub(crate) fn layer_fault(&self) -> Option<LayerFault>
         ensures { result ≡ layer_fault self.now }
     {
