@@ -1,8 +1,8 @@
 -- What an answer of the check of a graph says of it.
-use Rattle.std.proofs.Common.{◌≡◌, ◌∙◌, ℕ, List, All, Option, Result, Ok, Err, sym, subst}
+use Rattle.std.proofs.Common.{◌∙◌, ℕ, List, All, Result, Ok, Err}
 use Rattle.std.specs.Prelude.{MatchResult, IfOk}
 use Rattle.gix_commitgraph.specs.Layer.{Layer}
-use Rattle.gix_commitgraph.specs.Graph.{IsOpened, total}
+use Rattle.gix_commitgraph.specs.Graph.{IsOpened}
 use Rattle.gix_commitgraph.specs.History.{history_of}
 use Rattle.gix_commitgraph.specs.Points.{Agrees}
 use Rattle.gix_commitgraph.specs.Sound.{Sound}

@@ -1,5 +1,5 @@
 -- laws of the items that an iterator over parents gives
-use Rattle.std.proofs.Common.{◌≡◌, ℕ, ◌+◌, ◌/◌, ◌≤◌, List, [], ◌∷◌, ◌++◌, map, length, drop, Option, Some, None, Result, Ok, Err, IfSome, refl, ap, ◌∙◌, arith, length-drop}
+use Rattle.std.proofs.Common.{◌≡◌, ℕ, ◌/◌, ◌≤◌, List, [], ◌∷◌, ◌++◌, map, length, drop, Option, Some, None, Result, Ok, Err, IfSome, refl, ap, ◌∙◌, arith, length-drop}
 use Rattle.gix_commitgraph.specs.Parents.{Parents, extra_edge_of, extra_parent, extra_parents, both_parents, listed, fault_items, items_of}
 use Rattle.gix_commitgraph.specs.Format.{words}
 use Rattle.gix_commitgraph.specs.declared.Position.{Position}

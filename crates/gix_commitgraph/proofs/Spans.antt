@@ -1,11 +1,11 @@
 -- laws of the layers of a graph, each with the positions of its commits
-use Rattle.std.proofs.Common.{◌≡◌, ℕ, ◌+◌, ◌-◌, ◌^◌, ◌<◌, ◌≤◌, List, [], ◌∷◌, ◌++◌, Some, length, take, slice_get, sym, ap, subst, ◌∙◌, arith, length-take}
+use Rattle.std.proofs.Common.{◌≡◌, ℕ, ◌+◌, ◌^◌, ◌<◌, ◌≤◌, List, [], ◌∷◌, ◌++◌, Some, length, take, slice_get, sym, ap, subst, ◌∙◌, arith, length-take}
 use Rattle.std.proofs.lemmas.List.{length-map}
 use Rattle.std.proofs.lemmas.Option.{get_or_from_slice_get, slice_get_within}
 use Rattle.gix_commitgraph.specs.Layer.{Layer}
 use Rattle.gix_commitgraph.specs.Commit.{commit_layer, commit_pos, commit_place, commit_record, commit_parents}
 use Rattle.gix_commitgraph.specs.Parents.{edge_of, items_of}
-use Rattle.gix_commitgraph.specs.Graph.{graph_commits, total, stop, IsOpened}
+use Rattle.gix_commitgraph.specs.Graph.{graph_commits, total, IsOpened}
 use Rattle.gix_commitgraph.specs.Called.{InGraph}
 use Rattle.gix_commitgraph.specs.History.{history_of, generation_at, parents_at}
 use Rattle.gix_commitgraph.specs.Spans.{IsSpan, IsInSpan}

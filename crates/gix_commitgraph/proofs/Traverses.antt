@@ -1,5 +1,5 @@
 -- how the check of a layer goes over its points
-use Rattle.std.proofs.Common.{◌≡◌, ◌+◌, ◌-◌, ◌^◌, ◌<◌, ◌≤◌, ℕ, suc, ◌++◌, subst, Result, Ok, Err, Option, Some, None, option_map, List, [], ◌∷◌, length, refl, sym, ap, ◌∙◌, arith}
+use Rattle.std.proofs.Common.{◌≡◌, ◌+◌, ◌-◌, ◌^◌, ◌<◌, ◌≤◌, ℕ, suc, ◌++◌, subst, Result, Ok, Err, Some, None, option_map, List, [], ◌∷◌, length, refl, sym, ap, arith}
 use Rattle.std.specs.List.{flat_map, range_with_len}
 use Rattle.std.specs.Fn.{Mut, Called}
 use denote.Ref.{Bor}
@@ -7,7 +7,7 @@ use Rattle.gix_commitgraph.specs.Layer.{Layer, record_at}
 use Rattle.gix_commitgraph.specs.Commit.{commit_layer, commit_pos, commit_record, commit_parents}
 use Rattle.gix_commitgraph.specs.Called.{CalledOn, InLayer}
 use Rattle.gix_commitgraph.specs.Parents.{parents_of}
-use Rattle.gix_commitgraph.specs.Points.{Point, check, call, Passes, IsRefused, StopsAt, StopsBy, RunsOut, Stop, refused}
+use Rattle.gix_commitgraph.specs.Points.{Point, check, call, Passes, IsRefused, StopsAt, StopsBy, Stop, refused}
 use Rattle.gix_commitgraph.specs.Traverse.{layer_refusal, commit_refusal, parent_refusal, commit_points, layer_points, stop_of}
 use Rattle.gix_commitgraph.specs.Wrong.{layer_fault, commit_fault}
 use Rattle.gix_commitgraph.specs.declared.file.commit.Commit.{Commit}
@@ -19,7 +19,7 @@ use Rattle.gix_commitgraph.specs.declared.verify.CommitFault.TheVariants.{NullId
 use Rattle.gix_commitgraph.specs.declared.file.verify.TraverseError.{TraverseError}
 use Rattle.gix_commitgraph.specs.declared.file.verify.TraverseError.TheVariants as error
 use Rattle.gix_commitgraph.proofs.ParentCounts.{HasFew, few_parents}
-use Rattle.gix_commitgraph.proofs.Points.{Reaches, reached_start, reached_past_check, refused_at_check, reached_past_call, stopped_at_call, ran_out, passed, reached_past_part, stops_in_part}
+use Rattle.gix_commitgraph.proofs.Points.{Reaches, reached_start, reached_past_check, refused_at_check, reached_past_call, stopped_at_call, passed, reached_past_part, stops_in_part}
 
 stop_of-layer_refusal : {E : Type 0} (fault : LayerFault) → stop_of {E = E} (layer_refusal fault) ≡ refused (layer_refusal fault)
 stop_of-layer_refusal Checksum = refl

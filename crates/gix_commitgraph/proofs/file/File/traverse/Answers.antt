@@ -1,4 +1,4 @@
-use Rattle.std.proofs.Common.{refl, sym, ◌+◌, ◌<◌, length, arith}
+use Rattle.std.proofs.Common.{refl, ◌+◌, ◌<◌, length, arith}
 use Rattle.std.proofs.lemmas.Result.{err_from_is_err_and}
 use Rattle.gix_commitgraph.specs.Traverse.{Summarizes}
 use Rattle.gix_commitgraph.proofs.Traverses.{reached_first, reached_next, stops_at_commit, said_there, stands_there, few_there}
