@@ -1,4 +1,4 @@
--- The entries of a table of chunks (gitformat-chunk, "Chunk-based file formats"; gitformat-commit-graph, "CHUNK LOOKUP").
+-- The entries of a table of chunks (gitformat-chunk, "DESCRIPTION"; gitformat-commit-graph, "CHUNK LOOKUP").
 use Rattle.std.specs.Prelude.{ℕ, ◌+◌, ◌*◌, List, [], ◌∷◌, take, drop, slice_range}
 use Rattle.std.specs.Int.{w64, from_be_bytes}
 

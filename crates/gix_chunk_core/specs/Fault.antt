@@ -1,5 +1,5 @@
 -- Why bytes have no table of chunks: the first of these conditions that holds. What a table must be is gitformat-chunk,
--- "Chunk-based file formats", and gitformat-commit-graph, "CHUNK LOOKUP"; the order of the conditions is this crate's own.
+-- "DESCRIPTION", and gitformat-commit-graph, "CHUNK LOOKUP"; the order of the conditions is this crate's own.
 use Rattle.std.specs.Prelude.{ℕ, ◌+◌, ◌-◌, ◌*◌, Bool, not, ◌&&◌, List, length, Option, nat_lt, ◌==◌, bytes_eq}
 use Rattle.std.specs.List.{list_any, range_with_len}
 use Rattle.gix_chunk_core.specs.Entry.{entry_at, end_id}

@@ -1,4 +1,4 @@
--- The table of chunks (gitformat-chunk, "Chunk-based file formats"; gitformat-commit-graph, "CHUNK LOOKUP").
+-- The table of chunks (gitformat-chunk, "DESCRIPTION"; gitformat-commit-graph, "CHUNK LOOKUP").
 use Rattle.std.specs.Prelude.{◌≡◌, ◌≢◌, ◌<◌, ◌≤◌, ℕ, ◌+◌, ◌*◌, List, map, length, slice_get, Option, Some, option_map, bytes_eq, find}
 use Rattle.std.specs.List.{range_with_len}
 use Rattle.gix_chunk_core.specs.Entry.{entry_at, end_id}

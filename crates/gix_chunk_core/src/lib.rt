@@ -1,4 +1,4 @@
-//! The table of chunks of a file in Git's chunk format (gitformat-chunk, "Chunk-based file formats").
+//! The table of chunks of a file in Git's chunk format (gitformat-chunk, "DESCRIPTION").
 #![tactic(auto)]
 
 mod error;

@@ -1,4 +1,4 @@
--- Chunks as a file holds them. (gitformat-chunk, "Chunk-based file formats".)
+-- Chunks as a file holds them. (gitformat-chunk, "DESCRIPTION".)
 use Rattle.std.specs.Prelude.{ℕ, ◌+◌, ◌*◌, List, [], ◌∷◌, ◌++◌, length}
 use Rattle.std.specs.Int.{w32, w64, to_be_bytes}
 use Rattle.std.specs.List.{flat_map}
