@@ -1,19 +1,111 @@
-"""Where the program and Git's own check say different things of a file."""
+"""Where the verdict of `graphtool verify` differs from that of `git commit-graph verify`."""
+
+import subprocess
+
+RECORDED_OF = "git version 2.39."
+"""The releases of Git that the list is of. What differs from another release is printed alone."""
+
+FINDS = "found here alone"
+MISSES = "found by Git alone"
+
+OBJECTS = "Git reads each commit's object too, and compares; here the commit-graph alone is read"
+ASIDE = "corrected dates are ignored here, as a chunk that is not known"
+LONG_TIMES = "34 bits of a time are kept, so Git finds the file wrong that it wrote; here times are free"
+HIDDEN = "where the file does not open, the chain is the graph; Git names the file, and checks no chain"
+LEAST_GENERATION = "Git asks that a generation is above the parents'; here it is the longest path's length"
+DATES_INSTEAD = "where a file has corrected dates, Git checks those and no generation"
+NO_GENERATIONS = "Git takes 0 for a generation that was not computed; here each has to be right"
+AT_THE_END = "Git takes the last bytes as the trailer, wherever the chunk table ends"
+SECOND_ALONE = "Git reads no second parent where there is no first"
+UNCOUNTED = "Git asks for the bases only of a file that stands above other layers"
+NOTHING = "Git takes it for nothing to check"
+IN_PART = "Git warns, checks the layers below, or none, and ends well"
+ELSEWHERE = "all layers are read from the chain's own folder; Git looks into the alternates too"
+
+LISTED = {
+    **dict.fromkeys(
+        [
+            "a tree that the commit has not",
+            "a time that the commit has not",
+            "a layer with another time",
+            "an id that no commit has",
+            "a commit with a second parent",
+            "a merge with one parent",
+            "a merge with a parent twice",
+            "a merge with a parent of a low generation",
+            "a merge with its parents changed about",
+            "a cycle of the greatest generations",
+            "an edge that ends a list",
+            "two edges changed about",
+        ],
+        (MISSES, OBJECTS),
+    ),
+    "a corrected date that is too high": (MISSES, ASIDE),
+    "a corrected date that says it is elsewhere": (MISSES, ASIDE),
+    "times of every size": (MISSES, LONG_TIMES),
+    "a file that does not open beside a chain": (MISSES, HIDDEN),
+    "an empty file beside a chain": (MISSES, HIDDEN),
+    "a folder for the file beside a chain": (MISSES, HIDDEN),
+    "a tip's generation one too high": (FINDS, LEAST_GENERATION),
+    "a layer with a high generation": (FINDS, DATES_INSTEAD),
+    "generations of the greatest number": (FINDS, LEAST_GENERATION),
+    "generations of 0": (FINDS, NO_GENERATIONS),
+    "a root's generation of 0": (FINDS, NO_GENERATIONS),
+    "a byte more of trailer": (FINDS, AT_THE_END),
+    "end four bytes earlier": (FINDS, AT_THE_END),
+    "a second parent of a root": (FINDS, SECOND_ALONE),
+    "a base with no chunk of bases": (FINDS, UNCOUNTED),
+    "a chain over an alternate": (FINDS, ELSEWHERE),
+    "no graphs at all": (FINDS, NOTHING),
+    "an empty chain file": (FINDS, NOTHING),
+    "a folder for the chain file": (FINDS, NOTHING),
+    "a chain without its chain file": (FINDS, NOTHING),
+    **dict.fromkeys(
+        [
+            "a chain that lacks a layer",
+            "a layer that is cut",
+            "a layer of the other hash",
+            "a layer under another name",
+            "a layer with wrong bases",
+            "a line that names no file",
+            "a line twice",
+            "a line that is no text",
+        ],
+        (FINDS, IN_PART),
+    ),
+}
+"""What differs, by the name of the damage: who finds it, and why."""
 
 
 class Differences:
-    """What was seen to differ so far."""
+    """The differences that were seen, by the name of the damage, with who finds it; and what Git crashes on."""
 
     def __init__(self):
-        self.rows = {}
+        self.seen = {}
+        self.crashes = set()
 
-    def add(self, kind, name, ours, gits):
-        """Notes that something is answered so here, and so by Git, with ids of a kind."""
-        self.rows.setdefault((name, ours, gits), []).append(kind)
+    def compare(self, name, answer, git_status):
+        """Takes a difference down where one of an answer and Git accepts what the other refuses."""
+        if (answer.status == 0) != (git_status == 0):
+            self.seen.setdefault(name, set()).add(MISSES if answer.status == 0 else FINDS)
+        if git_status < 0:
+            self.crashes.add(name)
 
-    def show(self):
-        """Prints the table."""
-        if self.rows:
-            print("Where `graphtool verify` and `git commit-graph verify` differ:")
-        for (name, ours, gits), kinds in self.rows.items():
-            print("| %s (%s) | %s | %s |" % (name, ", ".join(kinds), ours, gits))
+    def check(self, tally):
+        """Prints the differences, and checks that they are the listed ones."""
+        release = subprocess.check_output(["git", "--version"], text=True).strip()
+        print("\nDifferences from the verdict of `git commit-graph verify`, %s:" % release)
+        for name, finders in sorted(self.seen.items(), key=lambda pair: (sorted(pair[1]), pair[0])):
+            reason = LISTED.get(name, (None, "NOT LISTED"))[1]
+            print("| %s | %s | %s |" % (name, " and ".join(sorted(finders)), reason))
+        print("Git crashes on: %s\n" % ("; ".join(sorted(self.crashes)) or "none"), flush=True)
+        if release.startswith(RECORDED_OF):
+            listed = {(name, finder) for name, (finder, _) in LISTED.items()}
+            seen = {(name, finder) for name, finders in self.seen.items() for finder in finders}
+            tally.check("each difference from Git's verdict is listed", told(seen - listed))
+            tally.check("each listed difference from Git's verdict shows", told(listed - seen))
+
+
+def told(pairs):
+    """None where there are no pairs, else the first of them."""
+    return "%d, first %s: %s" % ((len(pairs),) + min(pairs)) if pairs else None

@@ -1,4 +1,4 @@
-"""What an answer of the program may be.
+"""What an answer of `graphtool list` may be.
 
 Each judge takes the answer last, and says None where it is right, or else a complaint.
 """
@@ -9,6 +9,19 @@ from listing import first_difference
 
 REFUSAL = re.compile(rb"refused file (5 chunk [1-7]|[1-46-9]|1[0-9])\n")
 """The line that refuses a file: the number of the condition, for the chunk table with its own."""
+
+UNOPENED = re.compile(r"refused open 5 layer 0 file (5(?= chunk [1-7]\n)|[1-46-9]|1[0-9])(?:(?<= 5) chunk [1-7])?\n")
+"""The line that refuses to open a graph for what is wrong with its lowest layer."""
+
+CHECK_REFUSAL = re.compile(
+    rb"refused (open 5 layer 0 file (5 chunk [1-7]|[1-46-9]|1[0-9])"
+    rb"|verify (2 layer 0|4 layer 0 fault ([12]|3 byte \d+)|5 position \d+ fault [1-3]"
+    rb"|6 position \d+ error [1-4]|7 position \d+ parent \d+|8 position \d+ expected \d+))\n"
+)
+"""The line by which `verify` refuses a single file."""
+
+COUNTS = re.compile(rb"ok commits \d+ longest (\d+|none)\n(parents \d+ commits \d+\n)*")
+"""The lines that tell what is in a right graph."""
 
 HEAD = re.compile(rb"layer (?:(sha1)|sha256) bases (\d+) commits (\d+)")
 PARENTS = rb"(?:-|!1|!2|\d+(?:,\d+)*(?:,!3|,!4)?)"
@@ -31,16 +44,14 @@ def exactly(status, out, err, answer):
     return first_difference(answer.out.decode(), out) or first_difference(answer.err.decode(), err)
 
 
-def passes(commits, answer):
-    """The answer is that a graph of so many commits is right, whatever they come to."""
-    if answer.status == 0 and answer.out.startswith(b"ok commits %d longest " % commits) and not answer.err:
-        return None
-    return "status %s and %r, expected 0 and that the graph is right" % (answer.status, answer.out[:60])
-
-
 def same(listing, answer):
     """The answer is this very listing."""
     return exactly(0, listing, "", answer)
+
+
+def verdict(text, answer):
+    """The answer is this text, with the status 0 where the text says that a graph is right, else 1."""
+    return exactly(0 if text.startswith("ok ") else 1, text, "", answer)
 
 
 def refused_by(conditions, answer):
@@ -49,6 +60,15 @@ def refused_by(conditions, answer):
     if answer.status == 1 and answer.out.decode() in lines and not answer.err:
         return None
     return "status %s and %r, expected 1 and one of %r" % (answer.status, answer.out[:60], lines)
+
+
+def refused_in_checks(conditions, line, answer):
+    """The answer is the refusal of a lowest layer by one of these conditions of opening, or this line."""
+    out = answer.out.decode()
+    match = UNOPENED.fullmatch(out)
+    if answer.status == 1 and not answer.err and (out == line or match and int(match.group(1)) in conditions):
+        return None
+    return "status %s and %r, expected 1 and %r" % (answer.status, answer.out[:60], line)
 
 
 def refused_or_same(conditions, listing, answer):
@@ -65,6 +85,15 @@ def differs_in_one_line(listing, answer):
         return "%d lines, expected %d" % (len(lines) - 1, len(expected) - 1)
     changed = sum(line != other for line, other in zip(lines, expected))
     return "%d lines differ" % changed if changed > 1 else in_form(answer)
+
+
+def in_form_of_check(commits, answer):
+    """The answer of `verify` to a file is one refusal, or all that is counted in a graph of so many commits."""
+    if answer.err or not (CHECK_REFUSAL if answer.status == 1 else COUNTS).fullmatch(answer.out):
+        return "status %s and %r" % (answer.status, answer.out[:60])
+    numbers = [int(number) for number in re.findall(rb"commits (\d+)", answer.out)]
+    whole = answer.status == 1 or answer.status == 0 and numbers[0] == sum(numbers[1:]) == commits
+    return None if whole else "status %s and the counts %s" % (answer.status, numbers)
 
 
 def in_form(answer):

@@ -1,4 +1,6 @@
-"""The outline of a commit-graph file that Git wrote: where its chunks stand."""
+"""The outline of a commit-graph file that Git wrote, and the parts of a file that follow from others."""
+
+import hashlib
 
 from repository import ID_LENGTH
 
@@ -20,3 +22,31 @@ class Outline:
         self.chunks = {name: range(*bounds) for name, bounds in zip(names, zip(starts, starts[1:]))}
         self.end = starts[-1]
         self.id_length = ID_LENGTH[object_format]
+
+
+def big_endian(value, size):
+    """The bytes of a number."""
+    return value.to_bytes(size, "big")
+
+
+def exact_fan(ids):
+    """For each byte, the number of ids whose first byte is at most that."""
+    return [sum(commit[0] <= byte for commit in ids) for byte in range(256)]
+
+
+def sealed(layer, object_format):
+    """The file with the digest of all bytes before its trailer as the trailer."""
+    body = layer[: -ID_LENGTH[object_format]]
+    return body + hashlib.new(object_format, body).digest()
+
+
+def with_chunks(layer, object_format, chunks):
+    """A right file with other chunks, given as pairs of a name and bytes, or in another order."""
+    start = HEADER + ENTRY * (len(chunks) + 1)
+    table, content = b"", b""
+    for name, text in chunks:
+        table += name + big_endian(start + len(content), 8)
+        content += text
+    table += bytes(4) + big_endian(start + len(content), 8)
+    file = layer[:6] + bytes([len(chunks), layer[7]]) + table + content
+    return sealed(file + bytes(ID_LENGTH[object_format]), object_format)

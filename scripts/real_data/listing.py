@@ -19,14 +19,19 @@ def generations(words):
     return found
 
 
+def places(layers):
+    """The place of each commit among those of all layers, one layer after the other, in the order of ids."""
+    order = [commit for layer in layers for commit in sorted(layer)]
+    return {commit: number for number, commit in enumerate(order)}
+
+
 def listing(object_format, words, layers, bases):
     """The text of the last of some layers, each given as its commits' ids, the lowest layer first.
 
     A layer's commits stand in the order of their ids. A parent is named by its place among the
     commits of all layers, one layer after the other. The bases are the lower layers' checksums.
     """
-    order = [commit for layer in layers for commit in sorted(layer)]
-    place = {commit: number for number, commit in enumerate(order)}
+    place = places(layers)
     generation = generations(words)
     own = sorted(layers[-1])
     lines = ["layer %s bases %d commits %d" % (object_format, len(bases), len(own))]

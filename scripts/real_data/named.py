@@ -4,82 +4,10 @@ They are made from a file that Git wrote of merges of 2, 3 and 4 parents, whose 
 CDAT and EDGE in this order. The rules are those of Git's commit-graph format.
 """
 
-from layer import ENTRY, HEADER, Outline
-
-CHUNKS = ("OIDF", "OIDL", "CDAT", "EDGE", "end")
-GENERATION, TIME, PARENTS = 3, 4, 5
-"""Columns of a commit's line."""
+from original import GENERATION, NO_PARENT, PARENTS, TIME, TOP_BIT
 
 GREATEST = {GENERATION: str(2**30 - 1), TIME: str(2**34 - 1)}
 """What a record says whose last eight bytes have all bits set."""
-
-NO_PARENT = 0x70000000
-TOP_BIT = 0x80000000
-
-
-class Original:
-    """A right file and its listing, from which the damaged ones are made."""
-
-    def __init__(self, layer, object_format, listing):
-        self.layer = layer
-        self.outline = Outline(layer, object_format)
-        self.rows = [line.split(" ") for line in listing.splitlines()]
-        self.parents = [row[PARENTS].split(",") for row in self.rows[1:]]
-
-    def patched(self, *patches):
-        """The file with other bytes at some offsets."""
-        edited = bytearray(self.layer)
-        for at, new in patches:
-            edited[at : at + len(new)] = new
-        return bytes(edited)
-
-    def with_id(self, chunk, new):
-        """The file with another id in the chunk table."""
-        return self.patched((HEADER + ENTRY * CHUNKS.index(chunk), new))
-
-    def with_offsets(self, **moves):
-        """The file with the offsets of some chunks moved."""
-        places = {HEADER + ENTRY * CHUNKS.index(chunk) + 4: more for chunk, more in moves.items()}
-        return self.patched(*((at, big_endian(self.number_at(at, 8) + more, 8)) for at, more in places.items()))
-
-    def with_fan(self, byte, count):
-        """The file with another count in the fan."""
-        return self.patched((self.outline.chunks["OIDF"].start + 4 * byte, big_endian(count, 4)))
-
-    def with_parent(self, position, field, new):
-        """The file with another first or second parent field, which are 0 and 1."""
-        return self.patched((self.fields(position) + 4 * field, big_endian(new, 4)))
-
-    def with_date(self, position, new):
-        """The file with another generation and time, the eight bytes after the parent fields."""
-        return self.patched((self.fields(position) + 8, new))
-
-    def with_edge(self, word, change):
-        """The file with a word of the extra edges changed by a function; word -1 is the last."""
-        at = self.outline.chunks["EDGE"][::4][word]
-        return self.patched((at, big_endian(change(self.number_at(at, 4)), 4)))
-
-    def relisted(self, changes):
-        """The listing with other texts, given by position and column."""
-        rows = [list(row) for row in self.rows]
-        for position, columns in changes.items():
-            for column, text in columns.items():
-                rows[position + 1][column] = text
-        return "".join(" ".join(row) + "\n" for row in rows)
-
-    def fields(self, position):
-        """Where the parent fields of a commit's record begin."""
-        size = self.outline.id_length
-        return self.outline.chunks["CDAT"].start + position * (size + 16) + size
-
-    def number_at(self, at, size):
-        """The number in the bytes at an offset."""
-        return int.from_bytes(self.layer[at : at + size], "big")
-
-
-def big_endian(value, size):
-    """The bytes of a number."""
-    return value.to_bytes(size, "big")
 
 
 def refused(file):

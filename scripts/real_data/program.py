@@ -9,6 +9,8 @@ SECONDS = 20
 MOST_HANGS = 3
 """After so many runs that hang, the program is not run any more."""
 
+USAGE = "usage: graphtool "
+
 
 class Answer(NamedTuple):
     """How a run ended: its exit status, None where it did not end, and what it wrote."""
@@ -27,6 +29,12 @@ class Program:
     def __init__(self, path):
         self.path = path
         self.hangs = 0
+        self.usage = self.run(input=b"").err.decode()
+
+    def commands(self):
+        """The commands that the usage text names, which the program writes for no words."""
+        forms = self.usage[len(USAGE) :].split(" | ") if self.usage.startswith(USAGE) else []
+        return {form.split()[0] for form in forms if form.split()}
 
     def run(self, *words, **streams):
         """The answer to some words; the streams are those of subprocess.run."""
@@ -40,12 +48,14 @@ class Program:
             return HUNG
         return Answer(run.returncode, run.stdout or b"", run.stderr)
 
-    def commands(self):
-        """The commands that the usage text names, each with its words."""
-        usage = self.run(input=b"").err.decode()
-        prefix = "usage: graphtool "
-        return usage[len(prefix) :].rstrip("\n").split(" | ") if usage.startswith(prefix) else []
-
     def list(self, layer):
         """The answer to `list` with these bytes on standard input."""
         return self.run("list", input=layer)
+
+    def verify(self, path, **streams):
+        """The answer to `verify` of a path."""
+        return self.run("verify", path, stdin=subprocess.DEVNULL, **streams)
+
+    def find(self, path, commit, **streams):
+        """The answer to `find` of an id at a path."""
+        return self.run("find", path, commit, stdin=subprocess.DEVNULL, **streams)

@@ -7,9 +7,6 @@ from typing import NamedTuple, Tuple
 ID_LENGTH = {"sha1": 20, "sha256": 32}
 """The length of an id in bytes, by the name of the object format."""
 
-PASSES = "passes"
-"""What a check says of a file in which it finds nothing wrong."""
-
 PERSON = "A Committer <committer@example.com>"
 
 
@@ -46,18 +43,14 @@ class Repository:
             raise RuntimeError("git %s: %s" % (" ".join(words), run.stderr.decode()))
         return run.stdout
 
-    def verdict(self):
-        """What Git's own check says of the commit-graph: it passes, or how the check ends."""
-        command = ("git", "commit-graph", "verify", "--no-progress")
-        run = subprocess.run(command, env=self.surroundings, capture_output=True, check=False)
-        if run.returncode in (0, 1, 2):
-            return PASSES if run.returncode == 0 else "refuses"
-        return "crashes" if run.returncode < 0 else "stops"
+    def add(self, history, start=0):
+        """Makes the commits of a history, with a branch at each that has no child; answers their ids.
 
-    def add(self, history):
-        """Makes the commits of a history, with a branch at each that has no child; answers their ids."""
+        The commits before a start are there from an earlier call.
+        """
         marks = os.path.join(self.folder, "marks")
-        self.git("fast-import", "--quiet", "--export-marks=" + marks, stdin=import_stream(history))
+        files = ("--import-marks-if-exists=" + marks, "--export-marks=" + marks)
+        self.git("fast-import", "--quiet", "--force", *files, stdin=import_stream(history, start))
         with open(marks, encoding="ascii") as lines:
             named = dict(line.split() for line in lines)
         return [named[":%d" % (place + 1)] for place in range(len(history))]
@@ -80,16 +73,18 @@ class Repository:
         listed = "".join(tip + "\n" for tip in tips or []).encode()
         self.git("-c", setting, "commit-graph", "write", "--no-progress", start, *flags, stdin=listed)
 
+    def git_verdict(self):
+        """The status with which `git commit-graph verify` ends: 0 where all is right, negative where it crashes."""
+        command = ("git", "commit-graph", "verify", "--no-progress")
+        return subprocess.run(command, env=self.surroundings, capture_output=True, check=False).returncode
+
+    def info_path(self):
+        """The folder in which Git looks for commit-graphs."""
+        return os.path.join(self.folder, "objects", "info")
+
     def graph_path(self):
         """Where Git writes a commit-graph of a single file."""
-        return os.path.join(self.folder, "objects", "info", "commit-graph")
-
-    def replace_graph(self, data):
-        """Puts other bytes in the place of the single-file commit-graph."""
-        if os.path.exists(self.graph_path()):
-            os.remove(self.graph_path())
-        with open(self.graph_path(), "wb") as file:
-            file.write(data)
+        return os.path.join(self.info_path(), "commit-graph")
 
     def new_graph(self, *flags, generation_version=2):
         """The bytes of the single-file commit-graph that Git writes from nothing."""
@@ -98,17 +93,9 @@ class Repository:
         self.write_graph(*flags, generation_version=generation_version)
         return read_bytes(self.graph_path())
 
-    def info_path(self):
-        """The folder in which Git keeps commit-graphs."""
-        return os.path.dirname(self.graph_path())
-
-    def chain_path(self):
-        """The folder of the layers of a split commit-graph."""
-        return os.path.join(self.info_path(), "commit-graphs")
-
     def chain(self):
         """The layers of a split commit-graph, lowest first: each one's checksum and bytes."""
-        folder = self.chain_path()
+        folder = os.path.join(self.info_path(), "commit-graphs")
         sums = read_bytes(os.path.join(folder, "commit-graph-chain")).decode().split()
         return [(checksum, read_bytes(os.path.join(folder, "graph-%s.graph" % checksum))) for checksum in sums]
 
@@ -119,10 +106,18 @@ def read_bytes(path):
         return file.read()
 
 
-def import_stream(history):
-    """The history as git fast-import reads it."""
+def write_bytes(path, content):
+    """Makes a file of these bytes at a path, in the place of one that stands there, which may be read alone."""
+    if os.path.exists(path):
+        os.remove(path)
+    with open(path, "wb") as file:
+        file.write(content)
+
+
+def import_stream(history, start):
+    """The history from a start on as git fast-import reads it."""
     childless = set(range(len(history))) - {parent for commit in history for parent in commit.parents}
-    stream = [commit_command(place, commit) for place, commit in enumerate(history)]
+    stream = [commit_command(place, commit) for place, commit in list(enumerate(history))[start:]]
     stream += ["reset refs/heads/tip-%d\nfrom :%d\n\n" % (place, place + 1) for place in sorted(childless)]
     return "".join(stream).encode()
 

@@ -1,0 +1,115 @@
+"""Checks `list`: whole layers that Git wrote, layers of a chain, and damaged ones."""
+
+import os
+from functools import partial
+
+import damage
+import histories
+import judge
+import named
+from layer import Outline
+from listing import listing
+from original import Original
+from runs import check_runs
+
+
+def check_all(program, tally, new):
+    """The checks of all that `list` reads; a new repository comes from a function of its name."""
+    check_empty(new("empty"), tally)
+    for name, history in histories.ALL.items():
+        check_history(program, tally, new(name), name, history)
+    check_chain(program, tally, new("chain"))
+    check_named_damage(program, tally, new("named damage"))
+    check_damage(program, tally, new("damage"))
+
+
+def check_empty(repository, tally):
+    """Git writes no commit-graph of no commits, so there is none to list."""
+    repository.write_graph()
+    complaint = "there is one" if os.path.exists(repository.graph_path()) else None
+    tally.check("%s, no commits: Git writes no file" % repository.object_format, complaint)
+
+
+def check_history(program, tally, repository, name, history):
+    """The listing of a history, as each version of generation data and Bloom filters surround it."""
+    repository.add(history)
+    words = repository.words()
+    expected = listing(repository.object_format, words, [list(words)], [])
+    for version in (1, 2):
+        for flags in ([], ["--changed-paths"]):
+            layer = repository.new_graph(*flags, generation_version=version)
+            kinds = expected_chunks(history, version, flags)
+            complaint = other_chunks(layer, repository, kinds) or judge.same(expected, program.list(layer))
+            title = [repository.object_format, name, "generation version %d" % version] + flags
+            tally.check(", ".join(title), complaint)
+
+
+def expected_chunks(history, version, flags):
+    """The chunks that Git has to write, so that a check is on the file that it speaks of."""
+    octopus = any(len(commit.parents) > 2 for commit in history)
+    return (
+        {"OIDF", "OIDL", "CDAT"}
+        | ({"EDGE"} if octopus else set())
+        | ({"GDA2"} if version == 2 else set())
+        | ({"BIDX", "BDAT"} if flags else set())
+    )
+
+
+def other_chunks(layer, repository, expected):
+    """None where a file has the expected chunks, and beside them at most dates that overflowed."""
+    found = set(Outline(layer, repository.object_format).chunks) - {"GDO2"}
+    return None if found == expected else "chunks %s, expected %s" % (sorted(found), sorted(expected))
+
+
+def check_chain(program, tally, repository):
+    """The listing of each layer of a split commit-graph, and the answers to a damaged one."""
+    ids = repository.add(histories.tangled(90, seed=3))
+    parts = [ids[:20], ids[20:22], ids[22:70], ids[70:]]
+    for part in parts:
+        repository.write_graph("--split=no-merge", tips=part)
+    kind, words, layers = repository.object_format, repository.words(), repository.chain()
+    sums = [checksum for checksum, _ in layers]
+    texts = [listing(kind, words, parts[: number + 1], sums[:number]) for number in range(len(layers))]
+    tally.check("%s, a chain" % kind, None if len(layers) == len(parts) else "it has %d layers" % len(layers))
+    for number, ((_, layer), text) in enumerate(zip(layers, texts)):
+        tally.check("%s, layer %d of a chain" % (kind, number), judge.same(text, program.list(layer)))
+    family = damage.edits(layers[1][1], kind, texts[1], 0xFF)
+    check_family(program, tally, "%s, a layer of a chain with all bits of each byte changed" % kind, family)
+
+
+def check_named_damage(program, tally, repository):
+    """The exact answers to a file in which one thing is wrong."""
+    repository.add(histories.octopus(3, 4, 2))
+    kind, words = repository.object_format, repository.words()
+    text = listing(kind, words, [list(words)], [])
+    original = Original(repository.new_graph(generation_version=1), kind, text)
+    for name, layer, condition in named.refused(original):
+        complaint = judge.refused_by([condition], program.list(layer))
+        tally.check("%s, %s: refused by %s" % (kind, name, condition), complaint)
+    for name, layer, changes in named.listed(original):
+        complaint = judge.same(original.relisted(changes), program.list(layer))
+        tally.check("%s, %s: listed" % (kind, name), complaint)
+
+
+def check_damage(program, tally, repository):
+    """The answers to a small file that is cut or changed in every place, and by chance."""
+    repository.add(histories.octopus(3, 4))
+    kind, words = repository.object_format, repository.words()
+    layer = repository.new_graph()
+    text = listing(kind, words, [list(words)], [])
+    families = {
+        "every front of a file": damage.truncations(layer, kind),
+        "a file and more bytes": damage.extensions(layer),
+        "a file with each byte's lowest bit changed": damage.edits(layer, kind, text, 0x01),
+        "a file with each byte's highest bit changed": damage.edits(layer, kind, text, 0x80),
+        "a file with all bits of each byte changed": damage.edits(layer, kind, text, 0xFF),
+        "a file with some bytes by chance": damage.scribbles(layer, 500, seed=4),
+        "a file with offsets in other places": damage.shuffled_tables(layer, kind, 500, seed=5),
+    }
+    for name, family in families.items():
+        check_family(program, tally, "%s, %s" % (kind, name), family)
+
+
+def check_family(program, tally, name, family):
+    """One check of all runs of a family of damaged files."""
+    check_runs(tally, name, [(partial(program.list, layer), right) for layer, right in family])

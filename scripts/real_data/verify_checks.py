@@ -1,0 +1,121 @@
+"""Checks `verify` on single files: whole ones that Git wrote, and damaged ones beside Git's verdict."""
+
+import os
+import tempfile
+from functools import partial
+
+import damage
+import forms
+import histories
+import judge
+import wrong_commits
+import wrong_layout
+from facts import found, verified
+from layer import sealed
+from listing import listing
+from original import Original
+from repository import write_bytes
+from runs import check_runs
+from wrong import CHECKSUM
+
+MOST_FINDS = 60
+"""Of a file with more commits, some alone are looked up."""
+
+
+def check_all(program, tally, new, differences):
+    """The checks of single files; a new repository comes from a function of its name."""
+    for name, history in histories.ALL.items():
+        check_history(program, tally, new("verified " + name), name, history, differences)
+    repository = new("wrong")
+    repository.add(histories.octopus(3, 4, 2))
+    check_wrong(program, tally, repository, differences)
+    check_forms(program, tally, repository, differences)
+    check_bytes(program, tally, repository)
+    check_chance(program, tally, repository)
+
+
+def check_history(program, tally, repository, name, history, differences):
+    """What is counted in a history, beside each kind of further chunks, and where its commits stand."""
+    repository.add(history)
+    kind, path, words = repository.object_format, repository.graph_path(), repository.words()
+    for version in (1, 2):
+        for flags in ([], ["--changed-paths"]):
+            repository.new_graph(*flags, generation_version=version)
+            answer = program.verify(path)
+            title = [kind, name, "generation version %d" % version, *flags, "verified"]
+            tally.check(", ".join(title), judge.same(verified(words), answer))
+            differences.compare(name, answer, repository.git_verdict())
+    lines = list(found(words, [list(words)]).items())
+    some = lines[:: 1 + len(lines) // MOST_FINDS]
+    runs = [(partial(program.find, path, commit), partial(judge.same, line)) for commit, line in some]
+    check_runs(tally, "%s, %s, found" % (kind, name), runs)
+
+
+def check_wrong(program, tally, repository, differences):
+    """What is found wrong in files with one thing wrong, whose checksums are right or are not."""
+    kind, layer = repository.object_format, repository.new_graph(generation_version=1)
+    words = repository.words()
+    file = Original(layer, kind, listing(kind, words, [list(words)], []))
+    for name, edited, text in wrong_layout.all_wrong(file) + wrong_commits.all_wrong(file):
+        check_verdict(program, tally, repository, differences, (name, sealed(edited, kind), text))
+        answer = verify_bytes(program, repository.graph_path(), edited)
+        unsealed_text = text if text.startswith("refused open") else CHECKSUM
+        tally.check("%s, %s, not sealed" % (kind, name), judge.verdict(unsealed_text, answer))
+
+
+def check_forms(program, tally, repository, differences):
+    """Right files in forms that Git does not write, wrong trailers, and wrong chunks that are ignored."""
+    kind, text = repository.object_format, verified(repository.words())
+    plain = repository.new_graph(generation_version=1)
+    full = repository.new_graph("--changed-paths", generation_version=2)
+    for files, answer in (
+        (forms.right(plain, kind), text),
+        (forms.wrong_trailers(plain, kind), CHECKSUM),
+        (forms.wrong_chunks_aside(full, kind), text),
+    ):
+        for name, layer in files:
+            check_verdict(program, tally, repository, differences, (name, layer, answer))
+
+
+def check_verdict(program, tally, repository, differences, case):
+    """The answer to a file, beside Git's verdict on it; a case is its name, its bytes and the answer."""
+    name, layer, text = case
+    answer = verify_bytes(program, repository.graph_path(), layer)
+    tally.check("%s, %s, verified" % (repository.object_format, name), judge.verdict(text, answer))
+    differences.compare(name, answer, repository.git_verdict())
+
+
+def check_bytes(program, tally, repository):
+    """No byte of a file can be another: the file is refused then, mostly by its checksum."""
+    kind, layer = repository.object_format, repository.new_graph()
+    name = "%s, a file with a byte's lowest bit changed, verified" % kind
+    check_family(program, tally, name, forms.some_bytes(layer, kind))
+
+
+def check_chance(program, tally, repository):
+    """Files changed by chance and then sealed: there is always a whole answer."""
+    kind, layer = repository.object_format, repository.new_graph(generation_version=1)
+    right = partial(judge.in_form_of_check, len(repository.words()))
+    families = {
+        "some bytes by chance": damage.scribbles(layer, 200, seed=8),
+        "offsets in other places": damage.shuffled_tables(layer, kind, 200, seed=9),
+    }
+    for name, family in families.items():
+        files = [(sealed(edited, kind), right) for edited, _ in family]
+        check_family(program, tally, "%s, a file with %s, sealed and verified" % (kind, name), files)
+
+
+def check_family(program, tally, name, family):
+    """One check of all runs of a family of damaged files, each with the judge of the answer."""
+    with tempfile.TemporaryDirectory() as folder:
+        runs = [
+            (partial(verify_bytes, program, os.path.join(folder, str(number)), layer), right)
+            for number, (layer, right) in enumerate(family)
+        ]
+        check_runs(tally, name, runs)
+
+
+def verify_bytes(program, path, layer):
+    """The answer to these bytes, in a new file at a path."""
+    write_bytes(path, layer)
+    return program.verify(path)
