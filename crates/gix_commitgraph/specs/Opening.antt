@@ -1,5 +1,5 @@
 -- What the openers answer for the contents of a tree. ("Commit-Graphs Chains" of Git's commit-graph design.)
-use Rattle.std.specs.Prelude.{◌≡◌, ℕ, ◌<◌, ◌-◌, ◌^◌, List, [], ◌∷◌, Option, Some, None, map, codes, if◌then◌else◌, IsErrOf}
+use Rattle.std.specs.Prelude.{◌≡◌, ℕ, ◌<◌, ◌≤◌, ◌-◌, ◌^◌, List, [], ◌∷◌, Option, Some, None, map, codes, if◌then◌else◌, IsErrOf}
 use Rattle.std.specs.Bool.{MatchBool}
 use Rattle.std.specs.List.{enumerate_from}
 use Rattle.std.specs.Option.{ok_or}
@@ -17,7 +17,7 @@ use Rattle.gix_commitgraph.specs.OpenRefusals.{layer_refused, graph_refused}
 use Rattle.gix_commitgraph.specs.Paths.{join_path, chain_path, layer_path}
 use Rattle.gix_commitgraph.specs.declared.init.GraphError.{GraphError}
 use Rattle.gix_commitgraph.specs.declared.opening.error.OpenError.{OpenError}
-use Rattle.gix_commitgraph.specs.declared.opening.error.OpenError.TheVariants.{NothingFound, NotOpened, Device, ChainNotText}
+use Rattle.gix_commitgraph.specs.declared.opening.error.OpenError.TheVariants.{NothingFound, NotOpened, Device, ChainNotText, OutOfMemory}
 
 -- the bytes of the file at a path
 abbrev pub bytes_at : Tree → List ℕ → Result (List ℕ) OpenError
@@ -67,9 +67,9 @@ info_chain folder = join_path folder (codes "commit-graphs")
 abbrev pub info_opened : Tree → List ℕ → Result (List Layer) OpenError
 info_opened tree folder = result_or (file_opened tree (info_file folder)) (chain_opened tree (info_chain folder))
 
--- a call that took the count of device failures from old to new met none
+-- a call that took the count of device failures from old to new met none: the count did not rise
 abbrev pub MetNoFailure : ℕ → ℕ → Type 0
-MetNoFailure old new = (old < 2 ^ 64 - 1) × (new ≡ old)
+MetNoFailure old new = (old < 2 ^ 64 - 1) × (new ≤ old)
 
 -- it met one
 abbrev pub MetFailure : ℕ → ℕ → Type 0
@@ -95,8 +95,14 @@ FolderOpens tree path old new answer =
     MatchBool (is_file tree (chain_path path)) (StopsAtFailure (chain_opened tree path) old new answer)
     (InfoOpens tree path old new answer)
 
+-- what an opener answers where nothing stands at the path: it reads nothing, so no device fails
+abbrev pub NothingOpens : ℕ → ℕ → Result (List Layer) OpenError → Type 0
+NothingOpens old new (Err NothingFound) = new ≡ old
+NothingOpens old new (Err OutOfMemory) = new ≡ old
+NothingOpens old new answer = ⊥
+
 -- a file and a folder are opened as such, and nothing is found at any other path
 abbrev pub Opens : Tree → List ℕ → ℕ → ℕ → Result (List Layer) OpenError → Type 0
 Opens tree path old new answer =
     MatchBool (is_file tree path) (StopsAtFailure (file_opened tree path) old new answer)
-    (MatchBool (is_folder tree path) (FolderOpens tree path old new answer) (StopsAtFailure (Err NothingFound) old new answer))
+    (MatchBool (is_folder tree path) (FolderOpens tree path old new answer) (NothingOpens old new answer))

@@ -4,7 +4,7 @@
 //! bytes have the written format; else a [`FileError`] names the first rule that they break. A
 //! [`Graph`] is a list of such layers, the lowest first. [`Graph::verify_integrity`] checks whether
 //! it is right, and the openers of the module [`opening`] find one by its path. All is read in
-//! place: opening, and the counts that a check makes, are what may answer want of memory.
+//! place: opening, and the counts that a check makes, may answer want of memory.
 #![tactic(auto)]
 
 ghost use Rattle.std.specs.Prelude.{Some};

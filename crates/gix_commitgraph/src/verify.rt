@@ -2,6 +2,8 @@
 
 mod span;
 mod tally;
+#[cfg(test)]
+mod tests;
 
 ghost use Rattle.std.specs.Prelude.{IfOk, MatchResult};
 
@@ -99,8 +101,8 @@ impl<E> From<AllocError> for VerifyError<E> {
 /// What the commits of a graph come to.
 #[derive(Debug, Drop, PartialEq, Eq)]
 pub struct Outcome {
-    /// The number of edges of the longest walk along parents, 0 where there is no commit. It is not
-    /// known where some generation number is [`GENERATION_NUMBER_MAX`](crate::GENERATION_NUMBER_MAX).
+    /// The number of edges of the longest walk along parents, 0 where there is no commit, and `None`
+    /// where some generation number is [`GENERATION_NUMBER_MAX`](crate::GENERATION_NUMBER_MAX).
     pub longest_path_length: Option<u32>,
     /// The number of commits.
     pub num_commits: u32,
@@ -185,7 +187,8 @@ impl Graph {
         self.verify_layers(alloc, processor)
     }
 
-    /// Goes over the layers, from the lowest on.
+    /// Goes over the layers, from the lowest on. What its answer says of the graph as a whole is left
+    /// to `verify_integrity`.
     fn verify_layers<'a, F, E>(
         &'a self,
         alloc: Global,

@@ -23,14 +23,15 @@ use std::alloc::Global;
 ///
 /// # Errors
 ///
-/// The first of these that holds; those of a layer come line by line:
+/// The first of these that holds:
 ///
-/// 1. `NotOpened`, `Device`: the chain file, or the file of a layer, does not stand at its path or
-///    may not be read, or a read of it failed. The folder's count of failures rises with each
-///    `Device`, and in no other case.
-/// 2. `ChainNotText`: a line is not UTF-8.
-/// 3. `Layer`: the bytes of a layer are refused.
-/// 4. `Graph`: the layers are refused as a graph.
+/// 1. `NotOpened`, `Device`: the chain file does not stand at its path or may not be read, or a read
+///    of it failed. The folder's count of failures rises with each `Device`, and in no other case.
+/// 2. For each line in turn:
+///    1. `ChainNotText`: it is not UTF-8.
+///    2. `NotOpened`, `Device`: the same of the file of its layer.
+///    3. `Layer`: the bytes of the layer are refused.
+/// 3. `Graph`: the layers are refused as a graph.
 ///
 /// `OutOfMemory` comes where a growth was refused.
 pub fn open_chain_dir_in<T: Folder>(
