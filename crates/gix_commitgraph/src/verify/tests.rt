@@ -28,31 +28,29 @@ fn faults_are_their_names(rt: HostRuntime) -> Result<(), Fail> {
 #[test]
 fn errors_of_a_graph_are_their_names(rt: HostRuntime) -> Result<(), Fail> {
     let pos = Position(1);
+    let layer = 1;
+    let of_layer = LayerFault::Checksum;
+    let of_commit = CommitFault::Order;
+    let error = ParentError::NoEdgeList;
     let rows: [(VerifyError<&str>, &str); 10] = [
         (VerifyError::TooManyFiles, "TooManyFiles"),
-        (VerifyError::BaseCount { layer: 1 }, "BaseCount"),
-        (VerifyError::BaseId { layer: 1, index: 0 }, "BaseId"),
+        (VerifyError::BaseCount { layer }, "BaseCount"),
+        (VerifyError::BaseId { layer, index: 0 }, "BaseId"),
         (
             VerifyError::Layer {
-                layer: 1,
-                fault: LayerFault::Checksum,
+                layer,
+                fault: of_layer,
             },
             "Layer",
         ),
         (
             VerifyError::Commit {
                 pos,
-                fault: CommitFault::Order,
+                fault: of_commit,
             },
             "Commit",
         ),
-        (
-            VerifyError::Parent {
-                pos,
-                error: ParentError::NoEdgeList,
-            },
-            "Parent",
-        ),
+        (VerifyError::Parent { pos, error }, "Parent"),
         (
             VerifyError::ParentOutOfRange { pos, parent: pos },
             "ParentOutOfRange",
