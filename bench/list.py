@@ -5,7 +5,7 @@ usage: python3 bench/list.py [FOLDER [PROGRAM]]
 
 FOLDER keeps the commit-graph for further runs; without it all is made anew, which takes a minute.
 PROGRAM is measured in place of the one that scripts/program gives. Each time is the best of some
-runs, with the output thrown away. What opening and listing take is told from outside: a file whose
+runs, with the output thrown away. What opening and listing take is measured from outside: a file whose
 signature is wrong is refused once it is read, and one whose ids are fewer than its fan counts is
 refused at the end of the checks. The status is 1 where a limit is not kept.
 """

@@ -7,8 +7,8 @@ FOLDER keeps the files and both programs for further runs; without it all is mad
 some minutes. The files are one layer of a million commits, and a chain of ten layers of the same
 commits. Both programs read the same files, in turn, and have to give the same sums. A line a
 figure: ours and the baseline's, in nanoseconds an item, each the best of all runs, and their ratio.
-The items are lookups of ids that are there and of ids that are not, in an order by chance that is
-always the same; commits with all their parents, in order; and commits at positions by chance, each
+The items are lookups of ids that are there and of ids that are not, in a random order that is
+always the same; commits with all their parents, in order; and commits at random positions, each
 with its generation number, its time and its parents. Then two figures of ours alone: the check of
 the checksums, and the check of the whole graph, which has that one in it.
 
@@ -123,9 +123,9 @@ def our_program(folder):
     if os.path.exists(built):
         os.remove(built)
     # With no arguments the program says how it is called, and fails.
-    told = subprocess.run(["rt", "run"], cwd=crate, stdin=subprocess.DEVNULL, stdout=subprocess.PIPE, stderr=subprocess.STDOUT)
+    run = subprocess.run(["rt", "run"], cwd=crate, stdin=subprocess.DEVNULL, stdout=subprocess.PIPE, stderr=subprocess.STDOUT)
     if not os.path.exists(built):
-        raise RuntimeError(told.stdout.decode())
+        raise RuntimeError(run.stdout.decode())
     return built
 
 
@@ -170,7 +170,7 @@ def inputs():
 
 
 def digest(what, place):
-    """Twenty bytes by chance, always the same."""
+    """Twenty random bytes, always the same for the same arguments."""
     return hashlib.sha1(b"%s %d" % (what.encode(), place)).digest()
 
 
