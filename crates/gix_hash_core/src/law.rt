@@ -11,7 +11,7 @@ ghost use Rattle.gix_hash_core.specs.declared.kind.Kind.{Kind};
 
 /// Ids compare as their lists of bytes do: two are equal exactly where the lists are the same, and
 /// one comes before the other exactly where its byte is the lesser at the first place at which
-/// they differ, or where it is a proper front of the other.
+/// they differ, or where it is a proper prefix of the other.
 pub fn ids_are_ordered_by_their_bytes()
     ensures { (first second : List ℕ) → AreOrdered first second }
 {}

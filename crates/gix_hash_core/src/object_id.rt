@@ -34,7 +34,7 @@ pub enum IdError {
 ///
 /// Equality, order and hash are those of the list. So ids of different kinds are never equal, and
 /// an id comes before another where its byte is the lesser at the first place at which they
-/// differ, or where it is a proper front of the other.
+/// differ, or where it is a proper prefix of the other.
 #[derive(Clone, Copy)]
 pub struct ObjectId {
     inner: Inner,
