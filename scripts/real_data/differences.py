@@ -6,6 +6,7 @@ RECORDED_OF = "git version 2.39."
 """The releases of Git that the list is of. What differs from another release is printed alone."""
 
 FINDS = "found here alone"
+WARNED = "found here, warned of by Git"
 MISSES = "found by Git alone"
 
 OBJECTS = "Git reads each commit's object too, and compares; here the commit-graph alone is read"
@@ -19,7 +20,12 @@ AT_THE_END = "Git takes the last bytes as the trailer, wherever the chunk table 
 SECOND_ALONE = "Git reads no second parent where there is no first"
 UNCOUNTED = "Git asks for the bases only of a file that stands above other layers"
 NOTHING = "Git takes it for nothing to check"
-IN_PART = "Git warns, checks the layers below, or none, and ends well"
+IN_PART = "Git warns, checks the layers below, or none, and ends with the status 0"
+UNASKED = "Git compares the base ids with the layers below, and neither their number nor the end of their list"
+BY_SIZE = "Git reads as many lines as the file's size has room for whole ids, and passes over others in silence"
+BY_BASES = "Git knows a layer by the base ids of the one above, and nothing stands above the last"
+OWN_TRAILER = "Git reads a base id past the list's end, and finds the trailer there, which is that very id"
+LENGTHS = "Git asks for no length of a chunk"
 ELSEWHERE = "all layers are read from the chain's own folder; Git looks into the alternates too"
 
 LISTED = {
@@ -71,8 +77,23 @@ LISTED = {
             "a line twice",
             "a line that is no text",
         ],
-        (FINDS, IN_PART),
+        (WARNED, IN_PART),
     ),
+    "a layer with a wrong number of bases": (FINDS, UNASKED),
+    "a layer with a list of bases that is too long": (FINDS, UNASKED),
+    "the last layer under another name": (FINDS, BY_BASES),
+    "the last line twice": (FINDS, OWN_TRAILER),
+    "short lines after the last layer's": (FINDS, BY_SIZE),
+    "a chain file cut short": (FINDS, BY_SIZE),
+    "a fan of more than 1024 bytes": (FINDS, LENGTHS),
+    "a record too many": (FINDS, LENGTHS),
+    "a part of a record too many": (FINDS, LENGTHS),
+    "a part of an id too many": (FINDS, LENGTHS),
+    "a base id in a single file": (FINDS, UNCOUNTED),
+    "a part of a base id in a single file": (FINDS, UNCOUNTED),
+    "a low generation beside dates": (FINDS, DATES_INSTEAD),
+    "a high generation beside dates": (FINDS, DATES_INSTEAD),
+    "no generation beside dates": (FINDS, DATES_INSTEAD),
 }
 """What differs, by the name of the damage: who finds it, and why."""
 
@@ -84,11 +105,12 @@ class Differences:
         self.seen = {}
         self.crashes = set()
 
-    def compare(self, name, answer, git_status):
-        """Takes a difference down where one of an answer and Git accepts what the other refuses."""
-        if (answer.status == 0) != (git_status == 0):
-            self.seen.setdefault(name, set()).add(MISSES if answer.status == 0 else FINDS)
-        if git_status < 0:
+    def compare(self, name, answer, git):
+        """Takes a difference down where one of an answer and Git's verdict accepts what the other refuses."""
+        if (answer.status == 0) != (git.status == 0):
+            finder = MISSES if answer.status == 0 else WARNED if git.warned else FINDS
+            self.seen.setdefault(name, set()).add(finder)
+        if git.status < 0:
             self.crashes.add(name)
 
     def check(self, tally):

@@ -3,7 +3,7 @@
 from functools import partial
 
 import judge
-from layer import Outline, sealed, with_chunks
+from layer import Outline, contents, sealed, with_chunks
 from wrong import CHECKSUM
 
 
@@ -16,12 +16,6 @@ def right(layer, object_format):
         "an empty chunk, unknown": [(b"ZZZZ", b""), *chunks],
     }
     return [(name, with_chunks(layer, object_format, other)) for name, other in other_chunks.items()]
-
-
-def contents(layer, object_format):
-    """The chunks of a file, in their order."""
-    places = Outline(layer, object_format).chunks
-    return [(name.encode(), layer[place.start : place.stop]) for name, place in places.items()]
 
 
 def wrong_trailers(layer, object_format):

@@ -40,6 +40,12 @@ def sealed(layer, object_format):
     return body + hashlib.new(object_format, body).digest()
 
 
+def contents(layer, object_format):
+    """The chunks of a right file in their order, as pairs of a name and bytes."""
+    places = Outline(layer, object_format).chunks
+    return [(name.encode(), layer[place.start : place.stop]) for name, place in places.items()]
+
+
 def with_chunks(layer, object_format, chunks):
     """A right file with other chunks, given as pairs of a name and bytes, or in another order."""
     start = HEADER + ENTRY * (len(chunks) + 1)

@@ -29,6 +29,7 @@ def check_all(program, tally, new, differences):
     repository = new("wrong")
     repository.add(histories.octopus(3, 4, 2))
     check_wrong(program, tally, repository, differences)
+    check_beside_dates(program, tally, repository, differences)
     check_forms(program, tally, repository, differences)
     check_bytes(program, tally, repository)
     check_chance(program, tally, repository)
@@ -53,14 +54,26 @@ def check_history(program, tally, repository, name, history, differences):
 
 def check_wrong(program, tally, repository, differences):
     """What is found wrong in files with one thing wrong, whose checksums are right or are not."""
-    kind, layer = repository.object_format, repository.new_graph(generation_version=1)
-    words = repository.words()
-    file = Original(layer, kind, listing(kind, words, [list(words)], []))
+    kind, file = repository.object_format, original(repository, generation_version=1)
     for name, edited, text in wrong_layout.all_wrong(file) + wrong_commits.all_wrong(file):
         check_verdict(program, tally, repository, differences, (name, sealed(edited, kind), text))
         answer = verify_bytes(program, repository.graph_path(), edited)
         unsealed_text = text if text.startswith("refused open") else CHECKSUM
         tally.check("%s, %s, not sealed" % (kind, name), judge.verdict(unsealed_text, answer))
+
+
+def original(repository, generation_version):
+    """The file that Git writes of all commits of a repository, to be damaged."""
+    layer, words = repository.new_graph(generation_version=generation_version), repository.words()
+    text = listing(repository.object_format, words, [list(words)], [])
+    return Original(layer, repository.object_format, text)
+
+
+def check_beside_dates(program, tally, repository, differences):
+    """Files with wrong generations beside right corrected dates."""
+    for name, edited, text in wrong_commits.beside_dates(original(repository, generation_version=2)):
+        case = (name, sealed(edited, repository.object_format), text)
+        check_verdict(program, tally, repository, differences, case)
 
 
 def check_forms(program, tally, repository, differences):

@@ -37,6 +37,19 @@ def dates(file):
     ]
 
 
+def beside_dates(file):
+    """Wrong generations in a file with corrected dates."""
+    tip = file.childless()
+    return [
+        wrong_generations(file, "%s generation beside dates" % name, file.regenerated(tip, change))
+        for name, change in (
+            ("a low", lambda right: right - 1),
+            ("a high", lambda right: right + 1),
+            ("no", lambda _: 0),
+        )
+    ]
+
+
 def cycle(file):
     """A file of which a root is its own parent, and in which all generations are the greatest number."""
     root, places = file.with_parents_of_number(0), file.parent_places()

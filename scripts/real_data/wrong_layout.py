@@ -4,7 +4,7 @@ They are made from the same right file as those of named.py.
 """
 
 import named
-from layer import exact_fan
+from layer import contents, exact_fan, with_chunks
 from original import CHUNKS
 from wrong import passed, unopened, unverified
 
@@ -17,7 +17,7 @@ MOVED_CHUNKS = {"OIDF": 11, "OIDL": 11, "CDAT": 9, "EDGE": 9, "end": 15}
 
 def all_wrong(file):
     """All such files that are made from a right one."""
-    return [wrong for maker in (headers, tables, fans, ids, trees) for wrong in maker(file)]
+    return [wrong for maker in (headers, tables, sizes, fans, ids, trees) for wrong in maker(file)]
 
 
 def headers(file):
@@ -55,6 +55,31 @@ def tables(file):
     first = min(file.with_parents_of_number(3), file.with_parents_of_number(4))
     missing = unverified("EDGE with an unknown id", file.with_id("EDGE", b"ZZZZ"), 6, "position", first, "error", 3)
     return found + [missing]
+
+
+def sizes(file):
+    """Chunks with something more at their ends, in a right layout, and bases that nothing counts."""
+    size = file.outline.id_length
+    record, commit = b"\x5a" * (size + 16), b"\xff" * size
+    return [
+        unopened(name, longer(file, chunk, more), condition)
+        for name, chunk, more, condition in (
+            ("a fan of more than 1024 bytes", "OIDF", bytes(4), 11),
+            ("a record too many", "CDAT", record, 19),
+            ("a part of a record too many", "CDAT", record[:-1], 9),
+            ("an id too many", "OIDL", commit, 18),
+            ("a part of an id too many", "OIDL", commit[:-1], 13),
+            ("a base id in a single file", "BASE", commit, 7),
+            ("a part of a base id in a single file", "BASE", commit[:-1], 6),
+        )
+    ]
+
+
+def longer(file, chunk, more):
+    """A file with more bytes at the end of a chunk, or with a new chunk of these bytes."""
+    chunks = dict(contents(file.layer, file.object_format))
+    chunks[chunk.encode()] = chunks.get(chunk.encode(), b"") + more
+    return with_chunks(file.layer, file.object_format, list(chunks.items()))
 
 
 def fans(file):
