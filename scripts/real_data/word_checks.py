@@ -8,16 +8,20 @@ from functools import partial
 import damage
 import judge
 from list_checks import check_family
-from program import USAGE
 
-FORMS = ("list", "verify PATH", "find PATH HEX", "ancestor PATH HEX HEX", "distinct PATH")
-"""The forms of the commands; a program has the first so many of them."""
+USAGE = "usage: graphtool list | verify PATH | find PATH HEX\n"
+"""What the program writes on standard error where its words are no command."""
 
+ID = "0" * 40
 OTHER_WORDS = [
-    *([], ["bogus"], ["list", "extra"], ["LIST"], [""], ["list", ""], [b"li\xffst"], ["--help"]),
-    *(["verify"], ["verify", ".", "."], ["verify", b"\xff"], ["VERIFY", "."], ["find"], ["find", "."]),
-    *(["find", ".", "0" * 40, ""], ["find", b"\xff", "0" * 40], ["find", ".", b"\xff" * 40]),
+    *([], [""], ["bogus"], ["--help"], ["help"], ["."], [".", "verify"], ["", "list"]),
+    *(["list", "."], ["list", ""], ["list", "list"], ["LIST"], ["lis"], ["lists"], [b"li\xffst"]),
+    *(["verify"], ["verify", ".", "."], ["verify", b"\xff"], ["VERIFY", "."], ["check", "."], ["verify ", "."]),
+    *(["find"], ["find", "."], ["find", ".", ID, ""], ["Find", ".", ID], ["lookup", ".", ID], ["verify", ".", ID]),
+    *(["find", b"\xff", ID], ["find", ".", b"\xff" * 40], [".", "find", ID], [".", ID, "find"]),
 ]
+"""Words that are no command: too few, too many, others, or no text."""
+
 MEGABYTE = 2**20
 BAD_DEVICE = "/proc/self/mem"
 """On some machines a file that opens, and whose first byte cannot be read."""
@@ -27,19 +31,17 @@ def check_all(program, tally):
     """The checks of words and streams."""
     check_usage(program, tally)
     check_streams(program, tally)
-    if {"verify", "find"} <= program.commands():
-        check_paths_beyond(program, tally)
+    check_paths_beyond(program, tally)
     check_family(program, tally, "bytes by chance", damage.noise(300, seed=2))
 
 
 def check_usage(program, tally):
     """Other words than a command end with the usage text and status 2."""
-    texts = [USAGE + " | ".join(FORMS[:count]) + "\n" for count in range(1, len(FORMS) + 1)]
-    complaint = None if program.usage in texts else "it is %r" % program.usage
-    tally.check("the usage text", complaint)
     for words in OTHER_WORDS:
-        complaint = judge.exactly(2, "", program.usage, program.run(*words, input=b""))
+        complaint = judge.exactly(2, "", USAGE, program.run(*words, input=b""))
         tally.check("usage after the words %r" % words, complaint)
+    complaint = judge.exactly(2, "refused id 1\n", "", program.find(ID, "."))
+    tally.check("find, its path and its id exchanged", complaint)
 
 
 def check_streams(program, tally):
@@ -57,7 +59,7 @@ def check_streams(program, tally):
 
 def check_paths_beyond(program, tally):
     """Files that cannot be read or have no room, and output that cannot be written, of `verify` and `find`."""
-    commands = {"verify": program.verify, "find": partial(program.find, commit="0" * 40)}
+    commands = {"verify": program.verify, "find": partial(program.find, commit=ID)}
     for command, run in commands.items():
         with tempfile.TemporaryDirectory() as folder:
             path = os.path.join(folder, "commit-graph")
