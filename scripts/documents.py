@@ -17,6 +17,7 @@ CODE_DOCUMENTS = ("docs/DEFINITIONS.md", "docs/ARCHITECTURE.md")
 WORDS_OF_TOOLS = {"untested"}
 """Words that look like names of code, and are those of a tool."""
 
+DEFINED = re.compile(r"\bpub (?:record |data )?(\w+)")
 EDITS, TESTS = "Edits that must fail", "Tests"
 """The titles of the columns that hold names of edits and of tests."""
 
@@ -47,25 +48,23 @@ def missing_edits(texts):
 def missing_code(texts):
     """The places that name a test, a definition or other code that is not there.
 
-    A definition is named by its file of specs/, as Layer.IsLayer, where two files might have it. Of
-    all else the last part has to stand in some code or specification.
+    A definition may be named with its file of specs/, as Layer.IsLayer: that file has to define it. A
+    test is a function. Of all else the last part has to stand in some code or specification.
     """
-    words = {path: set(re.findall(r"\w+", text)) for path, text in texts.items() if is_code(path)}
-    all_words = set().union(*words.values()) | {path.split("/")[1] for path in words} | WORDS_OF_TOOLS
-    tests = {name for path, text in texts.items() if path.endswith(".rt") for name in re.findall(r"\bfn (\w+)", text)}
+    code = {path: text for path, text in texts.items() if is_code(path)}
+    crates = {path.split("/")[1] for path in code}
+    functions = set(re.findall(r"\bfn (\w+)", "".join(code.values())))
+    words = set(re.findall(r"\w+", "".join(code.values()))) | crates | WORDS_OF_TOOLS
     for place, _, column, name in quotations(texts, CODE_DOCUMENTS):
         if CODE.fullmatch(name) and not PATH.fullmatch(name) and column != EDITS:
             first, last = name.split(".")[0], re.split(r"\.|::", name)[-1]
-            files = [path for path in words if path.endswith("/specs/%s.antt" % first)]
-            known = set().union(*(words[path] for path in files)) if files and "." in name else all_words
-            is_test = column == TESTS and "." not in name and os.path.join("crates", name) not in crates(words)
-            if last not in (tests if is_test else known):
+            specs = [text for path, text in code.items() if path.endswith("/specs/%s.antt" % first)]
+            if specs and "." in name:
+                known = set(DEFINED.findall("".join(specs)))
+            else:
+                known = functions | crates if column == TESTS else words
+            if last not in known:
                 yield "%s names %s" % (place, name)
-
-
-def crates(paths):
-    """The folders of the crates."""
-    return {os.path.join(*path.split("/")[:2]) for path in paths}
 
 
 def is_code(path):
