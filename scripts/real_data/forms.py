@@ -1,4 +1,4 @@
-"""Files whose parts are right, in other forms than Git's, or with a wrong part that no check asks for."""
+"""Right files in other forms than Git's, and files with a wrong part that no check looks at."""
 
 from functools import partial
 
@@ -29,7 +29,7 @@ def wrong_trailers(layer, object_format):
 
 
 def wrong_chunks_aside(layer, object_format):
-    """Files in which a chunk that no check asks for is wrong, each with its name."""
+    """Files in which a chunk that no check looks at is wrong, each with its name."""
     places = Outline(layer, object_format).chunks
     dates, filters = places["GDA2"], places["BDAT"]
     return [

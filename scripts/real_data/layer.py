@@ -7,11 +7,11 @@ from repository import ID_LENGTH
 HEADER = 8
 ENTRY = 12
 LEAST_SIZE = 1100
-"""The size of a SHA-1 file with no commits: no file is smaller."""
+"""The size of a SHA-1 file with no commits: no right file is smaller."""
 
 
 class Outline:
-    """Where the parts of a file stand, which is taken to be right."""
+    """Where the parts of a file are. The file is assumed to be right."""
 
     def __init__(self, layer, object_format):
         self.count = layer[6]

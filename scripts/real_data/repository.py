@@ -53,7 +53,7 @@ class Repository:
     def add(self, history, start=0):
         """Makes the commits of a history, with a branch at each that has no child; answers their ids.
 
-        The commits before a start are there from an earlier call.
+        Those before a start were made by an earlier call.
         """
         marks = os.path.join(self.folder, "marks")
         files = ("--import-marks-if-exists=" + marks, "--export-marks=" + marks)
@@ -115,7 +115,7 @@ def read_bytes(path):
 
 
 def write_bytes(path, content):
-    """Makes a file of these bytes at a path, in the place of one that stands there, which may be read alone."""
+    """Makes a file of these bytes at a path. It replaces one that is there, even one that is read-only."""
     if os.path.exists(path):
         os.remove(path)
     with open(path, "wb") as file:

@@ -106,11 +106,11 @@ def check_bytes(program, tally, repository):
 
 
 def check_chance(program, tally, repository):
-    """Files changed by chance and then sealed: there is always a whole answer."""
+    """Files changed at random and then sealed: there is always a whole answer."""
     kind, layer = repository.object_format, repository.new_graph(generation_version=1)
     right = partial(judge.in_form_of_check, len(repository.words()))
     families = {
-        "some bytes by chance": damage.scribbles(layer, 200, seed=8),
+        "some random bytes": damage.scribbles(layer, 200, seed=8),
         "offsets in other places": damage.shuffled_tables(layer, kind, 200, seed=9),
     }
     for name, family in families.items():

@@ -32,7 +32,7 @@ def check_all(program, tally):
     check_usage(program, tally)
     check_streams(program, tally)
     check_paths_beyond(program, tally)
-    check_family(program, tally, "bytes by chance", damage.noise(300, seed=2))
+    check_family(program, tally, "random bytes", damage.noise(300, seed=2))
 
 
 def check_usage(program, tally):
@@ -45,12 +45,12 @@ def check_usage(program, tally):
 
 
 def check_streams(program, tally):
-    """Input that is not there, cannot be read or has no room, and output that cannot be written."""
+    """Input that is empty, cannot be read or is larger than the memory, and output that cannot be written."""
     tally.check("no input", judge.exactly(1, "refused file 1\n", "", program.list(b"")))
     with tempfile.TemporaryFile() as zeros:
         zeros.truncate(256 * MEGABYTE)
         answer = program.run("list", stdin=zeros, preexec_fn=partial(limit_memory, 64 * MEGABYTE))
-        tally.check("input beyond the memory", judge.exactly(1, "refused read 3\n", "", answer))
+        tally.check("input larger than the memory", judge.exactly(1, "refused read 3\n", "", answer))
     folder = os.open(os.curdir, os.O_RDONLY)
     tally.check("a folder as input", judge.exactly(1, "refused read 2\n", "", program.run("list", stdin=folder)))
     os.close(folder)
@@ -58,7 +58,7 @@ def check_streams(program, tally):
 
 
 def check_paths_beyond(program, tally):
-    """Files that cannot be read or have no room, and output that cannot be written, of `verify` and `find`."""
+    """Files that cannot be read or are larger than the memory, and output that cannot be written."""
     commands = {"verify": program.verify, "find": partial(program.find, commit=ID)}
     for command, run in commands.items():
         with tempfile.TemporaryDirectory() as folder:
@@ -67,7 +67,7 @@ def check_paths_beyond(program, tally):
                 zeros.truncate(256 * MEGABYTE)
             for name, where in (("a file", path), ("the file of a folder", folder)):
                 answer = run(where, preexec_fn=partial(limit_memory, 64 * MEGABYTE))
-                title = "%s, %s beyond the memory" % (command, name)
+                title = "%s, %s larger than the memory" % (command, name)
                 tally.check(title, judge.exactly(1, "refused open 7\n", "", answer))
             check_full(tally, command, partial(run, os.path.join(folder, "nothing")))
         if fails_to_read(BAD_DEVICE):
@@ -90,13 +90,13 @@ def fails_to_read(path):
 
 
 def check_full(tally, command, run):
-    """The answer of a run whose output has no room."""
+    """The answer of a run whose output cannot be written."""
     if os.path.exists("/dev/full"):
         with open("/dev/full", "wb") as full:
             answer = run(stdout=full)
-        tally.check("%s, output that has no room" % command, judge.exactly(2, "", "", answer))
+        tally.check("%s, output to a full device" % command, judge.exactly(2, "", "", answer))
 
 
 def limit_memory(size):
-    """Refuses this process memory beyond a number of bytes."""
+    """Limits the memory of this process to a number of bytes."""
     resource.setrlimit(resource.RLIMIT_AS, (size, size))

@@ -110,7 +110,7 @@ def ids(file):
     far = bytes([here[0] ^ 0x80]) + here[1:]
     moved = file.patched((file.outline.chunks["OIDL"].start + 4 * size, far))
     return [
-        unverified("two ids changed about", file.with_ids({4: near, 5: here}), 5, "position 5 fault 2"),
+        unverified("two ids exchanged", file.with_ids({4: near, 5: here}), 5, "position 5 fault 2"),
         unverified("an id twice", file.with_ids({5: here}), 5, "position 5 fault 2"),
         unverified("ids that descend", file.with_ids(backward), 5, "position 1 fault 2"),
         unverified("a first id of zeros", file.with_ids({0: bytes(size)}), 5, "position 0 fault 1"),
@@ -126,5 +126,5 @@ def trees(file):
     return [
         unverified("a first tree of zeros", file.with_tree(0, bytes(size)), 5, "position 0 fault 3"),
         unverified("a last tree of zeros", file.with_tree(last, bytes(size)), 5, "position", last, "fault 3"),
-        passed(file, "a tree that the commit has not", file.with_tree(2, b"\x5a" * size)),
+        passed(file, "another tree than the commit's", file.with_tree(2, b"\x5a" * size)),
     ]

@@ -137,7 +137,7 @@ def orders(right):
         WrongTree("a chain without its last line", right.with_lines(first, second), right.texts[1]),
         WrongTree("a chain without its first line", right.with_lines(second, third), based_wrongly(0)),
         WrongTree("a chain without its middle line", right.with_lines(first, third), based_wrongly(1)),
-        WrongTree("two lines changed about", right.with_lines(second, first, third), based_wrongly(0)),
+        WrongTree("two lines exchanged", right.with_lines(second, first, third), based_wrongly(0)),
         WrongTree("a line twice", right.with_lines(first, first, second, third), based_wrongly(1)),
         WrongTree("the last line twice", right.with_lines(first, second, third, third), based_wrongly(3)),
         WrongTree("a line 256 times", right.with_lines(*[first] * 256), based_wrongly(1), "a line twice"),
