@@ -69,7 +69,7 @@ LISTED = {
     **dict.fromkeys(
         [
             "a chain that lacks a layer",
-            "a layer that is cut",
+            "a layer that does not open",
             "a layer of the other hash",
             "a layer under another name",
             "a layer with wrong bases",

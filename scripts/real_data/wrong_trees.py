@@ -11,6 +11,7 @@ from trees import CHAIN, FILE, GRAPHS, Layer, chain, text, without
 
 NOT_OPENED = "refused open 2\n"
 HIGH = "a layer with a high generation"
+UNOPENED = "a layer that does not open"
 BASES = "a layer with wrong bases"
 COUNT = "a layer with a wrong number of bases"
 LIST = "a layer with a list of bases that is too long"
@@ -88,7 +89,7 @@ def files(right):
         lacking = without(tree, layer.path())
         cases.append(WrongTree("no layer %d" % number, lacking, NOT_OPENED, "a chain that lacks a layer"))
         stub = {**tree, layer.path(): b""}
-        cases.append(WrongTree("an empty layer %d" % number, stub, unopened(number, 1), "a layer that is cut"))
+        cases.append(WrongTree("an empty layer %d" % number, stub, unopened(number, 1), UNOPENED))
     return cases
 
 
@@ -207,26 +208,27 @@ def layers(right, number):
     no_parent = layer.edited(record + size, big_endian(stop, 4)).sealed(kind)
     date = int.from_bytes(layer.content[record + size + 8 : record + size + 16], "big")
     other_time = layer.edited(record + size + 8, big_endian(date ^ 1, 8)).sealed(kind)
-    no_path = layer.edited(record + size + 8, big_endian(date + 2**34, 8)).content
+    too_high = layer.edited(record + size + 8, big_endian(date + 2**34, 8)).content
     above = "refused verify 3 layer %d index %d\n" % (number + 1, number)
     last = number == len(right.layers) - 1
-    cut = "a layer that is cut"
     cases = [
         (other_time.renamed(kind), "another time", right.texts[-1] if last else above, "a layer with another time"),
         (other_time, "another time and the old name", "refused verify 4 layer %d fault 2\n" % number, None),
         (layer.edited(record, bytes(size)), "no tree and the old trailer", unverified(number), None),
         (no_tree.renamed(kind), "no tree", "refused verify 5 position %d fault 3\n" % start, None),
         (no_parent.renamed(kind), "no parent", "refused verify 7 position %d parent %d\n" % (start, stop), None),
-        (Layer(layer.name, layer.content[:1099]), "1099 bytes", unopened(number, 1), cut),
-        (Layer(layer.name, layer.content[: end - 1]), "a cut chunk", unopened(number, "5 chunk 5"), cut),
-        (Layer(layer.name, layer.content[:-1]), "a cut trailer", unopened(number, 15), cut),
-        (Layer(layer.name, layer.content + b"\0"), "a byte more", unopened(number, 15), cut),
+        (layer.edited(0, b"CGPX"), "another signature", unopened(number, 2), UNOPENED),
+        (layer.edited(layer.content.index(b"CDAT"), b"NONE"), "no commit data", unopened(number, 8), UNOPENED),
+        (Layer(layer.name, layer.content[:1099]), "1099 bytes", unopened(number, 1), UNOPENED),
+        (Layer(layer.name, layer.content[: end - 1]), "a cut chunk", unopened(number, "5 chunk 5"), UNOPENED),
+        (Layer(layer.name, layer.content[:-1]), "a cut trailer", unopened(number, 15), UNOPENED),
+        (Layer(layer.name, layer.content + b"\0"), "a byte more", unopened(number, 15), UNOPENED),
     ]
-    high = "layer %d with a high generation" % number
-    return [
-        WrongTree("layer %d with %s" % (number, name), right.with_layer(number, other), answer, listed_as)
-        for other, name, answer, listed_as in cases
-    ] + [WrongTree(high, right.rebuilt(number, no_path), generation_fault(start, date >> 34), HIGH)]
+    title, high_tree = "layer %d with %%s" % number, right.rebuilt(number, too_high)
+    found = [WrongTree(title % "a high generation", high_tree, generation_fault(start, date >> 34), HIGH)]
+    for other, name, answer, listed_as in cases:
+        found.append(WrongTree(title % name, right.with_layer(number, other), answer, listed_as))
+    return found
 
 
 def generation_fault(position, expected):
