@@ -1,6 +1,7 @@
 """Checks `verify` on single files: whole ones that Git wrote, and damaged ones beside Git's verdict."""
 
 import os
+import resource
 import tempfile
 from functools import partial
 
@@ -33,6 +34,7 @@ def check_all(program, tally, new, differences):
     check_forms(program, tally, repository, differences)
     check_bytes(program, tally, repository)
     check_chance(program, tally, repository)
+    check_small_stack(program, tally, repository)
 
 
 def check_history(program, tally, repository, name, history, differences):
@@ -116,6 +118,25 @@ def check_chance(program, tally, repository):
     for name, family in families.items():
         files = [(sealed(edited, kind), right) for edited, _ in family]
         check_family(program, tally, "%s, a file with %s, sealed and verified" % (kind, name), files)
+
+
+def check_small_stack(program, tally, repository):
+    """Each command ends as usual where its stack may have no more than 48 KiB."""
+    words, small = repository.words(), {"preexec_fn": limit_stack}
+    layer, path = repository.new_graph(), repository.graph_path()
+    commit, line = min(found(words, [list(words)]).items())
+    text = listing(repository.object_format, words, [list(words)], [])
+    for command, answer, right in (
+        ("list", program.run("list", input=layer, **small), text),
+        ("verify", program.verify(path, **small), verified(words)),
+        ("find", program.find(path, commit, **small), line),
+    ):
+        tally.check("%s, %s with a small stack" % (repository.object_format, command), judge.same(right, answer))
+
+
+def limit_stack():
+    """Limits the stack of this process to 48 KiB."""
+    resource.setrlimit(resource.RLIMIT_STACK, (48 * 1024, 48 * 1024))
 
 
 def check_family(program, tally, name, family):

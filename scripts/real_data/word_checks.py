@@ -12,6 +12,9 @@ from list_checks import check_family
 USAGE = "usage: graphtool list | verify PATH | find PATH HEX\n"
 """What the program writes on standard error where its words are no command."""
 
+FAILED_WRITE = "graphtool: the answer could not be written\n"
+"""What the program writes on standard error where its answer could not be written."""
+
 ID = "0" * 40
 OTHER_WORDS = [
     *([], [""], ["bogus"], ["--help"], ["help"], ["."], [".", "verify"], ["", "list"]),
@@ -91,10 +94,12 @@ def fails_to_read(path):
 
 def check_full(tally, command, run):
     """The answer of a run whose output cannot be written."""
+    answer = run(preexec_fn=partial(os.close, 1))
+    tally.check("%s, output that is closed" % command, judge.exactly(2, "", FAILED_WRITE, answer))
     if os.path.exists("/dev/full"):
         with open("/dev/full", "wb") as full:
             answer = run(stdout=full)
-        tally.check("%s, output to a full device" % command, judge.exactly(2, "", "", answer))
+        tally.check("%s, output to a full device" % command, judge.exactly(2, "", FAILED_WRITE, answer))
 
 
 def limit_memory(size):
