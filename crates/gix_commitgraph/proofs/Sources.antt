@@ -6,7 +6,8 @@ use Rattle.gix_commitgraph.specs.Layer.{Layer}
 use Rattle.gix_commitgraph.specs.OpenAlways.{IsFromChain, IsFileError, IsFolderError}
 use Rattle.gix_commitgraph.specs.Paths.{layer_path}
 use Rattle.gix_commitgraph.specs.declared.opening.error.OpenError.{OpenError}
-use Rattle.gix_commitgraph.specs.declared.opening.error.OpenError.TheVariants.{NothingFound, NotOpened, Device, ChainNotText, Layer as layer_error, Graph as graph_error, OutOfMemory}
+use Rattle.gix_commitgraph.specs.declared.opening.error.OpenError.TheVariants.{NothingFound, NotOpened, Device, ChainNotText}
+use Rattle.gix_commitgraph.specs.declared.opening.error.OpenError.TheVariants.{Layer as layer_error, Graph as graph_error, OutOfMemory}
 
 -- an error of a file's opener is one of a folder's
 folder_error : (error : OpenError) → IsFileError error → IsFolderError error
@@ -32,7 +33,8 @@ from_wider P Q (Err e) wider from = from
 
 -- one more layer of a chain
 pub from-pushed : (folder : List ℕ) (layers more : List Layer) (layer : Layer)
-    → IsFromChain folder layers → (line : List ℕ) × (layer.path ≡ layer_path folder line) → more ≡ layers ++ layer ∷ [] → IsFromChain folder more
+    → IsFromChain folder layers → (line : List ℕ) × (layer.path ≡ layer_path folder line)
+    → more ≡ layers ++ layer ∷ [] → IsFromChain folder more
 from-pushed folder layers more layer from named pushed =
     let P : Layer → Type 0 = λ one. (line : List ℕ) × (one.path ≡ layer_path folder line) in
     subst (All P) (sym pushed) (All-append P layers (layer ∷ []) from (All-cons P layer [] named (All-nil P)))

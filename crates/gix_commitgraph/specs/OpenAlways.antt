@@ -1,10 +1,11 @@
--- What each opener answers, whatever stands in the folder: the files that its graph is read from, and the errors that it may give.
+-- What each opener answers, whatever stands in the folder: from which files its graph is read, and with which errors.
 use Rattle.std.specs.Prelude.{◌≡◌, ◌⊎◌, ℕ, List, [], ◌∷◌, All, map, ⊤}
 use Rattle.gix_commitgraph.specs.Layer.{Layer}
 use Rattle.gix_commitgraph.specs.Opening.{info_file, info_chain}
 use Rattle.gix_commitgraph.specs.Paths.{layer_path}
 use Rattle.gix_commitgraph.specs.declared.opening.error.OpenError.{OpenError}
-use Rattle.gix_commitgraph.specs.declared.opening.error.OpenError.TheVariants.{NothingFound, NotOpened, Device, Layer as layer_error, Graph as graph_error, OutOfMemory}
+use Rattle.gix_commitgraph.specs.declared.opening.error.OpenError.TheVariants.{NothingFound, NotOpened, Device}
+use Rattle.gix_commitgraph.specs.declared.opening.error.OpenError.TheVariants.{Layer as layer_error, Graph as graph_error, OutOfMemory}
 
 -- the one layer is the file at the path
 abbrev pub IsFromFile : List ℕ → List Layer → Type 0

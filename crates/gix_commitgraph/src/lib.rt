@@ -1,10 +1,10 @@
-//! Git's commit-graph files, version 1: reading them and what they say of commits.
+//! Reads Git's commit-graph files, version 1, and what they say of commits.
 //!
 //! A [`File`] is one layer of a commit-graph, opened from its bytes. It is opened exactly where the
 //! bytes have the written format; else a [`FileError`] names the first rule that they break. A
 //! [`Graph`] is a list of such layers, the lowest first. [`Graph::verify_integrity`] checks whether
-//! it is right, and the openers of the module [`opening`] find one by its path. All is read in
-//! place: opening, and the counts that a check makes, may answer want of memory.
+//! it is right, and the openers of the module [`opening`] open one by its path. Everything is read
+//! in place: only opening, and the statistics of a check, can run out of memory.
 #![tactic(auto)]
 
 ghost use Rattle.std.specs.Prelude.{Some, IfOk, IfErr};

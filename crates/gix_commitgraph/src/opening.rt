@@ -1,16 +1,18 @@
 //! Opening a commit-graph by the path of a file or of a folder.
 //!
 //! Each opener reads from a [`Folder`]: a tree of files whose reads a device may fail. A contract
-//! says what is opened where it is known what stands in the tree, and that no opener changes it.
-//! Over the file system, a [`Disk`](graph_folder::folder::Disk), these openers are [`Graph::at`]
-//! and its kin.
+//! says what is opened where the contents of the tree are known, what holds of each answer whether
+//! they are known or not, and that no opener changes the tree. Over the file system, a
+//! [`Disk`](graph_folder::folder::Disk), the same openers are [`Graph::at`], [`Graph::from_file`],
+//! [`Graph::from_info_dir`] and [`Graph::from_commit_graphs_dir`].
 
 ghost use Rattle.std.specs.Prelude.{◌≡◌, ◌⊎◌, IfOk, IfErr, IsErrOf, MatchResult, string_bytes};
 ghost use Rattle.std.specs.Option.{ForSome};
 ghost use Rattle.graph_folder.specs.Tree.{is_file};
 ghost use Rattle.gix_commitgraph.specs.Graph.{IsGraph};
 ghost use Rattle.gix_commitgraph.specs.OpenAlways.{IsFromFile, IsFromChain, IsFromInfo, IsFromPath};
-ghost use Rattle.gix_commitgraph.specs.OpenAlways.{IsReadError, IsLayerError, IsFileError, IsFolderError};
+ghost use Rattle.gix_commitgraph.specs.OpenAlways.{IsReadError, IsLayerError, IsFileError};
+ghost use Rattle.gix_commitgraph.specs.OpenAlways.{IsFolderError};
 ghost use Rattle.gix_commitgraph.specs.OpenAnswer.{IsAsExpected, is_settled, failures_after_opening, result_map};
 ghost use Rattle.gix_commitgraph.specs.Opening.{bytes_at, layer_of_bytes, layer_at, graph_of_layers, file_opened};
 ghost use Rattle.gix_commitgraph.specs.Opening.{InfoOpens, FolderOpens, Opens, MetFailureIfDevice};
@@ -47,7 +49,7 @@ const CHAIN: &str = "commit-graph-chain";
 /// 3. `Layer`: the bytes are refused, as layer 0.
 /// 4. `Graph`: the layer has more commits than a graph can have.
 ///
-/// `OutOfMemory` comes where a growth was refused.
+/// `OutOfMemory` comes where an allocation failed.
 pub fn open_file_in<T: Folder>(
     alloc: Global,
     folder: &mut T,
@@ -71,8 +73,8 @@ pub fn open_file_in<T: Folder>(
 ///
 /// # Errors
 ///
-/// Those of [`open_chain_dir_in`] for the chain folder, and `OutOfMemory` where a growth was
-/// refused, also while the file is opened: want of memory is no damage. `Device` comes only where
+/// Those of [`open_chain_dir_in`] for the chain folder. Where an allocation failed while the file
+/// was opened, the chain is not tried, and the answer is `OutOfMemory`. `Device` comes only where
 /// the folder's count of failures has risen.
 pub fn open_info_dir_in<T: Folder>(
     alloc: Global,
@@ -109,9 +111,9 @@ fn is_settled(answer: &Result<Graph, OpenError>) -> bool
 ///
 /// # Errors
 ///
-/// `NothingFound` where neither a file nor a folder stands at the path, else those of the opener,
-/// and `OutOfMemory` where a growth was refused. `Device` comes only where the folder's count of
-/// failures has risen.
+/// `NothingFound` where neither a file nor a folder stands at the path, and else those of the
+/// opener. `OutOfMemory` comes where an allocation failed, and `Device` only where the folder's
+/// count of failures has risen.
 pub fn open_in<T: Folder>(alloc: Global, folder: &mut T, path: &str) -> Result<Graph, OpenError>
     ensures opens { ForSome (T.tree folder.old)
         (λ tree. Opens tree path.now (T.failure_count folder.old) (T.failure_count folder.new) result) }
@@ -136,7 +138,7 @@ fn open_folder_in<T: Folder>(alloc: Global, folder: &mut T, path: &str) -> Resul
         (λ tree. FolderOpens tree path.now (T.failure_count folder.old) (T.failure_count folder.new) result) }
     ensures device { MetFailureIfDevice result (T.failure_count folder.old) (T.failure_count folder.new) }
     ensures tree { T.tree folder.new ≡ T.tree folder.old }
-    ensures from { IfOk result (λ layers. IsFromChain path.now layers ⊎ IsFromInfo path.now layers) }
+    ensures from { IfOk result (λ graph. IsFromChain path.now graph ⊎ IsFromInfo path.now graph) }
     ensures graph { IfOk result IsGraph }
     ensures memory { IfErr result OutOfMemoryStandsAlone }
 {

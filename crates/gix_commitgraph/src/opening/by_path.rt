@@ -22,11 +22,11 @@ impl File {
     ///
     /// The first of these that holds:
     ///
-    /// 1. `NotOpened`: the host calls the path a folder, or does not open it.
+    /// 1. `NotOpened`: the system calls the path a folder, or does not open it.
     /// 2. `Device`: a read of the file failed.
     /// 3. `Layer`: the bytes are refused, as layer 0.
     ///
-    /// `OutOfMemory` comes where a growth was refused.
+    /// `OutOfMemory` comes where an allocation failed.
     pub fn at<R: Files>(rt: &R, alloc: Global, path: &str) -> Result<File, OpenError>
         ensures path { IfOk result (λ file. file.path ≡ path.now) }
         ensures errors { IfErr result (IsLayerError 0) }
@@ -38,7 +38,7 @@ impl File {
 
 impl Graph {
     /// Opens what stands at the path: a file, a chain folder or an info folder, as [`open_in`] does
-    /// over the file system, with its refusals.
+    /// over the file system, with its errors.
     pub fn at<R: Files>(rt: &R, alloc: Global, path: &str) -> Result<Graph, OpenError>
         ensures from { IfOk result (IsFromPath path.now) }
         ensures graph { IfOk result IsGraph }
@@ -48,7 +48,7 @@ impl Graph {
     }
 
     /// Opens the file at the path as a graph of one layer, as [`open_file_in`] does over the file
-    /// system, with its refusals.
+    /// system, with its errors.
     pub fn from_file<R: Files>(rt: &R, alloc: Global, path: &str) -> Result<Graph, OpenError>
         ensures from { MatchResult result (IsFromFile path.now) IsFileError }
         ensures graph { IfOk result IsGraph }
@@ -58,7 +58,7 @@ impl Graph {
     }
 
     /// Opens the info folder at the path, in most repositories `.git/objects/info`, as
-    /// [`open_info_dir_in`] does over the file system, with its refusals.
+    /// [`open_info_dir_in`] does over the file system, with its errors.
     pub fn from_info_dir<R: Files>(rt: &R, alloc: Global, path: &str) -> Result<Graph, OpenError>
         ensures from { MatchResult result (IsFromInfo path.now) IsFolderError }
         ensures graph { IfOk result IsGraph }
@@ -68,7 +68,7 @@ impl Graph {
     }
 
     /// Opens the chain folder at the path, in most repositories `.git/objects/info/commit-graphs`,
-    /// as [`open_chain_dir_in`] does over the file system, with its refusals.
+    /// as [`open_chain_dir_in`] does over the file system, with its errors.
     pub fn from_commit_graphs_dir<R: Files>(
         rt: &R,
         alloc: Global,

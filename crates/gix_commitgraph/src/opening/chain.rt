@@ -36,7 +36,7 @@ use std::alloc::Global;
 ///    3. `Layer`: the bytes of the layer are refused.
 /// 3. `Graph`: the layers are refused as a graph.
 ///
-/// `OutOfMemory` comes where a growth was refused.
+/// `OutOfMemory` comes where an allocation failed.
 pub fn open_chain_dir_in<T: Folder>(
     alloc: Global,
     folder: &mut T,

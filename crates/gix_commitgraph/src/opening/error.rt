@@ -26,13 +26,13 @@ pub enum OpenError {
     /// Git's commit-graph design).
     #[error("ChainNotText")]
     ChainNotText { line: usize },
-    /// The file of this layer is refused for this reason, which is never want of memory.
+    /// The file of this layer is refused for this reason, which is never `OutOfMemory`.
     #[error("Layer")]
     Layer { layer: usize, error: FileError },
-    /// The layers are refused as a graph for this reason, which is never want of memory.
+    /// The layers are refused as a graph for this reason, which is never `OutOfMemory`.
     #[error("Graph")]
     Graph(GraphError),
-    /// A growth was refused, in whichever step.
+    /// An allocation failed, at whichever step.
     #[error("OutOfMemory")]
     OutOfMemory,
 }
