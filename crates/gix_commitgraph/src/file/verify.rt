@@ -1,6 +1,6 @@
 //! Checks of what one layer says.
 
-ghost use Rattle.std.specs.Prelude.{◌≡◌, ◌≢◌, ◌==◌, ℕ, ◌+◌, ◌<◌, ◌^◌, length, nat_eq, if◌then◌else◌, unwrap_or, Some, IfOk, OnOk, MatchResult};
+ghost use Rattle.std.specs.Prelude.{◌≡◌, ◌≢◌, ◌==◌, ℕ, ◌+◌, ◌<◌, ◌^◌, [], length, take, nat_eq, if◌then◌else◌, unwrap_or, Some, IfOk, OnOk, MatchResult};
 ghost use Rattle.std.specs.HashMap.{get};
 ghost use Rattle.gix_hash_core.specs.Digest.{digest_of};
 
@@ -63,7 +63,7 @@ fn count_one(counts: &mut HashMap<u32, u32>, number: u32) -> Result<(), AllocErr
 
 impl Outcome {
     ghost use Rattle.gix_commitgraph.specs.Commit.{commit_layer, commit_pos, commit_parents};
-    ghost use Rattle.gix_commitgraph.specs.Layer.{Layer};
+    ghost use Rattle.gix_commitgraph.specs.History.{layer_history};
     ghost use Rattle.gix_commitgraph.specs.Traverse.{IsCopy, Summarizes};
 
     /// An equal outcome. The error is want of memory.
@@ -78,7 +78,7 @@ impl Outcome {
 
     /// What no commit comes to.
     fn new(alloc: Global) -> Outcome
-        ensures { (layer : Layer) → Summarizes layer 0 result }
+        ensures { Summarizes [] result }
     {
         Outcome {
             max_generation: 0,
@@ -94,8 +94,8 @@ impl Outcome {
         requires small { commit_pos commit.now + 1 < 2 ^ 32 }
         requires record { commit_pos commit.now < length (commit_layer commit.now).records }
         requires parents { parents ≡ length (commit_parents commit.now).positions }
-        requires before { Summarizes (commit_layer commit.now) (commit_pos commit.now) self.old }
-        ensures { OnOk result (Summarizes (commit_layer commit.now) (commit_pos commit.now + 1) self.new) }
+        requires before { Summarizes (take (commit_pos commit.now) (layer_history (commit_layer commit.now))) self.old }
+        ensures { OnOk result (Summarizes (take (commit_pos commit.now + 1) (layer_history (commit_layer commit.now))) self.new) }
     {
         count_one(&mut self.parent_counts, parents)?;
         let generation = commit.generation();
