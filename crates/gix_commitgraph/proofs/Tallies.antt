@@ -129,8 +129,8 @@ graph_tallied layers outcome ordered opened stats =
     ∙ sym stats.num_commits
 
 -- and of a layer's, in one whose keys differ
-pub layer_tallied : (layer : Layer) (outcome : file.Outcome) → hash.IsUnique nat_eq outcome.parent_counts → IsOpened layer → FileStats layer outcome → sum (hash.values outcome.parent_counts) ≡ outcome.num_commits
-layer_tallied layer outcome unique opened stats =
+pub layer_tallied : (layer : Layer) (outcome : file.Outcome) → hash.IsUnique nat_eq outcome.parent_counts → FileStats layer outcome → sum (hash.values outcome.parent_counts) ≡ outcome.num_commits
+layer_tallied layer outcome unique stats =
     let history = layer_history layer in
     tallied nat_eq (λ a b. refl) outcome.parent_counts.entries (parent_numbers history) unique stats.commits.parent_counts
     ∙ length-map history (λ node. length node.parents)
