@@ -1,4 +1,4 @@
--- What an iterator over parents has left, and how many items it says that is.
+-- The items that an iterator over parents has left, and the bounds that it gives on their number.
 use Rattle.std.specs.Prelude.{◌≡◌, ℕ, ◌-◌, List, [], ◌∷◌, Option, Some, None, option_map, Result}
 use Rattle.std.specs.Iterator.{YieldsFirst}
 use Rattle.gix_commitgraph.specs.Parents.{items_of, extra_parents, second_parents, both_parents}
@@ -43,7 +43,7 @@ hint_in (state.Second second) = second_hint second
 hint_in (state.Extra bytes index) = (1, None)
 hint_in state.Exhausted = (0, Some 0)
 
--- the bounds that it tells
+-- the bounds that it gives
 abbrev pub parents_hint : Parents → ℕ × Option ℕ
 parents_hint parents = hint_in parents.state
 

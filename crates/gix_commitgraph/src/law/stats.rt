@@ -17,7 +17,7 @@ pub fn the_parent_counts_of_a_graph_add_up(outcome: &verify::Outcome)
     ensures { (layers : List Layer) → All IsOpened layers → Stats layers outcome.now
         → sum (tree.values outcome.now.parent_counts) ≡ outcome.now.num_commits }
 {
-    // its contract says that the keys ascend
+    // the contract of `len` says that the keys ascend
     let _count = outcome.parent_counts.len();
 }
 
@@ -27,6 +27,6 @@ pub fn the_parent_counts_of_a_layer_add_up(outcome: &file::verify::Outcome)
     ensures { (layer : Layer) → FileStats layer outcome.now
         → sum (hash.values outcome.now.parent_counts) ≡ outcome.now.num_commits }
 {
-    // its contract says that no two keys are equal
+    // the contract of `len` says that no two keys are equal
     let _count = outcome.parent_counts.len();
 }
