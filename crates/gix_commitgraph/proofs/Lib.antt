@@ -35,6 +35,7 @@ pub mod SoundLayers
 pub mod SoundCommits
 pub mod SoundParents
 pub mod SoundLaws
+pub mod LayerLaws
 pub mod Opens
 pub mod Paths
 pub mod Chains

@@ -21,7 +21,7 @@ const TOP_BIT: u32 = 0x8000_0000;
 /// in the others, above them.
 const TIME_BITS: u32 = 34;
 
-/// Why the parents of a commit cannot be decoded, or not all of them. Displayed as the name of the
+/// Why the parents of a commit, or some of them, cannot be decoded. Displayed as the name of the
 /// variant.
 #[derive(Clone, Copy, Debug, PartialEq, Eq, Error)]
 pub enum ParentError {
