@@ -1,11 +1,11 @@
 -- What is opened where one file was put into an empty folder.
-use Rattle.std.proofs.Common.{◌≡◌, ℕ, List, [], ◌∷◌, Option, Some, cond, nat_cmp, ap, subst, ◌∙◌}
+use Rattle.std.proofs.Common.{◌≡◌, ℕ, List, [], ◌∷◌, Some, cond, nat_cmp, ap, subst, ◌∙◌}
 use Rattle.std.specs.Option.{option_and_then, ok_or}
-use Rattle.std.specs.FinMap.{empty, get, insert, get-insert}
+use Rattle.std.specs.FinMap.{empty, get, get-insert}
 use Rattle.std.specs.Cmp.Lexicographic.{nat_list_cmp_total, slice_cmp}
 use Rattle.std.specs.declared.result.Result.{Result}
 use Rattle.std.proofs.lemmas.Cmp.{eq_by_cmp_equiv}
-use Rattle.graph_folder.specs.Tree.{Tree, Entry, RegularFile, file_at, file_bytes}
+use Rattle.graph_folder.specs.Tree.{Tree, RegularFile, file_at, file_bytes}
 use Rattle.graph_folder.specs.Memory.{Contents, nothing, put}
 use Rattle.gix_commitgraph.specs.Layer.{Layer}
 use Rattle.gix_commitgraph.specs.OpenAnswer.{IsAsExpected, and_then}

@@ -1,5 +1,5 @@
 -- All parents of the commit are there, so that no item is an error, and in the end all of them are taken.
-use Rattle.std.proofs.Common.{◌≡◌, ◌∷◌, ◌<◌, All, List, Ok, ap, map, subst, sym, ◌∙◌}
+use Rattle.std.proofs.Common.{◌∷◌, ◌<◌, All, List, ap, map, subst, sym, ◌∙◌}
 use Rattle.std.specs.Result.{IsOk}
 use Rattle.std.proofs.lemmas.List.Elements.{All-head, All-tail}
 use Rattle.gix_commitgraph.specs.Commit.{commit_layer, commit_parents, commit_place, commit_pos}
@@ -7,7 +7,7 @@ use Rattle.gix_commitgraph.specs.Graph.{total}
 use Rattle.gix_commitgraph.specs.ParentsLeft.{parents_left}
 use Rattle.gix_commitgraph.specs.declared.Position.{Position}
 use Rattle.gix_commitgraph.proofs.Histories.{parents-at}
-use Rattle.graph_uses.proofs.AllGiven.{Items, all-ok, all-taken, before, before-push}
+use Rattle.graph_uses.proofs.AllGiven.{all-ok, all-taken, before, before-push}
 use Rattle.graph_uses.proofs.KnownParents.{known-there}
 use Rattle.graph_uses.proofs.ancestry.parents_of.Goals as goal
 
