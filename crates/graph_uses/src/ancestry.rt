@@ -1,6 +1,6 @@
 //! Going over parents.
 
-ghost use Rattle.std.specs.Prelude.{◌≡◌, ◌<◌, IfOk, All, map};
+ghost use Rattle.std.specs.Prelude.{◌≡◌, ◌<◌, All, IfOk, map};
 ghost use Rattle.gix_commitgraph.specs.Graph.{total};
 ghost use Rattle.gix_commitgraph.specs.History.{history_of, parents_at};
 ghost use Rattle.gix_commitgraph.specs.Sound.{Sound};
@@ -15,7 +15,8 @@ pub fn parents_of(alloc: Global, graph: &Graph, pos: Position) -> Result<Vec<Pos
     requires within { pos.0 < total graph.now }
     ensures parents { IfOk result (λ parents.
         map (λ parent. parent.0) parents.items ≡ parents_at (history_of graph.now) pos.0) }
-    ensures within { IfOk result (λ parents. All (λ parent. parent.0 < total graph.now) parents.items) }
+    ensures within { IfOk result (λ parents.
+        All (λ parent. parent.0 < total graph.now) parents.items) }
 {
     prove!(pos.0 < graph.num_commits());
     let mut parents = Vec::new(alloc);

@@ -18,8 +18,8 @@ use gix_hash_core::{IdError, ObjectId, oid};
 /// The error says why the text spells no id.
 pub fn find(graph: &Graph, id: &str) -> Result<Option<Position>, IdError>
     requires { LookupsAreScans graph.now }
-    ensures scanned { IfOk result (λ pos.
-        (bytes : List ℕ) × SpellsId id.now bytes × (graph_place pos ≡ scan (graph_ids graph.now) bytes)) }
+    ensures scanned { IfOk result (λ pos. (bytes : List ℕ) × SpellsId id.now bytes
+        × (graph_place pos ≡ scan (graph_ids graph.now) bytes)) }
     ensures within { IfOk result (λ found. IfSome found (λ pos. pos.0 < total graph.now)) }
     ensures refused { IfErr result (SpellsNone id.now) }
 {
@@ -27,9 +27,9 @@ pub fn find(graph: &Graph, id: &str) -> Result<Option<Position>, IdError>
     Ok(graph.lookup(id.as_oid()))
 }
 
-/// When the commit with an id was made, in seconds since 1970-01-01 00:00:00 UTC. The graph need not
-/// be checked: a time is then that of a commit with this id, but `None` does not say that the graph
-/// has no such commit.
+/// When the commit with an id was made, in seconds since 1970-01-01 00:00:00 UTC. The graph need
+/// not be checked: a time is then that of a commit with this id, but `None` does not say that the
+/// graph has no such commit.
 pub fn time_of(graph: &Graph, id: oid<'_>) -> Option<u64>
     ensures { IfSome result (λ time. (pos : ℕ) × (layer : Layer) × (place : ℕ)
         × (slice_get (graph_commits graph.now) pos ≡ Some (layer, place))

@@ -1,7 +1,6 @@
 //! Files that a program has in memory.
 
-ghost use Rattle.std.specs.Prelude.{◌≡◌, [], ◌∷◌, IfOk};
-ghost use Rattle.gix_commitgraph.specs.Layer.{Layer, IsLayer};
+ghost use Rattle.std.specs.Prelude.{[], ◌∷◌};
 ghost use Rattle.gix_commitgraph.specs.OpenAnswer.{IsAsExpected, and_then};
 ghost use Rattle.gix_commitgraph.specs.Opening.{graph_of_layers, layer_of_bytes};
 
