@@ -22,7 +22,7 @@ loop-parent-init c =
     }
 
 pub unwrap-requires : goal.unwrap-requires
-unwrap-requires c = All-head IsOk c.in-Some.parent (parents_left c.next.new.self) (subst (All IsOk) c.in-Some.ensures.steps c.loop-parent.invariant.left_ok)
+unwrap-requires c = All-head IsOk c.in-Some.parent (parents_left c.next.new.self) (subst (All IsOk) c.in-Some.ensures.steps.steps c.loop-parent.invariant.left_ok)
 
 pub loop-parent-preserved : goal.loop-parent-preserved
 loop-parent-preserved c =
@@ -32,9 +32,9 @@ loop-parent-preserved c =
       items =
           ap (λ (now : List Position). before now left) c.in_ok-push.ensures.items
           ∙ before-push taken c.unwrap.result left
-          ∙ ap (before taken) (ap (λ item. item ∷ left) (sym c.unwrap.ensures) ∙ sym c.in-Some.ensures.steps)
+          ∙ ap (before taken) (ap (λ item. item ∷ left) (sym c.unwrap.ensures) ∙ sym c.in-Some.ensures.steps.steps)
           ∙ c.loop-parent.invariant.items;
-      left_ok = All-tail IsOk c.in-Some.parent left (subst (All IsOk) c.in-Some.ensures.steps c.loop-parent.invariant.left_ok);
+      left_ok = All-tail IsOk c.in-Some.parent left (subst (All IsOk) c.in-Some.ensures.steps.steps c.loop-parent.invariant.left_ok);
     }
 
 pub returns-clause-parents : goal.returns-clause-parents
@@ -44,7 +44,7 @@ returns-clause-parents c =
     let opened = c.num_commits.ensures.graph.opened in
     let there = known-there layers c.args.pos.0 (commit_place commit) opened c.requires.sound c.requires.within c.commit_at.ensures in
     let same = ap parents_left c.into_iter-parent-iterator.ensures.into_iter_gives ∙ c.iter_parents-parent-items.ensures.items in
-    ap (map (λ (pos : Position). pos.0)) (all-taken (commit_parents commit) c.loop-parent.parents.items (parents_left c.loop-parent.parent-iterator) there.no_fault c.in-None.ensures.steps.0 (c.loop-parent.invariant.items ∙ same))
+    ap (map (λ (pos : Position). pos.0)) (all-taken (commit_parents commit) c.loop-parent.parents.items (parents_left c.loop-parent.parent-iterator) there.no_fault c.in-None.ensures.steps.steps.0 (c.loop-parent.invariant.items ∙ same))
     ∙ sym (parents-at layers c.args.pos.0 (commit_pos commit) (commit_layer commit) opened c.commit_at.ensures)
 
 pub returns-clause-within : goal.returns-clause-within
@@ -54,5 +54,5 @@ returns-clause-within c =
     let there = known-there layers c.args.pos.0 (commit_place commit) c.num_commits.ensures.graph.opened c.requires.sound c.requires.within c.commit_at.ensures in
     let same = ap parents_left c.into_iter-parent-iterator.ensures.into_iter_gives ∙ c.iter_parents-parent-items.ensures.items in
     subst (All (λ (pos : Position). pos.0 < total layers))
-    (sym (all-taken (commit_parents commit) c.loop-parent.parents.items (parents_left c.loop-parent.parent-iterator) there.no_fault c.in-None.ensures.steps.0 (c.loop-parent.invariant.items ∙ same)))
+    (sym (all-taken (commit_parents commit) c.loop-parent.parents.items (parents_left c.loop-parent.parent-iterator) there.no_fault c.in-None.ensures.steps.steps.0 (c.loop-parent.invariant.items ∙ same)))
     there.each
