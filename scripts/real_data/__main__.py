@@ -9,9 +9,8 @@ usage: python3 scripts/real_data PROGRAM
 - `find`: where each commit stands, in files and chains that are named in every way.
 
 What an answer has to be is made from Git's own words, `git rev-list --parents` and `git cat-file`,
-with Git's use of commit-graphs off; the generations are counted up from the parents. Commands that
-the program's usage text does not name are left out. Each comparison is a check and has a line; the
-last line is `N passed, M failed`.
+with Git's use of commit-graphs off; the generations are counted up from the parents. Each comparison
+is a check and has a line; the last line is `N passed, M failed`.
 """
 
 import os
@@ -35,18 +34,15 @@ from tally import Tally
 def main(path):
     """Runs all checks on the program at a path, and answers the exit status."""
     program, tally, differences = Program(os.path.abspath(path)), Tally(), Differences()
-    commands = program.commands()
     word_checks.check_all(program, tally)
     with tempfile.TemporaryDirectory() as folder:
         for object_format in ID_LENGTH:
             new = partial(new_repository, folder, object_format)
             list_checks.check_all(program, tally, new)
-            if {"verify", "find"} <= commands:
-                verify_checks.check_all(program, tally, new, differences)
-                path_checks.check_all(program, tally, new, differences)
-                disk_checks.check_all(program, tally, new, differences)
-    if {"verify", "find"} <= commands:
-        differences.check(tally)
+            verify_checks.check_all(program, tally, new, differences)
+            path_checks.check_all(program, tally, new, differences)
+            disk_checks.check_all(program, tally, new, differences)
+    differences.check(tally)
     return tally.finish()
 
 

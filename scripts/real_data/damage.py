@@ -1,4 +1,4 @@
-"""Damaged files: which there are, and how the program may answer each.
+"""Families of damaged files, and how the program may answer each.
 
 A family of damages is a list of pairs: the bytes, and the judge of the answer to them.
 """
@@ -10,11 +10,11 @@ import judge
 from layer import HEADER, LEAST_SIZE, Outline
 
 LISTED = ("OIDL", "CDAT", "EDGE", "BASE")
-"""The chunks whose bytes a listing shows; none of those bytes is a condition of opening."""
+"""The chunks whose bytes a listing shows; opening does not depend on those bytes."""
 
 
 def truncations(layer, object_format):
-    """Every shorter front of a file: too small, or a chunk ends past it, or a part of its trailer."""
+    """Every proper prefix of a file: too small, or a chunk ends past it, or with a part of its trailer."""
     end = Outline(layer, object_format).end
 
     def condition(length):
@@ -64,7 +64,7 @@ def judge_of_header(outline, at, changed):
 
 
 def scribbles(layer, count, seed):
-    """A file with up to eight bytes replaced by chance."""
+    """A file with up to eight bytes replaced by random ones."""
     chance = random.Random(seed)
     family = []
     for _ in range(count):
@@ -92,7 +92,7 @@ def shuffled_tables(layer, object_format, count, seed):
 
 
 def noise(count, seed):
-    """Bytes by chance, of every size about the least one."""
+    """Random bytes, of sizes around that of the smallest file."""
     chance = random.Random(seed)
     sizes = [chance.randrange(2 * LEAST_SIZE) for _ in range(count)]
     texts = [bytes(chance.randrange(256) for _ in range(size)) for size in sizes]

@@ -6,37 +6,43 @@ RECORDED_OF = "git version 2.39."
 """The releases of Git that the list is of. What differs from another release is printed alone."""
 
 FINDS = "found here alone"
+WARNED = "found here, warned of by Git"
 MISSES = "found by Git alone"
 
-OBJECTS = "Git reads each commit's object too, and compares; here the commit-graph alone is read"
-ASIDE = "corrected dates are ignored here, as a chunk that is not known"
-LONG_TIMES = "34 bits of a time are kept, so Git finds the file wrong that it wrote; here times are free"
-HIDDEN = "where the file does not open, the chain is the graph; Git names the file, and checks no chain"
-LEAST_GENERATION = "Git asks that a generation is above the parents'; here it is the longest path's length"
-DATES_INSTEAD = "where a file has corrected dates, Git checks those and no generation"
-NO_GENERATIONS = "Git takes 0 for a generation that was not computed; here each has to be right"
-AT_THE_END = "Git takes the last bytes as the trailer, wherever the chunk table ends"
-SECOND_ALONE = "Git reads no second parent where there is no first"
-UNCOUNTED = "Git asks for the bases only of a file that stands above other layers"
-NOTHING = "Git takes it for nothing to check"
-IN_PART = "Git warns, checks the layers below, or none, and ends well"
-ELSEWHERE = "all layers are read from the chain's own folder; Git looks into the alternates too"
+OBJECTS = "Git reads the commits too; here the commit-graph alone is read"
+ASIDE = "corrected dates stand in a chunk that is ignored here"
+LONG_TIMES = "34 bits of a time are kept, so Git refuses the file that it wrote; here times are not checked"
+HIDDEN = "where the file does not open, the chain is the graph here; Git refuses the file, and checks no chain"
+LEAST_GENERATION = "Git asks only that a generation number is above the parents'"
+DATES_INSTEAD = "where a file has corrected dates, Git checks those and no generation number"
+NO_GENERATIONS = "Git takes 0 for a generation number that was not computed"
+AT_THE_END = "Git takes the file's last bytes for the checksum"
+SECOND_ALONE = "Git reads no second parent then"
+UNCOUNTED = "Git looks at the list of bases only above other layers"
+NOTHING = "Git has nothing to check then"
+IN_PART = "Git warns, checks the layers below, or none, and ends with the status 0"
+UNASKED = "Git compares the base ids that the layers below call for, not their number or the list's end"
+BY_SIZE = "Git divides the file's size by the length of a line with an id, and reads no line beyond that number"
+BY_BASES = "Git knows a layer by the base ids of the layers above, and none is above the last"
+OWN_TRAILER = "past the end of its list Git finds the file's checksum, and that is the base id it looks for"
+LENGTHS = "Git does not check the lengths of these chunks"
+ELSEWHERE = "Git looks into the alternates too; here all layers are read from the chain's own folder"
 
 LISTED = {
     **dict.fromkeys(
         [
-            "a tree that the commit has not",
-            "a time that the commit has not",
+            "another tree than the commit's",
+            "another time than the commit's",
             "a layer with another time",
             "an id that no commit has",
             "a commit with a second parent",
             "a merge with one parent",
             "a merge with a parent twice",
             "a merge with a parent of a low generation",
-            "a merge with its parents changed about",
+            "a merge with its parents exchanged",
             "a cycle of the greatest generations",
             "an edge that ends a list",
-            "two edges changed about",
+            "two edges exchanged",
         ],
         (MISSES, OBJECTS),
     ),
@@ -63,7 +69,7 @@ LISTED = {
     **dict.fromkeys(
         [
             "a chain that lacks a layer",
-            "a layer that is cut",
+            "a layer that does not open",
             "a layer of the other hash",
             "a layer under another name",
             "a layer with wrong bases",
@@ -71,8 +77,23 @@ LISTED = {
             "a line twice",
             "a line that is no text",
         ],
-        (FINDS, IN_PART),
+        (WARNED, IN_PART),
     ),
+    "a layer with a wrong number of bases": (FINDS, UNASKED),
+    "a layer with a list of bases that is too long": (FINDS, UNASKED),
+    "the last layer under another name": (FINDS, BY_BASES),
+    "the last line twice": (FINDS, OWN_TRAILER),
+    "short lines after the last layer's": (FINDS, BY_SIZE),
+    "a chain file cut short": (FINDS, BY_SIZE),
+    "a fan of more than 1024 bytes": (FINDS, LENGTHS),
+    "a record too many": (FINDS, LENGTHS),
+    "a part of a record too many": (FINDS, LENGTHS),
+    "a part of an id too many": (FINDS, LENGTHS),
+    "a base id in a single file": (FINDS, UNCOUNTED),
+    "a part of a base id in a single file": (FINDS, UNCOUNTED),
+    "a low generation beside dates": (FINDS, DATES_INSTEAD),
+    "a high generation beside dates": (FINDS, DATES_INSTEAD),
+    "no generation beside dates": (FINDS, DATES_INSTEAD),
 }
 """What differs, by the name of the damage: who finds it, and why."""
 
@@ -84,11 +105,12 @@ class Differences:
         self.seen = {}
         self.crashes = set()
 
-    def compare(self, name, answer, git_status):
-        """Takes a difference down where one of an answer and Git accepts what the other refuses."""
-        if (answer.status == 0) != (git_status == 0):
-            self.seen.setdefault(name, set()).add(MISSES if answer.status == 0 else FINDS)
-        if git_status < 0:
+    def compare(self, name, answer, git):
+        """Notes a difference where one of an answer and Git's verdict accepts what the other refuses."""
+        if (answer.status == 0) != (git.status == 0):
+            finder = MISSES if answer.status == 0 else WARNED if git.warned else FINDS
+            self.seen.setdefault(name, set()).add(finder)
+        if git.status < 0:
             self.crashes.add(name)
 
     def check(self, tally):
@@ -102,10 +124,10 @@ class Differences:
         if release.startswith(RECORDED_OF):
             listed = {(name, finder) for name, (finder, _) in LISTED.items()}
             seen = {(name, finder) for name, finders in self.seen.items() for finder in finders}
-            tally.check("each difference from Git's verdict is listed", told(seen - listed))
-            tally.check("each listed difference from Git's verdict shows", told(listed - seen))
+            tally.check("each difference from Git's verdict is listed", first_of(seen - listed))
+            tally.check("each listed difference from Git's verdict shows", first_of(listed - seen))
 
 
-def told(pairs):
+def first_of(pairs):
     """None where there are no pairs, else the first of them."""
     return "%d, first %s: %s" % ((len(pairs),) + min(pairs)) if pairs else None

@@ -1,4 +1,4 @@
-"""Checks folders in which something is wrong: `verify` and `find` answer one refusal, and never in part."""
+"""Checks folders in which something is wrong: `verify` and `find` refuse the whole of them."""
 
 import os
 from functools import partial
@@ -65,7 +65,7 @@ def check_tree(program, tally, repository, case, differences):
 
 
 def check_missing(program, tally, repository):
-    """Paths at which nothing stands are told of as such, and folders with no graph as not opened."""
+    """Paths at which there is nothing, and folders and files that are no graph."""
     info = repository.info_path()
     write_bytes(os.path.join(info, "file"), b"no graph")
     os.mkdir(os.path.join(info, "folder"))

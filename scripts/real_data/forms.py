@@ -1,9 +1,9 @@
-"""Files whose parts are right, in other forms than Git's, or with a wrong part that no check asks for."""
+"""Right files in other forms than Git's, and files with a wrong part that no check looks at."""
 
 from functools import partial
 
 import judge
-from layer import Outline, sealed, with_chunks
+from layer import Outline, contents, sealed, with_chunks
 from wrong import CHECKSUM
 
 
@@ -18,12 +18,6 @@ def right(layer, object_format):
     return [(name, with_chunks(layer, object_format, other)) for name, other in other_chunks.items()]
 
 
-def contents(layer, object_format):
-    """The chunks of a file, in their order."""
-    places = Outline(layer, object_format).chunks
-    return [(name.encode(), layer[place.start : place.stop]) for name, place in places.items()]
-
-
 def wrong_trailers(layer, object_format):
     """Files whose trailer alone is wrong, each with its name."""
     end = Outline(layer, object_format).end
@@ -35,7 +29,7 @@ def wrong_trailers(layer, object_format):
 
 
 def wrong_chunks_aside(layer, object_format):
-    """Files in which a chunk that no check asks for is wrong, each with its name."""
+    """Files in which a chunk that no check looks at is wrong, each with its name."""
     places = Outline(layer, object_format).chunks
     dates, filters = places["GDA2"], places["BDAT"]
     return [

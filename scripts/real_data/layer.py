@@ -7,11 +7,11 @@ from repository import ID_LENGTH
 HEADER = 8
 ENTRY = 12
 LEAST_SIZE = 1100
-"""The size of a SHA-1 file with no commits: no file is smaller."""
+"""The size of a SHA-1 file with no commits: no right file is smaller."""
 
 
 class Outline:
-    """Where the parts of a file stand, which is taken to be right."""
+    """Where the parts of a file are. The file is assumed to be right."""
 
     def __init__(self, layer, object_format):
         self.count = layer[6]
@@ -38,6 +38,12 @@ def sealed(layer, object_format):
     """The file with the digest of all bytes before its trailer as the trailer."""
     body = layer[: -ID_LENGTH[object_format]]
     return body + hashlib.new(object_format, body).digest()
+
+
+def contents(layer, object_format):
+    """The chunks of a right file in their order, as pairs of a name and bytes."""
+    places = Outline(layer, object_format).chunks
+    return [(name.encode(), layer[place.start : place.stop]) for name, place in places.items()]
 
 
 def with_chunks(layer, object_format, chunks):

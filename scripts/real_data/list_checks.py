@@ -92,18 +92,18 @@ def check_named_damage(program, tally, repository):
 
 
 def check_damage(program, tally, repository):
-    """The answers to a small file that is cut or changed in every place, and by chance."""
+    """The answers to a small file that is cut or changed in every place, or at random."""
     repository.add(histories.octopus(3, 4))
     kind, words = repository.object_format, repository.words()
     layer = repository.new_graph()
     text = listing(kind, words, [list(words)], [])
     families = {
-        "every front of a file": damage.truncations(layer, kind),
+        "every prefix of a file": damage.truncations(layer, kind),
         "a file and more bytes": damage.extensions(layer),
         "a file with each byte's lowest bit changed": damage.edits(layer, kind, text, 0x01),
         "a file with each byte's highest bit changed": damage.edits(layer, kind, text, 0x80),
         "a file with all bits of each byte changed": damage.edits(layer, kind, text, 0xFF),
-        "a file with some bytes by chance": damage.scribbles(layer, 500, seed=4),
+        "a file with some random bytes": damage.scribbles(layer, 500, seed=4),
         "a file with offsets in other places": damage.shuffled_tables(layer, kind, 500, seed=5),
     }
     for name, family in families.items():

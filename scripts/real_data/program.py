@@ -9,9 +9,6 @@ SECONDS = 20
 MOST_HANGS = 3
 """After so many runs that hang, the program is not run any more."""
 
-USAGE = "usage: graphtool "
-
-
 class Answer(NamedTuple):
     """How a run ended: its exit status, None where it did not end, and what it wrote."""
 
@@ -29,12 +26,6 @@ class Program:
     def __init__(self, path):
         self.path = path
         self.hangs = 0
-        self.usage = self.run(input=b"").err.decode()
-
-    def commands(self):
-        """The commands that the usage text names, which the program writes for no words."""
-        forms = self.usage[len(USAGE) :].split(" | ") if self.usage.startswith(USAGE) else []
-        return {form.split()[0] for form in forms if form.split()}
 
     def run(self, *words, **streams):
         """The answer to some words; the streams are those of subprocess.run."""

@@ -7,6 +7,13 @@ from typing import NamedTuple, Tuple
 ID_LENGTH = {"sha1": 20, "sha256": 32}
 """The length of an id in bytes, by the name of the object format."""
 
+class Verdict(NamedTuple):
+    """How `git commit-graph verify` ended: its status, negative where it crashed, and whether it warned."""
+
+    status: int
+    warned: bool
+
+
 PERSON = "A Committer <committer@example.com>"
 
 
@@ -46,7 +53,7 @@ class Repository:
     def add(self, history, start=0):
         """Makes the commits of a history, with a branch at each that has no child; answers their ids.
 
-        The commits before a start are there from an earlier call.
+        Those before a start were made by an earlier call.
         """
         marks = os.path.join(self.folder, "marks")
         files = ("--import-marks-if-exists=" + marks, "--export-marks=" + marks)
@@ -74,9 +81,10 @@ class Repository:
         self.git("-c", setting, "commit-graph", "write", "--no-progress", start, *flags, stdin=listed)
 
     def git_verdict(self):
-        """The status with which `git commit-graph verify` ends: 0 where all is right, negative where it crashes."""
+        """What `git commit-graph verify` says of the graph that stands here."""
         command = ("git", "commit-graph", "verify", "--no-progress")
-        return subprocess.run(command, env=self.surroundings, capture_output=True, check=False).returncode
+        run = subprocess.run(command, env=self.surroundings, capture_output=True, check=False)
+        return Verdict(run.returncode, bool(run.stderr))
 
     def info_path(self):
         """The folder in which Git looks for commit-graphs."""
@@ -107,7 +115,7 @@ def read_bytes(path):
 
 
 def write_bytes(path, content):
-    """Makes a file of these bytes at a path, in the place of one that stands there, which may be read alone."""
+    """Makes a file of these bytes at a path. It replaces one that is there, even one that is read-only."""
     if os.path.exists(path):
         os.remove(path)
     with open(path, "wb") as file:

@@ -55,7 +55,7 @@ def without(tree, *paths):
 
 
 def lay_out(folder, tree):
-    """Makes a tree what stands in a folder, of the names that commit-graphs have there."""
+    """Puts a tree into a folder, in the place of the commit-graphs that are there."""
     for name in (FILE, GRAPHS):
         path = os.path.join(folder, name)
         if os.path.isdir(path):

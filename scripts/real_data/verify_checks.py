@@ -1,6 +1,7 @@
 """Checks `verify` on single files: whole ones that Git wrote, and damaged ones beside Git's verdict."""
 
 import os
+import resource
 import tempfile
 from functools import partial
 
@@ -29,9 +30,11 @@ def check_all(program, tally, new, differences):
     repository = new("wrong")
     repository.add(histories.octopus(3, 4, 2))
     check_wrong(program, tally, repository, differences)
+    check_beside_dates(program, tally, repository, differences)
     check_forms(program, tally, repository, differences)
     check_bytes(program, tally, repository)
     check_chance(program, tally, repository)
+    check_small_stack(program, tally, repository)
 
 
 def check_history(program, tally, repository, name, history, differences):
@@ -53,14 +56,26 @@ def check_history(program, tally, repository, name, history, differences):
 
 def check_wrong(program, tally, repository, differences):
     """What is found wrong in files with one thing wrong, whose checksums are right or are not."""
-    kind, layer = repository.object_format, repository.new_graph(generation_version=1)
-    words = repository.words()
-    file = Original(layer, kind, listing(kind, words, [list(words)], []))
+    kind, file = repository.object_format, original(repository, generation_version=1)
     for name, edited, text in wrong_layout.all_wrong(file) + wrong_commits.all_wrong(file):
         check_verdict(program, tally, repository, differences, (name, sealed(edited, kind), text))
         answer = verify_bytes(program, repository.graph_path(), edited)
         unsealed_text = text if text.startswith("refused open") else CHECKSUM
         tally.check("%s, %s, not sealed" % (kind, name), judge.verdict(unsealed_text, answer))
+
+
+def original(repository, generation_version):
+    """The file that Git writes of all commits of a repository, to be damaged."""
+    layer, words = repository.new_graph(generation_version=generation_version), repository.words()
+    text = listing(repository.object_format, words, [list(words)], [])
+    return Original(layer, repository.object_format, text)
+
+
+def check_beside_dates(program, tally, repository, differences):
+    """Files with wrong generations beside right corrected dates."""
+    for name, edited, text in wrong_commits.beside_dates(original(repository, generation_version=2)):
+        case = (name, sealed(edited, repository.object_format), text)
+        check_verdict(program, tally, repository, differences, case)
 
 
 def check_forms(program, tally, repository, differences):
@@ -93,16 +108,35 @@ def check_bytes(program, tally, repository):
 
 
 def check_chance(program, tally, repository):
-    """Files changed by chance and then sealed: there is always a whole answer."""
+    """Files changed at random and then sealed: there is always a whole answer."""
     kind, layer = repository.object_format, repository.new_graph(generation_version=1)
     right = partial(judge.in_form_of_check, len(repository.words()))
     families = {
-        "some bytes by chance": damage.scribbles(layer, 200, seed=8),
+        "some random bytes": damage.scribbles(layer, 200, seed=8),
         "offsets in other places": damage.shuffled_tables(layer, kind, 200, seed=9),
     }
     for name, family in families.items():
         files = [(sealed(edited, kind), right) for edited, _ in family]
         check_family(program, tally, "%s, a file with %s, sealed and verified" % (kind, name), files)
+
+
+def check_small_stack(program, tally, repository):
+    """Each command ends as usual where its stack may have no more than 48 KiB."""
+    words, small = repository.words(), {"preexec_fn": limit_stack}
+    layer, path = repository.new_graph(), repository.graph_path()
+    commit, line = min(found(words, [list(words)]).items())
+    text = listing(repository.object_format, words, [list(words)], [])
+    for command, answer, right in (
+        ("list", program.run("list", input=layer, **small), text),
+        ("verify", program.verify(path, **small), verified(words)),
+        ("find", program.find(path, commit, **small), line),
+    ):
+        tally.check("%s, %s with a small stack" % (repository.object_format, command), judge.same(right, answer))
+
+
+def limit_stack():
+    """Limits the stack of this process to 48 KiB."""
+    resource.setrlimit(resource.RLIMIT_STACK, (48 * 1024, 48 * 1024))
 
 
 def check_family(program, tally, name, family):

@@ -8,16 +8,23 @@ from functools import partial
 import damage
 import judge
 from list_checks import check_family
-from program import USAGE
 
-FORMS = ("list", "verify PATH", "find PATH HEX", "ancestor PATH HEX HEX", "distinct PATH")
-"""The forms of the commands; a program has the first so many of them."""
+USAGE = "usage: graphtool list | verify PATH | find PATH HEX\n"
+"""What the program writes on standard error where its words are no command."""
 
+FAILED_WRITE = "graphtool: the answer could not be written\n"
+"""What the program writes on standard error where its answer could not be written."""
+
+ID = "0" * 40
 OTHER_WORDS = [
-    *([], ["bogus"], ["list", "extra"], ["LIST"], [""], ["list", ""], [b"li\xffst"], ["--help"]),
-    *(["verify"], ["verify", ".", "."], ["verify", b"\xff"], ["VERIFY", "."], ["find"], ["find", "."]),
-    *(["find", ".", "0" * 40, ""], ["find", b"\xff", "0" * 40], ["find", ".", b"\xff" * 40]),
+    *([], [""], ["bogus"], ["--help"], ["help"], ["."], [".", "verify"], ["", "list"]),
+    *(["list", "."], ["list", ""], ["list", "list"], ["LIST"], ["lis"], ["lists"], [b"li\xffst"]),
+    *(["verify"], ["verify", ".", "."], ["verify", b"\xff"], ["VERIFY", "."], ["check", "."], ["verify ", "."]),
+    *(["find"], ["find", "."], ["find", ".", ID, ""], ["Find", ".", ID], ["lookup", ".", ID], ["verify", ".", ID]),
+    *(["find", b"\xff", ID], ["find", ".", b"\xff" * 40], [".", "find", ID], [".", ID, "find"]),
 ]
+"""Words that are no command: too few, too many, others, or no text."""
+
 MEGABYTE = 2**20
 BAD_DEVICE = "/proc/self/mem"
 """On some machines a file that opens, and whose first byte cannot be read."""
@@ -27,28 +34,26 @@ def check_all(program, tally):
     """The checks of words and streams."""
     check_usage(program, tally)
     check_streams(program, tally)
-    if {"verify", "find"} <= program.commands():
-        check_paths_beyond(program, tally)
-    check_family(program, tally, "bytes by chance", damage.noise(300, seed=2))
+    check_paths_beyond(program, tally)
+    check_family(program, tally, "random bytes", damage.noise(300, seed=2))
 
 
 def check_usage(program, tally):
     """Other words than a command end with the usage text and status 2."""
-    texts = [USAGE + " | ".join(FORMS[:count]) + "\n" for count in range(1, len(FORMS) + 1)]
-    complaint = None if program.usage in texts else "it is %r" % program.usage
-    tally.check("the usage text", complaint)
     for words in OTHER_WORDS:
-        complaint = judge.exactly(2, "", program.usage, program.run(*words, input=b""))
+        complaint = judge.exactly(2, "", USAGE, program.run(*words, input=b""))
         tally.check("usage after the words %r" % words, complaint)
+    complaint = judge.exactly(2, "refused id 1\n", "", program.find(ID, "."))
+    tally.check("find, its path and its id exchanged", complaint)
 
 
 def check_streams(program, tally):
-    """Input that is not there, cannot be read or has no room, and output that cannot be written."""
+    """Input that is empty, cannot be read or is larger than the memory, and output that cannot be written."""
     tally.check("no input", judge.exactly(1, "refused file 1\n", "", program.list(b"")))
     with tempfile.TemporaryFile() as zeros:
         zeros.truncate(256 * MEGABYTE)
         answer = program.run("list", stdin=zeros, preexec_fn=partial(limit_memory, 64 * MEGABYTE))
-        tally.check("input beyond the memory", judge.exactly(1, "refused read 3\n", "", answer))
+        tally.check("input larger than the memory", judge.exactly(1, "refused read 3\n", "", answer))
     folder = os.open(os.curdir, os.O_RDONLY)
     tally.check("a folder as input", judge.exactly(1, "refused read 2\n", "", program.run("list", stdin=folder)))
     os.close(folder)
@@ -56,8 +61,8 @@ def check_streams(program, tally):
 
 
 def check_paths_beyond(program, tally):
-    """Files that cannot be read or have no room, and output that cannot be written, of `verify` and `find`."""
-    commands = {"verify": program.verify, "find": partial(program.find, commit="0" * 40)}
+    """Files that cannot be read or are larger than the memory, and output that cannot be written."""
+    commands = {"verify": program.verify, "find": partial(program.find, commit=ID)}
     for command, run in commands.items():
         with tempfile.TemporaryDirectory() as folder:
             path = os.path.join(folder, "commit-graph")
@@ -65,7 +70,7 @@ def check_paths_beyond(program, tally):
                 zeros.truncate(256 * MEGABYTE)
             for name, where in (("a file", path), ("the file of a folder", folder)):
                 answer = run(where, preexec_fn=partial(limit_memory, 64 * MEGABYTE))
-                title = "%s, %s beyond the memory" % (command, name)
+                title = "%s, %s larger than the memory" % (command, name)
                 tally.check(title, judge.exactly(1, "refused open 7\n", "", answer))
             check_full(tally, command, partial(run, os.path.join(folder, "nothing")))
         if fails_to_read(BAD_DEVICE):
@@ -88,13 +93,15 @@ def fails_to_read(path):
 
 
 def check_full(tally, command, run):
-    """The answer of a run whose output has no room."""
+    """The answer of a run whose output cannot be written."""
+    answer = run(preexec_fn=partial(os.close, 1))
+    tally.check("%s, output that is closed" % command, judge.exactly(2, "", FAILED_WRITE, answer))
     if os.path.exists("/dev/full"):
         with open("/dev/full", "wb") as full:
             answer = run(stdout=full)
-        tally.check("%s, output that has no room" % command, judge.exactly(2, "", "", answer))
+        tally.check("%s, output to a full device" % command, judge.exactly(2, "", FAILED_WRITE, answer))
 
 
 def limit_memory(size):
-    """Refuses this process memory beyond a number of bytes."""
+    """Limits the memory of this process to a number of bytes."""
     resource.setrlimit(resource.RLIMIT_AS, (size, size))

@@ -1,8 +1,8 @@
 """A file with one thing wrong, its name, and what `verify` has to say of it.
 
-Each answer is that to the file with its trailer sealed anew, so that the checksum is right. The rules
-are those of Git's commit-graph format: the conditions of opening come first, then for the layer its
-checksum and its fan, and then for each commit in turn its id, its tree, its parents and its generation.
+Each answer is that to the file with a right checksum as its trailer. The rules are those of Git's
+commit-graph format: the conditions of opening come first, then for the layer its checksum and its fan,
+and then for each commit in turn its id, its tree, its parents and its generation.
 """
 
 from typing import NamedTuple

@@ -33,7 +33,20 @@ def dates(file):
     }
     return [wrong_generations(file, *pair) for pair in generations.items()] + [
         cycle(file),
-        passed(file, "a time that the commit has not", file.with_date(4, big_endian(date ^ 1, 8))),
+        passed(file, "another time than the commit's", file.with_date(4, big_endian(date ^ 1, 8))),
+    ]
+
+
+def beside_dates(file):
+    """Wrong generations in a file with corrected dates."""
+    tip = file.childless()
+    return [
+        wrong_generations(file, "%s generation beside dates" % name, file.regenerated(tip, change))
+        for name, change in (
+            ("a low", lambda right: right - 1),
+            ("a high", lambda right: right + 1),
+            ("no", lambda _: 0),
+        )
     ]
 
 
@@ -52,7 +65,7 @@ def wrong_generations(file, name, generations):
 
 
 def parent_fields(file):
-    """Damages of the parent fields, in which nothing or no commit stands then."""
+    """Damages of the parent fields, after which a commit's parents do not decode or are not there."""
     root, merge = file.with_parents_of_number(0), file.with_parents_of_number(2)
     octopus, single = file.with_parents_of_number(3), file.with_parents_of_number(1)
     commits, words = len(file.parents), len(file.outline.chunks["EDGE"]) // 4
@@ -82,7 +95,7 @@ def no_parent(position, parent, name, layer):
 
 
 def parents_of_others(file):
-    """Damages of the parent fields, in which other commits stand then."""
+    """Damages of the parent fields, after which a commit has other parents."""
     root, merge, single = (file.with_parents_of_number(count) for count in (0, 2, 1))
     tip, places = file.childless(), file.parent_places()
     first, second = places[merge]
@@ -93,7 +106,7 @@ def parents_of_others(file):
         other_parents(file, "a commit with no parent", single, []),
         other_parents(file, "a commit with a parent of another generation", single, [tip]),
         other_parents(file, "a merge with one parent", merge, [first]),
-        other_parents(file, "a merge with its parents changed about", merge, [second, first]),
+        other_parents(file, "a merge with its parents exchanged", merge, [second, first]),
         other_parents(file, "a merge with a parent twice", merge, [first, first]),
         other_parents(file, "a merge with a parent of a low generation", merge, [first, root]),
         other_parents(file, "a merge with another's parents", merge, [level(2), level(2)]),
@@ -127,5 +140,5 @@ def edges(file):
         no_parent(first, NO_PARENT, "the field of no parent as an edge", file.with_edge(0, lambda _: NO_PARENT)),
         fault_at(last, 4, "a list of edges with no end", file.with_edge(-1, lambda word: word - TOP_BIT)),
         Wrong("an edge that ends a list", ended, judged(cut, file.generations)),
-        Wrong("two edges changed about", file.patched((end - 8, words)), judged(turned, file.generations)),
+        Wrong("two edges exchanged", file.patched((end - 8, words)), judged(turned, file.generations)),
     ]

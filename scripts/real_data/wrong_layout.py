@@ -4,7 +4,7 @@ They are made from the same right file as those of named.py.
 """
 
 import named
-from layer import exact_fan
+from layer import contents, exact_fan, with_chunks
 from original import CHUNKS
 from wrong import passed, unopened, unverified
 
@@ -17,7 +17,7 @@ MOVED_CHUNKS = {"OIDF": 11, "OIDL": 11, "CDAT": 9, "EDGE": 9, "end": 15}
 
 def all_wrong(file):
     """All such files that are made from a right one."""
-    return [wrong for maker in (headers, tables, fans, ids, trees) for wrong in maker(file)]
+    return [wrong for maker in (headers, tables, sizes, fans, ids, trees) for wrong in maker(file)]
 
 
 def headers(file):
@@ -57,6 +57,31 @@ def tables(file):
     return found + [missing]
 
 
+def sizes(file):
+    """Chunks with something more at their ends, in a right layout, and bases that nothing counts."""
+    size = file.outline.id_length
+    record, commit = b"\x5a" * (size + 16), b"\xff" * size
+    return [
+        unopened(name, longer(file, chunk, more), condition)
+        for name, chunk, more, condition in (
+            ("a fan of more than 1024 bytes", "OIDF", bytes(4), 11),
+            ("a record too many", "CDAT", record, 19),
+            ("a part of a record too many", "CDAT", record[:-1], 9),
+            ("an id too many", "OIDL", commit, 18),
+            ("a part of an id too many", "OIDL", commit[:-1], 13),
+            ("a base id in a single file", "BASE", commit, 7),
+            ("a part of a base id in a single file", "BASE", commit[:-1], 6),
+        )
+    ]
+
+
+def longer(file, chunk, more):
+    """A file with more bytes at the end of a chunk, or with a new chunk of these bytes."""
+    chunks = dict(contents(file.layer, file.object_format))
+    chunks[chunk.encode()] = chunks.get(chunk.encode(), b"") + more
+    return with_chunks(file.layer, file.object_format, list(chunks.items()))
+
+
 def fans(file):
     """Damages of entries of the fan, by which it falls or counts ids wrongly."""
     fan = exact_fan([file.id_at(position) for position in range(len(file.parents))])
@@ -85,7 +110,7 @@ def ids(file):
     far = bytes([here[0] ^ 0x80]) + here[1:]
     moved = file.patched((file.outline.chunks["OIDL"].start + 4 * size, far))
     return [
-        unverified("two ids changed about", file.with_ids({4: near, 5: here}), 5, "position 5 fault 2"),
+        unverified("two ids exchanged", file.with_ids({4: near, 5: here}), 5, "position 5 fault 2"),
         unverified("an id twice", file.with_ids({5: here}), 5, "position 5 fault 2"),
         unverified("ids that descend", file.with_ids(backward), 5, "position 1 fault 2"),
         unverified("a first id of zeros", file.with_ids({0: bytes(size)}), 5, "position 0 fault 1"),
@@ -101,5 +126,5 @@ def trees(file):
     return [
         unverified("a first tree of zeros", file.with_tree(0, bytes(size)), 5, "position 0 fault 3"),
         unverified("a last tree of zeros", file.with_tree(last, bytes(size)), 5, "position", last, "fault 3"),
-        passed(file, "a tree that the commit has not", file.with_tree(2, b"\x5a" * size)),
+        passed(file, "another tree than the commit's", file.with_tree(2, b"\x5a" * size)),
     ]

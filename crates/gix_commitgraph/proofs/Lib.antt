@@ -35,9 +35,11 @@ pub mod SoundLayers
 pub mod SoundCommits
 pub mod SoundParents
 pub mod SoundLaws
+pub mod LayerLaws
 pub mod Opens
 pub mod Paths
 pub mod Chains
+pub mod Sources
 pub mod InfoFolders
 pub mod Texts
 pub mod CommitFaults

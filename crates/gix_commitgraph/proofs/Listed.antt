@@ -4,7 +4,7 @@ use Rattle.std.specs.Int.{w32, from_be_bytes}
 use Rattle.std.proofs.lemmas.List.{length-map, drop_all}
 use Rattle.gix_commitgraph.specs.Format.{pieces, words}
 use Rattle.gix_commitgraph.specs.Parents.{items_of, extra_edge_of, extra_parent, extra_parents, second_parents, listed}
-use Rattle.gix_commitgraph.specs.ParentsLeft.{first_hint, second_hint, hint_in, hint_after}
+use Rattle.gix_commitgraph.specs.ParentsLeft.{left_in, first_hint, second_hint, hint_in, hint_after}
 use Rattle.gix_commitgraph.specs.declared.Position.{Position}
 use Rattle.gix_commitgraph.specs.declared.file.commit.ParentEdge.{ParentEdge}
 use Rattle.gix_commitgraph.specs.declared.file.commit.ParentEdge.TheVariants as edge
@@ -12,7 +12,7 @@ use Rattle.gix_commitgraph.specs.declared.file.commit.ParentEdge.TheVariants.{Gr
 use Rattle.gix_commitgraph.specs.declared.file.commit.ExtraEdge.TheVariants.{Internal, Last}
 use Rattle.gix_commitgraph.specs.declared.file.commit.ParentError.TheVariants.{EdgeOverflow}
 use Rattle.gix_commitgraph.specs.declared.file.parents.State.{State}
-use Rattle.gix_commitgraph.specs.declared.file.parents.State.TheVariants.{First}
+use Rattle.gix_commitgraph.specs.declared.file.parents.State.TheVariants.{First, Second, Extra, Exhausted}
 use Rattle.gix_commitgraph.proofs.Pieces.{length-pieces, words-at}
 
 pub length-words : (bytes : List ℕ) → length (words bytes) ≡ length bytes / 4
@@ -41,6 +41,23 @@ listed-positive (word ∷ rest) =
       | Internal pos ↦ omega arith
       | Last pos ↦ omega arith
     ]
+
+none_listed : (ws : List ℕ) → items_of (listed ws) ≡ [] → ⊥
+none_listed ws none = absurd (omega (arith, listed-positive ws, ap length none))
+
+-- where nothing is left, the bounds say so
+pub hint-none : (edges : Option (List ℕ)) (state : State) → left_in edges state ≡ [] → hint_in state ≡ (0, Some 0)
+hint-none edges (First edge.None edge.None) none = refl
+hint-none edges (First edge.None (GraphPosition q)) none = cc none
+hint-none edges (First edge.None (ExtraEdgeIndex index)) none = cc none
+hint-none edges (First (ExtraEdgeIndex index) second) none = cc none
+hint-none edges (First (GraphPosition pos) second) none = cc none
+hint-none edges (Second edge.None) none = refl
+hint-none edges (Second (GraphPosition q)) none = cc none
+hint-none None (Second (ExtraEdgeIndex index)) none = cc none
+hint-none (Some bytes) (Second (ExtraEdgeIndex index)) none = absurd (none_listed (drop index (words bytes)) none)
+hint-none edges (Extra bytes index) none = absurd (none_listed (drop index (words bytes.now)) none)
+hint-none edges Exhausted none = refl
 
 -- in the extra edge list one item is left at least, and how many is not known
 extra_hint : (ws : List ℕ) → second_hint (ExtraEdgeIndex 0) ≡ hint_after (2, None) (items_of (listed ws))

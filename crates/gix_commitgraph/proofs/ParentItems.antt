@@ -1,5 +1,9 @@
 -- laws of the items that an iterator over parents gives
 use Rattle.std.proofs.Common.{◌≡◌, ℕ, ◌/◌, ◌≤◌, List, [], ◌∷◌, ◌++◌, map, length, drop, Option, Some, None, Result, Ok, Err, IfSome, refl, ap, ◌∙◌, arith, length-drop}
+use Rattle.std.proofs.lemmas.Iterator.{YieldsList}
+use Rattle.std.proofs.lemmas.Iterator.Consumers.{YieldsList-from_shown}
+use Rattle.gix_commitgraph.specs.ParentsLeft.{parents_left, GivesParent}
+use Rattle.gix_commitgraph.specs.declared.file.parents.Parents as Iter
 use Rattle.gix_commitgraph.specs.Parents.{Parents, extra_edge_of, extra_parent, extra_parents, both_parents, listed, fault_items, items_of}
 use Rattle.gix_commitgraph.specs.Format.{words}
 use Rattle.gix_commitgraph.specs.declared.Position.{Position}
@@ -49,3 +53,7 @@ parents-few (edge.GraphPosition pos) (edge.ExtraEdgeIndex index) (Some bytes) fe
 
 pub numbers-taken : (left rest : List (Result Position ParentError)) (item : Result Position ParentError) (pos : Position) → left ≡ item ∷ rest → item ≡ Ok pos → numbers_of left ≡ pos.0 ∷ numbers_of rest
 numbers-taken left rest item pos taken is = ap numbers_of taken ∙ ap (λ (first : Result Position ParentError). numbers_of (first ∷ rest)) is
+
+-- what the trait's `next` gives, one after another, is what is left
+pub parents-yield : (parents : Iter.Parents) → YieldsList GivesParent (λ item. item) parents (parents_left parents)
+parents-yield parents = YieldsList-from_shown GivesParent (λ item. item) parents_left (λ s t h. ap length h.steps.0) (λ s item t h. h.steps) parents

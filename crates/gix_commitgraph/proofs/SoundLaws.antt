@@ -27,7 +27,7 @@ use Rattle.gix_commitgraph.proofs.SoundCommits.{commit_faults-iff}
 use Rattle.gix_commitgraph.proofs.SoundParents.{parents-iff, generations-iff}
 use Rattle.gix_commitgraph.proofs.WalkLaws.{counts_from_local, local_from_counts, longest_is_told}
 
-option_map-none : {X Y : Type 0} (f : X → Y) (o : Option X) → (option_map f o ≡ None) ↔ (o ≡ None)
+pub option_map-none : {X Y : Type 0} (f : X → Y) (o : Option X) → (option_map f o ≡ None) ↔ (o ≡ None)
 option_map-none f None = (λ h. refl, λ h. refl)
 option_map-none f (Some x) = (λ h. cc, λ h. cc)
 

@@ -1,7 +1,7 @@
--- laws of what the commits of a layer come to
-use Rattle.std.proofs.Common.{◌≡◌, ◌==◌, ℕ, zero, suc, ◌+◌, ◌<◌, true, false, cond, if◌then◌else◌, List, [], ◌∷◌, ◌++◌, map, length, take, max, min, nat_eq, count_by, slice_get, unwrap_or, Some, refl, sym, ap, ◌∙◌, subst, ⊎_elim, arith}
+-- laws of the statistics of a layer
+use Rattle.std.proofs.Common.{◌≡◌, ◌==◌, ℕ, zero, suc, ◌+◌, ◌<◌, ◌≤◌, true, false, cond, if◌then◌else◌, List, [], ◌∷◌, ◌++◌, map, length, take, max, min, nat_eq, count_by, slice_get, unwrap_or, Some, refl, sym, ap, ◌∙◌, subst, ⊎_elim, arith}
 use Rattle.std.specs.HashMap.{get}
-use Rattle.std.proofs.lemmas.List.{map-append, length-map, length-take-le}
+use Rattle.std.proofs.lemmas.List.{map-append, length-map, length-take-le, take_all}
 use Rattle.std.proofs.lemmas.List.Sums.{fold-append}
 use Rattle.std.proofs.lemmas.Bool.Decides.{nat_tests}
 use Rattle.std.proofs.lemmas.Bool.{cases_eq}
@@ -10,8 +10,10 @@ use Rattle.gix_commitgraph.specs.Layer.{Layer, record_at, no_record}
 use Rattle.gix_commitgraph.specs.Counts.{greatest, least, count_of, above_zero}
 use Rattle.gix_commitgraph.specs.History.{Node, node_of, layer_history, generations, parent_numbers}
 use Rattle.gix_commitgraph.specs.Parents.{parents_of}
-use Rattle.gix_commitgraph.specs.Traverse.{Summarizes}
+use Rattle.gix_commitgraph.specs.Graph.{IsOpened}
+use Rattle.gix_commitgraph.specs.Traverse.{Summarizes, FileStats}
 use Rattle.gix_commitgraph.specs.declared.file.verify.Outcome.{Outcome}
+use Rattle.gix_commitgraph.proofs.HistoryLaws.{opened-paired, length-layer_history}
 
 nodes-more : (f : Record → Node) (records : List Record) (n : ℕ) → n < length records
     → take (n + 1) (map f records) ≡ take n (map f records) ++ f (unwrap_or (slice_get records n) no_record) ∷ []
@@ -27,7 +29,7 @@ history-more : (layer : Layer) (n : ℕ) → n < length layer.records
 unfolding layer_history record_at
 history-more layer n h = nodes-more (node_of layer) layer.records n h
 
-length-history : (layer : Layer) (n : ℕ) → n < length layer.records → length (take n (layer_history layer)) ≡ n
+length-history : (layer : Layer) (n : ℕ) → n ≤ length layer.records → length (take n (layer_history layer)) ≡ n
 unfolding layer_history
 length-history layer n h = length-take-le n (map (node_of layer) layer.records) (rw length-map (omega (arith, h)))
 
@@ -60,7 +62,7 @@ count_of-other numbers n k apart =
     let test : (n == k) ≡ false = grind (arith, nat_tests) in
     ap above_zero (count-more numbers n k ∙ rw test (omega arith))
 
--- What one more commit comes to, of this generation and with so many parents.
+-- The statistics with one more commit, of this generation number and with so many parents.
 pub record IsMore (generation parents : ℕ) (before outcome : Outcome) : Type 0 where
   pub max_generation : outcome.max_generation ≡ max before.max_generation generation
   pub first : before.num_commits ≡ 0 → outcome.min_generation ≡ generation
@@ -85,21 +87,27 @@ module _ (layer : Layer) (n : ℕ) (inside : n < length layer.records) where
   abbrev before_it : List Node
   before_it = take n (layer_history layer)
 
-  count_generations : length (generations before_it) ≡ n
-  count_generations = length-map before_it (λ node. node.generation) ∙ length-history layer n inside
+  counted_before : length before_it ≡ n
+  counted_before = length-history layer n (omega (arith, inside))
 
-  summarized : (before outcome : Outcome) → Summarizes layer n before → IsMore (record_at layer n).generation parents before outcome → Summarizes layer (n + 1) outcome
+  counted_with : length (take (n + 1) (layer_history layer)) ≡ n + 1
+  counted_with = length-history layer (n + 1) (omega (arith, inside))
+
+  count_generations : length (generations before_it) ≡ n
+  count_generations = length-map before_it (λ node. node.generation) ∙ counted_before
+
+  summarized : (before outcome : Outcome) → Summarizes before_it before → IsMore (record_at layer n).generation parents before outcome → Summarizes (take (n + 1) (layer_history layer)) outcome
   summarized before outcome summary more =
       let generation = (record_at layer n).generation in
       record {
         max_generation = more.max_generation ∙ ap (λ m. max m generation) summary.max_generation ∙ sym (ap greatest generations-more ∙ greatest-more (generations before_it) generation);
         min_generation = ⊎_elim
-            (λ (none : n ≡ 0). more.first (summary.num_commits ∙ none) ∙ sym (ap least generations-more ∙ least-first (generations before_it) generation (count_generations ∙ none)))
-            (λ (some : n ≡ 0 → ⊥). more.later (omega (arith, some, summary.num_commits)) ∙ ap (λ m. min m generation) summary.min_generation
+            (λ (none : n ≡ 0). more.first (summary.num_commits ∙ counted_before ∙ none) ∙ sym (ap least generations-more ∙ least-first (generations before_it) generation (count_generations ∙ none)))
+            (λ (some : n ≡ 0 → ⊥). more.later (omega (arith, some, summary.num_commits, counted_before)) ∙ ap (λ m. min m generation) summary.min_generation
             ∙ sym (ap least generations-more ∙ least-more (generations before_it) generation (omega (arith, some, count_generations))))
             (cases_eq n 0);
         max_parents = more.max_parents ∙ ap (λ m. max m parents) summary.max_parents ∙ sym (ap greatest parent_numbers-more ∙ greatest-more (parent_numbers before_it) parents);
-        num_commits = more.num_commits ∙ ap (λ m. m + 1) summary.num_commits;
+        num_commits = more.num_commits ∙ ap (λ m. m + 1) (summary.num_commits ∙ counted_before) ∙ sym counted_with;
         parent_counts = λ k. ⊎_elim
             (λ (same : k ≡ parents).
             let test : (k == parents) ≡ true = grind (arith, nat_tests) in
@@ -112,10 +120,20 @@ module _ (layer : Layer) (n : ℕ) (inside : n < length layer.records) where
             (cases_eq k parents);
       }
 
-  -- what the commits come to with one more
+  -- the statistics with one more commit
   pub Summarizes-more : (before outcome : Outcome) (count : ℕ) → count ≡ length (parents_of (record_at layer n) layer.edges).positions
-      → Summarizes layer n before → IsMore (record_at layer n).generation count before outcome → Summarizes layer (n + 1) outcome
+      → Summarizes before_it before → IsMore (record_at layer n).generation count before outcome → Summarizes (take (n + 1) (layer_history layer)) outcome
   Summarizes-more before outcome count is summary more =
       let positions = (parents_of (record_at layer n) layer.edges).positions in
       let counted : count ≡ parents = is ∙ sym (length-map positions (λ pos. pos.0)) in
       summarized before outcome summary (subst (λ (m : ℕ). IsMore (record_at layer n).generation m before outcome) counted more)
+
+-- with each commit of an opened layer, the statistics are those of the layer
+pub stats_of_all : (layer : Layer) (n : ℕ) (outcome : Outcome) → IsOpened layer → n ≡ length layer.ids → Summarizes (take n (layer_history layer)) outcome → FileStats layer outcome
+stats_of_all layer n outcome opened is summary =
+    let paired = opened-paired layer opened in
+    let all : take n (layer_history layer) ≡ layer_history layer = take_all n (layer_history layer) (omega (arith, is, paired, length-layer_history layer)) in
+    record {
+      num_commits = summary.num_commits ∙ length-history layer n (omega (arith, is, paired)) ∙ is;
+      commits = subst (λ (history : List Node). Summarizes history outcome) all summary;
+    }

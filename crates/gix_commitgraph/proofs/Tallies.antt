@@ -1,5 +1,5 @@
 -- Numbers, counted by which number they are: the counts add up to how many numbers there are.
-use Rattle.std.proofs.Common.{◌≡◌, ◌==◌, nat_eq, ℕ, zero, suc, ◌+◌, ◌≤◌, Bool, true, false, cond, not, nat_cmp, List, [], ◌∷◌, length, filter, take, Some, None, All, sum, count_by, refl, sym, ap, ◌∙◌, arith, zero-add, ⊎_elim, length-take-le}
+use Rattle.std.proofs.Common.{◌≡◌, ◌==◌, nat_eq, ℕ, zero, suc, ◌+◌, Bool, true, false, cond, not, nat_cmp, List, [], ◌∷◌, length, filter, Some, None, All, sum, count_by, refl, sym, ap, ◌∙◌, arith, zero-add, ⊎_elim}
 use Rattle.std.specs.BTreeMap as tree
 use Rattle.std.specs.HashMap as hash
 use Rattle.std.specs.List.{AllByRecursion, IsDistinct}
@@ -20,7 +20,7 @@ use Rattle.gix_commitgraph.specs.Headline.{Stats}
 use Rattle.gix_commitgraph.specs.Traverse.{FileStats}
 use Rattle.gix_commitgraph.specs.declared.verify.Outcome as verify
 use Rattle.gix_commitgraph.specs.declared.file.verify.Outcome as file
-use Rattle.gix_commitgraph.proofs.HistoryLaws.{length-layer_history, opened-paired, history-counted}
+use Rattle.gix_commitgraph.proofs.HistoryLaws.{history-counted}
 
 -- the numbers that are not k
 abbrev others : ℕ → List ℕ → List ℕ
@@ -129,11 +129,9 @@ graph_tallied layers outcome ordered opened stats =
     ∙ sym stats.num_commits
 
 -- and of a layer's, in one whose keys differ
-pub layer_tallied : (layer : Layer) (outcome : file.Outcome) → hash.IsUnique nat_eq outcome.parent_counts → IsOpened layer → FileStats layer outcome → sum (hash.values outcome.parent_counts) ≡ outcome.num_commits
-layer_tallied layer outcome unique opened stats =
-    let history = take (length layer.ids) (layer_history layer) in
-    let even : length layer.ids ≤ length (layer_history layer) = omega (arith, length-layer_history layer, opened-paired layer opened) in
-    tallied nat_eq (λ a b. refl) outcome.parent_counts.entries (parent_numbers history) unique stats.parent_counts
+pub layer_tallied : (layer : Layer) (outcome : file.Outcome) → hash.IsUnique nat_eq outcome.parent_counts → FileStats layer outcome → sum (hash.values outcome.parent_counts) ≡ outcome.num_commits
+layer_tallied layer outcome unique stats =
+    let history = layer_history layer in
+    tallied nat_eq (λ a b. refl) outcome.parent_counts.entries (parent_numbers history) unique stats.commits.parent_counts
     ∙ length-map history (λ node. length node.parents)
-    ∙ length-take-le (length layer.ids) (layer_history layer) even
-    ∙ sym stats.num_commits
+    ∙ sym stats.commits.num_commits

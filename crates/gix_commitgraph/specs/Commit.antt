@@ -1,4 +1,4 @@
--- What a commit shows: the layer that it is in, and its position there.
+-- A commit, as its layer and its position there.
 use Rattle.std.specs.Prelude.{ℕ, ◌==◌, Bool, List}
 use Rattle.std.specs.Cmp.Lexicographic.{pointwise}
 use Rattle.std.specs.Ordering.{on, eq_of_both}

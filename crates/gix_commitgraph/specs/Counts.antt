@@ -1,4 +1,4 @@
--- what numbers come to
+-- the greatest and the least of some numbers, and how often each number stands among them
 use Rattle.std.specs.Prelude.{◌==◌, ℕ, zero, suc, List, [], ◌∷◌, fold, max, min, count_by, Option, Some, None}
 
 -- the greatest of some numbers, 0 where there are none

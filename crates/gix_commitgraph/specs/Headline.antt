@@ -14,7 +14,7 @@ use Rattle.gix_commitgraph.specs.declared.verify.Outcome.{Outcome}
 use Rattle.gix_commitgraph.specs.declared.verify.VerifyError.{VerifyError}
 use Rattle.gix_commitgraph.specs.declared.verify.VerifyError.TheVariants as error
 
--- What the commits of a graph come to.
+-- The statistics of a graph.
 pub record Stats (layers : List Layer) (outcome : Outcome) : Type 0 where
   pub num_commits : outcome.num_commits ≡ total layers
   -- for each number of parents, repeats counted, how many commits have so many; no entry where none has
@@ -26,7 +26,7 @@ pub record Stats (layers : List Layer) (outcome : Outcome) : Type 0 where
 abbrev pub LookupsAreScans : List Layer → Type 0
 LookupsAreScans layers = (id : List ℕ) (answer : Option ℕ) → FoundIn layers id answer → answer ≡ scan (graph_ids layers) id
 
--- a refusal is that of a graph that is not right; the processor's own error and want of memory say nothing of the graph
+-- a refusal is that of a graph that is not right; the processor's own error and a failed allocation say nothing of the graph
 abbrev pub IsDeserved : {E : Type 0} → List Layer → VerifyError E → Type 0
 IsDeserved layers (error.Processor pos e) = ⊤
 IsDeserved layers error.OutOfMemory = ⊤

@@ -1,4 +1,4 @@
--- A history as a commit-graph tells it: its commits by position, each with the generation number that is stored of it and
+-- A history as a commit-graph stores it: its commits by position, each with the generation number that is stored of it and
 -- the positions of its parents, first parent first ("Commit Data", "Extra Edge List").
 use Rattle.std.specs.Prelude.{ℕ, ◌<◌, List, [], map, length, slice_get, Contains}
 use Rattle.std.specs.List.{flat_map}
@@ -11,7 +11,7 @@ pub record Node : Type 0 where
   pub generation : ℕ
   pub parents : List ℕ
 
--- what a record says of its commit, in a layer whose extra edge list has these bytes; parents that cannot be told are left out
+-- what a record says of its commit, in a layer whose extra edge list has these bytes; parents that cannot be decoded are left out
 abbrev pub node_of : Layer → Record → Node
 node_of layer r = record { generation = r.generation; parents = map (λ pos. pos.0) (parents_of r layer.edges).positions }
 

@@ -35,7 +35,7 @@ abbrev pub failures_after_opening : {A : Type 0} → Result A OpenError → ℕ 
 failures_after_opening (Err Device) count = one_more count
 failures_after_opening _ count = count
 
--- a graph, or want of memory: nothing else is tried
+-- a graph, or out of memory: nothing else is tried
 abbrev pub is_settled : {A : Type 0} → Result A OpenError → Bool
 is_settled (Ok x) = true
 is_settled (Err OutOfMemory) = true

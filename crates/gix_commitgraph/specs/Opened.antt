@@ -14,7 +14,7 @@ unless_refused (Some error) layer = Err error
 abbrev pub layer_of : List ℕ → List ℕ → Result Layer FileError
 layer_of bytes path = unless_refused (refusal bytes) (decoded_layer bytes path)
 
--- the errors that opening may answer: the refusal of the bytes, and want of memory where they have none
+-- the errors that opening may answer: the refusal of the bytes, and out of memory where they have none
 abbrev pub MayRefuse : List ℕ → FileError → Type 0
 MayRefuse bytes error = (refusal bytes ≡ Some error) ⊎ ((error ≡ OutOfMemory) × (refusal bytes ≡ None))
 

@@ -1,5 +1,6 @@
--- What an iterator over parents has left, and how many items it says that is.
-use Rattle.std.specs.Prelude.{ℕ, ◌-◌, List, [], ◌∷◌, Option, Some, None, option_map, Result}
+-- The items that an iterator over parents has left, and the bounds that it gives on their number.
+use Rattle.std.specs.Prelude.{◌≡◌, ℕ, ◌-◌, List, [], ◌∷◌, Option, Some, None, option_map, Result}
+use Rattle.std.specs.Iterator.{YieldsFirst}
 use Rattle.gix_commitgraph.specs.Parents.{items_of, extra_parents, second_parents, both_parents}
 use Rattle.gix_commitgraph.specs.declared.Position.{Position}
 use Rattle.gix_commitgraph.specs.declared.file.commit.ParentEdge.{ParentEdge}
@@ -42,7 +43,7 @@ hint_in (state.Second second) = second_hint second
 hint_in (state.Extra bytes index) = (1, None)
 hint_in state.Exhausted = (0, Some 0)
 
--- the bounds that it tells
+-- the bounds that it gives
 abbrev pub parents_hint : Parents → ℕ × Option ℕ
 parents_hint parents = hint_in parents.state
 
@@ -51,3 +52,8 @@ parents_hint parents = hint_in parents.state
 abbrev pub hint_after : ℕ × Option ℕ → List (Result Position ParentError) → ℕ × Option ℕ
 hint_after hint [] = (0, Some 0)
 hint_after hint (item ∷ items) = (1, option_map (λ most. most - 1) hint.1)
+
+-- One call of `next`: it gives the first of the items that are left, and the bounds are then those once an item is taken.
+pub record GivesParent (old : Parents) (result : Option (Result Position ParentError)) (new : Parents) : Type 0 where
+  pub steps : YieldsFirst parents_left old result new
+  pub hint : parents_hint new ≡ hint_after (parents_hint old) (parents_left new)

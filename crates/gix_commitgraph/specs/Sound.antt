@@ -33,9 +33,18 @@ pub record LayerRules (layers : List Layer) : Type 0 where
   pub bases : (i : ℕ) (layer : Layer) → slice_get layers i ≡ Some layer → layer.bases ≡ map (λ l. l.checksum) (take i layers)
   pub each : All IsRightLayer layers
 
--- The parents of each commit can be told, and stand in its own layer or an earlier one.
+-- the parents of each commit of a layer can be decoded
+abbrev pub AreParentsDecoded : Layer → Type 0
+AreParentsDecoded layer = All (λ r. (parents_of r layer.edges).fault ≡ None) layer.records
+
+-- What is right of a layer and of its commits' parents, with no other layer at hand.
+pub record IsSoundLayer (layer : Layer) : Type 0 where
+  pub right : IsRightLayer layer
+  pub decoded : AreParentsDecoded layer
+
+-- The parents of each commit can be decoded, and stand in its own layer or an earlier one.
 pub record AreParentsKnown (layers : List Layer) (i : ℕ) (layer : Layer) : Type 0 where
-  pub decoded : All (λ r. (parents_of r layer.edges).fault ≡ None) layer.records
+  pub decoded : AreParentsDecoded layer
   pub within : All (λ r. All (λ q. q.0 < stop layers i) (parents_of r layer.edges).positions) layer.records
 
 -- A graph is right.

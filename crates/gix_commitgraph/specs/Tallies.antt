@@ -13,7 +13,7 @@ pub record Tallies (seen : List Node) (tally : Tally) : Type 0 where
   pub num_commits : tally.num_commits ≡ length seen
   pub parent_counts : (k : ℕ) → get nat_cmp tally.parent_counts k ≡ count_of (parent_numbers seen) k
 
--- What the parents of the commit at a position come to.
+-- The number of the parents of the commit at a position, and the greatest of their generation numbers.
 pub record ParentsTally (history : List Node) (p : ℕ) (tally : ParentTally) : Type 0 where
   pub count : tally.count ≡ length (parents_at history p)
   pub max_generation : tally.max_generation ≡ greatest (map (generation_at history) (parents_at history p))

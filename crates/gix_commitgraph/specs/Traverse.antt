@@ -1,5 +1,5 @@
 -- what the check of one layer looks for, in its order, and what it answers
-use Rattle.std.specs.Prelude.{◌≡◌, ◌∷◌, [], ℕ, List, length, take, nat_eq, Option, option_map}
+use Rattle.std.specs.Prelude.{◌≡◌, ◌∷◌, [], ℕ, List, length, nat_eq, Option, option_map}
 use Rattle.std.specs.HashMap.{get, IsUnchanged}
 use Rattle.std.specs.List.{flat_map, range_with_len}
 use Rattle.gix_commitgraph.specs.Layer.{Layer, record_at}
@@ -7,7 +7,7 @@ use Rattle.gix_commitgraph.specs.Parents.{parents_of}
 use Rattle.gix_commitgraph.specs.Wrong.{layer_fault, commit_fault}
 use Rattle.gix_commitgraph.specs.Points.{Point, check, call, Stop, refused, by_processor, no_memory}
 use Rattle.gix_commitgraph.specs.Counts.{greatest, least, count_of}
-use Rattle.gix_commitgraph.specs.History.{layer_history, generations, parent_numbers}
+use Rattle.gix_commitgraph.specs.History.{Node, layer_history, generations, parent_numbers}
 use Rattle.gix_commitgraph.specs.declared.verify.LayerFault.{LayerFault}
 use Rattle.gix_commitgraph.specs.declared.verify.LayerFault.TheVariants.{Checksum, FileName, Fan}
 use Rattle.gix_commitgraph.specs.declared.verify.CommitFault.{CommitFault}
@@ -47,17 +47,19 @@ module _ {E : Type 0} where
   stop_of error.OutOfMemory = no_memory
   stop_of x = refused x
 
--- What the first n commits of a layer come to.
-pub record Summarizes (layer : Layer) (n : ℕ) (outcome : Outcome) : Type 0 where
-  pub max_generation : outcome.max_generation ≡ greatest (generations (take n (layer_history layer)))
-  pub min_generation : outcome.min_generation ≡ least (generations (take n (layer_history layer)))
-  pub max_parents : outcome.max_parents ≡ greatest (parent_numbers (take n (layer_history layer)))
-  pub num_commits : outcome.num_commits ≡ n
-  pub parent_counts : (k : ℕ) → get nat_eq outcome.parent_counts k ≡ count_of (parent_numbers (take n (layer_history layer))) k
+-- The statistics of some commits of a layer.
+pub record Summarizes (history : List Node) (outcome : Outcome) : Type 0 where
+  pub max_generation : outcome.max_generation ≡ greatest (generations history)
+  pub min_generation : outcome.min_generation ≡ least (generations history)
+  pub max_parents : outcome.max_parents ≡ greatest (parent_numbers history)
+  pub num_commits : outcome.num_commits ≡ length history
+  -- for each number of parents, repeats counted, how many commits have so many; no entry where none has
+  pub parent_counts : (k : ℕ) → get nat_eq outcome.parent_counts k ≡ count_of (parent_numbers history) k
 
--- what all of its commits come to
-abbrev pub FileStats : Layer → Outcome → Type 0
-FileStats layer outcome = Summarizes layer (length layer.ids) outcome
+-- The statistics of a layer: those of its history, which has one commit for each id.
+pub record FileStats (layer : Layer) (outcome : Outcome) : Type 0 where
+  pub num_commits : outcome.num_commits ≡ length layer.ids
+  pub commits : Summarizes (layer_history layer) outcome
 
 -- A second outcome that is equal in each field: its counts are the same, in the same order.
 pub record IsCopy (outcome copy : Outcome) : Type 0 where

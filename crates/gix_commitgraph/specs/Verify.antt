@@ -86,7 +86,7 @@ module _ {E : Type 0} where
 abbrev pub longest_path : List ℕ → Option ℕ
 longest_path numbers = if nat_lt (greatest numbers) GENERATION_NUMBER_MAX then Some (greatest numbers - 1) else None
 
--- What some commits come to.
+-- The statistics of some commits.
 pub record Summarizes (history : List Node) (outcome : Outcome) : Type 0 where
   pub longest_path_length : outcome.longest_path_length ≡ longest_path (generations history)
   pub num_commits : outcome.num_commits ≡ length history

@@ -1,4 +1,4 @@
-//! What a graph shows.
+//! Accessors of a graph.
 
 ghost use Rattle.std.specs.Prelude.{◌≡◌, ◌+◌, ◌^◌, ◌<◌, ◌≤◌, All, length, slice_get, option_map, Some, IfSome};
 ghost use Rattle.gix_hash_core.specs.Oid.{oid_bytes};

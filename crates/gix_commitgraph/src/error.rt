@@ -4,7 +4,8 @@ use gix_chunk_core::ChunkError;
 use thiserror::Error;
 
 /// Why [`File::new`](crate::File::new) refuses bytes: the first of these kinds, in this order, whose
-/// rule they break, or last want of memory. Its text is the name of the variant alone.
+/// rule they break, and `OutOfMemory` only where they break none. Its text is the name of the
+/// variant alone.
 ///
 /// The rules are those of Git's commit-graph format, whose sections are named here. A rule may use
 /// what the ones before it say. H is the number of bytes in an id: 20 of SHA-1, or 32 of SHA-256.

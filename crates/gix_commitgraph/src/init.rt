@@ -1,4 +1,4 @@
-//! How a graph comes about.
+//! Building a graph from its layers.
 
 ghost use Rattle.std.specs.Prelude.{◌≡◌, ◌+◌, ◌-◌, ◌<◌, ◌⊎◌, All, length, Some, None, IfOk, MatchResult};
 ghost use Rattle.gix_commitgraph.specs.Faults.{Reports};
@@ -12,20 +12,20 @@ use crate::graph::Graph;
 use std::alloc::Global;
 use thiserror::Error;
 
-/// Why files are no graph: the first of these conditions that holds, or want of memory.
+/// Why files make no graph: the first of these conditions that holds.
 #[derive(Debug, PartialEq, Eq, Drop, Error)]
 pub enum GraphError {
     /// There is no file.
     #[error("NoFiles")]
     NoFiles,
-    /// The files have so many commits together, which is more than [`MAX_COMMITS`].
+    /// The files have this many commits together, which is more than [`MAX_COMMITS`].
     #[error("TooManyCommits")]
     TooManyCommits(u128),
     /// The file of this layer, counted from 0, has ids of another kind than the file before it, and
     /// no earlier one has.
     #[error("HashMismatch")]
     HashMismatch { layer: usize },
-    /// A growth was refused, and the files would make a graph.
+    /// An allocation failed, and the files would make a graph.
     #[error("OutOfMemory")]
     OutOfMemory,
 }
@@ -40,9 +40,9 @@ impl Graph {
     /// The first of these that holds; the files are then dropped:
     ///
     /// 1. `NoFiles`: there is no file.
-    /// 2. `TooManyCommits`: the files have more commits together, so many.
+    /// 2. `TooManyCommits`: the files have more commits together, and this is their number.
     /// 3. `HashMismatch`: the first file of another kind than the one before it.
-    /// 4. `OutOfMemory`: a growth was refused.
+    /// 4. `OutOfMemory`: an allocation failed.
     pub fn new(_alloc: Global, files: Vec<File>) -> Result<Graph, GraphError>
         ensures layers { IfOk result (λ graph. graph ≡ files.items) }
         ensures refusal { MatchResult result (λ _. graph_refusal files.items ≡ None)
@@ -53,7 +53,7 @@ impl Graph {
     }
 }
 
-/// Refuses files that are no graph.
+/// Refuses files that make no graph.
 #[tactic(auto, unfolding(crate::specs::GraphRefusal::graph_refusal))]
 fn check(files: &[File]) -> Result<(), GraphError>
     ensures refusal { Reports result (graph_refusal files.now) }

@@ -1,14 +1,17 @@
-//! Git's commit-graph files, version 1: reading them and what they say of commits.
+//! Reads Git's commit-graph files, version 1, and what they say of commits.
 //!
 //! A [`File`] is one layer of a commit-graph, opened from its bytes. It is opened exactly where the
 //! bytes have the written format; else a [`FileError`] names the first rule that they break. A
 //! [`Graph`] is a list of such layers, the lowest first. [`Graph::verify_integrity`] checks whether
-//! it is right, and the openers of the module [`opening`] find one by its path. All is read in
-//! place: opening, and the counts that a check makes, may answer want of memory.
+//! it is right, and the openers of the module [`opening`] open one by its path. Everything is read
+//! in place: only opening, and the statistics of a check, can run out of memory.
 #![tactic(auto)]
 
-ghost use Rattle.std.specs.Prelude.{Some};
+ghost use Rattle.std.specs.Prelude.{Some, IfOk, IfErr};
 ghost use Rattle.std.specs.Fmt.{styled_decimal};
+ghost use Rattle.gix_commitgraph.specs.Graph.{IsGraph};
+ghost use Rattle.gix_commitgraph.specs.OpenAlways.{IsFromPath};
+ghost use Rattle.gix_commitgraph.specs.OpenRefusals.{OutOfMemoryStandsAlone};
 
 mod access;
 mod error;
@@ -61,6 +64,10 @@ impl fmt::Display for Position {
 
 /// Opens the commit-graph at a path, which is that of a file, a chain folder or an info folder:
 /// [`Graph::at`].
-pub fn at<R: Files>(rt: &R, alloc: Global, path: &str) -> Result<Graph, OpenError> {
+pub fn at<R: Files>(rt: &R, alloc: Global, path: &str) -> Result<Graph, OpenError>
+    ensures from { IfOk result (IsFromPath path.now) }
+    ensures graph { IfOk result IsGraph }
+    ensures memory { IfErr result OutOfMemoryStandsAlone }
+{
     Graph::at(rt, alloc, path)
 }

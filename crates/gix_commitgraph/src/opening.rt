@@ -1,16 +1,22 @@
 //! Opening a commit-graph by the path of a file or of a folder.
 //!
 //! Each opener reads from a [`Folder`]: a tree of files whose reads a device may fail. A contract
-//! says what is opened where it is known what stands in the tree, and that no opener changes it.
-//! Over the file system, a [`Disk`](graph_folder::folder::Disk), these openers are [`Graph::at`]
-//! and its kin.
+//! says what is opened where the contents of the tree are known, what holds of each answer whether
+//! they are known or not, and that no opener changes the tree. Over the file system, a
+//! [`Disk`](graph_folder::folder::Disk), the same openers are [`Graph::at`], [`Graph::from_file`],
+//! [`Graph::from_info_dir`] and [`Graph::from_commit_graphs_dir`].
 
-ghost use Rattle.std.specs.Prelude.{◌≡◌, IfOk, IsErrOf, string_bytes};
+ghost use Rattle.std.specs.Prelude.{◌≡◌, ◌⊎◌, IfOk, IfErr, IsErrOf, MatchResult, string_bytes};
 ghost use Rattle.std.specs.Option.{ForSome};
 ghost use Rattle.graph_folder.specs.Tree.{is_file};
+ghost use Rattle.gix_commitgraph.specs.Graph.{IsGraph};
+ghost use Rattle.gix_commitgraph.specs.OpenAlways.{IsFromFile, IsFromChain, IsFromInfo, IsFromPath};
+ghost use Rattle.gix_commitgraph.specs.OpenAlways.{IsReadError, IsLayerError, IsFileError};
+ghost use Rattle.gix_commitgraph.specs.OpenAlways.{IsFolderError};
 ghost use Rattle.gix_commitgraph.specs.OpenAnswer.{IsAsExpected, is_settled, failures_after_opening, result_map};
 ghost use Rattle.gix_commitgraph.specs.Opening.{bytes_at, layer_of_bytes, layer_at, graph_of_layers, file_opened};
 ghost use Rattle.gix_commitgraph.specs.Opening.{InfoOpens, FolderOpens, Opens, MetFailureIfDevice};
+ghost use Rattle.gix_commitgraph.specs.OpenRefusals.{OutOfMemoryStandsAlone};
 ghost use Rattle.gix_commitgraph.specs.Paths.{chain_path};
 
 mod by_path;
@@ -43,7 +49,7 @@ const CHAIN: &str = "commit-graph-chain";
 /// 3. `Layer`: the bytes are refused, as layer 0.
 /// 4. `Graph`: the layer has more commits than a graph can have.
 ///
-/// `OutOfMemory` comes where a growth was refused.
+/// `OutOfMemory` comes where an allocation failed.
 pub fn open_file_in<T: Folder>(
     alloc: Global,
     folder: &mut T,
@@ -52,6 +58,9 @@ pub fn open_file_in<T: Folder>(
     ensures opens { ForSome (T.tree folder.old) (λ tree. IsAsExpected result (file_opened tree path.now)) }
     ensures tree { T.tree folder.new ≡ T.tree folder.old }
     ensures failures { T.failure_count folder.new ≡ failures_after_opening result (T.failure_count folder.old) }
+    ensures from { MatchResult result (IsFromFile path.now) IsFileError }
+    ensures graph { IfOk result IsGraph }
+    ensures memory { IfErr result OutOfMemoryStandsAlone }
 {
     let file = open_layer(alloc, folder, 0, String::from_str(alloc, path)?)?;
     let mut files = Vec::new(alloc);
@@ -64,8 +73,8 @@ pub fn open_file_in<T: Folder>(
 ///
 /// # Errors
 ///
-/// Those of [`open_chain_dir_in`] for the chain folder, and `OutOfMemory` where a growth was
-/// refused, also while the file is opened: want of memory is no damage. `Device` comes only where
+/// Those of [`open_chain_dir_in`] for the chain folder. Where an allocation failed while the file
+/// was opened, the chain is not tried, and the answer is `OutOfMemory`. `Device` comes only where
 /// the folder's count of failures has risen.
 pub fn open_info_dir_in<T: Folder>(
     alloc: Global,
@@ -76,6 +85,9 @@ pub fn open_info_dir_in<T: Folder>(
         (λ tree. InfoOpens tree path.now (T.failure_count folder.old) (T.failure_count folder.new) result) }
     ensures device { MetFailureIfDevice result (T.failure_count folder.old) (T.failure_count folder.new) }
     ensures tree { T.tree folder.new ≡ T.tree folder.old }
+    ensures from { MatchResult result (IsFromInfo path.now) IsFolderError }
+    ensures graph { IfOk result IsGraph }
+    ensures memory { IfErr result OutOfMemoryStandsAlone }
 {
     let file = join(alloc, path, "commit-graph")?;
     let answer = open_file_in(alloc, folder, file.as_str());
@@ -99,14 +111,17 @@ fn is_settled(answer: &Result<Graph, OpenError>) -> bool
 ///
 /// # Errors
 ///
-/// `NothingFound` where neither a file nor a folder stands at the path, else those of the opener,
-/// and `OutOfMemory` where a growth was refused. `Device` comes only where the folder's count of
-/// failures has risen.
+/// `NothingFound` where neither a file nor a folder stands at the path, and else those of the
+/// opener. `OutOfMemory` comes where an allocation failed, and `Device` only where the folder's
+/// count of failures has risen.
 pub fn open_in<T: Folder>(alloc: Global, folder: &mut T, path: &str) -> Result<Graph, OpenError>
     ensures opens { ForSome (T.tree folder.old)
         (λ tree. Opens tree path.now (T.failure_count folder.old) (T.failure_count folder.new) result) }
     ensures device { MetFailureIfDevice result (T.failure_count folder.old) (T.failure_count folder.new) }
     ensures tree { T.tree folder.new ≡ T.tree folder.old }
+    ensures from { IfOk result (IsFromPath path.now) }
+    ensures graph { IfOk result IsGraph }
+    ensures memory { IfErr result OutOfMemoryStandsAlone }
 {
     if folder.is_file(alloc, path)? {
         return open_file_in(alloc, folder, path);
@@ -123,6 +138,9 @@ fn open_folder_in<T: Folder>(alloc: Global, folder: &mut T, path: &str) -> Resul
         (λ tree. FolderOpens tree path.now (T.failure_count folder.old) (T.failure_count folder.new) result) }
     ensures device { MetFailureIfDevice result (T.failure_count folder.old) (T.failure_count folder.new) }
     ensures tree { T.tree folder.new ≡ T.tree folder.old }
+    ensures from { IfOk result (λ graph. IsFromChain path.now graph ⊎ IsFromInfo path.now graph) }
+    ensures graph { IfOk result IsGraph }
+    ensures memory { IfErr result OutOfMemoryStandsAlone }
 {
     if has_chain(alloc, folder, path)? {
         open_chain_dir_in(alloc, folder, path)
@@ -152,6 +170,8 @@ fn open_layer<T: Folder>(
     ensures path { IfOk result (λ file. file.path ≡ string_bytes path) }
     ensures tree { T.tree folder.new ≡ T.tree folder.old }
     ensures failures { T.failure_count folder.new ≡ failures_after_opening result (T.failure_count folder.old) }
+    ensures errors { IfErr result (IsLayerError layer) }
+    ensures memory { IfErr result OutOfMemoryStandsAlone }
 {
     let bytes = read_file(alloc, folder, path.as_str())?;
     new_layer(alloc, layer, bytes, path)
@@ -163,6 +183,8 @@ fn read_file<T: Folder>(alloc: Global, folder: &mut T, path: &str) -> Result<Vec
         (λ tree. IsAsExpected (result_map (λ bytes. bytes.items) result) (bytes_at tree path.now)) }
     ensures tree { T.tree folder.new ≡ T.tree folder.old }
     ensures failures { T.failure_count folder.new ≡ failures_after_opening result (T.failure_count folder.old) }
+    ensures errors { IfErr result IsReadError }
+    ensures memory { IfErr result OutOfMemoryStandsAlone }
 {
     Ok(folder.read(alloc, path)?)
 }
@@ -172,6 +194,8 @@ fn new_layer(alloc: Global, layer: usize, bytes: Vec<u8>, path: String) -> Resul
     ensures opens { IsAsExpected result (layer_of_bytes layer bytes.items (string_bytes path)) }
     ensures path { IfOk result (λ file. file.path ≡ string_bytes path) }
     ensures no_device { ¬ (IsErrOf result OpenError.Device) }
+    ensures errors { IfErr result (IsLayerError layer) }
+    ensures memory { IfErr result OutOfMemoryStandsAlone }
 {
     File::new(alloc, bytes, path).map_err(|error| refused_layer(layer, error))
 }
@@ -180,6 +204,10 @@ fn new_layer(alloc: Global, layer: usize, bytes: Vec<u8>, path: String) -> Resul
 fn new_graph(alloc: Global, files: Vec<File>) -> Result<Graph, OpenError>
     ensures opens { IsAsExpected result (graph_of_layers files.items) }
     ensures no_device { ¬ (IsErrOf result OpenError.Device) }
+    ensures layers { IfOk result (λ layers. layers ≡ files.items) }
+    ensures errors { IfErr result IsFileError }
+    ensures graph { IfOk result IsGraph }
+    ensures memory { IfErr result OutOfMemoryStandsAlone }
 {
     Ok(Graph::new(alloc, files)?)
 }

@@ -62,7 +62,7 @@ fn reads_edges(rt: HostRuntime) -> Result<(), Fail> {
 }
 
 #[test]
-fn shows_why_parents_cannot_be_told(rt: HostRuntime) -> Result<(), Fail> {
+fn shows_why_parents_cannot_be_decoded(rt: HostRuntime) -> Result<(), Fail> {
     let alloc = rt.alloc();
     for (error, name) in [
         (ParentError::SecondWithoutFirst, "SecondWithoutFirst"),

@@ -1,4 +1,4 @@
-//! The check of a graph: what may be wrong with it, and what its commits come to.
+//! The check of a graph: what may be wrong with it, and the statistics of its commits.
 
 mod span;
 mod tally;
@@ -49,8 +49,8 @@ pub enum CommitFault {
     NullTree,
 }
 
-/// Why a graph is refused: the first of its checks that fails, in their order, or want of memory.
-/// Positions are those of the graph, and layers and base ids count from 0.
+/// Why a graph is refused: the first of its checks that fails, in their order, or a failed
+/// allocation. Positions are those of the graph, and layers and base ids count from 0.
 #[derive(Debug, Drop, PartialEq, Eq, Error)]
 pub enum VerifyError<E> {
     /// There are more than 256 layers.
@@ -68,7 +68,8 @@ pub enum VerifyError<E> {
     /// Something is wrong with the ids of the commit at this position.
     #[error("Commit")]
     Commit { pos: Position, fault: CommitFault },
-    /// The parents of the commit at this position cannot be told ("Commit Data", "Extra Edge List").
+    /// The parents of the commit at this position cannot be decoded ("Commit Data", "Extra Edge
+    /// List").
     #[error("Parent")]
     Parent { pos: Position, error: ParentError },
     /// A parent of the commit at this position stands neither in the commit's layer nor in an
@@ -82,7 +83,7 @@ pub enum VerifyError<E> {
     /// The processor answered this error on the commit at this position.
     #[error("Processor")]
     Processor { pos: Position, error: E },
-    /// A growth was refused.
+    /// An allocation failed.
     #[error("OutOfMemory")]
     OutOfMemory,
 }
@@ -98,7 +99,7 @@ impl<E> From<AllocError> for VerifyError<E> {
     }
 }
 
-/// What the commits of a graph come to.
+/// The statistics of a graph, gathered by [`Graph::verify_integrity`].
 #[derive(Debug, Drop, PartialEq, Eq)]
 pub struct Outcome {
     /// The number of edges of the longest walk along parents, 0 where there is no commit, and `None`
@@ -113,7 +114,7 @@ pub struct Outcome {
 impl Outcome {
     ghost use Rattle.gix_commitgraph.specs.Verify.{IsCopy};
 
-    /// An equal outcome. The error is want of memory.
+    /// An equal outcome. The error is that an allocation failed.
     pub fn try_clone(&self) -> Result<Outcome, AllocError>
         ensures { IfOk result (IsCopy self.now) }
     {
@@ -133,7 +134,7 @@ impl Graph {
     ghost use Rattle.gix_commitgraph.specs.Sound.{Sound};
     ghost use Rattle.gix_commitgraph.specs.Headline.{Stats, LookupsAreScans, IsDeserved};
 
-    /// Checks the graph, calls the processor on each commit, and answers what its commits come to.
+    /// Checks the graph, calls the processor on each commit, and answers the graph's statistics.
     ///
     /// The checks go over the layers from the lowest on, and over the commits of each in the order
     /// of their positions. A commit's processor is called once its own checks have passed. After an
@@ -152,15 +153,16 @@ impl Graph {
     ///    4. For each commit of it:
     ///       1. `Commit`: its id is null, or not above the one before it in the layer ("OID
     ///          Lookup"), or its root tree's id is null ("Commit Data"), in this order.
-    ///       2. `Parent`, `ParentOutOfRange`: for each parent in turn, it cannot be told ("Commit
-    ///          Data", "Extra Edge List"), or stands neither in this layer nor in one below it.
+    ///       2. `Parent`, `ParentOutOfRange`: for each parent in turn, it cannot be decoded
+    ///          ("Commit Data", "Extra Edge List"), or stands neither in this layer nor in one
+    ///          below it.
     ///       3. `Generation`: its generation number is not 1 more than the greatest of its parents',
     ///          1 where it has none, at most [`GENERATION_NUMBER_MAX`](crate::GENERATION_NUMBER_MAX).
     ///       4. `Processor`: the processor was called on it, and answered this error. No commit
     ///          after it was looked at.
     ///
-    /// `OutOfMemory` comes where a growth was refused. The processor was then called, once and in
-    /// order, on the first of the commits, whose checks had passed, and accepted each.
+    /// `OutOfMemory` means that an allocation failed. The processor was then called, once and in
+    /// order, on a prefix of the commits, whose checks had passed, and accepted each.
     pub fn verify_integrity<'a, F, E>(
         &'a self,
         alloc: Global,
@@ -176,8 +178,8 @@ impl Graph {
             processor.old processor.new stop_of result }
         ensures outcome { IfOk result (Summarizes (history_of self.now)) }
 
-        // A graph that passes is right, and a graph that is right is refused for want of memory or
-        // by the processor alone.
+        // A graph that passes is right, and a graph that is right is refused only by the processor
+        // or because an allocation failed.
         ensures sound { MatchResult result (λ _. Sound self.now) (IsDeserved self.now) }
 
         // In a graph that passes, the statistics are exact, and a lookup is a plain scan.
@@ -187,8 +189,8 @@ impl Graph {
         self.verify_layers(alloc, processor)
     }
 
-    /// Goes over the layers, from the lowest on. What its answer says of the graph as a whole is left
-    /// to `verify_integrity`.
+    /// Checks the layers, from the lowest on. What its answer says of the graph as a whole is left to
+    /// `verify_integrity`.
     fn verify_layers<'a, F, E>(
         &'a self,
         alloc: Global,

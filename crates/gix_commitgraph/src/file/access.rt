@@ -1,4 +1,4 @@
-//! What an opened layer says, and iterators over its ids, its base ids and its commits.
+//! Accessors of a layer, and iterators over its ids, its base ids and its commits.
 
 ghost use Rattle.std.specs.Prelude.{◌≡◌, ◌+◌, ◌*◌, ◌/◌, ◌%◌, ◌^◌, ◌<◌, ◌≤◌, length, drop, slice_index, slice_range, slice_get, Some, IfSome, option_copied, bytes_eq};
 ghost use Rattle.gix_hash_core.specs.Kind.{id_len};

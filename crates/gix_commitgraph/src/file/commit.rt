@@ -21,7 +21,7 @@ const TOP_BIT: u32 = 0x8000_0000;
 /// in the others, above them.
 const TIME_BITS: u32 = 34;
 
-/// Why the parents of a commit cannot be told, or not all of them. Displayed as the name of the
+/// Why the parents of a commit, or some of them, cannot be decoded. Displayed as the name of the
 /// variant.
 #[derive(Clone, Copy, Debug, PartialEq, Eq, Error)]
 pub enum ParentError {
@@ -95,7 +95,7 @@ impl ExtraEdge {
     }
 }
 
-/// A commit of a layer, as its record in the section "Commit Data" tells it.
+/// A commit of a layer, as its record in the section "Commit Data" describes it.
 ///
 /// Two commits are equal where the bytes of their files are equal, and their positions.
 #[derive(Clone, Copy)]
@@ -165,8 +165,7 @@ impl<'a> Commit<'a> {
         self.iter_parents().next().transpose()
     }
 
-    /// The parents in their order, and after them the error that keeps further ones from being
-    /// told, if there is one.
+    /// The parents in order, and after them the error that ends their decoding, if there is one.
     pub fn iter_parents(self) -> Parents<'a>
         ensures items { parents_left result ≡ items_of (commit_parents self.entry) }
         ensures hint { parents_hint result ≡ first_hint (edge_of (commit_record self.entry).parent1) (edge_of (commit_record self.entry).parent2) }
@@ -201,8 +200,7 @@ impl<'a> Commit<'a> {
         before.cmp(&self.id()).is_ge()
     }
 
-    /// The number of the commit's parents, repeats counted, or the error that keeps them from being
-    /// told.
+    /// The number of the commit's parents, repeats counted, or the error that ends their decoding.
     pub(crate) fn count_parents(&self) -> Result<u32, ParentError>
         requires { length (commit_parents self.now).positions < 2 ^ 32 }
         ensures { MatchResult result

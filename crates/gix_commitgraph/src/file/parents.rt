@@ -1,6 +1,6 @@
 //! The parents of a commit, one after another.
 
-ghost use Rattle.std.specs.Prelude.{◌≡◌, ◌∷◌, IfSome};
+ghost use Rattle.std.specs.Prelude.{◌≡◌, ◌<◌, ◌≤◌, ◌∷◌, [], Some, length, IfSome};
 ghost use Rattle.gix_commitgraph.specs.Parents.{items_of, extra_parents, both_parents};
 
 use crate::Position;
@@ -25,8 +25,8 @@ enum State<'a> {
 /// An iterator over the parents of a commit, as the sections "Commit Data" and "Extra Edge List" of
 /// Git's commit-graph format have them.
 ///
-/// It gives the position of each parent, in order. Where the parents cannot be told, or not all of
-/// them, one [`ParentError`] is the last item. After the last item it gives `None` for good.
+/// It gives the position of each parent, in order. Where the parents cannot be decoded, or not all
+/// of them, one [`ParentError`] is the last item. After the last item it gives `None` for good.
 #[derive(Drop)]
 pub struct Parents<'a> {
     file: &'a File,
@@ -50,7 +50,8 @@ impl<'a> Parents<'a> {
 
     /// The next parent, or the error that ends them, or `None` where nothing is left.
     ///
-    /// This is the iterator's `next`, and says besides how the bounds of `size_hint` change.
+    /// It is the trait's `next`, whose `next_gives` says the same of the item and of the bounds that
+    /// `size_hint` answers.
     pub fn next(&mut self) -> Option<Result<Position, ParentError>>
         ensures steps { YieldsFirst parents_left self.old result self.new }
         ensures hint { parents_hint self.new ≡ hint_after (parents_hint self.old) (parents_left self.new) }
@@ -100,13 +101,13 @@ impl<'a> Parents<'a> {
 }
 
 impl<'a> Iterator for Parents<'a> {
-    ghost use Rattle.std.specs.Iterator.{YieldsFirst, item_count, UpTo};
+    ghost use Rattle.std.specs.Iterator.{item_count, UpTo};
     ghost use Rattle.std.specs.Iterator.SizeHint.{IsWithinCount};
-    ghost use Rattle.gix_commitgraph.specs.ParentsLeft.{parents_left, parents_hint};
+    ghost use Rattle.gix_commitgraph.specs.ParentsLeft.{parents_left, parents_hint, GivesParent};
 
     type Item = Result<Position, ParentError>;
 
-    ghost next_gives = { YieldsFirst parents_left };
+    ghost next_gives = { GivesParent };
 
     ghost remaining = { item_count parents_left };
 
@@ -119,6 +120,12 @@ impl<'a> Iterator for Parents<'a> {
     #[tactic(auto, using(crate::proofs::Listed::hint_laws))]
     fn size_hint(&self) -> (usize, Option<usize>)
         ensures table { result ≡ parents_hint self.now }
+
+        // Where nothing is left the bounds say so, where something is left the lower one is 1 at
+        // least, and the upper one is exact wherever it is known.
+        ensures none { parents_left self.now ≡ [] → result ≡ (0, Some 0) }
+        ensures some { 0 < length (parents_left self.now) → 1 ≤ result.0 }
+        ensures exact { IfSome result.1 (λ most. (most ≡ length (parents_left self.now)) × (result.0 ≡ most)) }
 
         // The number of items that are left lies within the bounds.
         ensures lower { IsWithinCount result.0 (item_count parents_left self.now) }

@@ -1,6 +1,6 @@
 //! Checks of what one layer says.
 
-ghost use Rattle.std.specs.Prelude.{◌≡◌, ◌≢◌, ◌==◌, ℕ, ◌+◌, ◌<◌, ◌^◌, length, nat_eq, if◌then◌else◌, unwrap_or, Some, IfOk, OnOk, MatchResult};
+ghost use Rattle.std.specs.Prelude.{◌≡◌, ◌≢◌, ◌==◌, ℕ, ◌+◌, ◌<◌, ◌^◌, [], length, take, nat_eq, if◌then◌else◌, unwrap_or, Some, IfOk, OnOk, MatchResult};
 ghost use Rattle.std.specs.HashMap.{get};
 ghost use Rattle.gix_hash_core.specs.Digest.{digest_of};
 
@@ -36,7 +36,7 @@ impl File {
     }
 }
 
-/// What the commits of a layer come to.
+/// The statistics of a layer, gathered by [`File::traverse`].
 #[derive(Debug, Drop, PartialEq, Eq)]
 pub struct Outcome {
     /// The greatest generation number, 0 where there is no commit.
@@ -63,10 +63,10 @@ fn count_one(counts: &mut HashMap<u32, u32>, number: u32) -> Result<(), AllocErr
 
 impl Outcome {
     ghost use Rattle.gix_commitgraph.specs.Commit.{commit_layer, commit_pos, commit_parents};
-    ghost use Rattle.gix_commitgraph.specs.Layer.{Layer};
+    ghost use Rattle.gix_commitgraph.specs.History.{layer_history};
     ghost use Rattle.gix_commitgraph.specs.Traverse.{IsCopy, Summarizes};
 
-    /// An equal outcome. The error is want of memory.
+    /// An equal outcome. The error is that an allocation failed.
     pub fn try_clone(&self) -> Result<Outcome, AllocError>
         ensures { IfOk result (IsCopy self.now) }
     {
@@ -76,9 +76,9 @@ impl Outcome {
         })
     }
 
-    /// What no commit comes to.
+    /// The statistics of no commits.
     fn new(alloc: Global) -> Outcome
-        ensures { (layer : Layer) → Summarizes layer 0 result }
+        ensures { Summarizes [] result }
     {
         Outcome {
             max_generation: 0,
@@ -89,13 +89,13 @@ impl Outcome {
         }
     }
 
-    /// Adds a commit, which has so many parents, to those before it in its layer.
+    /// Adds a commit with this number of parents to those before it in its layer.
     fn add(&mut self, commit: &Commit<'_>, parents: u32) -> Result<(), AllocError>
         requires small { commit_pos commit.now + 1 < 2 ^ 32 }
         requires record { commit_pos commit.now < length (commit_layer commit.now).records }
         requires parents { parents ≡ length (commit_parents commit.now).positions }
-        requires before { Summarizes (commit_layer commit.now) (commit_pos commit.now) self.old }
-        ensures { OnOk result (Summarizes (commit_layer commit.now) (commit_pos commit.now + 1) self.new) }
+        requires before { Summarizes (take (commit_pos commit.now) (layer_history (commit_layer commit.now))) self.old }
+        ensures { OnOk result (Summarizes (take (commit_pos commit.now + 1) (layer_history (commit_layer commit.now))) self.new) }
     {
         count_one(&mut self.parent_counts, parents)?;
         let generation = commit.generation();
@@ -111,8 +111,8 @@ impl Outcome {
     }
 }
 
-/// Why a layer is refused: the first of its checks that fails, in their order, or want of memory.
-/// Positions are those of the layer.
+/// Why a layer is refused: the first of its checks that fails, in their order, or a failed
+/// allocation. Positions are those of the layer.
 #[derive(Debug, Drop, PartialEq, Eq, Error)]
 pub enum TraverseError<E> {
     /// The checksum is not the digest of the bytes before it ("TRAILER").
@@ -137,10 +137,11 @@ pub enum TraverseError<E> {
     /// The processor answered this error on the commit at this position.
     #[error("Processor")]
     Processor { pos: Position, error: E },
-    /// The parents of the commit at this position cannot be told ("Commit Data", "Extra Edge List").
+    /// The parents of the commit at this position cannot be decoded ("Commit Data", "Extra Edge
+    /// List").
     #[error("Parent")]
     Parent { pos: Position, error: ParentError },
-    /// A growth was refused.
+    /// An allocation failed.
     #[error("OutOfMemory")]
     OutOfMemory,
 }
@@ -190,7 +191,7 @@ impl<'a> Commit<'a> {
     ghost use Rattle.gix_commitgraph.specs.Traverse.{commit_points, stop_of};
 
     /// Checks the commit's ids, calls the processor on it, and decodes its parents. The answer is
-    /// how many these are.
+    /// the number of its parents.
     fn check<F, E>(&self, processor: &mut F) -> Result<u32, TraverseError<E>>
     where
         F: FnMut(&Commit<'a>) -> Result<(), E>,
@@ -228,13 +229,13 @@ impl File {
     /// file whose name is `graph-`, some text and `.graph` is named right where the text is the
     /// checksum in hexadecimal, and any other name is right.
     ///
-    /// Where the answer is `Ok`, the processor accepted every commit, and the outcome is what the
-    /// commits come to. Otherwise it was called once on each commit of a beginning of the layer, and
-    /// accepted them; only with `Processor` did it refuse the last of them. With `Processor` and
-    /// `Parent` the last call was on the commit that the error names, and with `NullId`, `Order` and
-    /// `NullTree` on the one before that commit. With `Checksum`, `FileName` and `Fan` there was no
-    /// call. `OutOfMemory` comes only where a growth was refused, and no check that comes before the
-    /// last call failed.
+    /// Where the answer is `Ok`, the processor accepted every commit, and the outcome holds the
+    /// statistics of all of them. Otherwise it was called once on each commit of a prefix of the
+    /// layer, and accepted them; only with `Processor` did it refuse the last of them. With
+    /// `Processor` and `Parent` the last call was on the commit that the error names, and with
+    /// `NullId`, `Order` and `NullTree` on the one before that commit. With `Checksum`, `FileName`
+    /// and `Fan` there was no call. `OutOfMemory` means that an allocation failed; no check that
+    /// comes before the last call failed then.
     pub fn traverse<'a, F, E>(
         &'a self,
         alloc: Global,

@@ -1,5 +1,5 @@
-//! What the numbers of an outcome come to together. Each law is of an outcome that is passed, since
-//! a map in memory has each of its keys once.
+//! How the numbers of an outcome fit together. Each law is of an outcome that is passed, since a map
+//! in memory has each of its keys once.
 
 ghost use Rattle.std.specs.Prelude.{◌≡◌, List, All, sum};
 ghost use Rattle.std.specs.BTreeMap as tree;
@@ -11,22 +11,22 @@ ghost use Rattle.gix_commitgraph.specs.Traverse.{FileStats};
 
 use crate::{file, verify};
 
-/// What is told of the commits of a graph of opened layers counts each of them once: the values of
+/// The statistics of a graph of opened layers count each of its commits once: the values of
 /// `parent_counts` add up to `num_commits`.
 pub fn the_parent_counts_of_a_graph_add_up(outcome: &verify::Outcome)
     ensures { (layers : List Layer) → All IsOpened layers → Stats layers outcome.now
         → sum (tree.values outcome.now.parent_counts) ≡ outcome.now.num_commits }
 {
-    // its contract says that the keys ascend
+    // the contract of `len` says that the keys ascend
     let _count = outcome.parent_counts.len();
 }
 
-/// What is told of the commits of an opened layer counts each of them once: the values of
-/// `parent_counts` add up to `num_commits`.
+/// The statistics of a layer count each of its commits once: the values of `parent_counts` add up
+/// to `num_commits`.
 pub fn the_parent_counts_of_a_layer_add_up(outcome: &file::verify::Outcome)
-    ensures { (layer : Layer) → IsOpened layer → FileStats layer outcome.now
+    ensures { (layer : Layer) → FileStats layer outcome.now
         → sum (hash.values outcome.now.parent_counts) ≡ outcome.now.num_commits }
 {
-    // its contract says that no two keys are equal
+    // the contract of `len` says that no two keys are equal
     let _count = outcome.parent_counts.len();
 }

@@ -21,7 +21,7 @@ pub(super) struct Span<'a> {
     pub(super) stop: u32,
 }
 
-/// What the parents of a commit come to.
+/// The number of a commit's parents, and the greatest of their generation numbers.
 #[derive(Drop)]
 struct ParentTally {
     count: u32,
@@ -38,7 +38,7 @@ impl Graph {
     ghost use Rattle.gix_commitgraph.specs.Tallies.{Tallies, ParentsTally};
     ghost use Rattle.gix_commitgraph.specs.Spans.{IsSpan, IsInSpan};
 
-    /// The layer of this number, before which so many commits stand.
+    /// The layer of this number; `first` commits stand before it.
     pub(super) fn span_at(&self, layer: usize, first: u32) -> Span<'_>
         requires layer { layer < length self.now }
         requires first { first ≡ start self.now layer }

@@ -1,4 +1,4 @@
-//! What the commits of a graph come to, one after another.
+//! The statistics of a graph, gathered commit by commit.
 
 ghost use Rattle.std.specs.Prelude.{◌≡◌, ◌==◌, ◌+◌, ◌<◌, ◌^◌, ◌∷◌, ◌++◌, [], ℕ, List, Some, length, OnOk, unwrap_or, if◌then◌else◌};
 ghost use Rattle.std.specs.Ordering.{nat_cmp};
@@ -22,7 +22,7 @@ impl Tally {
     ghost use Rattle.gix_commitgraph.specs.Verify.{Summarizes};
     ghost use Rattle.gix_commitgraph.specs.Tallies.{Tallies};
 
-    /// That of no commits.
+    /// The statistics of no commits.
     pub(super) fn new(alloc: Global) -> Tally
         ensures { Tallies [] result }
     {
@@ -33,7 +33,7 @@ impl Tally {
         }
     }
 
-    /// Adds a commit with this generation number and so many parents.
+    /// Adds a commit with this generation number and this number of parents.
     pub(super) fn add(&mut self, generation: u32, parents: u32) -> Result<(), AllocError>
         requires { (seen : List Node) × Tallies seen self.old × (length seen + 1 < 2 ^ 32) }
         ensures { OnOk result ((seen : List Node) (node : Node) → Tallies seen self.old
@@ -46,7 +46,7 @@ impl Tally {
         Ok(())
     }
 
-    /// What all commits come to.
+    /// The statistics as an outcome, once all commits are added.
     pub(super) fn outcome(self) -> Outcome
         ensures { (seen : List Node) → Tallies seen self → Summarizes seen result }
     {

@@ -1,14 +1,16 @@
-use Rattle.std.proofs.Common.{refl, ◌+◌, ◌<◌, length, arith}
+use Rattle.std.proofs.Common.{◌≡◌, refl, ◌+◌, ◌<◌, length, take, arith}
 use Rattle.std.proofs.lemmas.Result.{err_from_is_err_and}
+use Rattle.gix_commitgraph.specs.History.{layer_history}
 use Rattle.gix_commitgraph.specs.Traverse.{Summarizes}
 use Rattle.gix_commitgraph.proofs.Traverses.{reached_first, reached_next, stops_at_commit, said_there, stands_there, few_there}
+use Rattle.gix_commitgraph.proofs.Summaries.{stats_of_all}
 use Rattle.gix_commitgraph.proofs.Points.{ran_out}
 use Rattle.gix_commitgraph.proofs.file.File.traverse.Goals as goal
 
 pub loop-number-init : goal.loop-number-init
 loop-number-init g c = record {
   reached = reached_first g.F.FnMut c.args.self.now c.args.processor.now c.in_default.ensures;
-  summary = c.new-outcome.ensures c.args.self.now;
+  summary = c.new-outcome.ensures;
 }
 
 pub check-requires : goal.check-requires
@@ -46,5 +48,10 @@ loop-number-preserved g c =
     let inside : c.loop-number.number < length c.args.self.now.ids = omega (arith, c.loop-number-test.true, c.num_commits-number-end.ensures.ids) in
     record {
       reached = reached_next g.F.FnMut c.args.self.now c.args.processor.now commit c.loop-number.number at.layer at.pos inside _ _ c.loop-number.invariant.reached c.in_ok-parents.ensures.agrees;
-      summary = said_there commit at.layer at.pos (λ layer pos. Summarizes layer (pos + 1) c.add.new.self) c.in_ok-add.ensures;
+      summary = said_there commit at.layer at.pos (λ layer pos. Summarizes (take (pos + 1) (layer_history layer)) c.add.new.self) c.in_ok-add.ensures;
     }
+
+pub returns-clause-outcome : goal.returns-clause-outcome
+returns-clause-outcome g c =
+    let all : c.loop-number.number ≡ length c.args.self.now.ids = omega (arith, c.loop-number-test.false, c.loop-number.auto.number-end, c.num_commits-number-end.ensures.ids) in
+    stats_of_all c.args.self.now c.loop-number.number _ c.num_commits-number-end.ensures.layer all c.loop-number.invariant.summary

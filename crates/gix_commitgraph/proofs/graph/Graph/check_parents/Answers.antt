@@ -9,7 +9,7 @@ use Rattle.gix_commitgraph.proofs.graph.Graph.check_parents.Goals as goal
 pub overflow_add-count : goal.overflow_add-count
 overflow_add-count g c =
     let few = numbers-few c.args.self.now c.args.span c.args.commit.now c.args.pos.0 c.requires.span c.requires.commit in
-    let taken = numbers-taken _ _ c.in-Some.parent c.in-Ok.parent c.in-Some.ensures.steps c.in-Ok.is in
+    let taken = numbers-taken _ _ c.in-Some.parent c.in-Ok.parent c.in-Some.ensures.steps.steps c.in-Ok.is in
     omega (arith, few, c.loop-parent.invariant.count, ap length taken)
 
 pub returns-clause-parents : goal.returns-clause-parents
@@ -17,7 +17,7 @@ returns-clause-parents g c =
     let layers = c.args.self.now in
     let here = span-commit layers c.args.span c.args.commit.now c.args.pos.0 c.requires.span c.requires.commit in
     let numbers = numbers-in_graph layers c.args.span c.args.commit.now c.args.pos.0 c.requires.span here in
-    let none : parents_left c.loop-parent.parent-iterator ≡ [] = c.in-None.ensures.steps.0 in
+    let none : parents_left c.loop-parent.parent-iterator ≡ [] = c.in-None.ensures.steps.steps.0 in
     record {
       count = omega (arith, c.loop-parent.invariant.count, ap (λ items. length (numbers_of items)) none, ap length numbers);
       max_generation =

@@ -1,0 +1,4 @@
+mod AllGiven
+mod KnownParents
+mod Stored
+mod Within

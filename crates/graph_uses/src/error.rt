@@ -1,0 +1,25 @@
+//! Why a question about a commit-graph has no answer.
+
+use gix_commitgraph::opening::OpenError;
+use gix_commitgraph::verify::VerifyError;
+use gix_hash_core::IdError;
+use std::alloc::AllocError;
+use std::convert::Infallible;
+use thiserror::Error;
+
+/// Why a question about the commit-graph at a path has no answer.
+#[derive(Debug, Drop, PartialEq, Eq, Error)]
+pub enum QueryError {
+    /// No graph was opened.
+    #[error("the graph was not opened: {0}")]
+    Open(#[from] OpenError),
+    /// The graph failed its check.
+    #[error("the graph failed its check: {0}")]
+    Check(#[from] VerifyError<Infallible>),
+    /// The text spells no id.
+    #[error("the text spells no id: {0}")]
+    Id(#[from] IdError),
+    /// An allocation failed.
+    #[error("out of memory")]
+    OutOfMemory(#[from(alloc)] AllocError),
+}
