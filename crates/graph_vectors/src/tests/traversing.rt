@@ -50,7 +50,7 @@ fn faults_of_the_commits(rt: HostRuntime) -> Result<(), Fail> {
 }
 
 #[test]
-fn faults_of_a_damaged_layer(rt: HostRuntime) -> Result<(), Fail> {
+fn faults_of_the_layer(rt: HostRuntime) -> Result<(), Fail> {
     let rows: [(usize, &[u8], TraverseError<Refused>, u32); 3] = [
         (124, &[0; 4], TraverseError::Fan { byte: 17 }, 0),
         (

@@ -159,7 +159,7 @@ fn calls_are_in_the_order_of_the_graph(rt: HostRuntime) -> Result<(), Fail> {
 }
 
 #[test]
-fn a_refusal_of_the_processor_ends_the_check(rt: HostRuntime) -> Result<(), Fail> {
+fn a_refusal_of_the_processor_is_handed_back(rt: HostRuntime) -> Result<(), Fail> {
     let (answer, seen) = checked(rt.alloc(), &graph(&rt, rt.alloc(), &[TEN])?, Some(0x33));
     let (pos, error) = (Position(2), Refused::Commit);
     assert_eq!(rt; answer, Err(VerifyError::Processor { pos, error }));
