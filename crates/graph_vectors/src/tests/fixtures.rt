@@ -30,7 +30,7 @@ pub(super) fn written(
     Ok(bytes)
 }
 
-// Numbers of four bytes, each so many times.
+// Numbers of four bytes, each repeated as often as the count before it says.
 pub(super) fn words(alloc: Global, runs: &[(u32, u32)]) -> Result<Vec<u8>, AllocError> {
     let mut bytes = Vec::new(alloc);
     for (count, number) in runs {
@@ -128,7 +128,7 @@ pub(super) fn damaged_diamond(
     Ok(file)
 }
 
-// A folder in memory whose reads run out of memory after so many.
+// A folder in memory of which all reads but the first ones find no memory left.
 #[derive(Drop)]
 pub(super) struct Refusing {
     pub(super) memory: Memory,

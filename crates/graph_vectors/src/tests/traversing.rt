@@ -10,8 +10,8 @@ use std::test::Fail;
 #[derive(Clone, Copy, Debug, PartialEq, Eq)]
 struct Refused;
 
-// Why the layer of a file is refused where the processor always answers this, and how often it was
-// called.
+// Why the check refuses the layer where the processor always answers this, and how often the
+// processor was called.
 fn refusal_of(
     alloc: Global,
     file: &File,
@@ -98,7 +98,8 @@ fn the_processor_comes_before_the_parents(rt: HostRuntime) -> Result<(), Fail> {
     Ok(())
 }
 
-// What the check of a right layer answers, and the positions of the commits that it called on.
+// What the check of a right layer answers, and the positions of the commits on which it called the
+// processor.
 fn traversed(alloc: Global, file: &File) -> Result<(Outcome, Vec<u32>), Fail> {
     let mut positions = Vec::new(alloc);
     let outcome = file.traverse(

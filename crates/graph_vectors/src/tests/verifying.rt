@@ -40,7 +40,8 @@ fn graph_of_one(alloc: Global, file: File) -> Result<Graph, Fail> {
     Ok(Graph::new(alloc, files)?)
 }
 
-// The outcome with this longest path, whose commits have so many parents so often.
+// The outcome with this longest path and these counts: numbers of parents, each with the number of
+// commits that have it.
 fn outcome(
     alloc: Global,
     longest_path_length: Option<u32>,
@@ -66,8 +67,8 @@ enum Refused {
     OutOfMemory,
 }
 
-// What the check answers where the processor refuses the commits whose ids begin with this byte
-// alone, and the first bytes of the ids of the commits that it was called on.
+// What the check answers where the processor refuses just the commits whose ids begin with this
+// byte, and the first bytes of the ids of the commits that it was called on, in order.
 fn checked(
     alloc: Global,
     graph: &Graph,
