@@ -3,7 +3,7 @@ use Rattle.std.specs.Prelude.{ℕ, ◌+◌, List, [], ◌∷◌}
 use Rattle.std.specs.List.{flat_map}
 use Rattle.graph_vectors.specs.declared.plan.PlanCommit.{PlanCommit}
 
--- the field of a parent that is not there
+-- the field of a missing parent
 abbrev pub no_parent : ℕ
 no_parent = 0x70000000
 

@@ -1,4 +1,4 @@
-//! The building of a file.
+//! Building a file from a plan.
 
 ghost use Rattle.std.specs.Prelude.{◌≡◌, ◌<◌, ◌++◌, ℕ, List, OnOk, IfOk, All, slice_index};
 ghost use Rattle.graph_vectors.specs.Plan.{IsPlan};
@@ -19,10 +19,14 @@ use std::alloc::{AllocError, Global};
 /// The file of a plan that [`LayerPlan::is_buildable`]. Its chunks are `OIDF`, `OIDL`, `CDAT`, then
 /// `EDGE` if some commit has more than two parents, then `BASE` if there is a base. Each begins
 /// where the one before ends, the first directly after the table. The second field of a commit with
-/// more than two parents is 0x80000000 and the index of its first extra word. Its extra words are
-/// its parents from the second on, the last with the top bit set, and those of commits follow one
-/// another. The trailer is the digest of all before it. The error is want of memory.
+/// more than two parents is 0x80000000 plus the index of its first extra word. Its extra words are
+/// its parents from the second on, the last with the top bit set. The extra words of one commit
+/// follow those of the one before. The trailer is the digest of all bytes before it.
 /// (gitformat-commit-graph, "HEADER" to "TRAILER".)
+///
+/// # Errors
+///
+/// `AllocError` where an allocation failed.
 pub fn build(alloc: Global, plan: &LayerPlan) -> Result<Vec<u8>, AllocError>
     requires { IsPlan plan.now }
     ensures layout { IfOk result (λ bytes. bytes.items ≡ planned_file plan.now) }
@@ -36,7 +40,7 @@ pub fn build(alloc: Global, plan: &LayerPlan) -> Result<Vec<u8>, AllocError>
     Ok(file)
 }
 
-// Adds all but the trailer.
+// Adds everything but the trailer.
 fn push_body(file: &mut Vec<u8>, plan: &LayerPlan, sizes: Sizes) -> Result<(), AllocError>
     requires plan { IsPlan plan.now }
     requires sizes { AreSizes plan.now sizes }

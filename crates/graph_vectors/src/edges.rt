@@ -9,13 +9,13 @@ use crate::plan::PlanCommit;
 use crate::push::push_word;
 use std::alloc::AllocError;
 
-/// The field of a parent that is not there.
+/// The field of a missing parent.
 pub(crate) const NO_PARENT: u32 = 0x70000000;
 
-/// What marks an index of an extra word in a field, and the last word of a list.
+/// The bit that marks a field as the index of an extra word, and the last word of a commit's list.
 const TOP_BIT: u32 = 0x80000000;
 
-/// A file has fewer extra words.
+/// A file has fewer extra words than this.
 const EXTRA_WORDS_LIMIT: usize = 0x80000000;
 
 /// How many extra words a commit with these parents has.
@@ -30,7 +30,7 @@ pub(crate) fn extra_words_len(parents: &[u32]) -> usize
     }
 }
 
-/// How many extra words commits have together.
+/// How many extra words these commits have together.
 pub(crate) fn count_extra_words(commits: &[PlanCommit]) -> usize
     requires { length (all_extra_words commits.now) < top_bit }
     ensures { result ≡ length (all_extra_words commits.now) }
@@ -42,7 +42,7 @@ pub(crate) fn count_extra_words(commits: &[PlanCommit]) -> usize
     words
 }
 
-/// Whether an index of an extra word fits beside the top bit.
+/// Whether the index of each extra word fits in a field beside the top bit.
 pub(crate) fn has_few_extra_words(commits: &[PlanCommit]) -> bool
     ensures { IsTrue result ↔ (length (all_extra_words commits.now) < top_bit) }
 {
@@ -56,7 +56,7 @@ pub(crate) fn has_few_extra_words(commits: &[PlanCommit]) -> bool
     true
 }
 
-/// The two fields of a record, where the commit's extra words begin at this index.
+/// The two parent fields of a record, where the commit's extra words begin at this index.
 pub(crate) fn parent_fields(parents: &[u32], index: u32) -> (u32, u32)
     requires { index < top_bit }
     ensures first { result.0 ≡ first_field parents.now }
@@ -85,7 +85,7 @@ pub(crate) fn push_extra_words(file: &mut Vec<u8>, parents: &[u32]) -> Result<()
     Ok(())
 }
 
-/// Adds the extra words of commits.
+/// Adds the extra words of these commits.
 pub(crate) fn push_edges(file: &mut Vec<u8>, commits: &[PlanCommit]) -> Result<(), AllocError>
     requires { All (λ commit. All (λ parent. parent < no_parent) commit.parents.items) commits.now }
     ensures { OnOk result (file.new.items ≡ file.old.items ++ words_bytes (all_extra_words commits.now)) }

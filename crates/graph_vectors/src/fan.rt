@@ -1,4 +1,4 @@
-//! The fan: how many ids have a first byte that is at most each byte.
+//! The fan: for each byte, how many ids have a first byte that is at most that.
 
 ghost use Rattle.std.specs.Prelude.{◌≡◌, ◌+◌, ◌<◌, ◌^◌, ◌++◌, ℕ, OnOk, length, All, slice_index};
 ghost use Rattle.graph_vectors.specs.Written.{ids_of, ids_with, exact_fan, words_bytes};

@@ -1,8 +1,8 @@
 //! Builds files in Git's commit-graph format from plans, for tests.
 //!
-//! A [`LayerPlan`] says what a file is to say, and [`build`] makes the file: a layer whose decoded
-//! values are the plan's. A plan may say what no right graph does, so that damaged graphs can be
-//! planned.
+//! A [`LayerPlan`] lists what a file is to hold, and [`build`] makes the file: a layer whose
+//! decoded values are the plan's. A plan may break the rules of a graph, so that tests can have
+//! damaged graphs.
 #![tactic(auto)]
 
 mod builder;

@@ -1,4 +1,4 @@
-//! What a file is to say.
+//! What a file is to hold.
 
 ghost use Rattle.std.specs.Prelude.{◌≡◌, ◌<◌, ◌↔◌, IsTrue, All, length};
 ghost use Rattle.gix_hash_core.specs.Kind.{id_len};
@@ -6,9 +6,9 @@ ghost use Rattle.gix_hash_core.specs.Kind.{id_len};
 use crate::edges::{NO_PARENT, has_few_extra_words};
 use gix_hash_core::{Kind, ObjectId};
 
-/// What one file is to say: the commits of a layer, and the ids of the layers below it. It may say
-/// whatever a file can hold: ids need not ascend, ids and trees may be null, parents need not exist,
-/// and generations may be wrong.
+/// What one file is to hold: the commits of a layer, and the checksums of the layers below it. It
+/// may be anything that the format has room for: ids need not ascend, ids and trees may be null,
+/// parents need not exist, and generation numbers may be wrong.
 #[derive(Debug, Drop)]
 pub struct LayerPlan {
     /// The kind of all ids.
@@ -19,7 +19,7 @@ pub struct LayerPlan {
     pub commits: Vec<PlanCommit>,
 }
 
-/// What a file is to say of one commit ("Commit Data").
+/// What a file is to hold for one commit ("Commit Data").
 #[derive(Debug, Drop)]
 pub struct PlanCommit {
     /// The commit's own id.
@@ -28,31 +28,32 @@ pub struct PlanCommit {
     pub tree: ObjectId,
     /// The graph positions of its parents, in order.
     pub parents: Vec<u32>,
-    /// The generation number, right or wrong.
+    /// The generation number, which may be wrong.
     pub generation: u32,
-    /// The committer time, in seconds since 1970-01-01 00:00:00 UTC.
+    /// The committer's time, in seconds since 1970-01-01 00:00:00 UTC.
     pub time: u64,
 }
 
-/// The greatest generation that 30 bits hold.
+/// The greatest generation number that fits in 30 bits.
 const MAX_GENERATION: u32 = 1073741823;
 
-/// The greatest time that 34 bits hold.
+/// The greatest time that fits in 34 bits.
 const MAX_TIME: u64 = 17179869183;
 
 /// The most bases that the header's byte can count.
 const MAX_BASES: usize = 255;
 
-/// A file has fewer commits.
+/// A file has fewer commits than this.
 const COMMITS_LIMIT: usize = 2147483648;
 
 impl LayerPlan {
     ghost use Rattle.graph_vectors.specs.Plan.{IsPlan};
 
-    /// Whether a file can say all of it: all ids are of its kind, there are at most 255 bases and
-    /// fewer than 2147483648 commits, each generation is at most 1073741823 and each time at most
-    /// 17179869183, each parent is below 0x70000000, and the commits with more than two parents
-    /// have fewer than 2147483648 parents together from the second of each on.
+    /// Whether a file can hold all of it: all ids are of the plan's kind, there are at most 255
+    /// bases and fewer than 2147483648 commits, each generation number is at most 1073741823 and
+    /// each time at most 17179869183, each parent is below 0x70000000, and there are fewer than
+    /// 2147483648 extra words, which are the parents from the second on of each commit that has
+    /// more than two.
     pub fn is_buildable(&self) -> bool
         ensures { IsTrue result ↔ IsPlan self.now }
     {
@@ -67,7 +68,7 @@ impl LayerPlan {
 impl PlanCommit {
     ghost use Rattle.graph_vectors.specs.Plan.{IsPlannedCommit};
 
-    // Whether a record can say it.
+    // Whether a record can hold it.
     fn fits(&self, kind: Kind) -> bool
         ensures { IsTrue result ↔ IsPlannedCommit kind self.now }
     {

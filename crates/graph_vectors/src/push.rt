@@ -1,4 +1,4 @@
-//! What goes to the end of a file.
+//! Numbers and ids, added at the end of a file.
 
 ghost use Rattle.std.specs.Prelude.{◌≡◌, ◌++◌, OnOk};
 ghost use Rattle.graph_vectors.specs.Chunks.{word_bytes, long_bytes};
@@ -31,7 +31,7 @@ pub(crate) fn push_id(file: &mut Vec<u8>, id: &ObjectId) -> Result<(), AllocErro
     file.extend_from_slice(id.as_oid().as_bytes())
 }
 
-/// Adds the bytes of ids.
+/// Adds the bytes of these ids, one after another.
 pub(crate) fn push_ids(file: &mut Vec<u8>, ids: &[ObjectId]) -> Result<(), AllocError>
     ensures { OnOk result (file.new.items ≡ file.old.items ++ ids_bytes ids.now) }
 {
@@ -41,7 +41,7 @@ pub(crate) fn push_ids(file: &mut Vec<u8>, ids: &[ObjectId]) -> Result<(), Alloc
     Ok(())
 }
 
-/// Adds the bytes of commits' ids.
+/// Adds the bytes of the ids of these commits, one after another.
 pub(crate) fn push_commit_ids(file: &mut Vec<u8>, commits: &[PlanCommit]) -> Result<(), AllocError>
     ensures { OnOk result (file.new.items ≡ file.old.items ++ ids_bytes (ids_of commits.now)) }
 {

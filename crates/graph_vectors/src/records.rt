@@ -9,7 +9,7 @@ use crate::plan::PlanCommit;
 use crate::push::{push_id, push_long, push_word};
 use std::alloc::AllocError;
 
-/// How many bits of a record's last number are the time. The generation stands above them.
+/// How many bits of a record's last number are the time. The generation number is in those above.
 const TIME_BITS: u32 = 34;
 
 /// Adds the record of a commit whose extra words begin at this index.
@@ -31,7 +31,7 @@ fn push_record(file: &mut Vec<u8>, commit: &PlanCommit, index: u32) -> Result<()
     Ok(())
 }
 
-/// Adds the records of commits, whose extra words follow one another.
+/// Adds the records of these commits, whose extra words follow one another.
 pub(crate) fn push_records(file: &mut Vec<u8>, commits: &[PlanCommit]) -> Result<(), AllocError>
     requires words { length (all_extra_words commits.now) < top_bit }
     requires generations { All (λ commit. commit.generation ≤ 1073741823) commits.now }

@@ -9,7 +9,7 @@ use crate::plan::LayerPlan;
 /// The fan has 256 numbers of four bytes.
 pub(crate) const FAN_LEN: usize = 1024;
 
-/// A record has so many bytes beside its tree's id.
+/// The bytes of a record beside its tree's id.
 const RECORD_FIELDS_LEN: usize = 16;
 
 const WORD_LEN: usize = 4;
@@ -18,7 +18,7 @@ const HEADER_LEN: usize = 8;
 
 const TABLE_ENTRY_LEN: usize = 12;
 
-/// The sizes of the chunks but for the fan, 0 where a chunk is missing.
+/// The sizes in bytes of all chunks but the fan, 0 where a chunk is missing.
 #[derive(Clone, Copy)]
 pub(crate) struct Sizes {
     pub(crate) ids: usize,

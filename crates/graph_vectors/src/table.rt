@@ -35,7 +35,7 @@ pub(crate) fn push_header(
     file.extend_from_slice(&[VERSION, kind, chunks, plan.bases.len() as u8])
 }
 
-/// Adds the entry of a chunk of so many bytes, and returns where the next chunk begins.
+/// Adds the entry of a chunk of this size in bytes, and returns where the next chunk begins.
 fn push_entry(
     file: &mut Vec<u8>,
     id: [u8; 4],
@@ -51,7 +51,7 @@ fn push_entry(
     Ok(offset + size)
 }
 
-/// The same for a chunk that is missing where it has no bytes.
+/// The same for a chunk that is left out where it would have no bytes.
 fn push_optional_entry(
     file: &mut Vec<u8>,
     id: [u8; 4],

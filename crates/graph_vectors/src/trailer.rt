@@ -1,4 +1,4 @@
-//! A right checksum for bytes that were changed.
+//! The right checksum for a file whose bytes were changed.
 
 ghost use Rattle.std.specs.Prelude.{◌≡◌, ◌-◌, ◌≤◌, length, take, drop};
 ghost use Rattle.gix_hash_core.specs.Digest.{digest_of};
@@ -6,9 +6,10 @@ ghost use Rattle.gix_hash_core.specs.Kind.{id_len};
 
 use gix_hash_core::{Kind, digest};
 
-/// Sets the last bytes, 20 for SHA-1 or 32 for SHA-256, to the digest of those before them, so that
-/// a file of this kind whose bytes were changed has the checksum that its section "TRAILER" asks
-/// for. There have to be so many bytes. The others stay, and no memory is taken.
+/// Sets the last bytes, 20 for SHA-1 or 32 for SHA-256, to the digest of the bytes before them, so
+/// that a file of this kind whose bytes were changed has the right checksum again
+/// (gitformat-commit-graph, "TRAILER"). There have to be at least that many bytes. The other bytes
+/// are left as they are, and nothing is allocated.
 pub fn reseal(kind: Kind, bytes: &mut Vec<u8>)
     requires { id_len kind ≤ length bytes.old.items }
     ensures len { length bytes.new.items ≡ length bytes.old.items }

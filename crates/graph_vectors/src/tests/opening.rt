@@ -1,4 +1,4 @@
-use crate::tests::{END, opened, words, written};
+use crate::tests::fixtures::{END, opened, words, written};
 use gix_chunk_core::ChunkError;
 use gix_commitgraph::FileError;
 use gix_hash_core::Kind;
@@ -16,7 +16,7 @@ fn refusal_of(
 ) -> Result<Option<FileError>, Fail> {
     let header = [b'C', b'G', b'P', b'H', 1, 1, chunks, bases];
     let bytes = written(alloc, &header, entries, parts)?;
-    Ok(opened(alloc, bytes).err())
+    Ok(opened(alloc, bytes, "").err())
 }
 
 const FAN: &[u8] = &[0; 1024];
@@ -35,22 +35,31 @@ const ENTRIES: [(&[u8; 4], u64); 4] = [
 fn the_least_files(rt: HostRuntime) -> Result<(), Fail> {
     let alloc = rt.alloc();
     let short = Vec::from_slice(alloc, &[0; 1099])?;
-    assert_eq!(rt; opened(alloc, short).err(), Some(FileError::TooSmall));
-    let file = opened(
-        alloc,
-        written(alloc, b"CGPH\x01\x01\x03\x00", &ENTRIES, &[FAN, TRAILER])?,
-    )?;
-    assert_eq!(rt; file.num_commits(), 0);
-    assert_eq!(rt; file.object_hash(), Kind::Sha1);
-    assert!(rt; file.iter_commits().next().is_none());
-    let text = format!(in alloc; "{file:?}")?;
-    assert_eq!(rt; text.as_str(), r#"File("""")"#);
-    let header = b"CGPH\x01\x02\x03\x00";
-    let file = opened(alloc, written(alloc, header, &ENTRIES, &[FAN, &[0; 32]])?)?;
-    assert_eq!(rt; file.num_commits(), 0);
-    assert_eq!(rt; file.object_hash(), Kind::Sha256);
-    let short = written(alloc, header, &ENTRIES, &[FAN, TRAILER])?;
-    assert_eq!(rt; opened(alloc, short).err(), Some(FileError::Trailer));
+    assert_eq!(rt; opened(alloc, short, "").err(), Some(FileError::TooSmall));
+    let rows: [(&[u8; 8], &[u8], Kind); 2] = [
+        (b"CGPH\x01\x01\x03\x00", TRAILER, Kind::Sha1),
+        (b"CGPH\x01\x02\x03\x00", &[0; 32], Kind::Sha256),
+    ];
+    for (header, trailer, kind) in rows {
+        let bytes = written(alloc, header, &ENTRIES, &[FAN, trailer])?;
+        let file = opened(alloc, bytes, "")?;
+        assert_eq!(rt; file.num_commits(), 0);
+        assert_eq!(rt; file.object_hash(), kind);
+        assert!(rt; file.iter_commits().next().is_none());
+    }
+    Ok(())
+}
+
+#[test]
+fn a_file_is_shown_by_its_path(rt: HostRuntime) -> Result<(), Fail> {
+    let header = b"CGPH\x01\x01\x03\x00";
+    let bytes = written(rt.alloc(), header, &ENTRIES, &[FAN, TRAILER])?;
+    let file = opened(rt.alloc(), bytes, "a \"graph\"")?;
+    let text = format!(in rt.alloc(); "{file:?} {file:#?}")?;
+    assert_eq!(rt;
+        text.as_str(),
+        r#"File(""a \"graph\""") File(""a \"graph\""")"#
+    );
     Ok(())
 }
 
@@ -80,7 +89,7 @@ fn chunks_that_may_stand_there(rt: HostRuntime) -> Result<(), Fail> {
     ];
     for (entries, rest) in rows {
         let bytes = written(rt.alloc(), b"CGPH\x01\x01\x04\x00", &entries, &[FAN, rest])?;
-        let file = opened(rt.alloc(), bytes)?;
+        let file = opened(rt.alloc(), bytes, "")?;
         assert_eq!(rt; file.num_commits(), 0);
     }
     Ok(())
@@ -88,15 +97,16 @@ fn chunks_that_may_stand_there(rt: HostRuntime) -> Result<(), Fail> {
 
 #[test]
 fn refused_headers(rt: HostRuntime) -> Result<(), Fail> {
-    let rows: [(&[u8; 8], FileError); 4] = [
+    let rows: [(&[u8; 8], FileError); 5] = [
         (b"CGPX\x01\x01\x03\x00", FileError::Signature),
         (b"CGPH\x02\x01\x03\x00", FileError::Version(2)),
         (b"CGPH\x01\x03\x03\x00", FileError::Hash(3)),
         (b"CGPH\x01\x01\x03\x01", FileError::BaseMissing),
+        (b"CGPH\x01\x02\x03\x00", FileError::Trailer),
     ];
     for (header, want) in rows {
         let bytes = written(rt.alloc(), header, &ENTRIES, &[FAN, TRAILER])?;
-        assert_eq!(rt; opened(rt.alloc(), bytes).err(), Some(want));
+        assert_eq!(rt; opened(rt.alloc(), bytes, "").err(), Some(want));
     }
     Ok(())
 }

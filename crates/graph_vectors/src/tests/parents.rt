@@ -1,7 +1,8 @@
-use crate::tests::{END, opened, words, written};
+ghost use Rattle.std.specs.Iterator.{IsFinite};
+
+use crate::tests::fixtures::{END, opened, words, written};
 use gix_commitgraph::file::commit::ParentError;
-use gix_commitgraph::file::{self, Commit};
-use gix_commitgraph::{File, Position};
+use gix_commitgraph::{File, Position, file};
 use std::alloc::Global;
 use std::test::Fail;
 
@@ -34,19 +35,24 @@ fn one_commit(alloc: Global, fields: &[u8; 16], edges: Option<&[u8]>) -> Result<
             written(alloc, b"CGPH\x01\x01\x03\x00", &entries, &parts)?
         }
     };
-    Ok(opened(alloc, bytes)?)
+    Ok(opened(alloc, bytes, "")?)
 }
 
-// The hint before each item, and the items.
-fn walked(alloc: Global, commit: Commit<'_>) -> Result<String, Fail> {
+// The hint before each item, and the items. It calls the trait's `next`, where a call on a
+// `Parents` would be one of its own `next`.
+fn walked<I>(alloc: Global, parents: &mut I) -> Result<String, Fail>
+where
+    I: Iterator<Item = Result<Position, ParentError>>,
+    requires can { I.can_next parents.now }
+    requires ends { IsFinite (I.remaining parents.now) }
+{
     let mut text = String::new(alloc);
-    let mut parents = commit.iter_parents();
     for _ in 0..5 {
         let hint = parents.size_hint();
         let item = match parents.next() {
             Some(Ok(Position(parent))) => format!(in alloc; "{hint:?} {parent}, ")?,
             Some(Err(error)) => format!(in alloc; "{hint:?} {error}, ")?,
-            None => format!(in alloc; "{hint:?} | ")?,
+            None => return Ok(format!(in alloc; "{text}{hint:?}")?),
         };
         text.push_str(&item)?;
     }
@@ -80,93 +86,90 @@ fn generations_and_times(rt: HostRuntime) -> Result<(), Fail> {
 
 #[test]
 fn parents_of_one_commit(rt: HostRuntime) -> Result<(), Fail> {
-    let rows: [(&[u8; 16], Option<&[u8]>, &str); 10] = [
+    let rows: [(&[u8; 16], Option<&[u8]>, &str); 11] = [
         (
             b"\x70\0\0\0\x70\0\0\0\0\0\0\x04\0\0\0\0",
             None,
-            "(0, Some(0)) | ",
+            "(0, Some(0))",
         ),
         (
             b"\x70\0\0\0\0\0\0\x07\0\0\0\x04\0\0\0\0",
             None,
-            "(1, Some(1)) SecondWithoutFirst, (0, Some(0)) | ",
+            "(1, Some(1)) SecondWithoutFirst, (0, Some(0))",
         ),
         (
             b"\x80\0\0\0\x70\0\0\0\0\0\0\x04\0\0\0\0",
             None,
-            "(1, Some(1)) FirstIsEdgeIndex, (0, Some(0)) | ",
+            "(1, Some(1)) FirstIsEdgeIndex, (0, Some(0))",
         ),
         (
             b"\0\0\0\x05\x70\0\0\0\0\0\0\x04\0\0\0\0",
             None,
-            "(1, Some(1)) 5, (0, Some(0)) | ",
+            "(1, Some(1)) 5, (0, Some(0))",
         ),
         (
             b"\0\0\0\x05\0\0\0\x07\0\0\0\x04\0\0\0\0",
             None,
-            "(2, Some(2)) 5, (1, Some(1)) 7, (0, Some(0)) | ",
+            "(2, Some(2)) 5, (1, Some(1)) 7, (0, Some(0))",
         ),
         (
             b"\0\0\0\x05\x80\0\0\0\0\0\0\x04\0\0\0\0",
             Some(b"\0\0\0\x03\x80\0\0\x02"),
-            "(2, None) 5, (1, None) 3, (1, None) 2, (0, Some(0)) | ",
+            "(2, None) 5, (1, None) 3, (1, None) 2, (0, Some(0))",
         ),
         (
             b"\0\0\0\x05\x80\0\0\x02\0\0\0\x04\0\0\0\0",
             Some(b"\0\0\0\x03\x80\0\0\x02"),
-            "(2, None) 5, (1, None) EdgeOverflow, (0, Some(0)) | ",
+            "(2, None) 5, (1, None) EdgeOverflow, (0, Some(0))",
         ),
         (
             b"\0\0\0\x05\x80\0\0\0\0\0\0\x04\0\0\0\0",
             None,
-            "(2, None) 5, (1, None) NoEdgeList, (0, Some(0)) | ",
+            "(2, None) 5, (1, None) NoEdgeList, (0, Some(0))",
         ),
         (
             b"\0\0\0\x05\x80\0\0\0\0\0\0\x04\0\0\0\0",
             Some(b"\0\0\0"),
-            "(2, None) 5, (1, None) EdgeOverflow, (0, Some(0)) | ",
+            "(2, None) 5, (1, None) EdgeOverflow, (0, Some(0))",
+        ),
+        (
+            b"\0\0\0\x05\x80\0\0\0\0\0\0\x04\0\0\0\0",
+            Some(b""),
+            "(2, None) 5, (1, None) EdgeOverflow, (0, Some(0))",
         ),
         (
             b"\0\0\0\x05\x80\0\0\0\0\0\0\x04\0\0\0\0",
             Some(b"\x70\0\0\0\x80\0\0\x01"),
-            "(2, None) 5, (1, None) 1879048192, (1, None) 1, (0, Some(0)) | ",
+            "(2, None) 5, (1, None) 1879048192, (1, None) 1, (0, Some(0))",
         ),
     ];
     for (fields, edges, want) in rows {
         let file = one_commit(rt.alloc(), fields, edges)?;
         assert_eq!(rt; file.num_commits(), 1);
-        let text = walked(rt.alloc(), file.commit_at(file::Position(0)))?;
-        assert!(rt; text.as_str().starts_with(want), "{text}");
+        let mut parents = file.commit_at(file::Position(0)).iter_parents();
+        let text = walked(rt.alloc(), &mut parents)?;
+        assert_eq!(rt; text.as_str(), want);
     }
     Ok(())
 }
 
 #[test]
 fn the_first_parent(rt: HostRuntime) -> Result<(), Fail> {
-    let file = one_commit(rt.alloc(), b"\x70\0\0\0\x70\0\0\0\0\0\0\x04\0\0\0\0", None)?;
-    assert_eq!(rt; file.num_commits(), 1);
-    assert_eq!(rt; file.commit_at(file::Position(0)).parent1(), Ok(None));
-    let file = one_commit(rt.alloc(), b"\x70\0\0\0\x80\0\0\0\0\0\0\x04\0\0\0\0", None)?;
-    assert_eq!(rt; file.num_commits(), 1);
-    assert_eq!(rt;
-        file.commit_at(file::Position(0)).parent1(),
-        Err(ParentError::SecondWithoutFirst)
-    );
-    let file = one_commit(
-        rt.alloc(),
-        b"\0\0\0\x05\x80\0\0\0\0\0\0\x04\0\0\0\0",
-        Some(b""),
-    )?;
-    assert_eq!(rt; file.num_commits(), 1);
-    assert_eq!(rt;
-        file.commit_at(file::Position(0)).parent1(),
-        Ok(Some(Position(5)))
-    );
-    let text = walked(rt.alloc(), file.commit_at(file::Position(0)))?;
-    assert!(rt;
-        text.as_str()
-            .starts_with("(2, None) 5, (1, None) EdgeOverflow, (0, Some(0)) | "),
-        "{text}"
-    );
+    let rows: [(&[u8; 16], Result<Option<Position>, ParentError>); 3] = [
+        (b"\x70\0\0\0\x70\0\0\0\0\0\0\x04\0\0\0\0", Ok(None)),
+        (
+            b"\x70\0\0\0\x80\0\0\0\0\0\0\x04\0\0\0\0",
+            Err(ParentError::SecondWithoutFirst),
+        ),
+        (
+            b"\0\0\0\x05\x80\0\0\0\0\0\0\x04\0\0\0\0",
+            Ok(Some(Position(5))),
+        ),
+    ];
+    for (fields, want) in rows {
+        let file = one_commit(rt.alloc(), fields, Some(b""))?;
+        assert_eq!(rt; file.num_commits(), 1);
+        assert_eq!(rt; file.commit_at(file::Position(0)).parent1(), want);
+    }
     Ok(())
 }
