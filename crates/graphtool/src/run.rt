@@ -9,6 +9,7 @@ ghost use Rattle.graphtool.specs.List.{MayList, SpellsListing, list_text, list_s
 ghost use Rattle.graphtool.specs.Find.{MayBeFound, MayFind, find_text, find_status};
 ghost use Rattle.graphtool.specs.Verify.{Passes, Fails, MayPass, MayVerify, verify_text, verify_status};
 
+use crate::line::write_line;
 use crate::listing::listing;
 use crate::refusal::Refusal;
 use crate::report::{Found, write_outcome};
@@ -127,17 +128,18 @@ pub fn run_find<T: Folder, W: Write>(
     writer: &mut W,
 ) -> Result<u8, WriteFailed>
     ensures written { IfOk result (WritesAnswer find_text find_status
-        (MayFind hex.now (MayOpen (T.tree folder.old) path.now (T.failure_count folder.old) (T.failure_count folder.new)))
+        (MayFind hex.now (folder.new ≡ folder.old)
+        (MayOpen (T.tree folder.old) path.now (T.failure_count folder.old) (T.failure_count folder.new)))
         (W.contents writer.old) (W.contents writer.new)) }
     ensures tree { T.tree folder.new ≡ T.tree folder.old }
 {
     match find(alloc, folder, path, hex) {
         Ok(Some(found)) => {
-            writeln!(writer, "{found}")?;
+            write_line(writer, found)?;
             Ok(DONE)
         }
         Ok(None) => {
-            writeln!(writer, "none")?;
+            write_line(writer, "none")?;
             Ok(NOT_FOUND)
         }
         Err(refusal) => refuse(writer, &refusal),
@@ -151,7 +153,7 @@ fn find<T: Folder>(
     path: &str,
     hex: &str,
 ) -> Result<Option<Found>, Refusal>
-    ensures may { MayFind hex.now
+    ensures may { MayFind hex.now (folder.new ≡ folder.old)
         (MayOpen (T.tree folder.old) path.now (T.failure_count folder.old) (T.failure_count folder.new)) result }
     ensures tree { T.tree folder.new ≡ T.tree folder.old }
 {
@@ -177,6 +179,6 @@ fn found_in(graph: &Graph, id: oid<'_>) -> Option<Found>
 fn refuse<W: Write>(writer: &mut W, refusal: &Refusal) -> Result<u8, WriteFailed>
     ensures { IfOk result (WritesRefusal refusal.now (W.contents writer.old) (W.contents writer.new)) }
 {
-    writeln!(writer, "{refusal}")?;
+    write_line(writer, refusal)?;
     Ok(refusal.status())
 }
