@@ -38,6 +38,7 @@ pub mod SoundLaws
 pub mod Opens
 pub mod Paths
 pub mod Chains
+pub mod Sources
 pub mod InfoFolders
 pub mod Texts
 pub mod CommitFaults

@@ -34,6 +34,7 @@ pub mod Walks
 pub mod Sound
 pub mod Paths
 pub mod OpenRefusals
+pub mod OpenAlways
 pub mod OpenAnswer
 pub mod Opening
 pub mod Tallies

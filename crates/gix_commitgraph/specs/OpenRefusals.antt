@@ -1,5 +1,5 @@
--- What an opener answers for the refusals of the calls beneath it. Want of memory stays want of memory.
-use Rattle.std.specs.Prelude.{ℕ}
+-- What an opener answers for the refusals of the calls beneath it. Out of memory stays out of memory.
+use Rattle.std.specs.Prelude.{◌≡◌, ℕ, ⊤}
 use Rattle.graph_folder.specs.declared.folder.ReadError.{ReadError}
 use Rattle.graph_folder.specs.declared.folder.ReadError.TheVariants.{NotOpened as read_NotOpened, Device as read_Device, OutOfMemory as read_OutOfMemory}
 use Rattle.gix_commitgraph.specs.declared.error.FileError.{FileError}
@@ -22,3 +22,9 @@ layer_refused i error = Layer i error
 abbrev pub graph_refused : GraphError → OpenError
 graph_refused graph_OutOfMemory = OutOfMemory
 graph_refused error = Graph error
+
+-- out of memory is an error of its own: no layer and no graph is refused for it
+abbrev pub OutOfMemoryStandsAlone : OpenError → Type 0
+OutOfMemoryStandsAlone (Layer i error) = ¬ (error ≡ file_OutOfMemory)
+OutOfMemoryStandsAlone (Graph error) = ¬ (error ≡ graph_OutOfMemory)
+OutOfMemoryStandsAlone _ = ⊤

@@ -53,9 +53,10 @@ impl Model for File {
     ghost invariant = { IsKept };
 }
 
-/// The path alone, as `File("P")`.
+/// The path alone, as `File("P")`, where P is the debug text of the path, with its own quotes: the
+/// path `a` gives `File(""a"")`, under `{:#?}` too.
 impl fmt::Debug for File {
     fn fmt<W: fmt::Write>(&self, f: &mut fmt::Formatter<W>) -> fmt::Result {
-        f.debug_tuple("File").field(&self.path()).finish()
+        write!(f, "File(\"{:?}\")", self.path())
     }
 }

@@ -7,8 +7,11 @@
 //! place: opening, and the counts that a check makes, may answer want of memory.
 #![tactic(auto)]
 
-ghost use Rattle.std.specs.Prelude.{Some};
+ghost use Rattle.std.specs.Prelude.{Some, IfOk, IfErr};
 ghost use Rattle.std.specs.Fmt.{styled_decimal};
+ghost use Rattle.gix_commitgraph.specs.Graph.{IsGraph};
+ghost use Rattle.gix_commitgraph.specs.OpenAlways.{IsFromPath};
+ghost use Rattle.gix_commitgraph.specs.OpenRefusals.{OutOfMemoryStandsAlone};
 
 mod access;
 mod error;
@@ -61,6 +64,10 @@ impl fmt::Display for Position {
 
 /// Opens the commit-graph at a path, which is that of a file, a chain folder or an info folder:
 /// [`Graph::at`].
-pub fn at<R: Files>(rt: &R, alloc: Global, path: &str) -> Result<Graph, OpenError> {
+pub fn at<R: Files>(rt: &R, alloc: Global, path: &str) -> Result<Graph, OpenError>
+    ensures from { IfOk result (IsFromPath path.now) }
+    ensures graph { IfOk result IsGraph }
+    ensures memory { IfErr result OutOfMemoryStandsAlone }
+{
     Graph::at(rt, alloc, path)
 }

@@ -5,12 +5,16 @@
 //! Over the file system, a [`Disk`](graph_folder::folder::Disk), these openers are [`Graph::at`]
 //! and its kin.
 
-ghost use Rattle.std.specs.Prelude.{◌≡◌, IfOk, IsErrOf, string_bytes};
+ghost use Rattle.std.specs.Prelude.{◌≡◌, ◌⊎◌, IfOk, IfErr, IsErrOf, MatchResult, string_bytes};
 ghost use Rattle.std.specs.Option.{ForSome};
 ghost use Rattle.graph_folder.specs.Tree.{is_file};
+ghost use Rattle.gix_commitgraph.specs.Graph.{IsGraph};
+ghost use Rattle.gix_commitgraph.specs.OpenAlways.{IsFromFile, IsFromChain, IsFromInfo, IsFromPath};
+ghost use Rattle.gix_commitgraph.specs.OpenAlways.{IsReadError, IsLayerError, IsFileError, IsFolderError};
 ghost use Rattle.gix_commitgraph.specs.OpenAnswer.{IsAsExpected, is_settled, failures_after_opening, result_map};
 ghost use Rattle.gix_commitgraph.specs.Opening.{bytes_at, layer_of_bytes, layer_at, graph_of_layers, file_opened};
 ghost use Rattle.gix_commitgraph.specs.Opening.{InfoOpens, FolderOpens, Opens, MetFailureIfDevice};
+ghost use Rattle.gix_commitgraph.specs.OpenRefusals.{OutOfMemoryStandsAlone};
 ghost use Rattle.gix_commitgraph.specs.Paths.{chain_path};
 
 mod by_path;
@@ -52,6 +56,9 @@ pub fn open_file_in<T: Folder>(
     ensures opens { ForSome (T.tree folder.old) (λ tree. IsAsExpected result (file_opened tree path.now)) }
     ensures tree { T.tree folder.new ≡ T.tree folder.old }
     ensures failures { T.failure_count folder.new ≡ failures_after_opening result (T.failure_count folder.old) }
+    ensures from { MatchResult result (IsFromFile path.now) IsFileError }
+    ensures graph { IfOk result IsGraph }
+    ensures memory { IfErr result OutOfMemoryStandsAlone }
 {
     let file = open_layer(alloc, folder, 0, String::from_str(alloc, path)?)?;
     let mut files = Vec::new(alloc);
@@ -76,6 +83,9 @@ pub fn open_info_dir_in<T: Folder>(
         (λ tree. InfoOpens tree path.now (T.failure_count folder.old) (T.failure_count folder.new) result) }
     ensures device { MetFailureIfDevice result (T.failure_count folder.old) (T.failure_count folder.new) }
     ensures tree { T.tree folder.new ≡ T.tree folder.old }
+    ensures from { MatchResult result (IsFromInfo path.now) IsFolderError }
+    ensures graph { IfOk result IsGraph }
+    ensures memory { IfErr result OutOfMemoryStandsAlone }
 {
     let file = join(alloc, path, "commit-graph")?;
     let answer = open_file_in(alloc, folder, file.as_str());
@@ -107,6 +117,9 @@ pub fn open_in<T: Folder>(alloc: Global, folder: &mut T, path: &str) -> Result<G
         (λ tree. Opens tree path.now (T.failure_count folder.old) (T.failure_count folder.new) result) }
     ensures device { MetFailureIfDevice result (T.failure_count folder.old) (T.failure_count folder.new) }
     ensures tree { T.tree folder.new ≡ T.tree folder.old }
+    ensures from { IfOk result (IsFromPath path.now) }
+    ensures graph { IfOk result IsGraph }
+    ensures memory { IfErr result OutOfMemoryStandsAlone }
 {
     if folder.is_file(alloc, path)? {
         return open_file_in(alloc, folder, path);
@@ -123,6 +136,9 @@ fn open_folder_in<T: Folder>(alloc: Global, folder: &mut T, path: &str) -> Resul
         (λ tree. FolderOpens tree path.now (T.failure_count folder.old) (T.failure_count folder.new) result) }
     ensures device { MetFailureIfDevice result (T.failure_count folder.old) (T.failure_count folder.new) }
     ensures tree { T.tree folder.new ≡ T.tree folder.old }
+    ensures from { IfOk result (λ layers. IsFromChain path.now layers ⊎ IsFromInfo path.now layers) }
+    ensures graph { IfOk result IsGraph }
+    ensures memory { IfErr result OutOfMemoryStandsAlone }
 {
     if has_chain(alloc, folder, path)? {
         open_chain_dir_in(alloc, folder, path)
@@ -152,6 +168,8 @@ fn open_layer<T: Folder>(
     ensures path { IfOk result (λ file. file.path ≡ string_bytes path) }
     ensures tree { T.tree folder.new ≡ T.tree folder.old }
     ensures failures { T.failure_count folder.new ≡ failures_after_opening result (T.failure_count folder.old) }
+    ensures errors { IfErr result (IsLayerError layer) }
+    ensures memory { IfErr result OutOfMemoryStandsAlone }
 {
     let bytes = read_file(alloc, folder, path.as_str())?;
     new_layer(alloc, layer, bytes, path)
@@ -163,6 +181,8 @@ fn read_file<T: Folder>(alloc: Global, folder: &mut T, path: &str) -> Result<Vec
         (λ tree. IsAsExpected (result_map (λ bytes. bytes.items) result) (bytes_at tree path.now)) }
     ensures tree { T.tree folder.new ≡ T.tree folder.old }
     ensures failures { T.failure_count folder.new ≡ failures_after_opening result (T.failure_count folder.old) }
+    ensures errors { IfErr result IsReadError }
+    ensures memory { IfErr result OutOfMemoryStandsAlone }
 {
     Ok(folder.read(alloc, path)?)
 }
@@ -172,6 +192,8 @@ fn new_layer(alloc: Global, layer: usize, bytes: Vec<u8>, path: String) -> Resul
     ensures opens { IsAsExpected result (layer_of_bytes layer bytes.items (string_bytes path)) }
     ensures path { IfOk result (λ file. file.path ≡ string_bytes path) }
     ensures no_device { ¬ (IsErrOf result OpenError.Device) }
+    ensures errors { IfErr result (IsLayerError layer) }
+    ensures memory { IfErr result OutOfMemoryStandsAlone }
 {
     File::new(alloc, bytes, path).map_err(|error| refused_layer(layer, error))
 }
@@ -180,6 +202,10 @@ fn new_layer(alloc: Global, layer: usize, bytes: Vec<u8>, path: String) -> Resul
 fn new_graph(alloc: Global, files: Vec<File>) -> Result<Graph, OpenError>
     ensures opens { IsAsExpected result (graph_of_layers files.items) }
     ensures no_device { ¬ (IsErrOf result OpenError.Device) }
+    ensures layers { IfOk result (λ layers. layers ≡ files.items) }
+    ensures errors { IfErr result IsFileError }
+    ensures graph { IfOk result IsGraph }
+    ensures memory { IfErr result OutOfMemoryStandsAlone }
 {
     Ok(Graph::new(alloc, files)?)
 }

@@ -1,6 +1,8 @@
 use crate::{File, FileError, Position, file};
 use gix_chunk_core::ChunkError;
 use std::alloc::Global;
+use std::collections::{BTreeSet, HashSet};
+use std::hash::Hash;
 use std::test::Fail;
 
 #[test]
@@ -65,7 +67,42 @@ fn a_file_shows_its_path(rt: HostRuntime) -> Result<(), Fail> {
     let bytes = empty_layer(rt.alloc())?;
     let path = String::from_str(rt.alloc(), "a \"graph\"")?;
     let file = File::new(rt.alloc(), bytes, path)?;
-    let text = format!(in rt.alloc(); "{file:?}")?;
-    assert_eq!(rt; text.as_str(), "File(\"a \\\"graph\\\"\")");
+    let want = r#"File(""a \"graph\""")"#;
+    assert_eq!(rt; format!(in rt.alloc(); "{file:?}")?.as_str(), want);
+    assert_eq!(rt; format!(in rt.alloc(); "{file:#?}")?.as_str(), want);
+    Ok(())
+}
+
+// The values in order, each once. A set by order and a set by hash have each of them once too.
+fn sorted_set<T: Ord + Hash + Copy>(alloc: Global, values: &[T]) -> Result<Vec<T>, Fail> {
+    let (mut by_order, mut by_hash) = (BTreeSet::new(alloc), HashSet::new(alloc));
+    let mut sorted = Vec::new(alloc);
+    for value in values {
+        by_order.insert(*value)?;
+        if by_hash.insert(*value)? {
+            sorted.push(*value)?;
+        }
+    }
+    sorted.sort()?;
+    if !sorted.iter().eq(by_order.iter()) {
+        return Err(Fail::new("a set has other positions"));
+    }
+    Ok(sorted)
+}
+
+#[test]
+fn positions_are_sorted_and_put_into_sets(rt: HostRuntime) -> Result<(), Fail> {
+    let in_graph = [Position(256), Position(3), Position(256), Position(1)];
+    let sorted = sorted_set(rt.alloc(), &in_graph)?;
+    assert_eq!(rt;
+        sorted.as_slice(),
+        [Position(1), Position(3), Position(256)].as_slice()
+    );
+    let in_layer = [file::Position(256), file::Position(3), file::Position(3)];
+    let sorted = sorted_set(rt.alloc(), &in_layer)?;
+    assert_eq!(rt;
+        sorted.as_slice(),
+        [file::Position(3), file::Position(256)].as_slice()
+    );
     Ok(())
 }

@@ -1,6 +1,10 @@
 //! The openers over the file system.
 
-ghost use Rattle.std.specs.Prelude.{◌≡◌, IfOk};
+ghost use Rattle.std.specs.Prelude.{◌≡◌, IfOk, IfErr, MatchResult};
+ghost use Rattle.gix_commitgraph.specs.Graph.{IsGraph};
+ghost use Rattle.gix_commitgraph.specs.OpenAlways.{IsFromFile, IsFromChain, IsFromInfo, IsFromPath};
+ghost use Rattle.gix_commitgraph.specs.OpenAlways.{IsLayerError, IsFileError, IsFolderError};
+ghost use Rattle.gix_commitgraph.specs.OpenRefusals.{OutOfMemoryStandsAlone};
 
 use crate::file::File;
 use crate::graph::Graph;
@@ -25,6 +29,8 @@ impl File {
     /// `OutOfMemory` comes where a growth was refused.
     pub fn at<R: Files>(rt: &R, alloc: Global, path: &str) -> Result<File, OpenError>
         ensures path { IfOk result (λ file. file.path ≡ path.now) }
+        ensures errors { IfErr result (IsLayerError 0) }
+        ensures memory { IfErr result OutOfMemoryStandsAlone }
     {
         open_layer(alloc, &mut Disk::new(rt), 0, String::from_str(alloc, path)?)
     }
@@ -33,19 +39,31 @@ impl File {
 impl Graph {
     /// Opens what stands at the path: a file, a chain folder or an info folder, as [`open_in`] does
     /// over the file system, with its refusals.
-    pub fn at<R: Files>(rt: &R, alloc: Global, path: &str) -> Result<Graph, OpenError> {
+    pub fn at<R: Files>(rt: &R, alloc: Global, path: &str) -> Result<Graph, OpenError>
+        ensures from { IfOk result (IsFromPath path.now) }
+        ensures graph { IfOk result IsGraph }
+        ensures memory { IfErr result OutOfMemoryStandsAlone }
+    {
         open_in(alloc, &mut Disk::new(rt), path)
     }
 
     /// Opens the file at the path as a graph of one layer, as [`open_file_in`] does over the file
     /// system, with its refusals.
-    pub fn from_file<R: Files>(rt: &R, alloc: Global, path: &str) -> Result<Graph, OpenError> {
+    pub fn from_file<R: Files>(rt: &R, alloc: Global, path: &str) -> Result<Graph, OpenError>
+        ensures from { MatchResult result (IsFromFile path.now) IsFileError }
+        ensures graph { IfOk result IsGraph }
+        ensures memory { IfErr result OutOfMemoryStandsAlone }
+    {
         open_file_in(alloc, &mut Disk::new(rt), path)
     }
 
     /// Opens the info folder at the path, in most repositories `.git/objects/info`, as
     /// [`open_info_dir_in`] does over the file system, with its refusals.
-    pub fn from_info_dir<R: Files>(rt: &R, alloc: Global, path: &str) -> Result<Graph, OpenError> {
+    pub fn from_info_dir<R: Files>(rt: &R, alloc: Global, path: &str) -> Result<Graph, OpenError>
+        ensures from { MatchResult result (IsFromInfo path.now) IsFolderError }
+        ensures graph { IfOk result IsGraph }
+        ensures memory { IfErr result OutOfMemoryStandsAlone }
+    {
         open_info_dir_in(alloc, &mut Disk::new(rt), path)
     }
 
@@ -55,7 +73,11 @@ impl Graph {
         rt: &R,
         alloc: Global,
         path: &str,
-    ) -> Result<Graph, OpenError> {
+    ) -> Result<Graph, OpenError>
+        ensures from { MatchResult result (IsFromChain path.now) IsFolderError }
+        ensures graph { IfOk result IsGraph }
+        ensures memory { IfErr result OutOfMemoryStandsAlone }
+    {
         open_chain_dir_in(alloc, &mut Disk::new(rt), path)
     }
 }

@@ -1,12 +1,15 @@
 //! The opener of a chain folder.
 
-ghost use Rattle.std.specs.Prelude.{◌≡◌, IfSome, is_some};
+ghost use Rattle.std.specs.Prelude.{◌≡◌, IfOk, IfErr, IfSome, IsErrOf, MatchResult, is_some};
 ghost use Rattle.std.specs.Option.{ForSome};
 ghost use Rattle.std.specs.Str.{is_utf8};
 ghost use Rattle.std.specs.Str.Lines.{lines};
+ghost use Rattle.gix_commitgraph.specs.Graph.{IsGraph};
+ghost use Rattle.gix_commitgraph.specs.OpenAlways.{IsFromChain, IsReadError, IsFolderError};
 ghost use Rattle.gix_commitgraph.specs.OpenAnswer.{IsAsExpected, failures_after_opening, result_map};
 ghost use Rattle.gix_commitgraph.specs.Opening.{bytes_at, layer_of_line, layers_of_lines, chain_opened};
-ghost use Rattle.gix_commitgraph.specs.Paths.{chain_path};
+ghost use Rattle.gix_commitgraph.specs.OpenRefusals.{OutOfMemoryStandsAlone};
+ghost use Rattle.gix_commitgraph.specs.Paths.{chain_path, layer_path};
 
 use crate::file::File;
 use crate::graph::Graph;
@@ -42,6 +45,9 @@ pub fn open_chain_dir_in<T: Folder>(
     ensures opens { ForSome (T.tree folder.old) (λ tree. IsAsExpected result (chain_opened tree path.now)) }
     ensures tree { T.tree folder.new ≡ T.tree folder.old }
     ensures failures { T.failure_count folder.new ≡ failures_after_opening result (T.failure_count folder.old) }
+    ensures from { MatchResult result (IsFromChain path.now) IsFolderError }
+    ensures graph { IfOk result IsGraph }
+    ensures memory { IfErr result OutOfMemoryStandsAlone }
 {
     let text = read_chain(alloc, folder, path)?;
     let files = open_layers(alloc, folder, path, text.as_slice())?;
@@ -54,6 +60,8 @@ fn read_chain<T: Folder>(alloc: Global, folder: &mut T, path: &str) -> Result<Ve
         (λ tree. IsAsExpected (result_map (λ text. text.items) result) (bytes_at tree (chain_path path.now))) }
     ensures tree { T.tree folder.new ≡ T.tree folder.old }
     ensures failures { T.failure_count folder.new ≡ failures_after_opening result (T.failure_count folder.old) }
+    ensures errors { IfErr result IsReadError }
+    ensures memory { IfErr result OutOfMemoryStandsAlone }
 {
     let chain = join(alloc, path, CHAIN)?;
     read_file(alloc, folder, chain.as_str())
@@ -70,6 +78,8 @@ fn open_layers<T: Folder>(
         (λ tree. IsAsExpected (result_map (λ files. files.items) result) (layers_of_lines tree path.now (lines text.now))) }
     ensures tree { T.tree folder.new ≡ T.tree folder.old }
     ensures failures { T.failure_count folder.new ≡ failures_after_opening result (T.failure_count folder.old) }
+    ensures from { MatchResult result (λ files. IsFromChain path.now files.items) IsFolderError }
+    ensures memory { IfErr result OutOfMemoryStandsAlone }
 {
     let mut files = Vec::new(alloc);
     for line in Lines::new(text) {
@@ -90,6 +100,9 @@ fn open_line<T: Folder>(
     ensures opens { ForSome (T.tree folder.old) (λ tree. IsAsExpected result (layer_of_line tree path.now layer line.now)) }
     ensures tree { T.tree folder.new ≡ T.tree folder.old }
     ensures failures { T.failure_count folder.new ≡ failures_after_opening result (T.failure_count folder.old) }
+    ensures path { IfOk result (λ file. file.path ≡ layer_path path.now line.now) }
+    ensures errors { IfErr result IsFolderError }
+    ensures memory { IfErr result OutOfMemoryStandsAlone }
 {
     let Some(name) = text_of(line) else {
         return Err(OpenError::ChainNotText { line: layer });

@@ -1,7 +1,7 @@
 //! Why no graph was opened.
 
 ghost use Rattle.std.specs.Prelude.{◌≡◌};
-ghost use Rattle.gix_commitgraph.specs.OpenRefusals.{layer_refused};
+ghost use Rattle.gix_commitgraph.specs.OpenRefusals.{layer_refused, OutOfMemoryStandsAlone};
 
 use crate::error::FileError;
 use crate::init::GraphError;
@@ -86,7 +86,8 @@ impl From<GraphError> for OpenError {
 
 /// The refusal of the file that is to be this layer.
 pub(crate) fn refused_layer(layer: usize, error: FileError) -> OpenError
-    ensures { result ≡ layer_refused layer error }
+    ensures error { result ≡ layer_refused layer error }
+    ensures memory { OutOfMemoryStandsAlone result }
 {
     match error {
         FileError::OutOfMemory => OpenError::OutOfMemory,

@@ -44,7 +44,7 @@ fn the_least_files(rt: HostRuntime) -> Result<(), Fail> {
     assert_eq!(rt; file.object_hash(), Kind::Sha1);
     assert!(rt; file.iter_commits().next().is_none());
     let text = format!(in alloc; "{file:?}")?;
-    assert_eq!(rt; text.as_str(), "File(\"\")");
+    assert_eq!(rt; text.as_str(), r#"File("""")"#);
     let header = b"CGPH\x01\x02\x03\x00";
     let file = opened(alloc, written(alloc, header, &ENTRIES, &[FAN, &[0; 32]])?)?;
     assert_eq!(rt; file.num_commits(), 0);

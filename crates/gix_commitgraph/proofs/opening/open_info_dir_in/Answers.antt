@@ -1,6 +1,8 @@
-use Rattle.std.proofs.Common.{◌≡◌, true, false, ◌∙◌}
+use Rattle.std.proofs.Common.{◌≡◌, true, false, ◌∙◌, inr}
+use Rattle.gix_commitgraph.specs.OpenAlways.{IsFromInfo}
 use Rattle.gix_commitgraph.specs.OpenAnswer.{is_settled}
 use Rattle.gix_commitgraph.proofs.InfoFolders.{info_opens-file, info_opens-chain}
+use Rattle.gix_commitgraph.proofs.Sources.{from_wider}
 use Rattle.gix_commitgraph.proofs.opening.open_info_dir_in.Goals as goal
 
 pub returns-then-is_settled-clause-opens : goal.returns-then-is_settled-clause-opens
@@ -15,3 +17,8 @@ returns-clause-opens g c = λ tree is.
     let settled : is_settled c.open_file_in-answer.result ≡ false = cc in
     let second = rw (c.as_str-2.ensures.value, c.in_ok-chain.ensures) at (c.open_chain_dir_in.ensures.opens tree (c.open_file_in-answer.ensures.tree ∙ is)) in
     info_opens-chain tree c.args.path.now c.open_chain_dir_in.result second _ _ _ c.open_file_in-answer.result settled was c.open_file_in-answer.ensures.failures c.open_chain_dir_in.ensures.failures
+
+pub returns-clause-from : goal.returns-clause-from
+returns-clause-from g c =
+    let second = rw (c.as_str-2.ensures.value, c.in_ok-chain.ensures) at c.open_chain_dir_in.ensures.from in
+    from_wider _ (IsFromInfo c.args.path.now) c.open_chain_dir_in.result (λ layers from. inr from) second

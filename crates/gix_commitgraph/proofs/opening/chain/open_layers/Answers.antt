@@ -1,6 +1,7 @@
 use Rattle.std.proofs.Common.{rules, ◌≡◌, ◌+◌, ◌∷◌, ◌∙◌, arith, vec_len}
 use Rattle.std.proofs.lemmas.Grind.{common_steps}
 use Rattle.gix_commitgraph.proofs.Chains.{layers_with-next}
+use Rattle.gix_commitgraph.proofs.Sources.{from-pushed}
 use Rattle.gix_commitgraph.proofs.opening.chain.open_layers.Goals as goal
 
 pub loop-line-preserved : goal.loop-line-preserved
@@ -9,6 +10,7 @@ loop-line-preserved g c = record {
   is_finite = tt;
   tree = c.open_line.ensures.tree ∙ c.loop-line.invariant.tree;
   failures = search rules;
+  from = from-pushed c.args.path.now _ _ _ c.loop-line.invariant.from (c.in-Some.line.now, c.in_ok-open_line.ensures.path) c.in_ok-push.ensures.items;
   layers = λ tree is.
       let count : c.len-layer.result ≡ vec_len c.loop-line.files = c.len-layer.ensures in
       let names : c.loop-line.line-iterator ≡ c.in-Some.line.now ∷ c.next.new.self = search rules in
