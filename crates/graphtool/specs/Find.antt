@@ -12,8 +12,8 @@ use Rattle.graphtool.specs.Refusal.{refusal_text, refusal_status}
 use Rattle.graphtool.specs.Report.{found_line}
 use Rattle.graphtool.specs.Text.{◌⧺◌, newline}
 
--- What is told of the commit that stands at a position of a graph: the numbers of its record.
-pub record Tells (layers : List Layer) (found : Found) : Type 0 where
+-- What is reported of a commit: its position in the graph, and the numbers of its record.
+pub record Reports (layers : List Layer) (found : Found) : Type 0 where
   pub layer : Layer
   pub place : ℕ
   pub stands : slice_get (graph_commits layers) found.pos.0 ≡ Some (layer, place)
@@ -22,7 +22,7 @@ pub record Tells (layers : List Layer) (found : Found) : Type 0 where
 
 -- what a search for an id may find in a graph: an answer to its lookup, with the commit there
 abbrev pub MayBeFound : List Layer → List ℕ → Option Found → Type 0
-MayBeFound layers id (Some found) = FoundIn layers id (Some found.pos.0) × Tells layers found
+MayBeFound layers id (Some found) = FoundIn layers id (Some found.pos.0) × Reports layers found
 MayBeFound layers id None = FoundIn layers id None
 
 -- what `find` may answer for the text of an id, where the opener may answer so. For a text that is no id the folder is left as

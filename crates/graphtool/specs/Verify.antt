@@ -39,7 +39,7 @@ pub record Fails (layers : List Layer) (error : VerifyError Infallible) : Type 0
 abbrev pub MayPass : (Result (List Layer) OpenError → Type 0) → Outcome → Type 0
 MayPass MayOpen outcome = (layers : List Layer) × MayOpen (Ok layers) × Passes layers outcome
 
--- what `verify` may answer, where the opener may answer so. The numbers of parents are told ascending
+-- what `verify` may answer, where the opener may answer so. The numbers of parents ascend
 abbrev pub MayVerify : (Result (List Layer) OpenError → Type 0) → Result Outcome Refusal → Type 0
 MayVerify MayOpen (Ok outcome) = MayPass MayOpen outcome × IsOrdered nat_cmp outcome.parent_counts
 MayVerify MayOpen (Err (Verify error)) = (layers : List Layer) × MayOpen (Ok layers) × Fails layers error

@@ -39,7 +39,7 @@ fn main(rt: HostRuntime) -> ExitCode {
     ExitCode::from(status)
 }
 
-// The words of the command line, where they are text and there is memory for them.
+// The words of the command line, unless they are no text or memory runs out.
 fn words(rt: &HostRuntime) -> Option<Vec<String>> {
     env::args(rt).ok()?.collect(rt.alloc()).ok()
 }

@@ -49,7 +49,7 @@ impl fmt::Display for LongestText {
     }
 }
 
-/// A commit that was found. It is shown as its line, without the line's end.
+/// A commit that was found. It is displayed as its line, without the line's end.
 #[derive(Clone, Copy, Debug, PartialEq, Eq)]
 pub struct Found {
     /// Its position in the graph.

@@ -39,8 +39,8 @@ impl From<io::Error> for WriteFailed {
     }
 }
 
-/// Lists the layer that the reader gives, or says in one line why it is refused. The answer is the
-/// exit status. `WriteFailed` comes where the writer fails.
+/// Writes the listing of the layer that the reader gives, or one line that says why it is refused.
+/// The answer is the exit status. `WriteFailed` comes where the writer fails.
 pub fn run_list<R: Read, W: Write>(
     alloc: Global,
     reader: &mut R,
@@ -73,8 +73,9 @@ fn list<R: Read>(alloc: Global, reader: &mut R) -> Result<String, Refusal>
     Ok(text)
 }
 
-/// Checks the graph that is opened by the path, and tells what its commits come to, or says in one
-/// line why it is refused. The answer is the exit status. `WriteFailed` comes where the writer fails.
+/// Checks the graph that the path opens, and writes the statistics of its commits, or one line that
+/// says why the graph is refused. The answer is the exit status. `WriteFailed` comes where the writer
+/// fails.
 pub fn run_verify<T: Folder, W: Write>(
     alloc: Global,
     folder: &mut T,
@@ -95,7 +96,7 @@ pub fn run_verify<T: Folder, W: Write>(
     }
 }
 
-// What the commits of the graph come to that is opened by the path.
+// The statistics of the graph that the path opens, once it is checked.
 fn verify<T: Folder>(alloc: Global, folder: &mut T, path: &str) -> Result<Outcome, Refusal>
     ensures passed { IfOk result
         (MayPass (MayOpen (T.tree folder.old) path.now (T.failure_count folder.old) (T.failure_count folder.new))) }
@@ -116,10 +117,10 @@ fn check(alloc: Global, graph: &Graph) -> Result<Outcome, VerifyError<Infallible
     graph.verify_integrity(alloc, &mut |_: &file::Commit<'_>| Ok(()))
 }
 
-/// Looks up the commit with an id, given in hexadecimal digits of either case, in the graph that is
-/// opened by the path, and tells where it stands, its generation number and its time, or that it is
-/// not there, or says in one line why that is refused. A text that is no id opens nothing. The graph
-/// is not checked. The answer is the exit status. `WriteFailed` comes where the writer fails.
+/// Looks up the commit with an id, given in hexadecimal digits of either case, in the graph that the
+/// path opens. It writes one line: the commit's position, its generation number and its time; or that
+/// it is not there; or why the search is refused. A text that is no id opens nothing. The graph is not
+/// checked. The answer is the exit status. `WriteFailed` comes where the writer fails.
 pub fn run_find<T: Folder, W: Write>(
     alloc: Global,
     folder: &mut T,
@@ -146,7 +147,7 @@ pub fn run_find<T: Folder, W: Write>(
     }
 }
 
-// The commit with the id that the digits are of, in the graph that is opened by the path.
+// The commit whose id the digits spell, in the graph that the path opens.
 fn find<T: Folder>(
     alloc: Global,
     folder: &mut T,
