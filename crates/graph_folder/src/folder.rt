@@ -45,13 +45,13 @@ pub trait Folder {
     fn failures(&self) -> u64
         ensures { result ≡ failure_count self.now };
 
-    /// Whether a file stands at the path. `AllocError` comes only where a growth was refused.
+    /// Whether a file stands at the path. `AllocError` comes only where an allocation failed.
     fn is_file(&mut self, alloc: Global, path: &str) -> Result<bool, AllocError>
         ensures answer { ForSome (tree self.old) (λ t. IfOk result (λ found. found ≡ is_file t path.now)) }
         ensures tree { tree self.new ≡ tree self.old }
         ensures failures { failure_count self.new ≡ failure_count self.old };
 
-    /// Whether a folder stands at the path. `AllocError` comes only where a growth was refused.
+    /// Whether a folder stands at the path. `AllocError` comes only where an allocation failed.
     fn is_dir(&mut self, alloc: Global, path: &str) -> Result<bool, AllocError>
         ensures answer { ForSome (tree self.old) (λ t. IfOk result (λ found. found ≡ is_folder t path.now)) }
         ensures tree { tree self.new ≡ tree self.old }

@@ -124,7 +124,7 @@ fn reads_from_disk(rt: HostRuntime) -> Result<(), Fail> {
     fs::create_dir(&rt, FOLDER)?;
     let mut disk = Disk::new(&rt);
     // Each file is written over the one before it.
-    for len in [0u32, 1, 100000, 2] {
+    for len in [0u32, 1, 3_000_000, 2] {
         let mut bytes = Vec::new(alloc);
         for i in 0..len {
             bytes.push((i % 251) as u8)?;

@@ -12,8 +12,8 @@ use Rattle.graphtool.specs.Refusal.{refusal_text, refusal_status}
 use Rattle.graphtool.specs.Report.{found_line}
 use Rattle.graphtool.specs.Text.{◌⧺◌, newline}
 
--- What is told of the commit that stands at a position of a graph: the numbers of its record.
-pub record Tells (layers : List Layer) (found : Found) : Type 0 where
+-- What is reported of a commit: its position in the graph, and the numbers of its record.
+pub record Reports (layers : List Layer) (found : Found) : Type 0 where
   pub layer : Layer
   pub place : ℕ
   pub stands : slice_get (graph_commits layers) found.pos.0 ≡ Some (layer, place)
@@ -22,18 +22,19 @@ pub record Tells (layers : List Layer) (found : Found) : Type 0 where
 
 -- what a search for an id may find in a graph: an answer to its lookup, with the commit there
 abbrev pub MayBeFound : List Layer → List ℕ → Option Found → Type 0
-MayBeFound layers id (Some found) = FoundIn layers id (Some found.pos.0) × Tells layers found
+MayBeFound layers id (Some found) = FoundIn layers id (Some found.pos.0) × Reports layers found
 MayBeFound layers id None = FoundIn layers id None
 
--- what `find` may answer for the text of an id, where the opener may answer so. A text that is no id opens nothing
-abbrev pub MayFind : List ℕ → (Result (List Layer) OpenError → Type 0) → Result (Option Found) Refusal → Type 0
-MayFind text MayOpen (Ok found) =
+-- what `find` may answer for the text of an id, where the opener may answer so. For a text that is no id the folder is left as
+-- it was: nothing is opened
+abbrev pub MayFind : List ℕ → Type 0 → (Result (List Layer) OpenError → Type 0) → Result (Option Found) Refusal → Type 0
+MayFind text IsLeftAlone MayOpen (Ok found) =
     (id : List ℕ) × SpellsId text id × ((layers : List Layer) × MayOpen (Ok layers) × MayBeFound layers id found)
-MayFind text MayOpen (Err (Id error)) = SpellsNone text error
-MayFind text MayOpen (Err (Open error)) = (id : List ℕ) × SpellsId text id × MayOpen (Err error)
-MayFind text MayOpen (Err (Read error)) = ⊥
-MayFind text MayOpen (Err (File error)) = ⊥
-MayFind text MayOpen (Err (Verify error)) = ⊥
+MayFind text IsLeftAlone MayOpen (Err (Id error)) = SpellsNone text error × IsLeftAlone
+MayFind text IsLeftAlone MayOpen (Err (Open error)) = (id : List ℕ) × SpellsId text id × MayOpen (Err error)
+MayFind text IsLeftAlone MayOpen (Err (Read error)) = ⊥
+MayFind text IsLeftAlone MayOpen (Err (File error)) = ⊥
+MayFind text IsLeftAlone MayOpen (Err (Verify error)) = ⊥
 
 -- what the search found, or the line of a refusal
 abbrev pub find_text : Result (Option Found) Refusal → List ℕ

@@ -15,7 +15,7 @@ abbrev pub list_path : List ℕ
 list_path = codes "-"
 
 -- what `list` may answer for an input: the layer that the input is a file of, why it is none, that
--- it could not be read, or that there was no memory during the read or after it
+-- it could not be read, or that memory ran out during the read or after it
 abbrev pub MayList : List ℕ → Result Layer Refusal → Type 0
 MayList input (Ok layer) = IsLayer input list_path layer
 MayList input (Err (Read error)) = (error ≡ read.Device) ⊎ (error ≡ read.OutOfMemory)

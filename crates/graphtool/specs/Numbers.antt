@@ -1,4 +1,4 @@
--- the numbers by which errors are told
+-- the numbers that stand for errors in the program's lines
 use Rattle.std.specs.Prelude.{ℕ}
 use Rattle.gix_hash_core.specs.declared.object_id.IdError.{IdError}
 use Rattle.gix_hash_core.specs.declared.object_id.IdError.TheVariants as hexadecimal

@@ -1,12 +1,14 @@
 -- what the opener of a graph may answer
-use Rattle.std.specs.Prelude.{ℕ, List, Result, Option}
+use Rattle.std.specs.Prelude.{ℕ, List, Result, Option, IfOk}
 use Rattle.std.specs.Option.{ForSome}
 use Rattle.graph_folder.specs.Tree.{Tree}
 use Rattle.gix_commitgraph.specs.Layer.{Layer}
+use Rattle.gix_commitgraph.specs.Graph.{IsGraph}
 use Rattle.gix_commitgraph.specs.Opening.{Opens, MetFailureIfDevice}
 use Rattle.gix_commitgraph.specs.declared.opening.error.OpenError.{OpenError}
 
--- in a call that took the count of device failures from old to new: what the tree has at the path, where the tree is known
+-- in a call that took the count of device failures from old to new: what the tree has at the path, where the tree is known; and
+-- in every folder the layers of a graph, and a failed device only where one failed
 abbrev pub MayOpen : Option Tree → List ℕ → ℕ → ℕ → Result (List Layer) OpenError → Type 0
 MayOpen known path old new answer =
-    ForSome known (λ tree. Opens tree path old new answer) × MetFailureIfDevice answer old new
+    ForSome known (λ tree. Opens tree path old new answer) × IfOk answer IsGraph × MetFailureIfDevice answer old new

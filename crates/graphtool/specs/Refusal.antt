@@ -35,7 +35,7 @@ fault_text Checksum = codes "1"
 fault_text FileName = codes "2"
 fault_text (Fan byte) = codes "3 byte " ⧺ decimal byte
 
--- a graph that fails its check. The program's processor refuses no commit, so there is no refusal by it to be told
+-- a graph that fails its check. The program's processor refuses no commit, so no text is needed for its refusal
 abbrev pub verify_text : VerifyError Infallible → List ℕ
 verify_text check.TooManyFiles = codes "1"
 verify_text (check.BaseCount layer) = codes "2 layer " ⧺ decimal layer

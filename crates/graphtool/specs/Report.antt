@@ -23,7 +23,7 @@ count_line (parents, commits) = codes "parents " ⧺ decimal parents ⧺ codes "
 abbrev pub outcome_text : Outcome → List ℕ
 outcome_text outcome = ok_line outcome ⧺ flat_map count_line outcome.parent_counts.entries
 
--- what is told of a commit
+-- the text for a commit
 abbrev pub commit_text : Found → List ℕ
 commit_text found =
     codes "position " ⧺ decimal found.pos.0 ⧺ codes " generation " ⧺ decimal found.generation ⧺ codes " time " ⧺ decimal found.time

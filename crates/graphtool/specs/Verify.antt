@@ -6,6 +6,8 @@ use Rattle.std.specs.declared.convert.Infallible.{Infallible}
 use Rattle.gix_commitgraph.specs.Layer.{Layer}
 use Rattle.gix_commitgraph.specs.Points.{first_fault}
 use Rattle.gix_commitgraph.specs.History.{history_of}
+use Rattle.gix_commitgraph.specs.Sound.{Sound}
+use Rattle.gix_commitgraph.specs.Headline.{Stats, IsDeserved}
 use Rattle.gix_commitgraph.specs.Verify.{graph_points, Summarizes}
 use Rattle.gix_commitgraph.specs.declared.opening.error.OpenError.{OpenError}
 use Rattle.gix_commitgraph.specs.declared.verify.Outcome.{Outcome}
@@ -17,19 +19,27 @@ use Rattle.graphtool.specs.Refusal.{refusal_text, refusal_status}
 use Rattle.graphtool.specs.Report.{outcome_text}
 use Rattle.graphtool.specs.Text.{◌⧺◌, newline}
 
--- no point of the check of a graph has a fault, and its commits come to this. The processor of the check accepts each commit
-abbrev pub Passes : List Layer → Outcome → Type 0
-Passes layers outcome = (first_fault (graph_points {E = Infallible} layers) ≡ None) × Summarizes (history_of layers) outcome
+-- What it means that a graph passes its check with this outcome. The processor of the check accepts each commit.
+pub record Passes (layers : List Layer) (outcome : Outcome) : Type 0 where
+  -- the graph is right, and these are its statistics
+  pub right : Sound layers
+  pub statistics : Stats layers outcome
+  -- in the terms of the check: none of its points has a fault, and the outcome is computed from the commits
+  pub faultless : first_fault (graph_points {E = Infallible} layers) ≡ None
+  pub summary : Summarizes (history_of layers) outcome
 
--- this is the first fault of the check of a graph, or there was no memory
-abbrev pub Fails : List Layer → VerifyError Infallible → Type 0
-Fails layers error = (first_fault (graph_points layers) ≡ Some error) ⊎ (error ≡ OutOfMemory)
+-- What it means that a graph fails its check with this error.
+pub record Fails (layers : List Layer) (error : VerifyError Infallible) : Type 0 where
+  -- the graph is not right, unless the check ran out of memory
+  pub deserved : IsDeserved layers error
+  -- the error is the first fault of the check, else that it ran out of memory
+  pub first : (first_fault (graph_points layers) ≡ Some error) ⊎ (error ≡ OutOfMemory)
 
 -- a graph that the opener may answer passes its check so
 abbrev pub MayPass : (Result (List Layer) OpenError → Type 0) → Outcome → Type 0
 MayPass MayOpen outcome = (layers : List Layer) × MayOpen (Ok layers) × Passes layers outcome
 
--- what `verify` may answer, where the opener may answer so. The numbers of parents are told ascending
+-- what `verify` may answer, where the opener may answer so. The numbers of parents ascend
 abbrev pub MayVerify : (Result (List Layer) OpenError → Type 0) → Result Outcome Refusal → Type 0
 MayVerify MayOpen (Ok outcome) = MayPass MayOpen outcome × IsOrdered nat_cmp outcome.parent_counts
 MayVerify MayOpen (Err (Verify error)) = (layers : List Layer) × MayOpen (Ok layers) × Fails layers error

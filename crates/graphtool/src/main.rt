@@ -5,6 +5,9 @@
 //! found, and 2 for other words than a command, for a text that is no id and for a failed write.
 #![tactic(auto)]
 
+ghost use Rattle.std.specs.Prelude.{◌≡◌, MatchResult};
+
+mod line;
 mod listing;
 mod numbers;
 mod refusal;
@@ -14,34 +17,57 @@ mod run;
 mod tests;
 
 use graph_folder::folder::Disk;
+use line::write_line;
 use run::{WriteFailed, run_find, run_list, run_verify};
+use std::io::Write;
 use std::process::ExitCode;
 use std::{env, io};
 
 const USAGE: &str = "usage: graphtool list | verify PATH | find PATH HEX";
 
+const WRITE_FAILED: &str = "graphtool: the answer could not be written";
+
 // The exit status of words that are no command, and of a failed write.
 const FAILED: u8 = 2;
 
 fn main(rt: HostRuntime) -> ExitCode {
+    let mut errors = rt.stderr();
     let status = match words(&rt) {
-        Some(words) => match Command::from_words(&words) {
-            Some(command) => command.run(&rt).unwrap_or(FAILED),
-            None => usage(&rt),
-        },
-        None => usage(&rt),
+        Some(words) => respond(&rt, &words, &mut errors),
+        None => fail(&mut errors, USAGE),
     };
     ExitCode::from(status)
 }
 
-// The words of the command line, where they are text and there is memory for them.
+// The words of the command line, unless they are no text or memory runs out.
 fn words(rt: &HostRuntime) -> Option<Vec<String>> {
     env::args(rt).ok()?.collect(rt.alloc()).ok()
 }
 
-// Tells how the program is called.
-fn usage(rt: &impl Eprint) -> u8 {
-    let _ = eprintln!(rt; "{USAGE}");
+// Runs the command that the words are, and answers the exit status.
+fn respond<W: Write>(rt: &HostRuntime, words: &[String], errors: &mut W) -> u8 {
+    match Command::from_words(words) {
+        Some(command) => status_of(command.run(rt), errors),
+        None => fail(errors, USAGE),
+    }
+}
+
+// The exit status of a command that was run. A failed write is reported.
+fn status_of<W: Write>(answer: Result<u8, WriteFailed>, errors: &mut W) -> u8
+    ensures { MatchResult answer (λ status. result ≡ status) (λ _. result ≡ 2) }
+{
+    match answer {
+        Ok(status) => status,
+        Err(WriteFailed) => fail(errors, WRITE_FAILED),
+    }
+}
+
+// Writes why no command was run, or what became of it, in one line. Where that fails too, nothing
+// more can be said.
+fn fail<W: Write>(errors: &mut W, why: &str) -> u8
+    ensures { result ≡ 2 }
+{
+    let _ = write_line(errors, why);
     FAILED
 }
 

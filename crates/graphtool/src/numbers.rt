@@ -1,4 +1,4 @@
-//! The numbers by which errors are told.
+//! The numbers that stand for errors in the program's lines.
 
 ghost use Rattle.std.specs.Prelude.{◌≡◌};
 ghost use Rattle.graphtool.specs.Numbers.{id_number, read_number, chunk_number, file_number, graph_number, commit_number, parent_number};

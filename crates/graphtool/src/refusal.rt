@@ -13,18 +13,18 @@ use graph_folder::folder::ReadError;
 use std::convert::Infallible;
 use std::fmt;
 
-/// Why a command was refused. It is shown as its line, without the line's end.
+/// Why a command was refused. It is displayed as its line, without the line's end.
 #[derive(Debug, Drop)]
 pub enum Refusal {
     /// The text of an id is none.
     Id(IdError),
     /// The input could not be read.
     Read(ReadError),
-    /// The input is no layer, or there was no memory for it or for its listing.
+    /// The input is no layer, or opening or listing it ran out of memory.
     File(FileError),
     /// No graph was opened by the path.
     Open(OpenError),
-    /// The graph fails its check, or there was no memory for it.
+    /// The graph fails its check, or the check ran out of memory.
     Verify(VerifyError<Infallible>),
 }
 

@@ -1,4 +1,4 @@
-//! The lines of what a check and a search found. Writing them takes no memory.
+//! The lines of what a check and a search found. Writing them allocates nothing.
 
 ghost use Rattle.std.specs.Prelude.{Some, OnOk};
 ghost use Rattle.std.specs.BTreeMap.{IsOrdered};
@@ -6,6 +6,7 @@ ghost use Rattle.std.specs.Io.KnownBytes.{Appends};
 ghost use Rattle.std.specs.Ordering.{nat_cmp};
 ghost use Rattle.graphtool.specs.Report.{outcome_text};
 
+use crate::line::write_line;
 use crate::run::WriteFailed;
 use gix_commitgraph::Position;
 use gix_commitgraph::verify::Outcome;
@@ -13,7 +14,7 @@ use std::fmt;
 use std::io::Write;
 
 /// Writes what the check of a graph found: a line for the whole, and one for each number of parents
-/// that some commit has, ascending.
+/// that some commit has, ascending. Each line is written at once.
 pub fn write_outcome<W: Write>(writer: &mut W, outcome: &Outcome) -> Result<(), WriteFailed>
     ensures written { OnOk result (Appends (W.contents writer.old) (W.contents writer.new)
         (outcome_text outcome.now)) }
@@ -21,9 +22,12 @@ pub fn write_outcome<W: Write>(writer: &mut W, outcome: &Outcome) -> Result<(), 
 {
     let commits = outcome.num_commits;
     let longest = LongestText(outcome.longest_path_length);
-    writeln!(writer, "ok commits {commits} longest {longest}")?;
+    write_line(
+        writer,
+        format_args!("ok commits {commits} longest {longest}"),
+    )?;
     for (parents, commits) in &outcome.parent_counts {
-        writeln!(writer, "parents {parents} commits {commits}")?;
+        write_line(writer, format_args!("parents {parents} commits {commits}"))?;
     }
     Ok(())
 }
@@ -45,7 +49,7 @@ impl fmt::Display for LongestText {
     }
 }
 
-/// A commit that was found. It is shown as its line, without the line's end.
+/// A commit that was found. It is displayed as its line, without the line's end.
 #[derive(Clone, Copy, Debug, PartialEq, Eq)]
 pub struct Found {
     /// Its position in the graph.

@@ -9,6 +9,7 @@ ghost use Rattle.graphtool.specs.List.{MayList, SpellsListing, list_text, list_s
 ghost use Rattle.graphtool.specs.Find.{MayBeFound, MayFind, find_text, find_status};
 ghost use Rattle.graphtool.specs.Verify.{Passes, Fails, MayPass, MayVerify, verify_text, verify_status};
 
+use crate::line::write_line;
 use crate::listing::listing;
 use crate::refusal::Refusal;
 use crate::report::{Found, write_outcome};
@@ -38,8 +39,8 @@ impl From<io::Error> for WriteFailed {
     }
 }
 
-/// Lists the layer that the reader gives, or says in one line why it is refused. The answer is the
-/// exit status. `WriteFailed` comes where the writer fails.
+/// Writes the listing of the layer that the reader gives, or one line that says why it is refused.
+/// The answer is the exit status. `WriteFailed` comes where the writer fails.
 pub fn run_list<R: Read, W: Write>(
     alloc: Global,
     reader: &mut R,
@@ -72,8 +73,9 @@ fn list<R: Read>(alloc: Global, reader: &mut R) -> Result<String, Refusal>
     Ok(text)
 }
 
-/// Checks the graph that is opened by the path, and tells what its commits come to, or says in one
-/// line why it is refused. The answer is the exit status. `WriteFailed` comes where the writer fails.
+/// Checks the graph that the path opens, and writes the statistics of its commits, or one line that
+/// says why the graph is refused. The answer is the exit status. `WriteFailed` comes where the writer
+/// fails.
 pub fn run_verify<T: Folder, W: Write>(
     alloc: Global,
     folder: &mut T,
@@ -94,7 +96,7 @@ pub fn run_verify<T: Folder, W: Write>(
     }
 }
 
-// What the commits of the graph come to that is opened by the path.
+// The statistics of the graph that the path opens, once it is checked.
 fn verify<T: Folder>(alloc: Global, folder: &mut T, path: &str) -> Result<Outcome, Refusal>
     ensures passed { IfOk result
         (MayPass (MayOpen (T.tree folder.old) path.now (T.failure_count folder.old) (T.failure_count folder.new))) }
@@ -115,10 +117,10 @@ fn check(alloc: Global, graph: &Graph) -> Result<Outcome, VerifyError<Infallible
     graph.verify_integrity(alloc, &mut |_: &file::Commit<'_>| Ok(()))
 }
 
-/// Looks up the commit with an id, given in hexadecimal digits of either case, in the graph that is
-/// opened by the path, and tells where it stands, its generation number and its time, or that it is
-/// not there, or says in one line why that is refused. A text that is no id opens nothing. The graph
-/// is not checked. The answer is the exit status. `WriteFailed` comes where the writer fails.
+/// Looks up the commit with an id, given in hexadecimal digits of either case, in the graph that the
+/// path opens. It writes one line: the commit's position, its generation number and its time; or that
+/// it is not there; or why the search is refused. A text that is no id opens nothing. The graph is not
+/// checked. The answer is the exit status. `WriteFailed` comes where the writer fails.
 pub fn run_find<T: Folder, W: Write>(
     alloc: Global,
     folder: &mut T,
@@ -127,31 +129,32 @@ pub fn run_find<T: Folder, W: Write>(
     writer: &mut W,
 ) -> Result<u8, WriteFailed>
     ensures written { IfOk result (WritesAnswer find_text find_status
-        (MayFind hex.now (MayOpen (T.tree folder.old) path.now (T.failure_count folder.old) (T.failure_count folder.new)))
+        (MayFind hex.now (folder.new ≡ folder.old)
+        (MayOpen (T.tree folder.old) path.now (T.failure_count folder.old) (T.failure_count folder.new)))
         (W.contents writer.old) (W.contents writer.new)) }
     ensures tree { T.tree folder.new ≡ T.tree folder.old }
 {
     match find(alloc, folder, path, hex) {
         Ok(Some(found)) => {
-            writeln!(writer, "{found}")?;
+            write_line(writer, found)?;
             Ok(DONE)
         }
         Ok(None) => {
-            writeln!(writer, "none")?;
+            write_line(writer, "none")?;
             Ok(NOT_FOUND)
         }
         Err(refusal) => refuse(writer, &refusal),
     }
 }
 
-// The commit with the id that the digits are of, in the graph that is opened by the path.
+// The commit whose id the digits spell, in the graph that the path opens.
 fn find<T: Folder>(
     alloc: Global,
     folder: &mut T,
     path: &str,
     hex: &str,
 ) -> Result<Option<Found>, Refusal>
-    ensures may { MayFind hex.now
+    ensures may { MayFind hex.now (folder.new ≡ folder.old)
         (MayOpen (T.tree folder.old) path.now (T.failure_count folder.old) (T.failure_count folder.new)) result }
     ensures tree { T.tree folder.new ≡ T.tree folder.old }
 {
@@ -177,6 +180,6 @@ fn found_in(graph: &Graph, id: oid<'_>) -> Option<Found>
 fn refuse<W: Write>(writer: &mut W, refusal: &Refusal) -> Result<u8, WriteFailed>
     ensures { IfOk result (WritesRefusal refusal.now (W.contents writer.old) (W.contents writer.new)) }
 {
-    writeln!(writer, "{refusal}")?;
+    write_line(writer, refusal)?;
     Ok(refusal.status())
 }

@@ -4,6 +4,7 @@ mod listing;
 mod on_disk;
 mod opening;
 mod verifying;
+mod words;
 
 use gix_hash_core::{Kind, ObjectId, digest};
 use graph_folder::folder::Memory;

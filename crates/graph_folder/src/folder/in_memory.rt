@@ -43,7 +43,7 @@ impl Model for Memory {
 impl Memory {
     ghost use Rattle.graph_folder.specs.Nodes.{entry_of};
 
-    /// An empty folder, in which no read has failed or is to fail. It takes no memory.
+    /// An empty folder, in which no read has failed or is to fail. It allocates nothing.
     pub fn new(alloc: Global) -> Memory
         ensures { result ≡ nothing }
     {
@@ -55,7 +55,7 @@ impl Memory {
     }
 
     /// Puts a file with these bytes in the place of what stands at the path. `AllocError` comes
-    /// where a growth was refused: the folder is then as before, and the path and the bytes are
+    /// where an allocation failed: the folder is then as before, and the path and the bytes are
     /// dropped.
     pub fn put_file(&mut self, path: String, bytes: Vec<u8>) -> Result<(), AllocError>
         ensures ok { OnOk result (self.new ≡ put self.old (string_bytes path) (RegularFile bytes.items)) }
@@ -65,8 +65,8 @@ impl Memory {
         Ok(())
     }
 
-    /// Puts a folder in the place of what stands at the path. `AllocError` comes where a growth was
-    /// refused: the folder is then as before, and the path is dropped.
+    /// Puts a folder in the place of what stands at the path. `AllocError` comes where an allocation
+    /// failed: the folder is then as before, and the path is dropped.
     pub fn put_dir(&mut self, path: String) -> Result<(), AllocError>
         ensures ok { OnOk result (self.new ≡ put self.old (string_bytes path) Directory) }
         ensures err { OnErr result (self.new ≡ self.old) }
@@ -90,7 +90,7 @@ impl Memory {
         self.nodes.get(path)
     }
 
-    // Counts a read, and tells whether it is the one that fails.
+    // Counts a read, and answers whether it is the one that is to fail.
     fn count_read(&mut self) -> bool
         ensures answer { result ≡ will_fail self.old }
         ensures after { self.new ≡ after_read self.old }

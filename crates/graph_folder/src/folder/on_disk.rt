@@ -44,7 +44,7 @@ impl<R: Files> Folder for Disk<'_, R> {
         self.failures
     }
 
-    /// Whether the host calls the path a file. Where it refuses to tell, the answer is no.
+    /// Whether the host calls the path a file. Where the host does not say, the answer is no.
     /// `AllocError` never comes.
     fn is_file(&mut self, _alloc: Global, path: &str) -> Result<bool, AllocError>
         ensures answered { IsOk result }
@@ -53,7 +53,7 @@ impl<R: Files> Folder for Disk<'_, R> {
         Ok(fs::metadata(self.rt, path).is_ok_and(|metadata| metadata.is_file()))
     }
 
-    /// Whether the host calls the path a folder. Where it refuses to tell, the answer is no.
+    /// Whether the host calls the path a folder. Where the host does not say, the answer is no.
     /// `AllocError` never comes.
     fn is_dir(&mut self, _alloc: Global, path: &str) -> Result<bool, AllocError>
         ensures answered { IsOk result }

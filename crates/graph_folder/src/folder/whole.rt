@@ -1,6 +1,6 @@
 //! Whole reads.
 
-ghost use Rattle.std.specs.Prelude.{◌≡◌, ◌≢◌, IfOk, IfErr, IfSome, OnOk};
+ghost use Rattle.std.specs.Prelude.{◌≡◌, ◌≢◌, ◌<◌, length, IfOk, IfErr, IfSome, OnOk};
 ghost use Rattle.std.specs.Io.KnownBytes.{Consumes, IsAtEnd};
 
 use super::ReadError;
@@ -11,16 +11,26 @@ use std::io::Read;
 const PIECE: usize = 64 * 1024;
 
 /// All bytes of the reader to its end, however it cuts them. Any error of the reader is `Device`,
-/// and a refused growth is `OutOfMemory`. `NotOpened` never comes.
+/// and `OutOfMemory` comes where an allocation failed. `NotOpened` never comes.
 pub fn read_all<R: Read>(alloc: Global, reader: &mut R) -> Result<Vec<u8>, ReadError>
     ensures bytes { IfOk result (λ bytes. IfSome (R.remaining reader.old) (λ all. bytes.items ≡ all)) }
     ensures end { OnOk result (IsAtEnd (R.remaining reader.new)) }
     ensures opened { IfErr result (λ error. error ≢ ReadError.NotOpened) }
 {
+    let mut piece = vec![in alloc; 0; PIECE].map_err(|_| ReadError::OutOfMemory)?;
+    read_by(alloc, reader, &mut piece)
+}
+
+// All bytes of the reader to its end, as `read_all` answers them, each read into this piece.
+fn read_by<R: Read>(alloc: Global, reader: &mut R, piece: &mut [u8]) -> Result<Vec<u8>, ReadError>
+    requires { 0 < length piece.old }
+    ensures bytes { IfOk result (λ bytes. IfSome (R.remaining reader.old) (λ all. bytes.items ≡ all)) }
+    ensures end { OnOk result (IsAtEnd (R.remaining reader.new)) }
+    ensures opened { IfErr result (λ error. error ≢ ReadError.NotOpened) }
+{
     let mut bytes = Vec::new(alloc);
-    let mut piece = [0; PIECE];
     loop {
-        let count = reader.read(&mut piece).map_err(|_| ReadError::Device)?;
+        let count = reader.read(piece).map_err(|_| ReadError::Device)?;
         if count == 0 {
             return Ok(bytes);
         }

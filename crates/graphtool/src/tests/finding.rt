@@ -1,4 +1,5 @@
 use crate::run::{WriteFailed, run_find};
+use crate::tests::verifying::verify;
 use crate::tests::{DIAMOND, built, put_chain, with_file, writer};
 use gix_hash_core::ObjectId;
 use graph_folder::folder::{Folder, Memory};
@@ -51,6 +52,22 @@ fn finds_a_commit(rt: HostRuntime) -> Result<(), Fail> {
 }
 
 #[test]
+fn a_text_that_is_no_id_opens_nothing(rt: HostRuntime) -> Result<(), Fail> {
+    let alloc = rt.alloc();
+    let mut folder = with_file(alloc, "g", built(&rt, alloc, &[], DIAMOND)?)?;
+    folder.fail_read(0);
+    for (hex, want) in [(ZS, "refused id 2\n"), ("", "refused id 1\n")] {
+        let answer = find(alloc, &mut folder, "g", hex)?;
+        assert_eq!(rt; answer.1.as_str(), want);
+        assert_eq!(rt; folder.failures(), 0);
+    }
+    let answer = verify(alloc, &mut folder, "g")?;
+    assert_eq!(rt; answer.1.as_str(), "refused open 3\n");
+    assert_eq!(rt; folder.failures(), 1);
+    Ok(())
+}
+
+#[test]
 fn digits_are_of_either_case(rt: HostRuntime) -> Result<(), Fail> {
     let alloc = rt.alloc();
     let mut folder = with_file(alloc, "g", built(&rt, alloc, &[], &[(0xab, &[], 9)])?)?;
@@ -92,7 +109,23 @@ fn finds_a_commit_in_a_chain(rt: HostRuntime) -> Result<(), Fail> {
 }
 
 #[test]
-fn tells_each_write_of_a_search_that_fails(rt: HostRuntime) -> Result<(), Fail> {
+fn writes_the_line_of_a_search_at_once(rt: HostRuntime) -> Result<(), Fail> {
+    let alloc = rt.alloc();
+    let mut folder = with_file(alloc, "g", built(&rt, alloc, &[], DIAMOND)?)?;
+    for hex in [FOURS, FIVES, ZS] {
+        let mut whole = writer(alloc, usize::MAX, None);
+        run_find(alloc, &mut folder, "g", hex, &mut whole)?;
+        assert_eq!(rt; whole.writes, 1);
+        let mut out = writer(alloc, usize::MAX, Some(0));
+        let answer = run_find(alloc, &mut folder, "g", hex, &mut out);
+        assert_eq!(rt; answer, Err(WriteFailed));
+        assert_eq!(rt; out.bytes.len(), 0);
+    }
+    Ok(())
+}
+
+#[test]
+fn reports_each_write_of_a_search_that_fails(rt: HostRuntime) -> Result<(), Fail> {
     let alloc = rt.alloc();
     let mut folder = with_file(alloc, "g", built(&rt, alloc, &[], DIAMOND)?)?;
     for (hex, status) in [(FOURS, 0), (FIVES, 1), (ZS, 2)] {

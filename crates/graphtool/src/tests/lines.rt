@@ -1,3 +1,4 @@
+use crate::line::write_line;
 use crate::refusal::Refusal;
 use crate::report::{Found, write_outcome};
 use crate::run::WriteFailed;
@@ -14,7 +15,7 @@ use std::convert::Infallible;
 use std::test::Fail;
 
 #[test]
-fn tells_each_refusal(rt: HostRuntime) -> Result<(), Fail> {
+fn spells_each_refusal(rt: HostRuntime) -> Result<(), Fail> {
     let rows = [
         (Refusal::Id(IdError::Length), "refused id 1"),
         (Refusal::Id(IdError::Digit), "refused id 2"),
@@ -77,7 +78,7 @@ fn chunks(error: ChunkError) -> Refusal {
 }
 
 #[test]
-fn tells_each_refusal_of_an_opener(rt: HostRuntime) -> Result<(), Fail> {
+fn spells_each_refusal_of_an_opener(rt: HostRuntime) -> Result<(), Fail> {
     let rows = [
         (OpenError::NothingFound, "refused open 1"),
         (OpenError::NotOpened, "refused open 2"),
@@ -126,7 +127,7 @@ fn tells_each_refusal_of_an_opener(rt: HostRuntime) -> Result<(), Fail> {
 }
 
 #[test]
-fn tells_each_refusal_of_a_check(rt: HostRuntime) -> Result<(), Fail> {
+fn spells_each_refusal_of_a_check(rt: HostRuntime) -> Result<(), Fail> {
     let pos = Position(1879048190);
     let rows = [
         (VerifyError::TooManyFiles, "refused verify 1"),
@@ -223,7 +224,7 @@ fn parent_fault(error: ParentError) -> VerifyError<Infallible> {
 }
 
 #[test]
-fn tells_what_was_found(rt: HostRuntime) -> Result<(), Fail> {
+fn spells_what_was_found(rt: HostRuntime) -> Result<(), Fail> {
     let alloc = rt.alloc();
     let mut parent_counts = BTreeMap::new(alloc);
     for (parents, commits) in [(10, 2), (0, 1), (9, 7)] {
@@ -263,5 +264,74 @@ fn tells_what_was_found(rt: HostRuntime) -> Result<(), Fail> {
         found.to_string(alloc)?.as_str(),
         "position 3 generation 1073741823 time 17179869183"
     );
+    Ok(())
+}
+
+#[test]
+fn writes_the_longest_lines_at_once(rt: HostRuntime) -> Result<(), Fail> {
+    let alloc = rt.alloc();
+    let most = Position(u32::MAX);
+    let rows = [
+        Refusal::Open(OpenError::Layer {
+            layer: usize::MAX,
+            error: FileError::Chunks(ChunkError::NoChunks),
+        }),
+        Refusal::Open(OpenError::ChainNotText { line: usize::MAX }),
+        Refusal::Verify(VerifyError::BaseId {
+            layer: usize::MAX,
+            index: usize::MAX,
+        }),
+        Refusal::Verify(VerifyError::Layer {
+            layer: usize::MAX,
+            fault: LayerFault::Fan { byte: 255 },
+        }),
+        Refusal::Verify(VerifyError::ParentOutOfRange {
+            pos: most,
+            parent: most,
+        }),
+        Refusal::Verify(VerifyError::Generation {
+            pos: most,
+            expected: u32::MAX,
+        }),
+    ];
+    for refusal in &rows {
+        let mut out = writer(alloc, usize::MAX, None);
+        write_line(&mut out, refusal)?;
+        assert_eq!(rt; out.writes, 1, "{refusal}");
+    }
+    let found = Found {
+        pos: most,
+        generation: u32::MAX,
+        time: u64::MAX,
+    };
+    let mut out = writer(alloc, usize::MAX, None);
+    write_line(&mut out, found)?;
+    assert_eq!(rt; out.writes, 1);
+    let mut parent_counts = BTreeMap::new(alloc);
+    parent_counts.insert(u32::MAX, u32::MAX)?;
+    let outcome = Outcome {
+        longest_path_length: Some(u32::MAX),
+        num_commits: u32::MAX,
+        parent_counts,
+    };
+    let mut out = writer(alloc, usize::MAX, None);
+    write_outcome(&mut out, &outcome)?;
+    assert_eq!(rt; out.writes, 2);
+    Ok(())
+}
+
+#[test]
+fn writes_a_longer_line_whole(rt: HostRuntime) -> Result<(), Fail> {
+    let alloc = rt.alloc();
+    for len in [0, 126, 127, 128, 129, 1000] {
+        let mut text = String::new(alloc);
+        for _ in 0..len {
+            text.push_str("x")?;
+        }
+        let mut out = writer(alloc, 50, None);
+        write_line(&mut out, text.as_str())?;
+        text.push_str("\n")?;
+        assert!(rt; out.bytes.as_slice() == text.as_bytes(), "{len}");
+    }
     Ok(())
 }

@@ -202,7 +202,7 @@ fn lists_the_empty_input(rt: HostRuntime) {
 }
 
 #[test]
-fn tells_each_read_that_fails(rt: HostRuntime) -> Result<(), Fail> {
+fn reports_each_read_that_fails(rt: HostRuntime) -> Result<(), Fail> {
     let alloc = rt.alloc();
     let bytes = file(alloc, &ONE)?;
     let mut whole = reader(&bytes, 100, None);
@@ -219,7 +219,7 @@ fn tells_each_read_that_fails(rt: HostRuntime) -> Result<(), Fail> {
 }
 
 #[test]
-fn tells_each_write_that_fails(rt: HostRuntime) -> Result<(), Fail> {
+fn reports_each_write_that_fails(rt: HostRuntime) -> Result<(), Fail> {
     let alloc = rt.alloc();
     let bytes = file(alloc, &ONE)?;
     for (input, want, status) in [

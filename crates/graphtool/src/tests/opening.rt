@@ -26,7 +26,7 @@ fn info_folder(rt: &impl Abort, alloc: Global) -> Result<Memory, Fail> {
 }
 
 #[test]
-fn tells_why_nothing_was_opened(rt: HostRuntime) -> Result<(), Fail> {
+fn says_why_nothing_was_opened(rt: HostRuntime) -> Result<(), Fail> {
     let alloc = rt.alloc();
     let lower = built(&rt, alloc, &[], DIAMOND)?;
     let mut folder = Memory::new(alloc);
@@ -93,7 +93,7 @@ fn opens_by_each_kind_of_path(rt: HostRuntime) -> Result<(), Fail> {
 }
 
 #[test]
-fn tells_each_read_of_a_graph_that_fails(rt: HostRuntime) -> Result<(), Fail> {
+fn reports_each_read_of_a_graph_that_fails(rt: HostRuntime) -> Result<(), Fail> {
     let alloc = rt.alloc();
     let found = "position 0 generation 1 time 7\n";
     let device = "refused open 3\n";
@@ -126,7 +126,7 @@ fn tells_each_read_of_a_graph_that_fails(rt: HostRuntime) -> Result<(), Fail> {
     Ok(())
 }
 
-// A folder whose reads find no memory from one of them on.
+// A folder whose reads run out of memory from one of them on.
 #[derive(Drop)]
 struct Refuses {
     memory: Memory,
@@ -160,7 +160,7 @@ impl Folder for Refuses {
 }
 
 #[test]
-fn tells_want_of_memory_for_each_read(rt: HostRuntime) -> Result<(), Fail> {
+fn reports_each_read_that_runs_out_of_memory(rt: HostRuntime) -> Result<(), Fail> {
     let alloc = rt.alloc();
     let want = "refused open 7\n";
     for (path, reads) in [("i", 3), ("i/commit-graphs", 2)] {

@@ -162,7 +162,40 @@ fn a_layer_is_named_after_its_checksum(rt: HostRuntime) -> Result<(), Fail> {
 }
 
 #[test]
-fn tells_each_write_of_a_check_that_fails(rt: HostRuntime) -> Result<(), Fail> {
+fn writes_each_line_of_a_check_at_once(rt: HostRuntime) -> Result<(), Fail> {
+    let alloc = rt.alloc();
+    let cyclic: &[Row<'_>] = &[(0x11, &[0], 1)];
+    let rows: [(&[Row<'_>], &[&str]); 2] = [
+        (
+            DIAMOND,
+            &[
+                "ok commits 4 longest 2\n",
+                "parents 0 commits 1\n",
+                "parents 1 commits 2\n",
+                "parents 2 commits 1\n",
+            ],
+        ),
+        (cyclic, &["refused verify 8 position 0 expected 2\n"]),
+    ];
+    for (commits, lines) in rows {
+        let mut folder = with_file(alloc, "g", built(&rt, alloc, &[], commits)?)?;
+        let mut written = String::new(alloc);
+        for (write, line) in lines.iter().enumerate() {
+            let mut out = writer(alloc, usize::MAX, Some(write));
+            let answer = run_verify(alloc, &mut folder, "g", &mut out);
+            assert_eq!(rt; answer, Err(WriteFailed));
+            assert_eq!(rt; out.bytes.as_slice(), written.as_bytes());
+            written.push_str(line)?;
+        }
+        let mut whole = writer(alloc, usize::MAX, Some(lines.len()));
+        run_verify(alloc, &mut folder, "g", &mut whole)?;
+        assert_eq!(rt; whole.bytes.as_slice(), written.as_bytes());
+    }
+    Ok(())
+}
+
+#[test]
+fn reports_each_write_of_a_check_that_fails(rt: HostRuntime) -> Result<(), Fail> {
     let alloc = rt.alloc();
     let rows: [(&[Row<'_>], u8); 2] = [(DIAMOND, 0), (&[(0x11, &[0], 1)], 1)];
     for (commits, status) in rows {

@@ -1,17 +1,21 @@
-use Rattle.std.proofs.Common.{◌≡◌, map, rules, append-nil}
+use Rattle.std.proofs.Common.{◌≡◌, map, rules, append-nil, append_assoc}
 use Rattle.std.specs.Map.Iter.{deref_pair}
 use Rattle.std.proofs.lemmas.Map.Iter.{iter_end}
 use Rattle.graphtool.specs.Report.{ok_line, count_line}
-use Rattle.graphtool.proofs.Appended.{appends_line}
+use Rattle.graphtool.proofs.Appended.{appends_line, appends_same}
 use Rattle.graphtool.proofs.report.write_outcome.Goals as goal
 
 pub loop-parents-init : goal.loop-parents-init
-loop-parents-init g c = rw (append-nil (ok_line c.args.outcome.now)) c.in_ok-writeln.ensures.bytes
+loop-parents-init g c =
+    rw (append-nil (ok_line c.args.outcome.now))
+    (appends_same _ (ok_line c.args.outcome.now) _ _ (simp append_assoc) c.in_ok-write_line.ensures.written)
 
 pub loop-parents-preserved : goal.loop-parents-preserved
 loop-parents-preserved g c =
     appends_line deref_pair count_line (ok_line c.args.outcome.now) c.loop-parents.yielded
-    (c.in-Some.parents, c.in-Some.commits) _ _ _ c.loop-parents.invariant c.in_ok-writeln-2.ensures.bytes
+    (c.in-Some.parents, c.in-Some.commits) _ _ _ c.loop-parents.invariant
+    (appends_same _ (count_line (c.in-Some.parents.now, c.in-Some.commits.now)) _ _ (simp append_assoc)
+    c.in_ok-write_line-2.ensures.written)
 
 pub returns-clause-written : goal.returns-clause-written
 returns-clause-written g c =
