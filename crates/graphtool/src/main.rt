@@ -2,7 +2,8 @@
 //! them.
 //!
 //! The exit status is 0 where the command did what was asked, 1 where it was refused or nothing was
-//! found, and 2 for other words than a command, for a text that is no id and for a failed write.
+//! found, and 2 for other words than a command, for a text that is no id and for a failed write. Wrong
+//! words and a failed write are reported on standard error.
 #![tactic(auto)]
 
 ghost use Rattle.std.specs.Prelude.{◌≡◌, MatchResult};

@@ -26,7 +26,7 @@ fn info_folder(rt: &impl Abort, alloc: Global) -> Result<Memory, Fail> {
 }
 
 #[test]
-fn says_why_nothing_was_opened(rt: HostRuntime) -> Result<(), Fail> {
+fn tells_why_nothing_was_opened(rt: HostRuntime) -> Result<(), Fail> {
     let alloc = rt.alloc();
     let lower = built(&rt, alloc, &[], DIAMOND)?;
     let mut folder = Memory::new(alloc);
