@@ -1,43 +1,17 @@
 -- The checks call on each position once, in order.
-use Rattle.std.proofs.Common.{◌≡◌, ℕ, zero, suc, ◌+◌, List, [], ◌∷◌, ◌++◌, length, refl, sym, ap, ◌∙◌, arith}
+use Rattle.std.proofs.Common.{◌≡◌, ℕ, suc, ◌+◌, List, [], ◌∷◌, ◌++◌, refl, sym, ap, ◌∙◌, arith}
 use Rattle.std.specs.List.{flat_map, range_with_len, enumerate_from}
 use Rattle.std.proofs.lemmas.List.Sums.{sum_by-cons}
-use Rattle.gix_commitgraph.specs.Layer.{Layer}
+use Rattle.graph_format.specs.Layer.{Layer}
 use Rattle.gix_commitgraph.specs.Graph.{total, start}
-use Rattle.gix_commitgraph.specs.Points.{Point, calls}
-use Rattle.gix_commitgraph.specs.Traverse as traverse
+use Rattle.graph_format.specs.Points.{Point, calls}
 use Rattle.gix_commitgraph.specs.Verify.{commit_points, layer_points, graph_points}
 use Rattle.gix_commitgraph.specs.declared.verify.VerifyError.{VerifyError}
 use Rattle.gix_commitgraph.proofs.Layers.{size, start-none, start-cons}
-use Rattle.gix_commitgraph.proofs.Points.{calls-append}
-
--- numbers, and then those that follow them
-range-append : (a m n : ℕ) → range_with_len a m ++ range_with_len (a + m) n ≡ range_with_len a (m + n)
-range-append a zero n = ap (λ (k : ℕ). range_with_len k n) (omega arith) ∙ ap (range_with_len a) (omega arith)
-range-append a (suc m) n =
-    let more : suc (m + n) ≡ suc m + n = omega arith in
-    let next : a + suc m ≡ a + 1 + m = omega arith in
-    ap (λ (k : ℕ). a ∷ (range_with_len (a + 1) m ++ range_with_len k n)) next
-    ∙ ap (λ (ns : List ℕ). a ∷ ns) (range-append (a + 1) m n)
-    ∙ ap (range_with_len a) more
-
--- parts by number, each of which calls once, at the position so many past its number
-module _ {X : Type 0} (part : ℕ → List (Point X)) (before : ℕ) (once : (pos : ℕ) → calls (part pos) ≡ (before + pos) ∷ []) where
-  calls-range : (a n : ℕ) → calls (flat_map part (range_with_len a n)) ≡ range_with_len (before + a) n
-  calls-range a zero = refl
-  calls-range a (suc n) =
-      let rest : List ℕ = calls (flat_map part (range_with_len (a + 1) n)) in
-      calls-append (part a) (flat_map part (range_with_len (a + 1) n))
-      ∙ ap (λ (ps : List ℕ). ps ++ rest) (once a)
-      ∙ ap (λ (ps : List ℕ). (before + a) ∷ ps) (calls-range (a + 1) n ∙ ap (λ (p : ℕ). range_with_len p n) (omega arith))
+use Rattle.graph_format.proofs.Points.{calls-append}
+use Rattle.graph_format.proofs.CallRanges.{range-append, calls-range}
 
 module _ (E : Type 0) where
-  -- the check of one layer
-  pub calls-layer : (layer : Layer) → calls (traverse.layer_points {E = E} layer) ≡ range_with_len 0 (length layer.ids)
-  calls-layer layer =
-      calls-range (traverse.commit_points layer) 0 (λ pos. ap (λ (p : ℕ). p ∷ []) (omega arith)) 0 (length layer.ids)
-      ∙ ap (λ (p : ℕ). range_with_len p (length layer.ids)) (omega arith)
-
   calls-layer_at : (layers : List Layer) (i : ℕ) (layer : Layer) → calls (layer_points {E = E} layers i layer) ≡ range_with_len (start layers i) (size layer)
   calls-layer_at layers i layer =
       calls-range (commit_points layers i layer) (start layers i) (λ pos. refl) 0 (size layer)

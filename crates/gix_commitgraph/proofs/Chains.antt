@@ -2,10 +2,10 @@
 use Rattle.std.proofs.Common.{◌≡◌, ℕ, ◌+◌, List, [], ◌∷◌, ◌++◌, Result, Ok, Err, map, refl, sym, ap, ◌∙◌, append_assoc}
 use Rattle.std.specs.List.{enumerate_from}
 use Rattle.graph_folder.specs.Tree.{Tree}
-use Rattle.gix_commitgraph.specs.OpenAnswer.{and_then, result_map, all_values}
-use Rattle.gix_commitgraph.specs.Layer.{Layer}
+use Rattle.graph_layer.specs.OpenAnswer.{and_then, result_map, all_values}
+use Rattle.graph_format.specs.Layer.{Layer}
 use Rattle.gix_commitgraph.specs.Opening.{layer_of_line}
-use Rattle.gix_commitgraph.specs.declared.opening.error.OpenError.{OpenError}
+use Rattle.graph_layer.specs.declared.opening.error.OpenError.{OpenError}
 
 -- the layers that lines name, of which the first is line i
 abbrev pub layers_from : Tree → List ℕ → ℕ → List (List ℕ) → Result (List Layer) OpenError

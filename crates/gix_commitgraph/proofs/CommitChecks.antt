@@ -1,24 +1,25 @@
 -- How the check of a graph goes over the points of one commit.
 use Rattle.std.proofs.Common.{◌≡◌, ℕ, ◌+◌, Bool, true, false, not, ◌==◌, List, [], ◌∷◌, map, min, Option, Some, None, option_map, Result, Ok, Err, nat_lt, eq-eqb, ne_eqb, refl, sym, ap, subst, ◌∙◌, arith}
 use Rattle.gix_chunk_core.specs.First.{◌when◌}
-use Rattle.gix_commitgraph.specs.Layer.{Layer, record_at}
-use Rattle.gix_commitgraph.specs.Commit.{commit_layer, commit_pos}
-use Rattle.gix_commitgraph.specs.Parents.{position_of, items_of, parents_of}
+use Rattle.graph_format.specs.Layer.{Layer, record_at}
+use Rattle.graph_layer.specs.Commit.{commit_layer, commit_pos}
+use Rattle.graph_format.specs.Parents.{position_of, items_of, parents_of}
 use Rattle.gix_commitgraph.specs.Graph.{start, stop}
-use Rattle.gix_commitgraph.specs.Wrong.{commit_fault}
-use Rattle.gix_commitgraph.specs.History.{Node, history_of, generation_at, parents_at}
-use Rattle.gix_commitgraph.specs.Generations.{expected_generation}
-use Rattle.gix_commitgraph.specs.Counts.{greatest}
-use Rattle.gix_commitgraph.specs.Points.{Point, check, call, first_some, refused, IsRefused, StopsAt, StopsBy, Passes}
+use Rattle.graph_format.specs.Wrong.{commit_fault}
+use Rattle.graph_walks.specs.History.{Node, generation_at, parents_at}
+use Rattle.graph_format.specs.StoredHistory.{history_of}
+use Rattle.graph_walks.specs.Generations.{expected_generation}
+use Rattle.graph_walks.specs.Counts.{greatest}
+use Rattle.graph_format.specs.Points.{Point, check, call, first_some, refused, IsRefused, StopsAt, StopsBy, Passes}
 use Rattle.gix_commitgraph.specs.Verify.{item_refusal, parents_refusal, generation_refusal, commit_points, stop_of}
 use Rattle.gix_commitgraph.specs.Spans.{IsSpan, IsInSpan}
-use Rattle.gix_commitgraph.specs.declared.Position.{Position}
-use Rattle.gix_commitgraph.specs.declared.file.commit.Commit.{Commit}
-use Rattle.gix_commitgraph.specs.declared.file.commit.ParentError.{ParentError}
+use Rattle.graph_format.specs.declared.Position.{Position}
+use Rattle.graph_layer.specs.declared.file.commit.Commit.{Commit}
+use Rattle.graph_format.specs.declared.parents.ParentError.{ParentError}
 use Rattle.gix_commitgraph.specs.declared.verify.VerifyError.{VerifyError}
 use Rattle.gix_commitgraph.specs.declared.verify.VerifyError.TheVariants as error
 use Rattle.gix_commitgraph.specs.declared.verify.span.Span.{Span}
-use Rattle.gix_commitgraph.proofs.Points.{Reaches, reached_start, reached_past_check, refused_at_check, reached_past_call, stopped_at_call, passed}
+use Rattle.graph_format.proofs.Points.{Reaches, reached_start, reached_past_check, refused_at_check, reached_past_call, stopped_at_call, passed}
 
 -- what holds of each refusal that may be found holds of the first one
 pub first_some-holds : {A X : Type 0} (P : X → Type 0) (h : A → Option X) → ((a : A) (x : X) → h a ≡ Some x → P x)

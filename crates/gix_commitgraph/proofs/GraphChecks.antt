@@ -6,15 +6,16 @@ use Rattle.std.proofs.lemmas.Bool.{le-ltb}
 use Rattle.std.proofs.lemmas.List.{drop_all}
 use denote.Ref.{Bor}
 use Rattle.gix_chunk_core.specs.First.{◌when◌}
-use Rattle.gix_commitgraph.specs.Layer.{Layer}
-use Rattle.gix_commitgraph.specs.Called.{CalledOn, InGraph}
-use Rattle.gix_commitgraph.specs.Points.{Point, Stop, StopsBy, Passes}
+use Rattle.graph_format.specs.Layer.{Layer}
+use Rattle.graph_layer.specs.Called.{CalledOn}
+use Rattle.gix_commitgraph.specs.InGraph.{InGraph}
+use Rattle.graph_format.specs.Points.{Point, Stop, StopsBy, Passes}
 use Rattle.gix_commitgraph.specs.Verify.{layer_points, graph_points}
-use Rattle.gix_commitgraph.specs.declared.file.commit.Commit.{Commit}
+use Rattle.graph_layer.specs.declared.file.commit.Commit.{Commit}
 use Rattle.gix_commitgraph.specs.declared.verify.VerifyError.{VerifyError}
 use Rattle.gix_commitgraph.specs.declared.verify.VerifyError.TheVariants as error
-use Rattle.gix_commitgraph.proofs.Points.{Reaches, reached_start, reached_past_check, passed, reached_past_part, stops_in_part}
-use Rattle.gix_commitgraph.proofs.Elements.{drop-next}
+use Rattle.graph_format.proofs.Points.{Reaches, reached_start, reached_past_check, passed, reached_past_part, stops_in_part}
+use Rattle.graph_layer.proofs.Elements.{drop-next}
 
 -- the points of the layers from layer i on
 abbrev pub layers_from : {E : Type 0} → List Layer → ℕ → List (Point (VerifyError E))

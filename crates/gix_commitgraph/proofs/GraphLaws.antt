@@ -12,19 +12,20 @@ use Rattle.gix_chunk_core.proofs.FirstLemmas.{first_below-none_at}
 use Rattle.gix_chunk_core.specs.First.{◌when◌, ◌otherwise◌}
 use Rattle.gix_hash_core.specs.declared.kind.Kind.{Kind}
 use Rattle.gix_hash_core.specs.declared.kind.Kind.TheVariants.{Sha1, Sha256}
-use Rattle.gix_commitgraph.specs.Layer.{Layer}
-use Rattle.gix_commitgraph.specs.Lookup.{Found, scan}
-use Rattle.gix_commitgraph.specs.LookupLaw.{IsFirst}
+use Rattle.graph_format.specs.Layer.{Layer}
+use Rattle.graph_format.specs.Lookup.{Found, scan}
+use Rattle.graph_format.specs.LookupLaw.{IsFirst}
 use Rattle.gix_commitgraph.specs.Graph.{graph_ids, graph_commits, total, start, MakesGraph}
 use Rattle.gix_commitgraph.specs.GraphLookup.{answer_at, first_answer}
 use Rattle.gix_commitgraph.specs.GraphLaw.{LiesIn, LiesInOne, IsPlaceIn, AreCounted, IsOrdered, AreScanned, IsRefusal, IsJudged}
 use Rattle.gix_commitgraph.specs.GraphRefusal.{same_kind, kind_at, mismatch_after, mismatch_refusal, graph_refusal}
-use Rattle.gix_commitgraph.specs.declared.TheConstants.{MAX_COMMITS}
-use Rattle.gix_commitgraph.specs.declared.init.GraphError.{GraphError}
-use Rattle.gix_commitgraph.specs.declared.init.GraphError.TheVariants.{NoFiles, TooManyCommits, HashMismatch}
-use Rattle.gix_commitgraph.proofs.Layers.{size, when-none, same_kind-alike, kinds-alike, start-none, start-more, start-cons, graph_ids-at, graph_commits-at}
+use Rattle.graph_format.specs.declared.TheConstants.{MAX_COMMITS}
+use Rattle.graph_format.specs.declared.error.GraphError.{GraphError}
+use Rattle.graph_format.specs.declared.error.GraphError.TheVariants.{NoFiles, TooManyCommits, HashMismatch}
+use Rattle.gix_commitgraph.proofs.Layers.{size, same_kind-alike, kinds-alike, start-none, start-more, start-cons, graph_ids-at, graph_commits-at}
+use Rattle.graph_format.proofs.FaultFree.{when-none}
 use Rattle.gix_commitgraph.proofs.Positions.{length-graph_commits}
-use Rattle.gix_commitgraph.proofs.Scans.{scan-first, scan-found, scan-none}
+use Rattle.graph_format.proofs.Scans.{scan-first, scan-found, scan-none}
 use Rattle.gix_commitgraph.proofs.GraphLookups.{answer_at-get_or, first_answer-at, first_answer-none}
 
 -- what stands past the last layer

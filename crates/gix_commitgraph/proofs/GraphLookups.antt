@@ -6,13 +6,13 @@ use Rattle.std.proofs.lemmas.Bool.{cases_lt, cases_eq, lt-ltb, le-ltb, eq-eqb, n
 use Rattle.std.proofs.lemmas.List.FromFn.{length-map-range_with_len}
 use Rattle.std.proofs.lemmas.List.Sums.{position_or_len_is}
 use Rattle.std.proofs.lemmas.Option.{slice_get_within, unwrap_or-slice_get, same_Some}
-use Rattle.gix_commitgraph.specs.Layer.{Layer}
-use Rattle.gix_commitgraph.specs.Lookup.{Found, scan}
-use Rattle.gix_commitgraph.specs.LookupLaw.{IsFirst}
+use Rattle.graph_format.specs.Layer.{Layer}
+use Rattle.graph_format.specs.Lookup.{Found, scan}
+use Rattle.graph_format.specs.LookupLaw.{IsFirst}
 use Rattle.gix_commitgraph.specs.Graph.{start}
 use Rattle.gix_commitgraph.specs.GraphLookup.{FoundIn, answer_at, first_answer}
-use Rattle.gix_commitgraph.proofs.Pieces.{get-map-range}
-use Rattle.gix_commitgraph.proofs.Scans.{scan-first}
+use Rattle.graph_format.proofs.Pieces.{get-map-range}
+use Rattle.graph_format.proofs.Scans.{scan-first}
 
 holds-from_first : (ids : List (List ℕ)) (id : List ℕ) (answer : Option ℕ) → IsFirst ids id answer → IfSome answer (λ pos. slice_get ids pos ≡ Some id)
 holds-from_first ids id None h = tt

@@ -1,10 +1,10 @@
 -- What an answer of the check of a graph says of it.
 use Rattle.std.proofs.Common.{◌∙◌, ℕ, List, All, Result, Ok, Err}
 use Rattle.std.specs.Prelude.{MatchResult, IfOk}
-use Rattle.gix_commitgraph.specs.Layer.{Layer}
-use Rattle.gix_commitgraph.specs.Graph.{IsOpened}
-use Rattle.gix_commitgraph.specs.History.{history_of}
-use Rattle.gix_commitgraph.specs.Points.{Agrees}
+use Rattle.graph_format.specs.Layer.{Layer}
+use Rattle.graph_format.specs.Layer.{IsOpened}
+use Rattle.graph_format.specs.StoredHistory.{history_of}
+use Rattle.graph_format.specs.Points.{Agrees}
 use Rattle.gix_commitgraph.specs.Sound.{Sound}
 use Rattle.gix_commitgraph.specs.Verify.{graph_points, stop_of, Summarizes}
 use Rattle.gix_commitgraph.specs.Headline.{Stats, LookupsAreScans, IsDeserved}

@@ -9,13 +9,15 @@ use Rattle.std.proofs.lemmas.Simd.{map-map}
 use Rattle.gix_hash_core.specs.declared.kind.Kind.{Kind}
 use Rattle.gix_hash_core.specs.declared.kind.Kind.TheVariants.{Sha1, Sha256}
 use Rattle.gix_hash_core.specs.Kind.{id_len}
-use Rattle.gix_commitgraph.specs.Format.{Record, record_of, record_len, commits_of, pieces, chunk_of, ids_id, records_id}
-use Rattle.gix_commitgraph.specs.Layer.{Layer, record_at, no_record, bytes_of}
-use Rattle.gix_commitgraph.specs.Left.{places_from}
-use Rattle.gix_commitgraph.specs.Graph.{graph_commits, total, start, IsOpened}
-use Rattle.gix_commitgraph.specs.Parents.{parents_of}
-use Rattle.gix_commitgraph.specs.History.{Node, node_of, layer_history, history_of, generation_at, parents_at}
-use Rattle.gix_commitgraph.proofs.Pieces.{length-pieces}
+use Rattle.graph_format.specs.Format.{Record, record_of, record_len, commits_of, pieces, chunk_of, ids_id, records_id}
+use Rattle.graph_format.specs.Layer.{Layer, record_at, no_record, bytes_of}
+use Rattle.graph_format.specs.Layer.{places_from}
+use Rattle.gix_commitgraph.specs.Graph.{graph_commits, total, start}
+use Rattle.graph_format.specs.Layer.{IsOpened}
+use Rattle.graph_format.specs.Parents.{parents_of}
+use Rattle.graph_walks.specs.History.{Node, generation_at, parents_at}
+use Rattle.graph_format.specs.StoredHistory.{node_of, layer_history, history_of}
+use Rattle.graph_format.proofs.Pieces.{length-pieces}
 use Rattle.gix_commitgraph.proofs.Positions.{length-graph_commits}
 use Rattle.gix_commitgraph.proofs.Layers.{start-all}
 

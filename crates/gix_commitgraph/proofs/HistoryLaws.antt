@@ -1,57 +1,22 @@
 -- The history of a graph by the layers that its commits lie in.
-use Rattle.std.proofs.Common.{◌≡◌, ℕ, ◌+◌, ◌-◌, ◌*◌, ◌/◌, ◌<◌, List, [], ◌∷◌, map, length, take, get_or, Option, Some, None, All, IsSomeAnd, slice_get, refl, sym, ap, subst, ◌∙◌, arith, length-append}
+use Rattle.std.proofs.Common.{◌≡◌, ℕ, ◌+◌, ◌-◌, ◌<◌, List, [], ◌∷◌, length, take, get_or, Option, Some, All, slice_get, refl, sym, ap, subst, ◌∙◌, arith, length-append}
 use Rattle.std.specs.List.{flat_map}
-use Rattle.std.specs.Option.{option_map, option_map_or}
-use Rattle.std.proofs.Math.Nat.{mul-div_cancel_left}
-use Rattle.std.proofs.lemmas.List.{length-map}
+use Rattle.std.specs.Option.{option_map_or}
 use Rattle.std.proofs.lemmas.List.Concat.{get_or-flat_map}
 use Rattle.std.proofs.lemmas.List.Elements.{All-get_or, All-head, All-tail, All-take, All-weaker}
 use Rattle.std.proofs.lemmas.List.Sums.{sum_by-cons}
-use Rattle.std.proofs.lemmas.Option.{slice_get_within, slice_get-get_or, get_or_from_slice_get, unwrap_or-slice_get, slice_get-map}
-use Rattle.gix_hash_core.specs.declared.kind.Kind.{Kind}
-use Rattle.gix_hash_core.specs.declared.kind.Kind.TheVariants.{Sha1, Sha256}
-use Rattle.gix_hash_core.specs.Kind.{id_len}
-use Rattle.gix_commitgraph.specs.Format.{Record, record_of, record_len, pieces}
-use Rattle.gix_commitgraph.specs.Layer.{Layer, no_record, record_at}
-use Rattle.gix_commitgraph.specs.Graph.{total, start, IsOpened}
+use Rattle.std.proofs.lemmas.Option.{slice_get_within, slice_get-get_or, get_or_from_slice_get}
+use Rattle.graph_format.specs.Layer.{Layer, record_at}
+use Rattle.gix_commitgraph.specs.Graph.{total, start}
+use Rattle.graph_format.specs.Layer.{IsOpened}
 use Rattle.gix_commitgraph.specs.GraphLaw.{LiesIn}
-use Rattle.gix_commitgraph.specs.History.{Node, node_of, layer_history, history_of, generation_at, parents_at}
+use Rattle.graph_walks.specs.History.{Node, generation_at, parents_at}
+use Rattle.graph_format.specs.StoredHistory.{node_of, layer_history, history_of}
 use Rattle.gix_commitgraph.proofs.Layers.{size, start-more, start-fits}
-use Rattle.gix_commitgraph.proofs.Pieces.{length-pieces}
-
--- a layer has one record for each id
-abbrev pub IsPaired : Layer → Type 0
-IsPaired layer = length layer.records ≡ length layer.ids
-
--- bytes of so many pieces
-many : (n c : ℕ) (bytes : List ℕ) → 0 < n → length bytes ≡ n * c → length (pieces n bytes) ≡ c
-many n c bytes positive long = length-pieces n bytes ∙ ap (λ (k : ℕ). k / n) long ∙ mul-div_cancel_left c positive
-
-positive : (kind : Kind) → 0 < id_len kind
-positive Sha1 = omega arith
-positive Sha256 = omega arith
-
-many_ids : (kind : Kind) (c : ℕ) (o : Option (List ℕ)) (ids : List (List ℕ)) → IsSomeAnd o (λ chunk. (length chunk ≡ id_len kind * c) × (ids ≡ pieces (id_len kind) chunk)) → length ids ≡ c
-many_ids kind c None ids h = absurd h
-many_ids kind c (Some chunk) ids h = ap length h.1 ∙ many (id_len kind) c chunk (positive kind) h.0
-
-many_records : (kind : Kind) (c : ℕ) (o : Option (List ℕ)) (records : List Record) → IsSomeAnd o (λ chunk. (length chunk ≡ record_len kind * c) × (records ≡ map (record_of kind) (pieces (record_len kind) chunk))) → length records ≡ c
-many_records kind c None records h = absurd h
-many_records kind c (Some chunk) records h =
-    ap length h.1 ∙ length-map (pieces (record_len kind) chunk) (record_of kind) ∙ many (record_len kind) c chunk (omega (arith, positive kind)) h.0
-
--- an opened layer is paired
-pub opened-paired : (layer : Layer) → IsOpened layer → IsPaired layer
-opened-paired layer opened =
-    many_records layer.kind _ _ layer.records opened.records ∙ sym (many_ids layer.kind _ _ layer.ids opened.ids)
+use Rattle.graph_format.proofs.LayerHistories.{IsPaired, opened-paired, length-layer_history, layer_history-at}
 
 pub all-paired : (layers : List Layer) → All IsOpened layers → All IsPaired layers
 all-paired layers opened = All-weaker IsOpened IsPaired opened-paired layers opened
-
--- each layer's part has as many commits as the layer
-pub length-layer_history : (layer : Layer) → length (layer_history layer) ≡ length layer.records
-unfolding layer_history
-length-layer_history layer = length-map layer.records (node_of layer)
 
 pub length-history_of : (layers : List Layer) → All IsPaired layers → length (history_of layers) ≡ total layers
 unfolding history_of
@@ -65,16 +30,6 @@ length-history_of (layer ∷ layers) paired =
 pub within-history : (layers : List Layer) (i pos : ℕ) (layer : Layer) → All IsPaired layers → slice_get layers i ≡ Some layer → pos < size layer → start layers i + pos < length (history_of layers)
 within-history layers i pos layer paired here within =
     omega (arith, length-history_of layers paired, start-more layers i layer here, start-fits layers (i + 1))
-
-record_at-is : (layer : Layer) (pos : ℕ) → pos < length layer.records → slice_get layer.records pos ≡ Some (record_at layer pos)
-unfolding record_at
-record_at-is layer pos within =
-    slice_get-get_or layer.records pos no_record within ∙ ap (λ (r : Record). Some r) (sym (unwrap_or-slice_get layer.records pos no_record))
-
-layer_history-at : (layer : Layer) (pos : ℕ) → pos < length layer.records → slice_get (layer_history layer) pos ≡ Some (node_of layer (record_at layer pos))
-unfolding layer_history
-layer_history-at layer pos within =
-    slice_get-map (node_of layer) layer.records pos ∙ ap (option_map (node_of layer)) (record_at-is layer pos within)
 
 -- and it is what the record of that position says
 pub history-at : (layers : List Layer) (i pos : ℕ) (layer : Layer) → All IsPaired layers → slice_get layers i ≡ Some layer → pos < size layer → slice_get (history_of layers) (start layers i + pos) ≡ Some (node_of layer (record_at layer pos))

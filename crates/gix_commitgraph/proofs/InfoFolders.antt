@@ -3,11 +3,11 @@ use Rattle.std.proofs.Common.{◌≡◌, ℕ, ◌<◌, ◌≤◌, ◌-◌, ◌^�
 use Rattle.std.specs.Result.{result_or}
 use Rattle.graph_folder.specs.Failures.{one_more}
 use Rattle.graph_folder.specs.Tree.{Tree}
-use Rattle.gix_commitgraph.specs.OpenAnswer.{IsAsExpected, is_settled, failures_after_opening}
-use Rattle.gix_commitgraph.specs.Layer.{Layer}
+use Rattle.graph_layer.specs.OpenAnswer.{IsAsExpected, is_settled, failures_after_opening}
+use Rattle.graph_format.specs.Layer.{Layer}
 use Rattle.gix_commitgraph.specs.Opening.{file_opened, chain_opened, info_file, info_chain, InfoOpens}
-use Rattle.gix_commitgraph.specs.declared.opening.error.OpenError.{OpenError}
-use Rattle.gix_commitgraph.specs.declared.opening.error.OpenError.TheVariants.{NothingFound, NotOpened, Device, ChainNotText, Layer as layer_error, Graph as graph_error, OutOfMemory}
+use Rattle.graph_layer.specs.declared.opening.error.OpenError.{OpenError}
+use Rattle.graph_layer.specs.declared.opening.error.OpenError.TheVariants.{NothingFound, NotOpened, Device, ChainNotText, Layer as layer_error, Graph as graph_error, OutOfMemory}
 
 abbrev or_chain : Tree → List ℕ → Result (List Layer) OpenError → Result (List Layer) OpenError
 or_chain tree folder first = result_or first (chain_opened tree (info_chain folder))

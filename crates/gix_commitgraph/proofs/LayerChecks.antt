@@ -6,20 +6,21 @@ use Rattle.std.proofs.lemmas.Bool.{cases_lt}
 use denote.Ref.{Bor}
 use Rattle.gix_chunk_core.specs.First.{◌when◌, ◌otherwise◌, first_below}
 use Rattle.gix_chunk_core.proofs.FirstLemmas.{first_below-least}
-use Rattle.gix_commitgraph.specs.Layer.{Layer}
-use Rattle.gix_commitgraph.specs.Commit.{commit_pos, commit_place}
-use Rattle.gix_commitgraph.specs.Left.{places_from}
-use Rattle.gix_commitgraph.specs.Wrong.{layer_fault}
-use Rattle.gix_commitgraph.specs.Called.{CalledOn, InGraph}
-use Rattle.gix_commitgraph.specs.Points.{Point, check, Stop, refused, StopsBy, Passes}
+use Rattle.graph_format.specs.Layer.{Layer}
+use Rattle.graph_layer.specs.Commit.{commit_pos, commit_place}
+use Rattle.graph_format.specs.Layer.{places_from}
+use Rattle.graph_format.specs.Wrong.{layer_fault}
+use Rattle.graph_layer.specs.Called.{CalledOn}
+use Rattle.gix_commitgraph.specs.InGraph.{InGraph}
+use Rattle.graph_format.specs.Points.{Point, check, Stop, refused, StopsBy, Passes}
 use Rattle.gix_commitgraph.specs.Verify.{base_at, checksum_at, base_refusal, bases_refusal, commit_points, layer_points, stop_of}
 use Rattle.gix_commitgraph.specs.Spans.{IsInSpan}
-use Rattle.gix_commitgraph.specs.declared.file.commit.Commit.{Commit}
+use Rattle.graph_layer.specs.declared.file.commit.Commit.{Commit}
 use Rattle.gix_commitgraph.specs.declared.verify.VerifyError.{VerifyError}
 use Rattle.gix_commitgraph.specs.declared.verify.VerifyError.TheVariants as error
 use Rattle.gix_commitgraph.specs.declared.verify.span.Span.{Span}
-use Rattle.gix_commitgraph.proofs.Points.{Reaches, reached_start, reached_past_check, refused_at_check, passed, reached_past_part, stops_in_part}
-use Rattle.gix_commitgraph.proofs.Elements.{range-next}
+use Rattle.graph_format.proofs.Points.{Reaches, reached_start, reached_past_check, refused_at_check, passed, reached_past_part, stops_in_part}
+use Rattle.graph_layer.proofs.Elements.{range-next}
 use Rattle.gix_commitgraph.proofs.CommitChecks.{stop_of-when}
 
 -- what is found at the base ids is no answer of the processor

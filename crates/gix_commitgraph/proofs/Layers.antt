@@ -1,5 +1,5 @@
 -- laws of the layers of a graph
-use Rattle.std.proofs.Common.{◌≡◌, ℕ, zero, suc, ◌+◌, ◌-◌, ◌^◌, ◌<◌, ◌≤◌, List, [], ◌∷◌, ◌++◌, length, take, Bool, true, false, not, Option, Some, None, unwrap_or, option_map, get_or, slice_get, All, AllPairs, refl, sym, ap, ◌∙◌, arith, ⊎_elim}
+use Rattle.std.proofs.Common.{◌≡◌, ℕ, zero, suc, ◌+◌, ◌-◌, ◌^◌, ◌<◌, ◌≤◌, List, [], ◌∷◌, ◌++◌, length, take, Bool, true, not, Option, Some, None, unwrap_or, option_map, get_or, slice_get, All, AllPairs, refl, sym, ap, ◌∙◌, arith, ⊎_elim}
 use Rattle.std.specs.List.{flat_map}
 use Rattle.std.proofs.lemmas.Bool.{not-false, ltb-false, eqb-false, cases_lt}
 use Rattle.std.proofs.lemmas.List.{take_all}
@@ -13,13 +13,15 @@ use Rattle.gix_hash_core.specs.declared.kind.Kind.{Kind}
 use Rattle.gix_hash_core.specs.declared.kind.Kind.TheVariants.{Sha1, Sha256}
 use Rattle.gix_hash_core.specs.contracts.kind.Kind.{the_type}
 use Rattle.gix_chunk_core.specs.First.{◌when◌}
-use Rattle.gix_commitgraph.specs.Layer.{Layer}
+use Rattle.graph_format.specs.Layer.{Layer}
 use Rattle.gix_commitgraph.specs.GraphRefusal.{same_kind, kind_at, mismatch_after, mismatch_refusal, graph_refusal}
-use Rattle.gix_commitgraph.specs.declared.init.GraphError.TheVariants.{HashMismatch}
-use Rattle.gix_commitgraph.proofs.Accepted.{otherwise-none}
-use Rattle.gix_commitgraph.specs.Left.{places_from}
-use Rattle.gix_commitgraph.specs.Graph.{graph_ids, graph_commits, total, start, IsOpened, MakesGraph, IsGraph}
-use Rattle.gix_commitgraph.proofs.Pieces.{get-map-range}
+use Rattle.graph_format.specs.declared.error.GraphError.TheVariants.{HashMismatch}
+use Rattle.graph_format.proofs.FaultFree.{when-none}
+use Rattle.graph_format.proofs.Accepted.{otherwise-none}
+use Rattle.graph_format.specs.Layer.{places_from}
+use Rattle.gix_commitgraph.specs.Graph.{graph_ids, graph_commits, total, start, MakesGraph, IsGraph}
+use Rattle.graph_format.specs.Layer.{IsOpened}
+use Rattle.graph_format.proofs.Pieces.{get-map-range}
 
 -- how many commits a layer has
 abbrev pub size : Layer → ℕ
@@ -95,11 +97,6 @@ graph_commits-at layers i j layer here h =
 pub kind_at-is : (layers : List Layer) (i : ℕ) (layer : Layer) → slice_get layers i ≡ Some layer → kind_at layers i ≡ layer.kind
 unfolding kind_at
 kind_at-is layers i layer here = ap (λ (o : Option Layer). unwrap_or (option_map (λ (l : Layer). l.kind) o) Sha1) here
-
--- a condition that names no fault does not hold
-pub when-none : {E : Type 0} (fault : E) (test : Bool) → (fault when test) ≡ None → test ≡ false
-when-none fault true h = cc
-when-none fault false h = refl
 
 -- the test of the code
 same_kind-tested : (a b : Kind) → sameb the_type a b ≡ same_kind a b

@@ -6,11 +6,11 @@ use Rattle.std.proofs.lemmas.List.FromFn.{length-map-range_with_len, get_or-map-
 use Rattle.std.proofs.lemmas.List.Sums.{sum_by-cons}
 use Rattle.std.proofs.lemmas.Option.{unwrap_or-slice_get, get_or_from_slice_get, slice_get-get_or}
 use Rattle.std.proofs.lemmas.Simd.{map-map}
-use Rattle.gix_commitgraph.specs.Layer.{Layer}
-use Rattle.gix_commitgraph.specs.Left.{places_from}
+use Rattle.graph_format.specs.Layer.{Layer}
+use Rattle.graph_format.specs.Layer.{places_from}
 use Rattle.gix_commitgraph.specs.Graph.{graph_ids, graph_commits, total}
 use Rattle.gix_commitgraph.specs.GraphLeft.{id_of}
-use Rattle.gix_commitgraph.proofs.Elements.{range-next}
+use Rattle.graph_layer.proofs.Elements.{range-next}
 use Rattle.gix_commitgraph.proofs.Layers.{size, length-places}
 
 -- the position that comes next

@@ -1,35 +1,37 @@
 -- The check of a graph names no fault exactly where the graph is right.
 use Rattle.std.proofs.Common.{◌≡◌, ℕ, ◌+◌, ◌<◌, ◌≤◌, List, length, get_or, slice_get, All, Option, Some, None, Result, refl, sym, ◌∙◌, subst}
-use Rattle.std.specs.Prelude.{◌↔◌, option_map}
+use Rattle.std.specs.Prelude.{◌↔◌}
 use Rattle.std.proofs.lemmas.Bool.{ltb-false, le-ltb}
 use Rattle.std.proofs.lemmas.List.Elements.{All-weaker}
 use Rattle.std.proofs.lemmas.Option.{none-some, slice_get_within, slice_get-get_or, get_or_from_slice_get}
 use Rattle.gix_chunk_core.proofs.FirstLemmas.{then_some-false}
-use Rattle.gix_commitgraph.specs.Layer.{Layer}
-use Rattle.gix_commitgraph.specs.Graph.{graph_ids, start, IsOpened}
+use Rattle.graph_format.specs.Layer.{Layer}
+use Rattle.gix_commitgraph.specs.Graph.{graph_ids, start}
+use Rattle.graph_format.specs.Layer.{IsOpened}
 use Rattle.gix_commitgraph.specs.GraphLaw.{IsOrdered}
 use Rattle.gix_commitgraph.specs.GraphLookup.{FoundIn}
-use Rattle.gix_commitgraph.specs.Lookup.{scan}
-use Rattle.gix_commitgraph.specs.History.{history_of, generations}
-use Rattle.gix_commitgraph.specs.Walks.{TellsLongest}
-use Rattle.gix_commitgraph.specs.Wrong.{layer_fault, commit_fault}
-use Rattle.gix_commitgraph.specs.Points.{first_fault, Passes, IsRefused}
-use Rattle.gix_commitgraph.specs.Verify.{bases_refusal, parents_refusal, generation_refusal, commit_points, layer_points, graph_points, longest_path, Summarizes}
-use Rattle.gix_commitgraph.specs.Sound.{IsRightLayer, Sound}
+use Rattle.graph_format.specs.Lookup.{scan}
+use Rattle.graph_walks.specs.History.{generations}
+use Rattle.graph_format.specs.StoredHistory.{history_of}
+use Rattle.graph_walks.specs.Walks.{TellsLongest}
+use Rattle.graph_format.specs.Wrong.{layer_fault, commit_fault}
+use Rattle.graph_format.specs.Points.{first_fault, Passes, IsRefused}
+use Rattle.graph_walks.specs.Generations.{longest_path}
+use Rattle.gix_commitgraph.specs.Verify.{bases_refusal, parents_refusal, generation_refusal, commit_points, layer_points, graph_points, Summarizes}
+use Rattle.graph_format.specs.RightLayer.{IsRightLayer}
+use Rattle.gix_commitgraph.specs.Sound.{Sound}
 use Rattle.gix_commitgraph.specs.declared.verify.Outcome.{Outcome}
 use Rattle.gix_commitgraph.specs.declared.verify.VerifyError.{VerifyError}
-use Rattle.gix_commitgraph.proofs.Layers.{when-none}
+use Rattle.graph_format.proofs.FaultFree.{when-none}
 use Rattle.gix_commitgraph.proofs.GraphLaws.{scanned}
-use Rattle.gix_commitgraph.proofs.FaultFree.{check-none, enumerate-none, range-none}
-use Rattle.gix_commitgraph.proofs.HistoryLaws.{IsPaired, all-paired}
-use Rattle.gix_commitgraph.proofs.SoundLayers.{bases-iff, layer_fault-iff}
-use Rattle.gix_commitgraph.proofs.SoundCommits.{commit_faults-iff}
+use Rattle.graph_format.proofs.FaultFree.{option_map-none, check-none, enumerate-none, range-none}
+use Rattle.graph_format.proofs.LayerHistories.{IsPaired}
+use Rattle.gix_commitgraph.proofs.HistoryLaws.{all-paired}
+use Rattle.gix_commitgraph.proofs.SoundLayers.{bases-iff}
+use Rattle.graph_format.proofs.RightLayers.{layer_fault-iff}
+use Rattle.graph_format.proofs.SoundCommits.{commit_faults-iff}
 use Rattle.gix_commitgraph.proofs.SoundParents.{parents-iff, generations-iff}
-use Rattle.gix_commitgraph.proofs.WalkLaws.{counts_from_local, local_from_counts, longest_is_told}
-
-pub option_map-none : {X Y : Type 0} (f : X → Y) (o : Option X) → (option_map f o ≡ None) ↔ (o ≡ None)
-option_map-none f None = (λ h. refl, λ h. refl)
-option_map-none f (Some x) = (λ h. cc, λ h. cc)
+use Rattle.graph_walks.proofs.WalkLaws.{counts_from_local, local_from_counts, longest_is_told}
 
 paired-at : (layers : List Layer) (i : ℕ) (layer : Layer) → All IsPaired layers → slice_get layers i ≡ Some layer → IsPaired layer
 paired-at layers i layer paired here = subst IsPaired (get_or_from_slice_get layers i layer layer here) (paired i layer (slice_get_within layers i layer here))

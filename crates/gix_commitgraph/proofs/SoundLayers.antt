@@ -1,21 +1,15 @@
--- Where the check of a layer by itself, and of its base ids, names no fault.
+-- Where the check of a layer's base ids names no fault.
 use Rattle.std.proofs.Common.{◌≡◌, ℕ, ◌<◌, ◌≤◌, not, List, [], map, length, take, get_or, slice_get, Some, None, sym, ap, ◌∙◌, arith}
 use Rattle.std.specs.Prelude.{◌↔◌}
 use Rattle.std.proofs.lemmas.Bool.{not-false, eqb-true, eq-eqb}
 use Rattle.std.proofs.lemmas.List.{length-map, length-take-le, get_or_default, get_or-take, take-map, same_lists}
 use Rattle.std.proofs.lemmas.Option.{slice_get_within, unwrap_or-slice_get}
 use Rattle.std.proofs.lemmas.Slice.Eq.{bytes_eq-Decides}
-use Rattle.gix_chunk_core.specs.First.{first_below}
 use Rattle.gix_chunk_core.proofs.FirstLemmas.{option_or-none, then_some-false, first_below-none_at, first_below-none_from}
-use Rattle.gix_hash_core.specs.Digest.{digest_of}
-use Rattle.gix_commitgraph.specs.Layer.{Layer}
-use Rattle.gix_commitgraph.specs.Order.{IsExactFan}
-use Rattle.gix_commitgraph.specs.Names.{Names}
-use Rattle.gix_commitgraph.specs.Wrong.{wrong_fan, layer_fault}
+use Rattle.graph_format.specs.Layer.{Layer}
 use Rattle.gix_commitgraph.specs.Verify.{base_at, checksum_at, base_refusal, bases_refusal}
-use Rattle.gix_commitgraph.proofs.Accepted.{otherwise-none}
-use Rattle.gix_commitgraph.proofs.Layers.{when-none}
-use Rattle.gix_commitgraph.proofs.NamesLaws.{is_named_right-iff}
+use Rattle.graph_format.proofs.Accepted.{otherwise-none}
+use Rattle.graph_format.proofs.FaultFree.{when-none}
 
 -- the checksums of layers
 abbrev pub checksums : List Layer → List (List ℕ)
@@ -64,33 +58,3 @@ module _ {E : Type 0} where
             (first_below-none_from (base_refusal {E = E} layers i layer) i (λ j below.
             then_some-false _ _ (ap not ((bytes_eq-Decides _ _).1 (each-from_bases layers i layer same j below))))),
       )
-
--- the fan is exact
-fan-iff : (layer : Layer) → (first_below (wrong_fan layer) 256 ≡ None) ↔ IsExactFan layer.fan layer.ids
-fan-iff layer = (
-  λ h byte below. eqb-true _ _ (not-false _ (when-none _ _ (first_below-none_at (wrong_fan layer) byte 256 h below))),
-  λ exact. first_below-none_from (wrong_fan layer) 256 (λ byte below. then_some-false _ _ (ap not (eq-eqb _ _ (exact byte below)))),
-)
-
--- What the check of a layer as a whole looks for.
-pub record IsRightWhole (layer : Layer) : Type 0 where
-  pub checksum : layer.checksum ≡ digest_of layer.kind layer.body
-  pub name : Names layer.path layer.checksum
-  pub fan : IsExactFan layer.fan layer.ids
-
-pub layer_fault-iff : (layer : Layer) → (layer_fault layer ≡ None) ↔ IsRightWhole layer
-unfolding layer_fault
-layer_fault-iff layer = (
-  λ h.
-      let checksum = otherwise-none _ _ h in
-      let name = otherwise-none _ _ checksum.1 in
-      record {
-        checksum = (bytes_eq-Decides _ _).0 (not-false _ (when-none _ _ checksum.0));
-        name = (is_named_right-iff layer.path layer.checksum).0 (not-false _ (when-none _ _ name.0));
-        fan = (fan-iff layer).0 name.1;
-      },
-  λ right.
-      option_or-none _ _ (then_some-false _ _ (ap not ((bytes_eq-Decides _ _).1 right.checksum)))
-      (option_or-none _ _ (then_some-false _ _ (ap not ((is_named_right-iff layer.path layer.checksum).1 right.name)))
-      ((fan-iff layer).1 right.fan)),
-)

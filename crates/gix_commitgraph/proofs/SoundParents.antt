@@ -5,22 +5,25 @@ use Rattle.std.proofs.lemmas.Bool.{not-false, ltb-true, lt-ltb, eqb-true, eq-eqb
 use Rattle.std.proofs.lemmas.List.{get_or_default}
 use Rattle.std.proofs.lemmas.List.Elements.{All-nil, All-cons, All-head, All-tail}
 use Rattle.gix_chunk_core.proofs.FirstLemmas.{then_some-false}
-use Rattle.gix_commitgraph.specs.Format.{Record}
-use Rattle.gix_commitgraph.specs.Layer.{Layer, no_record, record_at}
-use Rattle.gix_commitgraph.specs.Parents.{parents_of, fault_items}
+use Rattle.graph_format.specs.Format.{Record}
+use Rattle.graph_format.specs.Layer.{Layer, no_record, record_at}
+use Rattle.graph_format.specs.Parents.{parents_of, fault_items}
 use Rattle.gix_commitgraph.specs.Graph.{total, start, stop}
-use Rattle.gix_commitgraph.specs.History.{Node, history_of, generation_at}
-use Rattle.gix_commitgraph.specs.Generations.{expected_generation, AreLocal}
-use Rattle.gix_commitgraph.specs.Points.{first_some}
+use Rattle.graph_walks.specs.History.{Node, generation_at}
+use Rattle.graph_format.specs.StoredHistory.{history_of}
+use Rattle.graph_walks.specs.Generations.{expected_generation, AreLocal}
+use Rattle.graph_format.specs.Points.{first_some}
 use Rattle.gix_commitgraph.specs.Verify.{item_refusal, parents_refusal, generation_refusal}
 use Rattle.gix_commitgraph.specs.Sound.{AreParentsKnown}
-use Rattle.gix_commitgraph.specs.declared.Position.{Position}
-use Rattle.gix_commitgraph.specs.declared.file.commit.ParentError.{ParentError}
-use Rattle.gix_commitgraph.proofs.Layers.{size, when-none, start-more}
+use Rattle.graph_format.specs.declared.Position.{Position}
+use Rattle.graph_format.specs.declared.parents.ParentError.{ParentError}
+use Rattle.gix_commitgraph.proofs.Layers.{size, start-more}
+use Rattle.graph_format.proofs.FaultFree.{when-none}
 use Rattle.gix_commitgraph.proofs.GraphLaws.{lies-in_one}
-use Rattle.gix_commitgraph.proofs.FaultFree.{first_some-none}
-use Rattle.gix_commitgraph.proofs.HistoryLaws.{IsPaired, length-history_of, within-history}
-use Rattle.gix_commitgraph.proofs.SoundCommits.{record_at-get_or}
+use Rattle.graph_format.proofs.FaultFree.{first_some-none}
+use Rattle.graph_format.proofs.LayerHistories.{IsPaired}
+use Rattle.gix_commitgraph.proofs.HistoryLaws.{length-history_of, within-history}
+use Rattle.graph_format.proofs.SoundCommits.{record_at-get_or}
 
 -- what a record says of its parents
 abbrev AreKnownAt : List Layer → ℕ → Layer → Record → Type 0

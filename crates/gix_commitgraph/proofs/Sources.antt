@@ -2,12 +2,12 @@
 use Rattle.std.proofs.Common.{◌≡◌, ℕ, List, [], ◌∷◌, ◌++◌, All, Result, Ok, Err, IfOk, IfErr, sym, subst}
 use Rattle.std.specs.Prelude.{MatchResult}
 use Rattle.std.proofs.lemmas.List.Elements.{All-append, All-cons, All-nil}
-use Rattle.gix_commitgraph.specs.Layer.{Layer}
+use Rattle.graph_format.specs.Layer.{Layer}
 use Rattle.gix_commitgraph.specs.OpenAlways.{IsFromChain, IsFileError, IsFolderError}
 use Rattle.gix_commitgraph.specs.Paths.{layer_path}
-use Rattle.gix_commitgraph.specs.declared.opening.error.OpenError.{OpenError}
-use Rattle.gix_commitgraph.specs.declared.opening.error.OpenError.TheVariants.{NothingFound, NotOpened, Device, ChainNotText}
-use Rattle.gix_commitgraph.specs.declared.opening.error.OpenError.TheVariants.{Layer as layer_error, Graph as graph_error, OutOfMemory}
+use Rattle.graph_layer.specs.declared.opening.error.OpenError.{OpenError}
+use Rattle.graph_layer.specs.declared.opening.error.OpenError.TheVariants.{NothingFound, NotOpened, Device, ChainNotText}
+use Rattle.graph_layer.specs.declared.opening.error.OpenError.TheVariants.{Layer as layer_error, Graph as graph_error, OutOfMemory}
 
 -- an error of a file's opener is one of a folder's
 folder_error : (error : OpenError) → IsFileError error → IsFolderError error

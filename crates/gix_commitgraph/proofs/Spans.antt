@@ -2,18 +2,20 @@
 use Rattle.std.proofs.Common.{◌≡◌, ℕ, ◌+◌, ◌^◌, ◌<◌, ◌≤◌, List, [], ◌∷◌, ◌++◌, Some, length, take, slice_get, sym, ap, subst, ◌∙◌, arith, length-take}
 use Rattle.std.proofs.lemmas.List.{length-map}
 use Rattle.std.proofs.lemmas.Option.{get_or_from_slice_get, slice_get_within}
-use Rattle.gix_commitgraph.specs.Layer.{Layer}
-use Rattle.gix_commitgraph.specs.Commit.{commit_layer, commit_pos, commit_place, commit_record, commit_parents}
-use Rattle.gix_commitgraph.specs.Parents.{edge_of, items_of}
-use Rattle.gix_commitgraph.specs.Graph.{graph_commits, total, IsOpened}
-use Rattle.gix_commitgraph.specs.Called.{InGraph}
-use Rattle.gix_commitgraph.specs.History.{history_of, generation_at, parents_at}
+use Rattle.graph_format.specs.Layer.{Layer}
+use Rattle.graph_layer.specs.Commit.{commit_layer, commit_pos, commit_place, commit_record, commit_parents}
+use Rattle.graph_format.specs.Parents.{edge_of, items_of}
+use Rattle.gix_commitgraph.specs.Graph.{graph_commits, total}
+use Rattle.graph_format.specs.Layer.{IsOpened}
+use Rattle.gix_commitgraph.specs.InGraph.{InGraph}
+use Rattle.graph_walks.specs.History.{generation_at, parents_at}
+use Rattle.graph_format.specs.StoredHistory.{history_of}
 use Rattle.gix_commitgraph.specs.Spans.{IsSpan, IsInSpan}
-use Rattle.gix_commitgraph.specs.declared.file.commit.Commit.{Commit}
+use Rattle.graph_layer.specs.declared.file.commit.Commit.{Commit}
 use Rattle.gix_commitgraph.specs.declared.verify.span.Span.{Span}
 use Rattle.gix_commitgraph.proofs.Layers.{size, start-more, start-fits, graph_commits-counted}
 use Rattle.gix_commitgraph.proofs.Histories.{node_at, generation-at, parents-at, take-history}
-use Rattle.gix_commitgraph.proofs.ParentItems.{numbers_of, numbers-parents, parents-few}
+use Rattle.graph_layer.proofs.ParentItems.{numbers_of, numbers-parents, parents-few}
 
 -- where a layer ends
 pub span-stop : (layers : List Layer) (span : Span) → IsSpan layers span → span.stop ≡ span.first + size span.file.now

@@ -1,9 +1,8 @@
 -- a graph: its layers, from the lowest on ("Base Graphs List"; "Commit-Graphs Chains" of Git's commit-graph design)
 use Rattle.std.specs.Prelude.{◌≡◌, ℕ, ◌+◌, ◌<◌, ◌≤◌, List, AllPairs, All, length, sum_by, take}
 use Rattle.std.specs.List.{flat_map}
-use Rattle.gix_commitgraph.specs.Layer.{Layer, IsLayer, bytes_of}
-use Rattle.gix_commitgraph.specs.Left.{places_from}
-use Rattle.gix_commitgraph.specs.declared.TheConstants.{MAX_COMMITS}
+use Rattle.graph_format.specs.Layer.{Layer, IsOpened, places_from}
+use Rattle.graph_format.specs.declared.TheConstants.{MAX_COMMITS}
 
 -- the ids of a graph: those of its layers, one layer after another
 abbrev pub graph_ids : List Layer → List (List ℕ)
@@ -31,10 +30,6 @@ pub record MakesGraph (layers : List Layer) : Type 0 where
   pub few : total layers ≤ MAX_COMMITS
   -- each two have ids of one kind
   pub alike : AllPairs (λ layer later. layer.kind ≡ later.kind) layers
-
--- the layer is that of a file that was opened
-abbrev pub IsOpened : Layer → Type 0
-IsOpened layer = IsLayer (bytes_of layer) layer.path layer
 
 -- What every graph keeps.
 pub record IsGraph (layers : List Layer) : Type 0 where

@@ -1,14 +1,14 @@
 -- what the words of a graph mean
 use Rattle.std.specs.Prelude.{◌≡◌, ◌≢◌, ℕ, ◌+◌, ◌-◌, ◌<◌, ◌≤◌, List, [], All, length, slice_get, Option, Some, MatchOption}
-use Rattle.gix_commitgraph.specs.Layer.{Layer}
-use Rattle.gix_commitgraph.specs.Order.{AreAscending, IsExactFan}
-use Rattle.gix_commitgraph.specs.Lookup.{scan}
+use Rattle.graph_format.specs.Layer.{Layer}
+use Rattle.graph_format.specs.Order.{AreAscending, IsExactFan}
+use Rattle.graph_format.specs.Lookup.{scan}
 use Rattle.gix_commitgraph.specs.Graph.{graph_ids, graph_commits, total, start, stop, MakesGraph}
 use Rattle.gix_commitgraph.specs.GraphRefusal.{kind_at, graph_refusal}
 use Rattle.gix_commitgraph.specs.GraphLookup.{FoundIn}
-use Rattle.gix_commitgraph.specs.declared.TheConstants.{MAX_COMMITS}
-use Rattle.gix_commitgraph.specs.declared.init.GraphError.{GraphError}
-use Rattle.gix_commitgraph.specs.declared.init.GraphError.TheVariants.{NoFiles, TooManyCommits, HashMismatch, OutOfMemory}
+use Rattle.graph_format.specs.declared.TheConstants.{MAX_COMMITS}
+use Rattle.graph_format.specs.declared.error.GraphError.{GraphError}
+use Rattle.graph_format.specs.declared.error.GraphError.TheVariants.{NoFiles, TooManyCommits, HashMismatch, OutOfMemory}
 
 -- A position lies in this layer.
 pub record LiesIn (layers : List Layer) (pos i : ℕ) (layer : Layer) : Type 0 where

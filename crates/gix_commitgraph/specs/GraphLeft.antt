@@ -1,7 +1,7 @@
 -- what the iterators over a graph have left
 use Rattle.std.specs.Prelude.{ℕ, List, [], ◌++◌, map, unwrap_or, slice_get}
-use Rattle.gix_commitgraph.specs.Layer.{Layer}
-use Rattle.gix_commitgraph.specs.Left.{places_from}
+use Rattle.graph_format.specs.Layer.{Layer}
+use Rattle.graph_format.specs.Layer.{places_from}
 use Rattle.gix_commitgraph.specs.Graph.{graph_commits}
 use Rattle.gix_commitgraph.specs.declared.iter.Places.{Places}
 use Rattle.gix_commitgraph.specs.declared.iter.GraphIds.{GraphIds}

@@ -1,11 +1,11 @@
 -- what the lookup of an id in a graph answers
 use Rattle.std.specs.Prelude.{◌≡◌, ℕ, ◌+◌, List, length, position, slice_get, Option, Some, None, unwrap_or, option_map, option_and_then, is_some}
-use Rattle.gix_commitgraph.specs.Layer.{Layer}
-use Rattle.gix_commitgraph.specs.Commit.{commit_place}
+use Rattle.graph_format.specs.Layer.{Layer}
+use Rattle.graph_layer.specs.Commit.{commit_place}
 use Rattle.gix_commitgraph.specs.Graph.{graph_commits, start}
-use Rattle.gix_commitgraph.specs.Lookup.{Found}
-use Rattle.gix_commitgraph.specs.declared.Position.{Position}
-use Rattle.gix_commitgraph.specs.declared.file.commit.Commit.{Commit}
+use Rattle.graph_format.specs.Lookup.{Found}
+use Rattle.graph_format.specs.declared.Position.{Position}
+use Rattle.graph_layer.specs.declared.file.commit.Commit.{Commit}
 
 -- the answer of a layer
 unfoldable pub answer_at : List (Option ℕ) → ℕ → Option ℕ

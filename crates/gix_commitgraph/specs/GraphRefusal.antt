@@ -4,11 +4,11 @@ use Rattle.gix_chunk_core.specs.First.{first_below}
 use Rattle.gix_hash_core.specs.declared.kind.Kind.{Kind}
 use Rattle.gix_hash_core.specs.declared.kind.Kind.TheVariants.{Sha1, Sha256}
 use Rattle.gix_chunk_core.specs.First.{◌when◌, ◌otherwise◌}
-use Rattle.gix_commitgraph.specs.Layer.{Layer}
+use Rattle.graph_format.specs.Layer.{Layer}
 use Rattle.gix_commitgraph.specs.Graph.{total}
-use Rattle.gix_commitgraph.specs.declared.TheConstants.{MAX_COMMITS}
-use Rattle.gix_commitgraph.specs.declared.init.GraphError.{GraphError}
-use Rattle.gix_commitgraph.specs.declared.init.GraphError.TheVariants.{NoFiles, TooManyCommits, HashMismatch}
+use Rattle.graph_format.specs.declared.TheConstants.{MAX_COMMITS}
+use Rattle.graph_format.specs.declared.error.GraphError.{GraphError}
+use Rattle.graph_format.specs.declared.error.GraphError.TheVariants.{NoFiles, TooManyCommits, HashMismatch}
 
 abbrev pub same_kind : Kind → Kind → Bool
 same_kind Sha1 Sha1 = true

@@ -2,13 +2,14 @@
 use Rattle.std.specs.Prelude.{◌≡◌, ℕ, List, Option, ⊤}
 use Rattle.std.specs.BTreeMap.{get}
 use Rattle.std.specs.Ordering.{nat_cmp}
-use Rattle.gix_commitgraph.specs.Layer.{Layer}
+use Rattle.graph_format.specs.Layer.{Layer}
 use Rattle.gix_commitgraph.specs.Graph.{graph_ids, total}
 use Rattle.gix_commitgraph.specs.GraphLookup.{FoundIn}
-use Rattle.gix_commitgraph.specs.Lookup.{scan}
-use Rattle.gix_commitgraph.specs.Counts.{count_of}
-use Rattle.gix_commitgraph.specs.History.{history_of, parent_numbers}
-use Rattle.gix_commitgraph.specs.Walks.{TellsLongest}
+use Rattle.graph_format.specs.Lookup.{scan}
+use Rattle.graph_walks.specs.Counts.{count_of}
+use Rattle.graph_walks.specs.History.{parent_numbers}
+use Rattle.graph_format.specs.StoredHistory.{history_of}
+use Rattle.graph_walks.specs.Walks.{TellsLongest}
 use Rattle.gix_commitgraph.specs.Sound.{Sound}
 use Rattle.gix_commitgraph.specs.declared.verify.Outcome.{Outcome}
 use Rattle.gix_commitgraph.specs.declared.verify.VerifyError.{VerifyError}

@@ -1,11 +1,12 @@
 -- What each opener answers, whatever stands in the folder: from which files its graph is read, and with which errors.
 use Rattle.std.specs.Prelude.{◌≡◌, ◌⊎◌, ℕ, List, [], ◌∷◌, All, map, ⊤}
-use Rattle.gix_commitgraph.specs.Layer.{Layer}
+use Rattle.graph_format.specs.Layer.{Layer}
 use Rattle.gix_commitgraph.specs.Opening.{info_file, info_chain}
+use Rattle.graph_layer.specs.LayerOpening.{IsLayerError}
 use Rattle.gix_commitgraph.specs.Paths.{layer_path}
-use Rattle.gix_commitgraph.specs.declared.opening.error.OpenError.{OpenError}
-use Rattle.gix_commitgraph.specs.declared.opening.error.OpenError.TheVariants.{NothingFound, NotOpened, Device}
-use Rattle.gix_commitgraph.specs.declared.opening.error.OpenError.TheVariants.{Layer as layer_error, Graph as graph_error, OutOfMemory}
+use Rattle.graph_layer.specs.declared.opening.error.OpenError.{OpenError}
+use Rattle.graph_layer.specs.declared.opening.error.OpenError.TheVariants.{NothingFound}
+use Rattle.graph_layer.specs.declared.opening.error.OpenError.TheVariants.{Graph as graph_error}
 
 -- the one layer is the file at the path
 abbrev pub IsFromFile : List ℕ → List Layer → Type 0
@@ -22,18 +23,6 @@ IsFromInfo folder layers = IsFromFile (info_file folder) layers ⊎ IsFromChain 
 -- the path is that of a file, of a chain folder or of an info folder
 abbrev pub IsFromPath : List ℕ → List Layer → Type 0
 IsFromPath path layers = IsFromFile path layers ⊎ (IsFromChain path layers ⊎ IsFromInfo path layers)
-
--- the errors of reading a file
-abbrev pub IsReadError : OpenError → Type 0
-IsReadError NotOpened = ⊤
-IsReadError Device = ⊤
-IsReadError OutOfMemory = ⊤
-IsReadError _ = ⊥
-
--- of opening a file as layer i
-abbrev pub IsLayerError : ℕ → OpenError → Type 0
-IsLayerError i (layer_error j error) = j ≡ i
-IsLayerError i error = IsReadError error
 
 -- of opening a file as a graph
 abbrev pub IsFileError : OpenError → Type 0

@@ -2,34 +2,21 @@
 use Rattle.std.specs.Prelude.{◌≡◌, ℕ, ◌<◌, ◌≤◌, ◌-◌, ◌^◌, List, [], ◌∷◌, Option, Some, None, map, codes, if◌then◌else◌, IsErrOf}
 use Rattle.std.specs.Bool.{MatchBool}
 use Rattle.std.specs.List.{enumerate_from}
-use Rattle.std.specs.Option.{ok_or}
 use Rattle.std.specs.Result.{result_or}
 use Rattle.std.specs.Str.{is_utf8}
 use Rattle.std.specs.Str.Lines.{lines}
 use Rattle.std.specs.declared.result.Result.{Result}
 use Rattle.std.specs.declared.result.Result.TheVariants.{Ok, Err}
-use Rattle.graph_folder.specs.Tree.{Tree, file_at, is_file, is_folder}
+use Rattle.graph_folder.specs.Tree.{Tree, is_file, is_folder}
 use Rattle.gix_commitgraph.specs.GraphRefusal.{graph_refusal}
-use Rattle.gix_commitgraph.specs.Layer.{Layer}
-use Rattle.gix_commitgraph.specs.OpenAnswer.{and_then, result_map_err, all_values, IsAsExpected, failures_after_opening}
-use Rattle.gix_commitgraph.specs.Opened.{layer_of}
-use Rattle.gix_commitgraph.specs.OpenRefusals.{layer_refused, graph_refused}
+use Rattle.graph_format.specs.Layer.{Layer}
+use Rattle.graph_layer.specs.LayerOpening.{bytes_at, layer_at}
+use Rattle.graph_layer.specs.OpenAnswer.{and_then, all_values, IsAsExpected, failures_after_opening}
+use Rattle.graph_layer.specs.OpenRefusals.{graph_refused}
 use Rattle.gix_commitgraph.specs.Paths.{join_path, chain_path, layer_path}
-use Rattle.gix_commitgraph.specs.declared.init.GraphError.{GraphError}
-use Rattle.gix_commitgraph.specs.declared.opening.error.OpenError.{OpenError}
-use Rattle.gix_commitgraph.specs.declared.opening.error.OpenError.TheVariants.{NothingFound, NotOpened, Device, ChainNotText, OutOfMemory}
-
--- the bytes of the file at a path
-abbrev pub bytes_at : Tree → List ℕ → Result (List ℕ) OpenError
-bytes_at tree path = ok_or (file_at tree path) NotOpened
-
--- the layer of a file's bytes, which is to be layer i
-abbrev pub layer_of_bytes : ℕ → List ℕ → List ℕ → Result Layer OpenError
-layer_of_bytes i bytes path = result_map_err (layer_refused i) (layer_of bytes path)
-
--- the layer of the file at a path
-abbrev pub layer_at : Tree → ℕ → List ℕ → Result Layer OpenError
-layer_at tree i path = and_then (bytes_at tree path) (λ bytes. layer_of_bytes i bytes path)
+use Rattle.graph_format.specs.declared.error.GraphError.{GraphError}
+use Rattle.graph_layer.specs.declared.opening.error.OpenError.{OpenError}
+use Rattle.graph_layer.specs.declared.opening.error.OpenError.TheVariants.{NothingFound, Device, ChainNotText, OutOfMemory}
 
 -- the refusal of layers as a graph, else the layers
 abbrev pub graph_unless_refused : Option GraphError → List Layer → Result (List Layer) OpenError

@@ -1,9 +1,9 @@
 -- the layers of a graph, each with the positions of its commits
 use Rattle.std.specs.Prelude.{◌≡◌, ◌+◌, ℕ, List, Some, slice_get}
-use Rattle.gix_commitgraph.specs.Layer.{Layer}
-use Rattle.gix_commitgraph.specs.Commit.{commit_layer, commit_pos}
+use Rattle.graph_format.specs.Layer.{Layer}
+use Rattle.graph_layer.specs.Commit.{commit_layer, commit_pos}
 use Rattle.gix_commitgraph.specs.Graph.{start, stop, IsGraph}
-use Rattle.gix_commitgraph.specs.declared.file.commit.Commit.{Commit}
+use Rattle.graph_layer.specs.declared.file.commit.Commit.{Commit}
 use Rattle.gix_commitgraph.specs.declared.verify.span.Span.{Span}
 
 -- A layer of a graph, and where its commits begin and end.

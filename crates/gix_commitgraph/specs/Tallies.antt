@@ -2,8 +2,8 @@
 use Rattle.std.specs.Prelude.{◌≡◌, ℕ, List, length, map}
 use Rattle.std.specs.BTreeMap.{get}
 use Rattle.std.specs.Ordering.{nat_cmp}
-use Rattle.gix_commitgraph.specs.Counts.{greatest, count_of}
-use Rattle.gix_commitgraph.specs.History.{Node, generations, parent_numbers, generation_at, parents_at}
+use Rattle.graph_walks.specs.Counts.{greatest, count_of}
+use Rattle.graph_walks.specs.History.{Node, generations, parent_numbers, generation_at, parents_at}
 use Rattle.gix_commitgraph.specs.declared.verify.tally.Tally.{Tally}
 use Rattle.gix_commitgraph.specs.declared.verify.span.ParentTally.{ParentTally}
 

@@ -1,20 +1,20 @@
 -- what the check of a graph looks for, in its order, and what it answers
-use Rattle.std.specs.Prelude.{◌≡◌, ◌==◌, ◌+◌, ◌-◌, ◌∷◌, [], ℕ, List, not, nat_lt, bytes_eq, slice_get, unwrap_or, length, map, Option, Some, None, option_map, Result, Ok, Err, if◌then◌else◌}
+use Rattle.std.specs.Prelude.{◌≡◌, ◌==◌, ◌+◌, ◌∷◌, [], ℕ, List, not, nat_lt, bytes_eq, slice_get, unwrap_or, length, map, Option, Some, option_map, Result, Ok, Err}
 use Rattle.std.specs.BTreeMap.{get, IsUnchanged}
 use Rattle.std.specs.List.{flat_map, range_with_len, enumerate_from}
 use Rattle.std.specs.Ordering.{nat_cmp}
 use Rattle.gix_chunk_core.specs.First.{◌when◌, ◌otherwise◌, first_below}
-use Rattle.gix_commitgraph.specs.Layer.{Layer, record_at}
-use Rattle.gix_commitgraph.specs.Parents.{position_of, parents_of, items_of}
+use Rattle.graph_format.specs.Layer.{Layer, record_at}
+use Rattle.graph_format.specs.Parents.{position_of, parents_of, items_of}
 use Rattle.gix_commitgraph.specs.Graph.{start, stop}
-use Rattle.gix_commitgraph.specs.Wrong.{layer_fault, commit_fault}
-use Rattle.gix_commitgraph.specs.Points.{Point, check, call, first_some, Stop, refused, by_processor, no_memory}
-use Rattle.gix_commitgraph.specs.Counts.{greatest, count_of}
-use Rattle.gix_commitgraph.specs.History.{Node, history_of, generation_at, generations, parent_numbers}
-use Rattle.gix_commitgraph.specs.Generations.{expected_generation}
-use Rattle.gix_commitgraph.specs.declared.TheConstants.{GENERATION_NUMBER_MAX}
-use Rattle.gix_commitgraph.specs.declared.Position.{Position}
-use Rattle.gix_commitgraph.specs.declared.file.commit.ParentError.{ParentError}
+use Rattle.graph_format.specs.Wrong.{layer_fault, commit_fault}
+use Rattle.graph_format.specs.Points.{Point, check, call, first_some, Stop, refused, by_processor, no_memory}
+use Rattle.graph_walks.specs.Counts.{count_of}
+use Rattle.graph_walks.specs.History.{Node, generation_at, generations, parent_numbers}
+use Rattle.graph_format.specs.StoredHistory.{history_of}
+use Rattle.graph_walks.specs.Generations.{expected_generation, longest_path}
+use Rattle.graph_format.specs.declared.Position.{Position}
+use Rattle.graph_format.specs.declared.parents.ParentError.{ParentError}
 use Rattle.gix_commitgraph.specs.declared.verify.VerifyError.{VerifyError}
 use Rattle.gix_commitgraph.specs.declared.verify.VerifyError.TheVariants as error
 use Rattle.gix_commitgraph.specs.declared.verify.Outcome.{Outcome}
@@ -81,10 +81,6 @@ module _ {E : Type 0} where
   stop_of (error.Processor pos e) = by_processor pos.0 e
   stop_of error.OutOfMemory = no_memory
   stop_of x = refused x
-
--- one less than the greatest of some generation numbers, 0 where there are none, and none where one is at the cap
-abbrev pub longest_path : List ℕ → Option ℕ
-longest_path numbers = if nat_lt (greatest numbers) GENERATION_NUMBER_MAX then Some (greatest numbers - 1) else None
 
 -- The statistics of some commits.
 pub record Summarizes (history : List Node) (outcome : Outcome) : Type 0 where

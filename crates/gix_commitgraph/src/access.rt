@@ -2,8 +2,9 @@
 
 ghost use Rattle.std.specs.Prelude.{◌≡◌, ◌+◌, ◌^◌, ◌<◌, ◌≤◌, All, length, slice_get, option_map, Some, IfSome};
 ghost use Rattle.gix_hash_core.specs.Oid.{oid_bytes};
-ghost use Rattle.gix_commitgraph.specs.Commit.{commit_layer, commit_pos, commit_place};
-ghost use Rattle.gix_commitgraph.specs.Graph.{IsGraph, IsOpened, graph_ids, graph_commits, total};
+ghost use Rattle.graph_layer.specs.Commit.{commit_layer, commit_pos, commit_place};
+ghost use Rattle.gix_commitgraph.specs.Graph.{IsGraph, graph_ids, graph_commits, total};
+ghost use Rattle.graph_format.specs.Layer.{IsOpened};
 ghost use Rattle.gix_commitgraph.specs.GraphLookup.{FoundIn, CommitFoundIn, graph_place};
 ghost use Rattle.gix_commitgraph.specs.GraphLeft.{graph_ids_left, graph_commits_left};
 

@@ -1,8 +1,5 @@
 //! A graph of several layers.
 
-#[cfg(test)]
-mod tests;
-
 use crate::file::File;
 use std::marker::Model;
 
@@ -15,7 +12,7 @@ pub struct Graph {
 
 impl Model for Graph {
     ghost use Rattle.std.specs.Prelude.{List};
-    ghost use Rattle.gix_commitgraph.specs.Layer.{Layer};
+    ghost use Rattle.graph_format.specs.Layer.{Layer};
     ghost use Rattle.gix_commitgraph.specs.Graph.{IsGraph};
 
     ghost Value = { List Layer };

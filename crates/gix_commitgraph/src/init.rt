@@ -1,34 +1,17 @@
 //! Building a graph from its layers.
 
 ghost use Rattle.std.specs.Prelude.{◌≡◌, ◌+◌, ◌-◌, ◌<◌, ◌⊎◌, All, length, Some, None, IfOk, MatchResult};
-ghost use Rattle.gix_commitgraph.specs.Faults.{Reports};
-ghost use Rattle.gix_commitgraph.specs.Graph.{IsOpened, total};
+ghost use Rattle.graph_format.specs.Faults.{Reports};
+ghost use Rattle.graph_format.specs.Layer.{IsOpened};
+ghost use Rattle.gix_commitgraph.specs.Graph.{total};
 ghost use Rattle.gix_commitgraph.specs.GraphRefusal.{mismatch_refusal, graph_refusal};
 
 use crate::MAX_COMMITS;
 use crate::access::commits_of_all;
 use crate::file::File;
 use crate::graph::Graph;
+pub use graph_format::error::GraphError;
 use std::alloc::Global;
-use thiserror::Error;
-
-/// Why files make no graph: the first of these conditions that holds.
-#[derive(Debug, PartialEq, Eq, Drop, Error)]
-pub enum GraphError {
-    /// There is no file.
-    #[error("NoFiles")]
-    NoFiles,
-    /// The files have this many commits together, which is more than [`MAX_COMMITS`].
-    #[error("TooManyCommits")]
-    TooManyCommits(u128),
-    /// The file of this layer, counted from 0, has ids of another kind than the file before it, and
-    /// no earlier one has.
-    #[error("HashMismatch")]
-    HashMismatch { layer: usize },
-    /// An allocation failed, and the files would make a graph.
-    #[error("OutOfMemory")]
-    OutOfMemory,
-}
 
 impl Graph {
     /// The graph of these files, which are its layers, the lowest first. It takes any files of one

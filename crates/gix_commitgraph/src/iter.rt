@@ -2,7 +2,7 @@
 
 ghost use Rattle.std.specs.Prelude.{◌≡◌, ◌∷◌, [], ◌++◌, ◌<◌, ◌≤◌, length, MatchOption, IfSome, Some};
 ghost use Rattle.gix_commitgraph.specs.Graph.{graph_ids, graph_commits};
-ghost use Rattle.gix_commitgraph.specs.Left.{places_from};
+ghost use Rattle.graph_format.specs.Layer.{places_from};
 
 use crate::file::{self, Commit, File};
 use crate::graph::Graph;
@@ -137,7 +137,7 @@ impl<'a> GraphCommits<'a> {
 impl<'a> Iterator for GraphCommits<'a> {
     ghost use Rattle.std.specs.Iterator.{YieldsFirstBy, item_count, UpTo, at_most};
     ghost use Rattle.std.specs.Iterator.SizeHint.{IsWithinCount};
-    ghost use Rattle.gix_commitgraph.specs.Commit.{commit_place};
+    ghost use Rattle.graph_layer.specs.Commit.{commit_place};
     ghost use Rattle.gix_commitgraph.specs.GraphLeft.{graph_commits_left};
 
     type Item = Commit<'a>;

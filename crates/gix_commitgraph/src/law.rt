@@ -1,68 +1,15 @@
-//! Laws of the format: what its definitions say in all cases. Each function does nothing, and its
-//! contract is the law.
+//! Laws: what the definitions that contracts cite say of all bytes, layers and graphs. Each function
+//! does nothing, and its contract is the law.
 
 pub mod check;
-pub mod edges;
 pub mod graph;
-pub mod layer;
-pub mod lookup;
 pub mod sound;
 pub mod stats;
-pub mod walk;
 
-ghost use Rattle.std.specs.Prelude.{◌≡◌, ℕ, List};
-ghost use Rattle.std.specs.Ordering.{nat_cmp};
-ghost use Rattle.gix_commitgraph.specs.Law.{IsDecided, NamesFirstFall, FallIntoPieces};
-ghost use Rattle.gix_commitgraph.specs.Opened.{IsAnswered};
-ghost use Rattle.gix_commitgraph.specs.declared.Position.{Position};
-ghost use Rattle.gix_commitgraph.specs.declared.file.Position.{Position as LayerPosition};
-ghost use Rattle.gix_commitgraph.specs.declared.TheConstants.{MAX_COMMITS};
-ghost use Rattle.gix_commitgraph.specs.declared.TheConstants.{GENERATION_NUMBER_MAX};
-ghost use Rattle.gix_commitgraph.specs.declared.TheConstants.{GENERATION_NUMBER_INFINITY};
-
-/// For all bytes and each path: the bytes are refused, and are then a file of no layer, or they are
-/// not, and are then a file of exactly one.
-#[tactic(auto, using(crate::proofs::Decided::decided))]
-pub fn each_is_refused_or_read()
-    ensures { (bytes path : List ℕ) → IsDecided bytes path }
-{}
-
-/// For all bytes and each path: what opening answers where there is memory is a layer exactly where
-/// the bytes are a file of that layer, and an error exactly where that is their refusal.
-#[tactic(auto, using(crate::proofs::Decided::answered))]
-pub fn each_is_answered()
-    ensures { (bytes path : List ℕ) → IsAnswered bytes path }
-{}
-
-/// A fan is refused for the first byte at which it falls, and a fan that falls nowhere is not.
-pub fn falling_fans_are_named()
-    ensures { (fan : List ℕ) → NamesFirstFall fan }
-{}
-
-/// The pieces into which bytes fall, as ids, records and words, have the same size and leave out
-/// fewer bytes at the end than a piece has.
-pub fn bytes_fall_into_pieces()
-    ensures { (size : ℕ) (bytes : List ℕ) → FallIntoPieces size bytes }
-{}
-
-/// The limits that the definitions name are these numbers of Git's format.
-pub fn limits_are_these_numbers()
-    // 0x70000000, the value that says "no parent", is one more
-    ensures most_commits { MAX_COMMITS ≡ 1879048191 }
-
-    // 30 bits of a commit's record
-    ensures greatest_generation { GENERATION_NUMBER_MAX ≡ 1073741823 }
-
-    // 32 bits
-    ensures no_generation { GENERATION_NUMBER_INFINITY ≡ 4294967295 }
-{}
-
-/// Positions of a graph, and those of a layer, are ordered as their numbers are. That the orders
-/// are total, that two positions are equal exactly where neither comes first, and that equal
-/// positions hash alike is proved with the impls of `Ord`, `Eq` and `Hash` themselves.
-pub fn positions_are_ordered_by_their_numbers()
-    ensures of_a_graph { (one other : Position)
-        → ⟦<crate::Position as Ord>⟧.cmp one other ≡ nat_cmp one.0 other.0 }
-    ensures of_a_layer { (one other : LayerPosition)
-        → ⟦<crate::file::Position as Ord>⟧.cmp one other ≡ nat_cmp one.0 other.0 }
-{}
+pub use graph_format::law::{
+    bytes_fall_into_pieces, each_is_answered, each_is_refused_or_read, edges,
+    falling_fans_are_named, limits_are_these_numbers, lookup, name,
+    positions_are_ordered_by_their_numbers,
+};
+pub use graph_layer::law as layer;
+pub use graph_walks::law as walk;

@@ -8,59 +8,29 @@
 #![tactic(auto)]
 
 ghost use Rattle.std.specs.Prelude.{Some, IfOk, IfErr};
-ghost use Rattle.std.specs.Fmt.{styled_decimal};
 ghost use Rattle.gix_commitgraph.specs.Graph.{IsGraph};
 ghost use Rattle.gix_commitgraph.specs.OpenAlways.{IsFromPath};
-ghost use Rattle.gix_commitgraph.specs.OpenRefusals.{OutOfMemoryStandsAlone};
+ghost use Rattle.graph_layer.specs.OpenRefusals.{OutOfMemoryStandsAlone};
 
 mod access;
-mod error;
-pub mod file;
 mod graph;
 pub mod init;
 mod iter;
 pub mod law;
-mod numbers;
 pub mod opening;
-#[cfg(test)]
-mod tests;
-#[cfg(test)]
-mod tests_commit;
 pub mod verify;
 
-pub use error::FileError;
 pub use file::File;
 pub use graph::Graph;
+pub use graph_format::error::FileError;
+pub use graph_format::{GENERATION_NUMBER_INFINITY, MAX_COMMITS, Position};
+pub use graph_layer::file;
+pub use graph_walks::GENERATION_NUMBER_MAX;
 pub use init::GraphError;
 pub use iter::{GraphCommits, GraphIds};
 use opening::OpenError;
 use std::alloc::Global;
-use std::fmt;
 use std::rt::Files;
-
-/// The generation number of a commit that has none yet, which is above every other.
-pub const GENERATION_NUMBER_INFINITY: u32 = 0xffff_ffff;
-
-/// The greatest generation number that a file can hold. A commit with a longer walk along parents
-/// has it too.
-pub const GENERATION_NUMBER_MAX: u32 = 0x3fff_ffff;
-
-/// The greatest number of commits that a graph can have, as positions of parents are stored.
-pub const MAX_COMMITS: u32 = (1 << 30) + (1 << 29) + (1 << 28) - 1;
-
-/// A position in a graph: the number of a commit, counted from 0 over all of its layers, the lowest
-/// layer first. A [`file::Position`] counts within one layer.
-#[derive(Clone, Copy, Debug, PartialEq, Eq, PartialOrd, Ord, Hash)]
-pub struct Position(pub u32);
-
-/// The number, with the formatter's width and fill.
-impl fmt::Display for Position {
-    ghost styled_output = { λ position spec. Some (styled_decimal spec position.0) };
-
-    fn fmt<W: fmt::Write>(&self, f: &mut fmt::Formatter<W>) -> fmt::Result {
-        self.0.fmt(f)
-    }
-}
 
 /// Opens the commit-graph at a path, which is that of a file, a chain folder or an info folder:
 /// [`Graph::at`].

@@ -11,27 +11,26 @@ ghost use Rattle.std.specs.Option.{ForSome};
 ghost use Rattle.graph_folder.specs.Tree.{is_file};
 ghost use Rattle.gix_commitgraph.specs.Graph.{IsGraph};
 ghost use Rattle.gix_commitgraph.specs.OpenAlways.{IsFromFile, IsFromChain, IsFromInfo, IsFromPath};
-ghost use Rattle.gix_commitgraph.specs.OpenAlways.{IsReadError, IsLayerError, IsFileError};
+ghost use Rattle.graph_layer.specs.LayerOpening.{IsReadError, IsLayerError};
+ghost use Rattle.gix_commitgraph.specs.OpenAlways.{IsFileError};
 ghost use Rattle.gix_commitgraph.specs.OpenAlways.{IsFolderError};
-ghost use Rattle.gix_commitgraph.specs.OpenAnswer.{IsAsExpected, is_settled, failures_after_opening, result_map};
-ghost use Rattle.gix_commitgraph.specs.Opening.{bytes_at, layer_of_bytes, layer_at, graph_of_layers, file_opened};
+ghost use Rattle.graph_layer.specs.OpenAnswer.{IsAsExpected, is_settled, failures_after_opening, result_map};
+ghost use Rattle.graph_layer.specs.LayerOpening.{bytes_at, layer_of_bytes, layer_at};
+ghost use Rattle.gix_commitgraph.specs.Opening.{graph_of_layers, file_opened};
 ghost use Rattle.gix_commitgraph.specs.Opening.{InfoOpens, FolderOpens, Opens, MetFailureIfDevice};
-ghost use Rattle.gix_commitgraph.specs.OpenRefusals.{OutOfMemoryStandsAlone};
+ghost use Rattle.graph_layer.specs.OpenRefusals.{OutOfMemoryStandsAlone};
 ghost use Rattle.gix_commitgraph.specs.Paths.{chain_path};
 
 mod by_path;
 mod chain;
-mod error;
 mod path;
-#[cfg(test)]
-mod tests;
 
 use crate::file::File;
 use crate::graph::Graph;
 pub use chain::open_chain_dir_in;
-pub use error::OpenError;
-use error::refused_layer;
 use graph_folder::folder::Folder;
+pub use graph_layer::opening::OpenError;
+use graph_layer::opening::open_layer;
 use path::join;
 use std::alloc::{AllocError, Global};
 
@@ -157,47 +156,6 @@ fn has_chain<T: Folder>(alloc: Global, folder: &mut T, path: &str) -> Result<boo
 {
     let chain = join(alloc, path, CHAIN)?;
     folder.is_file(alloc, chain.as_str())
-}
-
-// The file at the path, as a layer.
-fn open_layer<T: Folder>(
-    alloc: Global,
-    folder: &mut T,
-    layer: usize,
-    path: String,
-) -> Result<File, OpenError>
-    ensures opens { ForSome (T.tree folder.old) (λ tree. IsAsExpected result (layer_at tree layer (string_bytes path))) }
-    ensures path { IfOk result (λ file. file.path ≡ string_bytes path) }
-    ensures tree { T.tree folder.new ≡ T.tree folder.old }
-    ensures failures { T.failure_count folder.new ≡ failures_after_opening result (T.failure_count folder.old) }
-    ensures errors { IfErr result (IsLayerError layer) }
-    ensures memory { IfErr result OutOfMemoryStandsAlone }
-{
-    let bytes = read_file(alloc, folder, path.as_str())?;
-    new_layer(alloc, layer, bytes, path)
-}
-
-// The bytes of the file at the path.
-fn read_file<T: Folder>(alloc: Global, folder: &mut T, path: &str) -> Result<Vec<u8>, OpenError>
-    ensures opens { ForSome (T.tree folder.old)
-        (λ tree. IsAsExpected (result_map (λ bytes. bytes.items) result) (bytes_at tree path.now)) }
-    ensures tree { T.tree folder.new ≡ T.tree folder.old }
-    ensures failures { T.failure_count folder.new ≡ failures_after_opening result (T.failure_count folder.old) }
-    ensures errors { IfErr result IsReadError }
-    ensures memory { IfErr result OutOfMemoryStandsAlone }
-{
-    Ok(folder.read(alloc, path)?)
-}
-
-// The layer of a file's bytes.
-fn new_layer(alloc: Global, layer: usize, bytes: Vec<u8>, path: String) -> Result<File, OpenError>
-    ensures opens { IsAsExpected result (layer_of_bytes layer bytes.items (string_bytes path)) }
-    ensures path { IfOk result (λ file. file.path ≡ string_bytes path) }
-    ensures no_device { ¬ (IsErrOf result OpenError.Device) }
-    ensures errors { IfErr result (IsLayerError layer) }
-    ensures memory { IfErr result OutOfMemoryStandsAlone }
-{
-    File::new(alloc, bytes, path).map_err(|error| refused_layer(layer, error))
 }
 
 // The graph of layers.

@@ -2,8 +2,6 @@
 
 mod span;
 mod tally;
-#[cfg(test)]
-mod tests;
 
 ghost use Rattle.std.specs.Prelude.{IfOk, MatchResult};
 
@@ -12,42 +10,13 @@ use crate::file::Commit;
 use crate::file::commit::ParentError;
 use crate::graph::Graph;
 use crate::verify::tally::Tally;
+pub use graph_format::fault::{CommitFault, LayerFault};
 use std::alloc::{AllocError, Global};
 use std::collections::BTreeMap;
 use thiserror::Error;
 
 /// The greatest number of layers of a right graph.
 const MOST_LAYERS: usize = 256;
-
-/// What is wrong with a layer as a whole.
-#[derive(Clone, Copy, Debug, PartialEq, Eq, Error)]
-pub enum LayerFault {
-    /// The checksum is not the digest of the bytes before it ("TRAILER").
-    #[error("Checksum")]
-    Checksum,
-    /// The file is named as a layer of a chain, and not after its checksum ("Commit-Graphs Chains"
-    /// of Git's commit-graph design).
-    #[error("FileName")]
-    FileName,
-    /// The fan's number at this byte is not the number of ids whose first byte is at most that. It
-    /// is the least such byte ("OID Fanout").
-    #[error("Fan")]
-    Fan { byte: u8 },
-}
-
-/// What is wrong with the ids of a commit.
-#[derive(Clone, Copy, Debug, PartialEq, Eq, Error)]
-pub enum CommitFault {
-    /// The id is null ("OID Lookup").
-    #[error("NullId")]
-    NullId,
-    /// The id is not above the one before it in the layer ("OID Lookup").
-    #[error("Order")]
-    Order,
-    /// The id of the root tree is null ("Commit Data").
-    #[error("NullTree")]
-    NullTree,
-}
 
 /// Why a graph is refused: the first of its checks that fails, in their order, or a failed
 /// allocation. Positions are those of the graph, and layers and base ids count from 0.
@@ -126,9 +95,10 @@ impl Outcome {
 }
 
 impl Graph {
-    ghost use Rattle.gix_commitgraph.specs.Points.{Agrees};
-    ghost use Rattle.gix_commitgraph.specs.Called.{MayBeCalled, CalledOn, InGraph};
-    ghost use Rattle.gix_commitgraph.specs.History.{history_of};
+    ghost use Rattle.graph_format.specs.Points.{Agrees};
+    ghost use Rattle.graph_layer.specs.Called.{MayBeCalled, CalledOn};
+    ghost use Rattle.gix_commitgraph.specs.InGraph.{InGraph};
+    ghost use Rattle.graph_format.specs.StoredHistory.{history_of};
     ghost use Rattle.gix_commitgraph.specs.Verify.{graph_points, stop_of, Summarizes};
     ghost use Rattle.gix_commitgraph.specs.Graph.{IsGraph};
     ghost use Rattle.gix_commitgraph.specs.Sound.{Sound};

@@ -2,9 +2,9 @@
 use Rattle.std.proofs.Common.{◌≡◌, List, [], ◌∷◌, ◌++◌, map, All, Option, None, Result, Ok, Err, refl, ap, sym, subst, ◌∙◌}
 use Rattle.std.specs.Result.{IsOk}
 use Rattle.std.proofs.lemmas.List.Elements.{All-nil, All-cons}
-use Rattle.gix_commitgraph.specs.Parents.{Parents, fault_items, items_of}
-use Rattle.gix_commitgraph.specs.declared.Position.{Position}
-use Rattle.gix_commitgraph.specs.declared.file.commit.ParentError.{ParentError}
+use Rattle.graph_format.specs.Parents.{Parents, fault_items, items_of}
+use Rattle.graph_format.specs.declared.Position.{Position}
+use Rattle.graph_format.specs.declared.parents.ParentError.{ParentError}
 
 abbrev pub Items : Type 0
 Items = List (Result Position ParentError)

@@ -1,9 +1,10 @@
 -- In a graph that is right, the parents of each commit are there.
 use Rattle.std.proofs.Common.{◌≡◌, ℕ, ◌+◌, ◌-◌, ◌<◌, List, length, slice_get, All, Some, None, unwrap_or, sym, ap, subst, ◌∙◌, arith}
 use Rattle.std.proofs.lemmas.Option.{get_or_from_slice_get, slice_get_within, unwrap_or-slice_get}
-use Rattle.gix_commitgraph.specs.Layer.{Layer, no_record, record_at}
-use Rattle.gix_commitgraph.specs.Parents.{Parents, parents_of}
-use Rattle.gix_commitgraph.specs.Graph.{IsOpened, graph_commits, start, total}
+use Rattle.graph_format.specs.Layer.{Layer, no_record, record_at}
+use Rattle.graph_format.specs.Parents.{Parents, parents_of}
+use Rattle.graph_format.specs.Layer.{IsOpened}
+use Rattle.gix_commitgraph.specs.Graph.{graph_commits, start, total}
 use Rattle.gix_commitgraph.specs.GraphLaw.{LiesIn}
 use Rattle.gix_commitgraph.specs.Sound.{AreParentsKnown, Sound}
 use Rattle.gix_commitgraph.proofs.GraphLaws.{counted, lies-in_one, place-in}

@@ -7,11 +7,12 @@ use Rattle.std.specs.declared.result.Result.{Result}
 use Rattle.std.proofs.lemmas.Cmp.{eq_by_cmp_equiv}
 use Rattle.graph_folder.specs.Tree.{Tree, RegularFile, file_at, file_bytes}
 use Rattle.graph_folder.specs.Memory.{Contents, nothing, put}
-use Rattle.gix_commitgraph.specs.Layer.{Layer}
-use Rattle.gix_commitgraph.specs.OpenAnswer.{IsAsExpected, and_then}
-use Rattle.gix_commitgraph.specs.Opening.{file_opened, graph_of_layers, layer_of_bytes}
-use Rattle.gix_commitgraph.specs.declared.opening.error.OpenError.{OpenError}
-use Rattle.gix_commitgraph.specs.declared.opening.error.OpenError.TheVariants.{NotOpened}
+use Rattle.graph_format.specs.Layer.{Layer}
+use Rattle.graph_layer.specs.OpenAnswer.{IsAsExpected, and_then}
+use Rattle.gix_commitgraph.specs.Opening.{file_opened, graph_of_layers}
+use Rattle.graph_layer.specs.LayerOpening.{layer_of_bytes}
+use Rattle.graph_layer.specs.declared.opening.error.OpenError.{OpenError}
+use Rattle.graph_layer.specs.declared.opening.error.OpenError.TheVariants.{NotOpened}
 
 file-stored : (path bytes : List ℕ) → file_at (put nothing path (RegularFile bytes)).tree path ≡ Some bytes
 file-stored path bytes =

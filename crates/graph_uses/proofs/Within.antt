@@ -3,9 +3,9 @@ use Rattle.std.proofs.Common.{◌≡◌, ℕ, ◌<◌, List, Option, Some, None,
 use Rattle.std.specs.Option.{option_and_then}
 use Rattle.std.proofs.lemmas.List.Concat.{length-flat_map}
 use Rattle.std.proofs.lemmas.Option.{slice_get_within}
-use Rattle.gix_commitgraph.specs.Layer.{Layer}
+use Rattle.graph_format.specs.Layer.{Layer}
 use Rattle.gix_commitgraph.specs.Graph.{graph_commits, graph_ids, total}
-use Rattle.gix_commitgraph.specs.declared.Position.{Position}
+use Rattle.graph_format.specs.declared.Position.{Position}
 
 -- a position that holds an id is one of the graph's
 pub held-within : (layers : List Layer) (id : List ℕ) (found : Option Position) → IfSome found (λ pos. slice_get (graph_ids layers) pos.0 ≡ Some id) → IfSome found (λ pos. pos.0 < total layers)

@@ -2,7 +2,8 @@
 
 ghost use Rattle.std.specs.Prelude.{◌≡◌, ◌<◌, All, IfOk, map};
 ghost use Rattle.gix_commitgraph.specs.Graph.{total};
-ghost use Rattle.gix_commitgraph.specs.History.{history_of, parents_at};
+ghost use Rattle.graph_walks.specs.History.{parents_at};
+ghost use Rattle.graph_format.specs.StoredHistory.{history_of};
 ghost use Rattle.gix_commitgraph.specs.Sound.{Sound};
 
 use gix_commitgraph::{Graph, Position};

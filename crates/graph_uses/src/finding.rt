@@ -6,8 +6,8 @@ ghost use Rattle.gix_hash_core.specs.Oid.{oid_bytes};
 ghost use Rattle.gix_commitgraph.specs.Graph.{graph_commits, graph_ids, total};
 ghost use Rattle.gix_commitgraph.specs.GraphLookup.{graph_place};
 ghost use Rattle.gix_commitgraph.specs.Headline.{LookupsAreScans};
-ghost use Rattle.gix_commitgraph.specs.Layer.{Layer, record_at};
-ghost use Rattle.gix_commitgraph.specs.Lookup.{scan};
+ghost use Rattle.graph_format.specs.Layer.{Layer, record_at};
+ghost use Rattle.graph_format.specs.Lookup.{scan};
 
 use gix_commitgraph::{Graph, Position};
 use gix_hash_core::{IdError, ObjectId, oid};

@@ -1,8 +1,9 @@
 //! Files that a program has in memory.
 
 ghost use Rattle.std.specs.Prelude.{[], ◌∷◌};
-ghost use Rattle.gix_commitgraph.specs.OpenAnswer.{IsAsExpected, and_then};
-ghost use Rattle.gix_commitgraph.specs.Opening.{graph_of_layers, layer_of_bytes};
+ghost use Rattle.graph_layer.specs.OpenAnswer.{IsAsExpected, and_then};
+ghost use Rattle.gix_commitgraph.specs.Opening.{graph_of_layers};
+ghost use Rattle.graph_layer.specs.LayerOpening.{layer_of_bytes};
 
 use gix_commitgraph::Graph;
 use gix_commitgraph::opening::{OpenError, open_file_in};

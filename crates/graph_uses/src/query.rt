@@ -3,9 +3,10 @@
 ghost use Rattle.std.specs.Prelude.{◌≡◌, ℕ, List, IfOk, map, option_map};
 ghost use Rattle.gix_hash_core.specs.Hexadecimal.{SpellsId};
 ghost use Rattle.gix_commitgraph.specs.Graph.{graph_ids};
-ghost use Rattle.gix_commitgraph.specs.History.{history_of, parents_at};
-ghost use Rattle.gix_commitgraph.specs.Layer.{Layer};
-ghost use Rattle.gix_commitgraph.specs.Lookup.{scan};
+ghost use Rattle.graph_walks.specs.History.{parents_at};
+ghost use Rattle.graph_format.specs.StoredHistory.{history_of};
+ghost use Rattle.graph_format.specs.Layer.{Layer};
+ghost use Rattle.graph_format.specs.Lookup.{scan};
 ghost use Rattle.gix_commitgraph.specs.Sound.{Sound};
 
 use crate::ancestry::parents_of;

@@ -4,7 +4,7 @@ use Rattle.std.proofs.lemmas.Bool.{lt-ltb}
 use Rattle.gix_hash_core.specs.declared.kind.Kind.{Kind}
 use Rattle.gix_hash_core.specs.Kind.{id_len}
 use Rattle.gix_chunk_core.specs.Entry.{end_id}
-use Rattle.gix_commitgraph.specs.Format.{fan_id, ids_id, records_id, edges_id, bases_id}
+use Rattle.graph_format.specs.Format.{fan_id, ids_id, records_id, edges_id, bases_id}
 use Rattle.graph_vectors.specs.Chunks.{NamedChunk, long_bytes, table_from, chunk_bytes}
 use Rattle.graph_vectors.specs.declared.sizes.Sizes.{Sizes}
 use Rattle.graph_vectors.specs.Sizes.{optional_entry, first_offset_of}

@@ -4,7 +4,7 @@ use Rattle.gix_hash_core.specs.declared.kind.Kind.{Kind}
 use Rattle.gix_hash_core.specs.declared.kind.Kind.TheVariants.{Sha1, Sha256}
 use Rattle.gix_hash_core.specs.Kind.{kind_of}
 use Rattle.gix_chunk_core.specs.Table.{Table, Chunks, table_at, range_of}
-use Rattle.gix_commitgraph.specs.Format.{signature, table_of, place_of, chunk_of}
+use Rattle.graph_format.specs.Format.{signature, table_of, place_of, chunk_of}
 use Rattle.graph_vectors.specs.Chunks.{NamedChunk, with_chunks}
 use Rattle.graph_vectors.specs.Written.{header}
 use Rattle.graph_vectors.proofs.BuiltChunks.{AreLaidOut, bytes_named, chunks-laid, range_of-laid, table_at-end}

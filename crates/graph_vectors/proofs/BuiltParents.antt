@@ -2,8 +2,8 @@
 use Rattle.std.proofs.Common.{◌≡◌, ℕ, ◌+◌, ◌<◌, List, [], ◌∷◌, ◌++◌, length, drop, Option, All, refl, ap, ◌∙◌, arith, length-append}
 use Rattle.std.proofs.lemmas.Bool.{lt-ltb, le-ltb, ne_eqb}
 use Rattle.std.proofs.lemmas.List.{drop_at}
-use Rattle.gix_commitgraph.specs.declared.file.commit.ParentEdge.TheVariants as edge
-use Rattle.gix_commitgraph.specs.Parents.{Parents, edge_of, no_parents, followed_by, listed, second_parents, both_parents}
+use Rattle.graph_format.specs.declared.parents.ParentEdge.TheVariants as edge
+use Rattle.graph_format.specs.Parents.{Parents, edge_of, no_parents, followed_by, listed, second_parents, both_parents}
 use Rattle.graph_vectors.specs.ExtraEdges.{no_parent, top_bit, listed_words, extra_words, first_field, second_field}
 use Rattle.graph_vectors.specs.Said.{parents_at}
 use Rattle.graph_vectors.proofs.Pieces.{All-first, All-others}

@@ -4,7 +4,7 @@ use Rattle.std.specs.Int.{w32, w64, from_be_bytes}
 use Rattle.std.proofs.lemmas.Nat.{shr_high, mod_low}
 use Rattle.gix_hash_core.specs.declared.kind.Kind.{Kind}
 use Rattle.gix_hash_core.specs.Kind.{id_len}
-use Rattle.gix_commitgraph.specs.Format.{Record, record_of, record_len, part}
+use Rattle.graph_format.specs.Format.{Record, record_of, record_len, part}
 use Rattle.graph_vectors.specs.Chunks.{word_bytes, long_bytes}
 use Rattle.graph_vectors.proofs.Parts.{slice_range-middle, slice_range-last}
 use Rattle.graph_vectors.proofs.BuiltTable.{length-long_bytes, long_bytes-read}

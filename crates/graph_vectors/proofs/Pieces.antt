@@ -5,7 +5,7 @@ use Rattle.std.specs.List.{range_with_len, flat_map}
 use Rattle.std.proofs.Math.Nat.{mul-div_cancel_left}
 use Rattle.std.proofs.lemmas.Simd.{map-map}
 use Rattle.std.proofs.lemmas.Nat.{from_be_bytes-to_be_bytes_4}
-use Rattle.gix_commitgraph.specs.Format.{pieces, words}
+use Rattle.graph_format.specs.Format.{pieces, words}
 use Rattle.graph_vectors.specs.Chunks.{word_bytes}
 use Rattle.graph_vectors.specs.Written.{words_bytes}
 use Rattle.graph_vectors.proofs.Parts.{slice_range-middle}

@@ -4,8 +4,8 @@ use Rattle.std.proofs.lemmas.List.{map-id}
 use Rattle.gix_hash_core.specs.declared.kind.Kind.{Kind}
 use Rattle.gix_hash_core.specs.declared.kind.Kind.TheVariants.{Sha1, Sha256}
 use Rattle.gix_hash_core.specs.Kind.{id_len}
-use Rattle.gix_commitgraph.specs.Format.{pieces, words, fan_id, ids_id, records_id, edges_id, bases_id}
-use Rattle.gix_commitgraph.specs.Parents.{listed}
+use Rattle.graph_format.specs.Format.{pieces, words, fan_id, ids_id, records_id, edges_id, bases_id}
+use Rattle.graph_format.specs.Parents.{listed}
 use Rattle.graph_vectors.specs.Chunks.{NamedChunk, chunk_bytes}
 use Rattle.graph_vectors.specs.Written.{words_bytes, ids_bytes, edges_chunks, bases_chunks}
 use Rattle.graph_vectors.proofs.Names.{are_named}

@@ -6,7 +6,7 @@ use Rattle.gix_hash_core.specs.declared.kind.Kind.TheVariants.{Sha1, Sha256}
 use Rattle.gix_hash_core.specs.Kind.{id_len}
 use Rattle.gix_hash_core.specs.Digest.{digest_of}
 use Rattle.gix_chunk_core.specs.Table.{Chunks}
-use Rattle.gix_commitgraph.specs.Format.{record_len, words, least_size, table_of, chunk_of}
+use Rattle.graph_format.specs.Format.{record_len, words, least_size, table_of, chunk_of}
 use Rattle.graph_vectors.specs.declared.plan.LayerPlan.{LayerPlan}
 use Rattle.graph_vectors.specs.declared.plan.PlanCommit.{PlanCommit}
 use Rattle.graph_vectors.specs.ExtraEdges.{no_parent, top_bit, extra_words, all_extra_words, listed_words}

@@ -4,8 +4,8 @@ use Rattle.std.proofs.lemmas.List.{take_at, drop_at, length-map}
 use Rattle.gix_hash_core.specs.declared.kind.Kind.{Kind}
 use Rattle.gix_hash_core.specs.Kind.{id_len}
 use Rattle.gix_hash_core.specs.Digest.{digest_of}
-use Rattle.gix_commitgraph.specs.Format.{record_of, record_len, pieces, words, commits_of, table_of, chunk_of, fan_id, ids_id, records_id, edges_id, bases_id}
-use Rattle.gix_commitgraph.specs.Layer.{Layer, IsLayer}
+use Rattle.graph_format.specs.Format.{record_of, record_len, pieces, words, commits_of, table_of, chunk_of, fan_id, ids_id, records_id, edges_id, bases_id}
+use Rattle.graph_format.specs.Layer.{Layer, IsLayer}
 use Rattle.graph_vectors.specs.declared.plan.LayerPlan.{LayerPlan}
 use Rattle.graph_vectors.specs.declared.plan.PlanCommit.{PlanCommit}
 use Rattle.graph_vectors.specs.ExtraEdges.{all_extra_words}

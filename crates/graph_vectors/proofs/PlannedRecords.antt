@@ -4,7 +4,7 @@ use Rattle.std.specs.List.{flat_map}
 use Rattle.std.proofs.lemmas.List.{map-id}
 use Rattle.gix_hash_core.specs.declared.kind.Kind.{Kind}
 use Rattle.gix_hash_core.specs.declared.kind.Kind.TheVariants.{Sha1, Sha256}
-use Rattle.gix_commitgraph.specs.Format.{Record, record_of, record_len, pieces}
+use Rattle.graph_format.specs.Format.{Record, record_of, record_len, pieces}
 use Rattle.graph_vectors.specs.declared.plan.PlanCommit.{PlanCommit}
 use Rattle.graph_vectors.specs.ExtraEdges.{no_parent, top_bit, extra_words, all_extra_words, first_field, second_field}
 use Rattle.graph_vectors.specs.Plan.{IsPlannedCommit}

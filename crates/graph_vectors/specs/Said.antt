@@ -1,9 +1,9 @@
 -- When a layer says what a plan says. (gitformat-commit-graph, "CHUNK DATA" and "TRAILER".)
 use Rattle.std.specs.Prelude.{◌≡◌, ◌+◌, ◌<◌, ℕ, List, [], map, length, take, slice_index, slice_get, Option, Some, None, IsSomeAnd, MatchOption}
 use Rattle.gix_hash_core.specs.Digest.{digest_of}
-use Rattle.gix_commitgraph.specs.Format.{Record, words}
-use Rattle.gix_commitgraph.specs.Layer.{Layer, IsLayer}
-use Rattle.gix_commitgraph.specs.Parents.{Parents, parents_of}
+use Rattle.graph_format.specs.Format.{Record, words}
+use Rattle.graph_format.specs.Layer.{Layer, IsLayer}
+use Rattle.graph_format.specs.Parents.{Parents, parents_of}
 use Rattle.graph_vectors.specs.ExtraEdges.{top_bit, all_extra_words}
 use Rattle.graph_vectors.specs.Written.{ids_of, ids_up_to}
 use Rattle.graph_vectors.specs.declared.plan.LayerPlan.{LayerPlan}

@@ -4,7 +4,7 @@ use Rattle.std.specs.List.{flat_map, range_with_len}
 use Rattle.gix_hash_core.specs.declared.kind.Kind.{Kind}
 use Rattle.gix_hash_core.specs.declared.kind.Kind.TheVariants.{Sha1, Sha256}
 use Rattle.gix_hash_core.specs.Digest.{digest_of}
-use Rattle.gix_commitgraph.specs.Format.{signature, fan_id, ids_id, records_id, edges_id, bases_id}
+use Rattle.graph_format.specs.Format.{signature, fan_id, ids_id, records_id, edges_id, bases_id}
 use Rattle.graph_vectors.specs.Chunks.{NamedChunk, word_bytes, long_bytes, with_chunks}
 use Rattle.graph_vectors.specs.ExtraEdges.{extra_words, all_extra_words, first_field, second_field}
 use Rattle.graph_vectors.specs.declared.plan.LayerPlan.{LayerPlan}

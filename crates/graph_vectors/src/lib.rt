@@ -14,8 +14,6 @@ mod push;
 mod records;
 mod sizes;
 mod table;
-#[cfg(test)]
-mod tests;
 mod trailer;
 
 pub use builder::build;

@@ -3,8 +3,8 @@ use Rattle.std.proofs.Common.{◌≡◌, ℕ, zero, suc, ◌+◌, ◌-◌, [], l
 use Rattle.std.specs.List.{flat_map, enumerate_from, range_with_len, zip}
 use Rattle.std.proofs.lemmas.List.{drop_all, drop_more}
 use Rattle.std.proofs.lemmas.Option.{unwrap_or-slice_get}
-use Rattle.gix_commitgraph.specs.Layer.{Layer, record_at, no_record}
-use Rattle.gix_commitgraph.specs.Left.{places_from}
+use Rattle.graph_format.specs.Layer.{Layer, record_at, no_record}
+use Rattle.graph_format.specs.Layer.{places_from}
 use Rattle.graphtool.specs.Listing.{commit_line, commit_lines}
 use Rattle.graphtool.specs.Places.{place_line}
 

@@ -1,10 +1,10 @@
 -- the answers of `find`, their texts and their exit statuses
 use Rattle.std.specs.Prelude.{◌≡◌, ℕ, List, Result, Ok, Err, Option, Some, None, slice_get}
 use Rattle.gix_hash_core.specs.Hexadecimal.{SpellsId, SpellsNone}
-use Rattle.gix_commitgraph.specs.Layer.{Layer, record_at}
+use Rattle.graph_format.specs.Layer.{Layer, record_at}
 use Rattle.gix_commitgraph.specs.Graph.{graph_commits}
 use Rattle.gix_commitgraph.specs.GraphLookup.{FoundIn}
-use Rattle.gix_commitgraph.specs.declared.opening.error.OpenError.{OpenError}
+use Rattle.graph_layer.specs.declared.opening.error.OpenError.{OpenError}
 use Rattle.graphtool.specs.declared.report.Found.{Found}
 use Rattle.graphtool.specs.declared.refusal.Refusal.{Refusal}
 use Rattle.graphtool.specs.declared.refusal.Refusal.TheVariants.{Id, Read, File, Open, Verify}

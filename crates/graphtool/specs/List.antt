@@ -1,8 +1,8 @@
 -- the answers of `list`, their texts and their exit statuses
 use Rattle.std.specs.Prelude.{◌≡◌, ℕ, ◌⊎◌, List, Result, Ok, Err, Some, codes}
-use Rattle.gix_commitgraph.specs.declared.error.FileError.TheVariants as file
-use Rattle.gix_commitgraph.specs.Layer.{Layer, IsLayer}
-use Rattle.gix_commitgraph.specs.Refusal.{refusal}
+use Rattle.graph_format.specs.declared.error.FileError.TheVariants as file
+use Rattle.graph_format.specs.Layer.{Layer, IsLayer}
+use Rattle.graph_format.specs.Refusal.{refusal}
 use Rattle.graph_folder.specs.declared.folder.ReadError.TheVariants as read
 use Rattle.graphtool.specs.declared.refusal.Refusal.{Refusal}
 use Rattle.graphtool.specs.declared.refusal.Refusal.TheVariants.{Id, Read, File, Open, Verify}

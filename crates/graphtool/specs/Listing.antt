@@ -4,11 +4,11 @@ use Rattle.std.specs.List.{flat_map, join_by, enumerate_from, zip}
 use Rattle.hex.specs.Hex.{encode_lower}
 use Rattle.gix_hash_core.specs.declared.kind.Kind.{Kind}
 use Rattle.gix_hash_core.specs.declared.kind.Kind.TheVariants.{Sha1, Sha256}
-use Rattle.gix_commitgraph.specs.declared.Position.{Position}
-use Rattle.gix_commitgraph.specs.declared.file.commit.ParentError.{ParentError}
-use Rattle.gix_commitgraph.specs.Format.{Record}
-use Rattle.gix_commitgraph.specs.Layer.{Layer}
-use Rattle.gix_commitgraph.specs.Parents.{items_of, parents_of}
+use Rattle.graph_format.specs.declared.Position.{Position}
+use Rattle.graph_format.specs.declared.parents.ParentError.{ParentError}
+use Rattle.graph_format.specs.Format.{Record}
+use Rattle.graph_format.specs.Layer.{Layer}
+use Rattle.graph_format.specs.Parents.{items_of, parents_of}
 use Rattle.graphtool.specs.Numbers.{parent_number}
 use Rattle.graphtool.specs.Text.{◌⧺◌, newline}
 

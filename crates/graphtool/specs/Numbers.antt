@@ -4,14 +4,14 @@ use Rattle.gix_hash_core.specs.declared.object_id.IdError.{IdError}
 use Rattle.gix_hash_core.specs.declared.object_id.IdError.TheVariants as hexadecimal
 use Rattle.gix_chunk_core.specs.declared.error.ChunkError.{ChunkError}
 use Rattle.gix_chunk_core.specs.declared.error.ChunkError.TheVariants as chunk
-use Rattle.gix_commitgraph.specs.declared.error.FileError.{FileError}
-use Rattle.gix_commitgraph.specs.declared.error.FileError.TheVariants as file
-use Rattle.gix_commitgraph.specs.declared.file.commit.ParentError.{ParentError}
-use Rattle.gix_commitgraph.specs.declared.file.commit.ParentError.TheVariants as parent
-use Rattle.gix_commitgraph.specs.declared.init.GraphError.{GraphError}
-use Rattle.gix_commitgraph.specs.declared.init.GraphError.TheVariants as graph
-use Rattle.gix_commitgraph.specs.declared.verify.CommitFault.{CommitFault}
-use Rattle.gix_commitgraph.specs.declared.verify.CommitFault.TheVariants as commit
+use Rattle.graph_format.specs.declared.error.FileError.{FileError}
+use Rattle.graph_format.specs.declared.error.FileError.TheVariants as file
+use Rattle.graph_format.specs.declared.parents.ParentError.{ParentError}
+use Rattle.graph_format.specs.declared.parents.ParentError.TheVariants as parent
+use Rattle.graph_format.specs.declared.error.GraphError.{GraphError}
+use Rattle.graph_format.specs.declared.error.GraphError.TheVariants as graph
+use Rattle.graph_format.specs.declared.fault.CommitFault.{CommitFault}
+use Rattle.graph_format.specs.declared.fault.CommitFault.TheVariants as commit
 use Rattle.graph_folder.specs.declared.folder.ReadError.{ReadError}
 use Rattle.graph_folder.specs.declared.folder.ReadError.TheVariants as read
 

@@ -1,6 +1,6 @@
 -- the line of a commit by its layer and its position there
 use Rattle.std.specs.Prelude.{ℕ, List, [], slice_get, unwrap_or}
-use Rattle.gix_commitgraph.specs.Layer.{Layer, record_at}
+use Rattle.graph_format.specs.Layer.{Layer, record_at}
 use Rattle.graphtool.specs.Listing.{commit_line}
 
 -- the id at a position

@@ -1,12 +1,12 @@
 -- the lines of refusals, without their ends, and the exit statuses that go with them
 use Rattle.std.specs.Prelude.{ℕ, List, codes, decimal}
 use Rattle.std.specs.declared.convert.Infallible.{Infallible}
-use Rattle.gix_commitgraph.specs.declared.error.FileError.{FileError}
-use Rattle.gix_commitgraph.specs.declared.error.FileError.TheVariants.{Chunks}
-use Rattle.gix_commitgraph.specs.declared.opening.error.OpenError.{OpenError}
-use Rattle.gix_commitgraph.specs.declared.opening.error.OpenError.TheVariants as opening
-use Rattle.gix_commitgraph.specs.declared.verify.LayerFault.{LayerFault}
-use Rattle.gix_commitgraph.specs.declared.verify.LayerFault.TheVariants.{Checksum, FileName, Fan}
+use Rattle.graph_format.specs.declared.error.FileError.{FileError}
+use Rattle.graph_format.specs.declared.error.FileError.TheVariants.{Chunks}
+use Rattle.graph_layer.specs.declared.opening.error.OpenError.{OpenError}
+use Rattle.graph_layer.specs.declared.opening.error.OpenError.TheVariants as opening
+use Rattle.graph_format.specs.declared.fault.LayerFault.{LayerFault}
+use Rattle.graph_format.specs.declared.fault.LayerFault.TheVariants.{Checksum, FileName, Fan}
 use Rattle.gix_commitgraph.specs.declared.verify.VerifyError.{VerifyError}
 use Rattle.gix_commitgraph.specs.declared.verify.VerifyError.TheVariants as check
 use Rattle.graphtool.specs.declared.refusal.Refusal.{Refusal}

@@ -2,8 +2,8 @@
 
 ghost use Rattle.std.specs.Prelude.{◌≡◌, ◌++◌, IfOk, OnOk};
 ghost use Rattle.std.specs.String.{string_bytes};
-ghost use Rattle.gix_commitgraph.specs.Commit.{commit_place};
-ghost use Rattle.gix_commitgraph.specs.ParentsLeft.{parents_left};
+ghost use Rattle.graph_layer.specs.Commit.{commit_place};
+ghost use Rattle.graph_layer.specs.ParentsLeft.{parents_left};
 ghost use Rattle.graphtool.specs.Listing.{kind_text, item_text, parents_text, listing_text};
 ghost use Rattle.graphtool.specs.Places.{place_line};
 

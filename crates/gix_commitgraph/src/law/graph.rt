@@ -1,8 +1,10 @@
 //! What the words of the contracts of graphs mean.
 
-ghost use Rattle.std.specs.Prelude.{ℕ, ◌<◌, List};
-ghost use Rattle.gix_commitgraph.specs.Layer.{Layer};
-ghost use Rattle.gix_commitgraph.specs.Graph.{total};
+ghost use Rattle.std.specs.Prelude.{◌≡◌, ◌<◌, ◌-◌, ℕ, List, All, Some, length, slice_get};
+ghost use Rattle.graph_format.specs.Layer.{Layer, record_at};
+ghost use Rattle.gix_commitgraph.specs.Graph.{total, start};
+ghost use Rattle.graph_format.specs.Layer.{IsOpened};
+ghost use Rattle.graph_format.specs.StoredHistory.{node_of, history_of};
 ghost use Rattle.gix_commitgraph.specs.GraphLaw.{LiesIn, LiesInOne, IsPlaceIn, AreCounted, AreScanned, IsJudged};
 
 /// Each position of a graph lies in one layer, and in no other.
@@ -30,4 +32,12 @@ pub fn a_lookup_in_ordered_layers_is_a_scan()
 /// The refusal of layers says what is wrong, and layers that are not refused make a graph.
 pub fn layers_are_refused_or_make_a_graph()
     ensures { (layers : List Layer) → IsJudged layers }
+{}
+
+/// The history of a graph of opened layers has one commit for each position, and says of it what
+/// its record in its layer says.
+pub fn the_history_of_a_graph_is_that_of_its_layers()
+    ensures counted { (layers : List Layer) → All IsOpened layers → length (history_of layers) ≡ total layers }
+    ensures placed { (layers : List Layer) (pos i : ℕ) (layer : Layer) → All IsOpened layers → LiesIn layers pos i layer
+        → slice_get (history_of layers) pos ≡ Some (node_of layer (record_at layer (pos - start layers i))) }
 {}

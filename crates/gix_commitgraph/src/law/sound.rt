@@ -3,15 +3,18 @@
 //! generation number counts the commits of the longest walk along parents.
 
 ghost use Rattle.std.specs.Prelude.{◌≡◌, ℕ, List, All, Option, None};
-ghost use Rattle.gix_commitgraph.specs.Layer.{Layer};
-ghost use Rattle.gix_commitgraph.specs.Graph.{graph_ids, IsOpened};
+ghost use Rattle.graph_format.specs.Layer.{Layer};
+ghost use Rattle.gix_commitgraph.specs.Graph.{graph_ids};
+ghost use Rattle.graph_format.specs.Layer.{IsOpened};
 ghost use Rattle.gix_commitgraph.specs.GraphLookup.{FoundIn};
-ghost use Rattle.gix_commitgraph.specs.History.{history_of, generations};
-ghost use Rattle.gix_commitgraph.specs.Lookup.{scan};
-ghost use Rattle.gix_commitgraph.specs.Points.{first_fault};
+ghost use Rattle.graph_walks.specs.History.{generations};
+ghost use Rattle.graph_format.specs.StoredHistory.{history_of};
+ghost use Rattle.graph_format.specs.Lookup.{scan};
+ghost use Rattle.graph_format.specs.Points.{first_fault};
 ghost use Rattle.gix_commitgraph.specs.Sound.{Sound};
-ghost use Rattle.gix_commitgraph.specs.Verify.{graph_points, longest_path};
-ghost use Rattle.gix_commitgraph.specs.Walks.{TellsLongest};
+ghost use Rattle.graph_walks.specs.Generations.{longest_path};
+ghost use Rattle.gix_commitgraph.specs.Verify.{graph_points};
+ghost use Rattle.graph_walks.specs.Walks.{TellsLongest};
 
 /// Where no condition of its check fails, a graph of opened layers is right.
 pub fn a_graph_without_fault_is_right<E>()

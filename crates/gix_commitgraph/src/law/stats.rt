@@ -1,15 +1,13 @@
-//! How the numbers of an outcome fit together. Each law is of an outcome that is passed, since a map
-//! in memory has each of its keys once.
+//! How the numbers of an outcome fit together. The law is of an outcome that is passed, since a map in
+//! memory has each of its keys once.
 
 ghost use Rattle.std.specs.Prelude.{◌≡◌, List, All, sum};
 ghost use Rattle.std.specs.BTreeMap as tree;
-ghost use Rattle.std.specs.HashMap as hash;
-ghost use Rattle.gix_commitgraph.specs.Layer.{Layer};
-ghost use Rattle.gix_commitgraph.specs.Graph.{IsOpened};
+ghost use Rattle.graph_format.specs.Layer.{Layer};
+ghost use Rattle.graph_format.specs.Layer.{IsOpened};
 ghost use Rattle.gix_commitgraph.specs.Headline.{Stats};
-ghost use Rattle.gix_commitgraph.specs.Traverse.{FileStats};
 
-use crate::{file, verify};
+use crate::verify;
 
 /// The statistics of a graph of opened layers count each of its commits once: the values of
 /// `parent_counts` add up to `num_commits`.
@@ -18,15 +16,5 @@ pub fn the_parent_counts_of_a_graph_add_up(outcome: &verify::Outcome)
         → sum (tree.values outcome.now.parent_counts) ≡ outcome.now.num_commits }
 {
     // the contract of `len` says that the keys ascend
-    let _count = outcome.parent_counts.len();
-}
-
-/// The statistics of a layer count each of its commits once: the values of `parent_counts` add up
-/// to `num_commits`.
-pub fn the_parent_counts_of_a_layer_add_up(outcome: &file::verify::Outcome)
-    ensures { (layer : Layer) → FileStats layer outcome.now
-        → sum (hash.values outcome.now.parent_counts) ≡ outcome.now.num_commits }
-{
-    // the contract of `len` says that no two keys are equal
     let _count = outcome.parent_counts.len();
 }

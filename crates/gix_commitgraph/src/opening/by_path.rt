@@ -3,38 +3,15 @@
 ghost use Rattle.std.specs.Prelude.{◌≡◌, IfOk, IfErr, MatchResult};
 ghost use Rattle.gix_commitgraph.specs.Graph.{IsGraph};
 ghost use Rattle.gix_commitgraph.specs.OpenAlways.{IsFromFile, IsFromChain, IsFromInfo, IsFromPath};
-ghost use Rattle.gix_commitgraph.specs.OpenAlways.{IsLayerError, IsFileError, IsFolderError};
-ghost use Rattle.gix_commitgraph.specs.OpenRefusals.{OutOfMemoryStandsAlone};
+ghost use Rattle.graph_layer.specs.LayerOpening.{IsLayerError};
+ghost use Rattle.gix_commitgraph.specs.OpenAlways.{IsFileError, IsFolderError};
+ghost use Rattle.graph_layer.specs.OpenRefusals.{OutOfMemoryStandsAlone};
 
-use crate::file::File;
 use crate::graph::Graph;
-use crate::opening::{
-    OpenError, open_chain_dir_in, open_file_in, open_in, open_info_dir_in, open_layer,
-};
+use crate::opening::{OpenError, open_chain_dir_in, open_file_in, open_in, open_info_dir_in};
 use graph_folder::folder::Disk;
 use std::alloc::Global;
 use std::rt::Files;
-
-impl File {
-    /// Opens the layer whose file stands at the path, which the file keeps.
-    ///
-    /// # Errors
-    ///
-    /// The first of these that holds:
-    ///
-    /// 1. `NotOpened`: the system calls the path a folder, or does not open it.
-    /// 2. `Device`: a read of the file failed.
-    /// 3. `Layer`: the bytes are refused, as layer 0.
-    ///
-    /// `OutOfMemory` comes where an allocation failed.
-    pub fn at<R: Files>(rt: &R, alloc: Global, path: &str) -> Result<File, OpenError>
-        ensures path { IfOk result (λ file. file.path ≡ path.now) }
-        ensures errors { IfErr result (IsLayerError 0) }
-        ensures memory { IfErr result OutOfMemoryStandsAlone }
-    {
-        open_layer(alloc, &mut Disk::new(rt), 0, String::from_str(alloc, path)?)
-    }
-}
 
 impl Graph {
     /// Opens what stands at the path: a file, a chain folder or an info folder, as [`open_in`] does

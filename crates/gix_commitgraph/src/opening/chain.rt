@@ -5,18 +5,21 @@ ghost use Rattle.std.specs.Option.{ForSome};
 ghost use Rattle.std.specs.Str.{is_utf8};
 ghost use Rattle.std.specs.Str.Lines.{lines};
 ghost use Rattle.gix_commitgraph.specs.Graph.{IsGraph};
-ghost use Rattle.gix_commitgraph.specs.OpenAlways.{IsFromChain, IsReadError, IsFolderError};
-ghost use Rattle.gix_commitgraph.specs.OpenAnswer.{IsAsExpected, failures_after_opening, result_map};
-ghost use Rattle.gix_commitgraph.specs.Opening.{bytes_at, layer_of_line, layers_of_lines, chain_opened};
-ghost use Rattle.gix_commitgraph.specs.OpenRefusals.{OutOfMemoryStandsAlone};
+ghost use Rattle.gix_commitgraph.specs.OpenAlways.{IsFromChain, IsFolderError};
+ghost use Rattle.graph_layer.specs.LayerOpening.{IsReadError};
+ghost use Rattle.graph_layer.specs.OpenAnswer.{IsAsExpected, failures_after_opening, result_map};
+ghost use Rattle.graph_layer.specs.LayerOpening.{bytes_at};
+ghost use Rattle.gix_commitgraph.specs.Opening.{layer_of_line, layers_of_lines, chain_opened};
+ghost use Rattle.graph_layer.specs.OpenRefusals.{OutOfMemoryStandsAlone};
 ghost use Rattle.gix_commitgraph.specs.Paths.{chain_path, layer_path};
 
 use crate::file::File;
 use crate::graph::Graph;
 use crate::opening::path::{join, layer_path};
-use crate::opening::{CHAIN, OpenError, new_graph, open_layer, read_file};
+use crate::opening::{CHAIN, OpenError, new_graph};
 use graph_folder::chain::Lines;
 use graph_folder::folder::Folder;
+use graph_layer::opening::{open_layer, read_file};
 use std::alloc::Global;
 
 /// Opens the chain folder at the path: the graph of the layers that the lines of its file

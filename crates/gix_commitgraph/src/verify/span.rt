@@ -9,6 +9,7 @@ use crate::graph::Graph;
 use crate::verify::VerifyError;
 use crate::verify::tally::Tally;
 use crate::{GENERATION_NUMBER_MAX, Position};
+use graph_layer::check::{base_id_at, commit_fault, layer_fault};
 
 /// A layer of a graph, and the positions of its commits there.
 #[derive(Clone, Copy)]
@@ -29,11 +30,13 @@ struct ParentTally {
 }
 
 impl Graph {
-    ghost use Rattle.gix_commitgraph.specs.Commit.{commit_pos};
+    ghost use Rattle.graph_layer.specs.Commit.{commit_pos};
     ghost use Rattle.gix_commitgraph.specs.Graph.{start, stop};
-    ghost use Rattle.gix_commitgraph.specs.History.{history_of, generation_at, parents_at};
-    ghost use Rattle.gix_commitgraph.specs.Points.{Agrees};
-    ghost use Rattle.gix_commitgraph.specs.Called.{MayBeCalled, CalledOn, InGraph};
+    ghost use Rattle.graph_walks.specs.History.{generation_at, parents_at};
+    ghost use Rattle.graph_format.specs.StoredHistory.{history_of};
+    ghost use Rattle.graph_format.specs.Points.{Agrees};
+    ghost use Rattle.graph_layer.specs.Called.{MayBeCalled, CalledOn};
+    ghost use Rattle.gix_commitgraph.specs.InGraph.{InGraph};
     ghost use Rattle.gix_commitgraph.specs.Verify.{bases_refusal, parents_refusal, commit_points, layer_points, stop_of};
     ghost use Rattle.gix_commitgraph.specs.Tallies.{Tallies, ParentsTally};
     ghost use Rattle.gix_commitgraph.specs.Spans.{IsSpan, IsInSpan};
@@ -72,7 +75,7 @@ impl Graph {
         ensures tally { OnOk result (Tallies (take span.entry.stop (history_of self.now)) tally.new) }
     {
         self.check_bases(span)?;
-        if let Some(fault) = span.file.layer_fault() {
+        if let Some(fault) = layer_fault(span.file) {
             return Err(VerifyError::Layer {
                 layer: span.layer,
                 fault,
@@ -98,7 +101,7 @@ impl Graph {
         }
         for index in 0..bases {
             let below = index as usize;
-            if span.file.base_id_at(index) != self.files[below].checksum() {
+            if base_id_at(span.file, index) != self.files[below].checksum() {
                 return Err(VerifyError::BaseId {
                     layer,
                     index: below,
@@ -127,7 +130,7 @@ impl Graph {
             processor.old processor.new stop_of result }
         ensures parents { IfOk result (λ parents. parents ≡ length (parents_at (history_of self.now) pos.0)) }
     {
-        if let Some(fault) = commit.fault() {
+        if let Some(fault) = commit_fault(commit) {
             return Err(VerifyError::Commit { pos, fault });
         }
         let parents = self.check_parents(span, commit, pos)?;

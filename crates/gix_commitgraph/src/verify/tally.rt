@@ -18,7 +18,7 @@ pub(super) struct Tally {
 }
 
 impl Tally {
-    ghost use Rattle.gix_commitgraph.specs.History.{Node};
+    ghost use Rattle.graph_walks.specs.History.{Node};
     ghost use Rattle.gix_commitgraph.specs.Verify.{Summarizes};
     ghost use Rattle.gix_commitgraph.specs.Tallies.{Tallies};
 

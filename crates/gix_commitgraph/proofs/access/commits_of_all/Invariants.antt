@@ -1,5 +1,6 @@
 use Rattle.std.proofs.Common.{◌≡◌, ◌*◌, ◌^◌, ◌≤◌, All, take}
-use Rattle.gix_commitgraph.specs.Graph.{IsOpened, start}
+use Rattle.graph_format.specs.Layer.{IsOpened}
+use Rattle.gix_commitgraph.specs.Graph.{start}
 use Rattle.gix_commitgraph.proofs.access.commits_of_all.Given as goal
 
 abbrev pub invariant-loop-file : goal.invariant-loop-file

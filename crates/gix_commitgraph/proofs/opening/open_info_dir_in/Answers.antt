@@ -1,6 +1,6 @@
 use Rattle.std.proofs.Common.{◌≡◌, true, false, ◌∙◌, inr}
 use Rattle.gix_commitgraph.specs.OpenAlways.{IsFromInfo}
-use Rattle.gix_commitgraph.specs.OpenAnswer.{is_settled}
+use Rattle.graph_layer.specs.OpenAnswer.{is_settled}
 use Rattle.gix_commitgraph.proofs.InfoFolders.{info_opens-file, info_opens-chain}
 use Rattle.gix_commitgraph.proofs.Sources.{from_wider}
 use Rattle.gix_commitgraph.proofs.opening.open_info_dir_in.Goals as goal

@@ -2,10 +2,10 @@
 use Rattle.std.proofs.Common.{◌∷◌, ◌<◌, All, List, ap, map, subst, sym, ◌∙◌}
 use Rattle.std.specs.Result.{IsOk}
 use Rattle.std.proofs.lemmas.List.Elements.{All-head, All-tail}
-use Rattle.gix_commitgraph.specs.Commit.{commit_layer, commit_parents, commit_place, commit_pos}
+use Rattle.graph_layer.specs.Commit.{commit_layer, commit_parents, commit_place, commit_pos}
 use Rattle.gix_commitgraph.specs.Graph.{total}
-use Rattle.gix_commitgraph.specs.ParentsLeft.{parents_left}
-use Rattle.gix_commitgraph.specs.declared.Position.{Position}
+use Rattle.graph_layer.specs.ParentsLeft.{parents_left}
+use Rattle.graph_format.specs.declared.Position.{Position}
 use Rattle.gix_commitgraph.proofs.Histories.{parents-at}
 use Rattle.graph_uses.proofs.AllGiven.{all-ok, all-taken, before, before-push}
 use Rattle.graph_uses.proofs.KnownParents.{known-there}

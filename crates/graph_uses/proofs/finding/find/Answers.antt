@@ -4,7 +4,7 @@ use Rattle.gix_hash_core.specs.Hexadecimal.{SpellsId}
 use Rattle.gix_hash_core.specs.Oid.{oid_bytes}
 use Rattle.gix_commitgraph.specs.Graph.{graph_ids}
 use Rattle.gix_commitgraph.specs.GraphLookup.{graph_place}
-use Rattle.gix_commitgraph.specs.Lookup.{scan}
+use Rattle.graph_format.specs.Lookup.{scan}
 use Rattle.graph_uses.proofs.Within.{held-within}
 use Rattle.graph_uses.proofs.finding.find.Goals as goal
 

@@ -1,5 +1,5 @@
 -- The commit that was found stands at a position of the graph.
-use Rattle.gix_commitgraph.specs.Commit.{commit_layer, commit_place, commit_pos}
+use Rattle.graph_layer.specs.Commit.{commit_layer, commit_place, commit_pos}
 use Rattle.graph_uses.proofs.Within.{found-at}
 use Rattle.graph_uses.proofs.finding.time_of.Goals as goal
 

@@ -1,5 +1,5 @@
 use Rattle.std.proofs.Common.{◌∙◌, ap, sym, ◌+◌, ◌++◌, arith}
-use Rattle.gix_commitgraph.specs.Format.{edges_id, bases_id}
+use Rattle.graph_format.specs.Format.{edges_id, bases_id}
 use Rattle.graph_vectors.specs.ExtraEdges.{all_extra_words}
 use Rattle.graph_vectors.specs.Sizes.{optional_entry, first_offset_of}
 use Rattle.graph_vectors.specs.Written.{ids_of, ids_bytes, words_bytes, records_from, exact_fan}

@@ -1,8 +1,9 @@
 -- The lines of all positions are those of all commits.
 use Rattle.std.proofs.Common.{◌≡◌, map, arith}
 use Rattle.std.proofs.lemmas.Iterator.Consumers.{YieldsList-from_first, YieldsList-end}
-use Rattle.gix_commitgraph.specs.Commit.{commit_place}
-use Rattle.gix_commitgraph.specs.Left.{commits_left, places_from}
+use Rattle.graph_layer.specs.Commit.{commit_place}
+use Rattle.graph_layer.specs.Left.{commits_left}
+use Rattle.graph_format.specs.Layer.{places_from}
 use Rattle.graphtool.proofs.PlaceLemmas.{place_lines-all}
 use Rattle.graphtool.proofs.listing.listing.Goals as goal
 

@@ -3,7 +3,7 @@ use Rattle.std.proofs.Common.{◌≡◌, ◌++◌, map}
 use Rattle.std.specs.String.{string_bytes}
 use Rattle.std.specs.List.{flat_map}
 use Rattle.gix_hash_core.specs.Oid.{oid_bytes}
-use Rattle.gix_commitgraph.specs.Commit.{commit_place}
+use Rattle.graph_layer.specs.Commit.{commit_place}
 use Rattle.graphtool.specs.Listing.{layer_line, base_line}
 use Rattle.graphtool.specs.Places.{place_line}
 use Rattle.graphtool.proofs.listing.listing.Given as goal

@@ -4,10 +4,10 @@ use Rattle.std.specs.List.{join_by}
 use Rattle.std.specs.String.{string_bytes}
 use Rattle.std.proofs.lemmas.List.{map-id}
 use Rattle.std.proofs.lemmas.Iterator.Consumers.{YieldsList-end}
-use Rattle.gix_commitgraph.specs.ParentsLeft.{parents_left}
-use Rattle.gix_commitgraph.specs.declared.Position.{Position}
-use Rattle.gix_commitgraph.specs.declared.file.commit.ParentError.{ParentError}
-use Rattle.gix_commitgraph.proofs.ParentItems.{parents-yield}
+use Rattle.graph_layer.specs.ParentsLeft.{parents_left}
+use Rattle.graph_format.specs.declared.Position.{Position}
+use Rattle.graph_format.specs.declared.parents.ParentError.{ParentError}
+use Rattle.graph_layer.proofs.ParentItems.{parents-yield}
 use Rattle.graphtool.specs.Listing.{item_text, parents_text}
 use Rattle.graphtool.proofs.listing.push_parents.Goals as goal
 

@@ -1,10 +1,10 @@
 -- A position that holds an id is one of the graph's.
-use Rattle.std.proofs.Common.{◌<◌, arith}
+use Rattle.std.proofs.Common.{arith}
 use Rattle.std.proofs.lemmas.List.Concat.{length-flat_map}
 use Rattle.std.proofs.lemmas.Option.{slice_get_within}
 use Rattle.gix_hash_core.specs.Oid.{oid_bytes}
-use Rattle.gix_commitgraph.specs.Layer.{Layer}
-use Rattle.gix_commitgraph.specs.Graph.{graph_ids, total}
+use Rattle.graph_format.specs.Layer.{Layer}
+use Rattle.gix_commitgraph.specs.Graph.{graph_ids}
 use Rattle.graphtool.proofs.run.found_in.Goals as goal
 
 pub commit_at-commit-requires : goal.commit_at-commit-requires

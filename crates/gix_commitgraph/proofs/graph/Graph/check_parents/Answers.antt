@@ -1,8 +1,9 @@
 use Rattle.std.proofs.Common.{◌≡◌, [], length, map, fold, max, sym, ap, ◌∙◌, arith}
-use Rattle.gix_commitgraph.specs.Counts.{greatest}
-use Rattle.gix_commitgraph.specs.History.{history_of, generation_at}
-use Rattle.gix_commitgraph.specs.ParentsLeft.{parents_left}
-use Rattle.gix_commitgraph.proofs.ParentItems.{numbers_of, numbers-taken}
+use Rattle.graph_walks.specs.Counts.{greatest}
+use Rattle.graph_walks.specs.History.{generation_at}
+use Rattle.graph_format.specs.StoredHistory.{history_of}
+use Rattle.graph_layer.specs.ParentsLeft.{parents_left}
+use Rattle.graph_layer.proofs.ParentItems.{numbers_of, numbers-taken}
 use Rattle.gix_commitgraph.proofs.Spans.{span-commit, numbers-in_graph, numbers-few}
 use Rattle.gix_commitgraph.proofs.graph.Graph.check_parents.Goals as goal
 

@@ -1,12 +1,13 @@
 use Rattle.std.proofs.Common.{◌≡◌, ◌+◌, fold, length, map, max}
-use Rattle.gix_commitgraph.specs.Commit.{commit_parents}
-use Rattle.gix_commitgraph.specs.Counts.{greatest}
-use Rattle.gix_commitgraph.specs.History.{history_of, generation_at}
-use Rattle.gix_commitgraph.specs.Parents.{items_of}
-use Rattle.gix_commitgraph.specs.ParentsLeft.{parents_left}
-use Rattle.gix_commitgraph.specs.Points.{first_some}
+use Rattle.graph_layer.specs.Commit.{commit_parents}
+use Rattle.graph_walks.specs.Counts.{greatest}
+use Rattle.graph_walks.specs.History.{generation_at}
+use Rattle.graph_format.specs.StoredHistory.{history_of}
+use Rattle.graph_format.specs.Parents.{items_of}
+use Rattle.graph_layer.specs.ParentsLeft.{parents_left}
+use Rattle.graph_format.specs.Points.{first_some}
 use Rattle.gix_commitgraph.specs.Verify.{item_refusal}
-use Rattle.gix_commitgraph.proofs.ParentItems.{numbers_of}
+use Rattle.graph_layer.proofs.ParentItems.{numbers_of}
 use Rattle.gix_commitgraph.proofs.graph.Graph.check_parents.Given as goal
 
 -- The first refusal, the number of parents and their greatest generation number are those that the items left bring about.

@@ -1,10 +1,11 @@
 use Rattle.std.proofs.Common.{◌≡◌, ◌+◌, [], ◌∷◌, ◌++◌, length, take, refl, sym, ap, ◌∙◌, arith, rules, add-zero}
 use Rattle.std.proofs.lemmas.List.{length_push}
 use Rattle.std.proofs.lemmas.Result.{err_from_is_err_and}
-use Rattle.gix_commitgraph.specs.Commit.{commit_place}
-use Rattle.gix_commitgraph.specs.History.{history_of}
-use Rattle.gix_commitgraph.specs.Left.{commits_left, places_from}
-use Rattle.gix_commitgraph.proofs.Points.{ran_out}
+use Rattle.graph_layer.specs.Commit.{commit_place}
+use Rattle.graph_format.specs.StoredHistory.{history_of}
+use Rattle.graph_layer.specs.Left.{commits_left}
+use Rattle.graph_format.specs.Layer.{places_from}
+use Rattle.graph_format.proofs.Points.{ran_out}
 use Rattle.gix_commitgraph.proofs.Histories.{node_at}
 use Rattle.gix_commitgraph.proofs.Spans.{span-commit, span-stop, take-next, take-fits, parents-told}
 use Rattle.gix_commitgraph.proofs.LayerChecks.{turn, place-none, refused_by_bases, reached_first, stops_at_commit, reached_next, layer_passed}

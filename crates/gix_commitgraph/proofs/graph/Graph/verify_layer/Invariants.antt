@@ -1,6 +1,7 @@
 use Rattle.std.proofs.Common.{◌≡◌, ◌+◌, ◌≤◌, length, take}
-use Rattle.gix_commitgraph.specs.History.{history_of}
-use Rattle.gix_commitgraph.specs.Left.{commits_left, places_from}
+use Rattle.graph_format.specs.StoredHistory.{history_of}
+use Rattle.graph_layer.specs.Left.{commits_left}
+use Rattle.graph_format.specs.Layer.{places_from}
 use Rattle.gix_commitgraph.specs.Tallies.{Tallies}
 use Rattle.gix_commitgraph.proofs.LayerChecks.{ReachesCommit}
 use Rattle.gix_commitgraph.proofs.graph.Graph.verify_layer.Given as goal

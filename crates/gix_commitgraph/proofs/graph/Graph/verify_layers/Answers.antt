@@ -1,7 +1,7 @@
 use Rattle.std.proofs.Common.{◌≡◌, ◌≤◌, ℕ, length, take, sym, ap, subst, ◌∙◌, arith}
 use Rattle.std.proofs.lemmas.Result.{err_from_is_err_and}
 use Rattle.gix_commitgraph.specs.Graph.{stop, IsGraph}
-use Rattle.gix_commitgraph.specs.History.{history_of}
+use Rattle.graph_format.specs.StoredHistory.{history_of}
 use Rattle.gix_commitgraph.proofs.Histories.{take-all}
 use Rattle.gix_commitgraph.proofs.Layers.{start-none}
 use Rattle.gix_commitgraph.proofs.GraphChecks.{reached_layers, stops_in_layer, reached_next_layer, graph_passed}

@@ -1,6 +1,6 @@
 use Rattle.std.proofs.Common.{◌≡◌, take}
 use Rattle.gix_commitgraph.specs.Graph.{start}
-use Rattle.gix_commitgraph.specs.History.{history_of}
+use Rattle.graph_format.specs.StoredHistory.{history_of}
 use Rattle.gix_commitgraph.specs.Tallies.{Tallies}
 use Rattle.gix_commitgraph.proofs.GraphChecks.{ReachesLayer}
 use Rattle.gix_commitgraph.proofs.graph.Graph.verify_layers.Given as goal

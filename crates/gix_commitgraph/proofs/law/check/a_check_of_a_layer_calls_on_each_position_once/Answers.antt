@@ -1,5 +1,0 @@
-use Rattle.gix_commitgraph.proofs.Calls.{calls-layer}
-use Rattle.gix_commitgraph.proofs.law.check.a_check_of_a_layer_calls_on_each_position_once.Goals as goal
-
-pub returns : goal.returns
-returns c h = calls-layer _

@@ -1,5 +1,0 @@
-use Rattle.gix_commitgraph.proofs.NamesLaws.{is_named_right-iff}
-use Rattle.gix_commitgraph.proofs.law.layer.the_test_of_a_name_is_the_rule.Goals as goal
-
-pub returns : goal.returns
-returns c = is_named_right-iff

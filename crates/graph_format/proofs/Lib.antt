@@ -1,0 +1,16 @@
+pub mod Accepted
+pub mod Edges
+pub mod Pieces
+pub mod Decided
+pub mod Falls
+pub mod Grouped
+pub mod Whole
+pub mod Digits
+pub mod Scans
+pub mod Points
+pub mod NamesLaws
+pub mod FaultFree
+pub mod SoundCommits
+pub mod CallRanges
+pub mod LayerHistories
+pub mod RightLayers

@@ -1,0 +1,5 @@
+use Rattle.graph_format.proofs.Digits.{digits-count}
+use Rattle.graph_format.proofs.law.lookup.digits_are_binary_digits.Goals as goal
+
+pub returns : goal.returns
+returns c = digits-count

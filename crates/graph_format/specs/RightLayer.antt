@@ -1,0 +1,33 @@
+-- what is right of a layer by itself
+use Rattle.std.specs.Prelude.{◌≡◌, ℕ, List, All, None}
+use Rattle.gix_hash_core.specs.Digest.{digest_of}
+use Rattle.graph_format.specs.Layer.{Layer}
+use Rattle.graph_format.specs.Order.{AreAscending, IsExactFan}
+use Rattle.graph_format.specs.Names.{Names}
+use Rattle.graph_format.specs.Parents.{parents_of}
+
+-- an id with no byte but zero is that of no object
+abbrev pub IsNull : List ℕ → Type 0
+IsNull id = All (λ byte. byte ≡ 0) id
+
+-- What is right of each layer by itself.
+pub record IsRightLayer (layer : Layer) : Type 0 where
+  -- "TRAILER"
+  pub checksum : layer.checksum ≡ digest_of layer.kind layer.body
+  pub name : Names layer.path layer.checksum
+  -- "OID Lookup"
+  pub ascending : AreAscending layer.ids
+  pub ids : All (λ id. ¬ IsNull id) layer.ids
+  -- "Commit Data"
+  pub trees : All (λ r. ¬ IsNull r.tree) layer.records
+  -- "OID Fanout"
+  pub fan : IsExactFan layer.fan layer.ids
+
+-- the parents of each commit of a layer can be decoded
+abbrev pub AreParentsDecoded : Layer → Type 0
+AreParentsDecoded layer = All (λ r. (parents_of r layer.edges).fault ≡ None) layer.records
+
+-- What is right of a layer and of its commits' parents, with no other layer at hand.
+pub record IsSoundLayer (layer : Layer) : Type 0 where
+  pub right : IsRightLayer layer
+  pub decoded : AreParentsDecoded layer

@@ -1,0 +1,22 @@
+//! What the section "Extra Edge List" gives, said with no recursion.
+
+ghost use Rattle.std.specs.Prelude.{◌≡◌, ℕ, ◌≤◌, ◌⊎◌, List, length};
+ghost use Rattle.graph_format.specs.Format.{words};
+ghost use Rattle.graph_format.specs.Parents.{extra_parents, faulty};
+ghost use Rattle.graph_format.specs.EdgeLaw.{EndsAt, RunsOut, up_to_last, all_from};
+
+use crate::parents::ParentError;
+
+/// Of the words of an extra edge list from one index on, some first one has its top bit set, and
+/// the parents are the words up to it and it without that bit. Or none has it, and the parents are
+/// all of these words, after which comes `EdgeOverflow`. Where the index is at the list's end or
+/// past it, that error comes alone.
+#[tactic(auto, using(crate::proofs::Edges::edge_laws))]
+pub fn each_edge_list_ends_or_runs_out()
+    ensures ends { (bytes : List ℕ) (k j : ℕ) → EndsAt (words bytes) k j → extra_parents bytes k ≡ up_to_last (words bytes) k j }
+    ensures runs_out { (bytes : List ℕ) (k : ℕ) → RunsOut (words bytes) k → extra_parents bytes k ≡ all_from (words bytes) k }
+    ensures past { (bytes : List ℕ) (k : ℕ) → length (words bytes) ≤ k → extra_parents bytes k ≡ faulty ParentError.EdgeOverflow }
+
+    // One of both is always so.
+    ensures either { (bytes : List ℕ) (k : ℕ) → ((j : ℕ) × EndsAt (words bytes) k j) ⊎ RunsOut (words bytes) k }
+{}

@@ -1,0 +1,5 @@
+use Rattle.graph_layer.proofs.LayerLaws.{layer_points-iff}
+use Rattle.graph_layer.proofs.law.a_layer_without_fault_is_right.Goals as goal
+
+pub returns : goal.returns
+returns c h = layer_points-iff

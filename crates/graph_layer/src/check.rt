@@ -1,0 +1,33 @@
+//! What the check of a graph asks of a layer and of its commits.
+
+ghost use Rattle.std.specs.Prelude.{◌≡◌, ◌<◌, length, slice_get, Some};
+ghost use Rattle.gix_hash_core.specs.Oid.{oid_bytes};
+ghost use Rattle.graph_format.specs.Wrong.{layer_fault, commit_fault};
+ghost use Rattle.graph_layer.specs.Commit.{commit_layer, commit_pos};
+
+use crate::file::{Commit, File};
+use gix_hash_core::oid;
+use graph_format::fault::{CommitFault, LayerFault};
+
+/// The first thing that is wrong with a layer as a whole: its checksum ("TRAILER"), the name of its
+/// file ("Commit-Graphs Chains" of Git's commit-graph design), or its fan ("OID Fanout").
+pub fn layer_fault(file: &File) -> Option<LayerFault>
+    ensures { result ≡ layer_fault file.now }
+{
+    file.layer_fault()
+}
+
+/// The first thing that is wrong with a commit's ids ("OID Lookup", "Commit Data").
+pub fn commit_fault(commit: &Commit<'_>) -> Option<CommitFault>
+    ensures { result ≡ commit_fault (commit_layer commit.now) (commit_pos commit.now) }
+{
+    commit.fault()
+}
+
+/// The id of a layer below this one ("Base Graphs List").
+pub fn base_id_at(file: &File, index: u8) -> oid<'_>
+    requires { index < length file.now.bases }
+    ensures { slice_get file.now.bases index ≡ Some (oid_bytes result) }
+{
+    file.base_id_at(index)
+}

@@ -1,0 +1,46 @@
+//! One layer of a commit-graph.
+
+mod access;
+pub mod commit;
+mod faults;
+mod init;
+mod lookup;
+mod parents;
+pub mod verify;
+
+pub use access::{BaseIds, Commits, Ids};
+pub use commit::Commit;
+pub use graph_format::file::Position;
+use init::Layout;
+use std::fmt;
+use std::marker::Model;
+
+/// One layer of a commit-graph: the bytes of a file that has the written format, and the path that
+/// came with them. A contract sees it as the decoded layer.
+#[derive(Drop)]
+pub struct File {
+    bytes: Vec<u8>,
+    path: String,
+    layout: Layout,
+}
+
+impl Model for File {
+    ghost use Rattle.std.specs.Prelude.{string_bytes};
+    ghost use Rattle.graph_format.specs.Layer.{Layer, decoded_layer};
+
+    ghost Value = { Layer };
+
+    ghost use Rattle.graph_layer.specs.Kept.{IsKept};
+
+    ghost view = { λ a. decoded_layer a.bytes.items (string_bytes a.path) };
+
+    ghost invariant = { IsKept };
+}
+
+/// The path alone, as `File("P")`, where P is the debug text of the path, with its own quotes: the
+/// path `a` gives `File(""a"")`, under `{:#?}` too.
+impl fmt::Debug for File {
+    fn fmt<W: fmt::Write>(&self, f: &mut fmt::Formatter<W>) -> fmt::Result {
+        write!(f, "File(\"{:?}\")", self.path())
+    }
+}

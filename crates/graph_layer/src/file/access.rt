@@ -1,0 +1,331 @@
+//! Accessors of a layer, and iterators over its ids, its base ids and its commits.
+
+ghost use Rattle.std.specs.Prelude.{◌≡◌, ◌+◌, ◌*◌, ◌/◌, ◌%◌, ◌^◌, ◌<◌, ◌≤◌, length, drop, slice_index, slice_range, slice_get, Some, IfSome, option_copied, bytes_eq};
+ghost use Rattle.gix_hash_core.specs.Kind.{id_len};
+ghost use Rattle.gix_hash_core.specs.Oid.{oid_bytes};
+ghost use Rattle.graph_format.specs.Format.{record_of, record_len, commits_of};
+ghost use Rattle.graph_format.specs.Layer.{IsLayer, record_at, bytes_of};
+ghost use Rattle.graph_layer.specs.Commit.{commit_layer, commit_pos};
+
+use crate::file::init::{record_len, start_of};
+use crate::file::{Commit, File, Position};
+use crate::numbers::{long_at, word_at};
+use gix_hash_core::{Kind, oid};
+
+/// The id of this kind that begins at an offset.
+fn id_from(bytes: &[u8], start: usize, kind: Kind) -> oid<'_>
+    requires { start + id_len kind ≤ length bytes.now }
+    ensures { oid_bytes result ≡ slice_range bytes.now start (start + id_len kind) }
+{
+    oid::try_from_bytes(&bytes[start..start + kind.len_in_bytes()]).unwrap()
+}
+
+#[tactic(auto, using(crate::proofs::Views::view_laws))]
+impl File {
+    ghost use Rattle.graph_layer.specs.Left.{ids_left, base_ids_left, commits_left};
+    ghost use Rattle.graph_format.specs.Layer.{places_from};
+
+    /// The number of layers below this one, on which it is based: byte 7 of the section "HEADER".
+    pub fn base_graph_count(&self) -> u8
+        ensures bases { result ≡ length self.now.bases }
+        ensures byte { result ≡ slice_index (bytes_of self.now) 7 }
+    {
+        self.layout.base_count
+    }
+
+    /// The kind of all ids in the file: byte 5 of the section "HEADER".
+    pub fn object_hash(&self) -> Kind
+        ensures { result ≡ self.now.kind }
+    {
+        self.layout.kind
+    }
+
+    /// The number of commits: the last number of the section "OID Fanout".
+    pub fn num_commits(&self) -> u32
+        ensures ids { result ≡ length self.now.ids }
+        ensures records { result ≡ length self.now.records }
+        ensures fan { result ≡ commits_of self.now.fan }
+
+        // The file was opened, so its bytes are a file of this layer.
+        ensures layer { IsLayer (bytes_of self.now) self.now.path self.now }
+    {
+        self.layout.commits
+    }
+
+    /// The path that the file was opened with.
+    pub fn path(&self) -> &str
+        ensures { result.now ≡ self.now.path }
+    {
+        &self.path
+    }
+
+    /// The checksum as it is stored after the last chunk: the section "TRAILER". Whether it is the
+    /// digest of the bytes before it is not known.
+    pub fn checksum(&self) -> oid<'_>
+        ensures { oid_bytes result ≡ self.now.checksum }
+    {
+        id_from(&self.bytes, self.layout.end, self.object_hash())
+    }
+
+    /// The id of the commit at a position below `num_commits()`: the section "OID Lookup".
+    pub fn id_at(&self, pos: Position) -> oid<'_>
+        requires { pos.0 < length self.now.ids }
+        ensures { slice_get self.now.ids pos.0 ≡ Some (oid_bytes result) }
+    {
+        let kind = self.object_hash();
+        let start = self.layout.places.ids.start + kind.len_in_bytes() * pos.0 as usize;
+        id_from(&self.bytes, start, kind)
+    }
+
+    /// The commit at a position below `num_commits()`: the section "Commit Data".
+    pub fn commit_at(&self, pos: Position) -> Commit<'_>
+        requires { pos.0 < length self.now.ids }
+        ensures layer { commit_layer result ≡ self.now }
+        ensures pos { commit_pos result ≡ pos.0 }
+    {
+        Commit::new(self, pos)
+    }
+
+    /// The ids of the layers below this one, the lowest first: the section "Base Graphs List".
+    pub fn iter_base_graph_ids(&self) -> BaseIds<'_>
+        ensures { base_ids_left result ≡ self.now.bases }
+    {
+        BaseIds::new(self)
+    }
+
+    /// The ids of the commits, in the order of their positions.
+    pub fn iter_ids(&self) -> Ids<'_>
+        ensures { ids_left result ≡ self.now.ids }
+    {
+        Ids::new(self)
+    }
+
+    /// The commits, in the order of their positions.
+    pub fn iter_commits(&self) -> Commits<'_>
+        ensures { commits_left result ≡ places_from self.now 0 }
+    {
+        Commits::new(self)
+    }
+
+    /// The id of a layer below this one.
+    pub(crate) fn base_id_at(&self, index: u8) -> oid<'_>
+        requires { index < length self.now.bases }
+        ensures { slice_get self.now.bases index ≡ Some (oid_bytes result) }
+    {
+        let kind = self.object_hash();
+        let start = start_of(self.layout.places.bases) + kind.len_in_bytes() * index as usize;
+        id_from(&self.bytes, start, kind)
+    }
+
+    /// Whether two files have the same bytes.
+    pub(super) fn has_bytes_of(&self, other: &File) -> bool
+        ensures { result ≡ bytes_eq (bytes_of self.now) (bytes_of other.now) }
+    {
+        self.bytes == other.bytes
+    }
+
+    /// The bytes of a commit's record.
+    fn record_at(&self, pos: Position) -> &[u8]
+        requires { pos.0 < length self.now.ids }
+        ensures record { record_at self.now pos.0 ≡ record_of self.now.kind result.now }
+        ensures len { length result.now ≡ record_len self.now.kind }
+    {
+        let size = record_len(self.object_hash());
+        let start = self.layout.places.records.start + size * pos.0 as usize;
+        &self.bytes[start..start + size]
+    }
+
+    /// The id of a commit's root tree.
+    #[tactic(auto, unfolding(graph_format::specs::Format::record_of))]
+    pub(super) fn root_tree_at(&self, pos: Position) -> oid<'_>
+        requires { pos.0 < length self.now.ids }
+        ensures { oid_bytes result ≡ (record_at self.now pos.0).tree }
+    {
+        id_from(self.record_at(pos), 0, self.object_hash())
+    }
+
+    /// The 64 bits that are a commit's generation number and its time.
+    #[tactic(auto, unfolding(graph_format::specs::Format::record_of))]
+    pub(super) fn dates_at(&self, pos: Position) -> u64
+        requires { pos.0 < length self.now.ids }
+        ensures generation { (record_at self.now pos.0).generation ≡ result / 2 ^ 34 }
+        ensures time { (record_at self.now pos.0).time ≡ result % 2 ^ 34 }
+    {
+        long_at(self.record_at(pos), self.object_hash().len_in_bytes() + 8)
+    }
+
+    /// The two parent fields of a commit.
+    #[tactic(auto, unfolding(graph_format::specs::Format::record_of))]
+    pub(super) fn edges_at(&self, pos: Position) -> (u32, u32)
+        requires { pos.0 < length self.now.ids }
+        ensures first { result.0 ≡ (record_at self.now pos.0).parent1 }
+        ensures second { result.1 ≡ (record_at self.now pos.0).parent2 }
+    {
+        let record = self.record_at(pos);
+        let start = self.object_hash().len_in_bytes();
+        (word_at(record, start), word_at(record, start + 4))
+    }
+
+    /// The bytes of the extra edge list, where the file has one.
+    pub(super) fn edges(&self) -> Option<&[u8]>
+        ensures { option_copied result ≡ self.now.edges }
+    {
+        match self.layout.places.edges {
+            Some(place) => Some(&self.bytes[place.start..place.end]),
+            None => None,
+        }
+    }
+}
+
+/// An iterator over the ids of a layer, in the order of their positions. It gives each once, and
+/// then `None` for good.
+#[derive(Drop)]
+pub struct Ids<'a> {
+    file: &'a File,
+    next: u32,
+    ghost within: { next ≤ length file.now.ids },
+}
+
+impl<'a> Ids<'a> {
+    ghost use Rattle.graph_layer.specs.Left.{ids_left};
+
+    fn new(file: &'a File) -> Ids<'a>
+        ensures { ids_left result ≡ file.now.ids }
+    {
+        Ids { file, next: 0 }
+    }
+}
+
+impl<'a> Iterator for Ids<'a> {
+    ghost use Rattle.std.specs.Iterator.{YieldsFirstBy, item_count, UpTo, at_most};
+    ghost use Rattle.std.specs.Iterator.SizeHint.{IsWithinCount};
+    ghost use Rattle.graph_layer.specs.Left.{ids_left};
+
+    type Item = oid<'a>;
+
+    ghost next_gives = { YieldsFirstBy oid_bytes ids_left };
+
+    ghost remaining = { item_count ids_left };
+
+    #[tactic(auto, using(crate::proofs::Elements::element_laws))]
+    fn next(&mut self) -> Option<oid<'a>> {
+        if self.next == self.file.num_commits() {
+            return None;
+        }
+        let id = self.file.id_at(Position(self.next));
+        self.next += 1;
+        Some(id)
+    }
+
+    fn size_hint(&self) -> (usize, Option<usize>)
+        ensures exact { result ≡ (length (ids_left self.now), Some (length (ids_left self.now))) }
+        ensures lower { IsWithinCount result.0 (item_count ids_left self.now) }
+        ensures upper { IfSome result.1 (UpTo (item_count ids_left self.now)) }
+    {
+        let ids = (self.file.num_commits() - self.next) as usize;
+        (ids, Some(ids))
+    }
+}
+
+/// An iterator over the ids of the layers below a layer, the lowest first. It gives each once, and
+/// then `None` for good.
+#[derive(Drop)]
+pub struct BaseIds<'a> {
+    file: &'a File,
+    next: u8,
+    ghost within: { next ≤ length file.now.bases },
+}
+
+impl<'a> BaseIds<'a> {
+    ghost use Rattle.graph_layer.specs.Left.{base_ids_left};
+
+    fn new(file: &'a File) -> BaseIds<'a>
+        ensures { base_ids_left result ≡ file.now.bases }
+    {
+        BaseIds { file, next: 0 }
+    }
+}
+
+impl<'a> Iterator for BaseIds<'a> {
+    ghost use Rattle.std.specs.Iterator.{YieldsFirstBy, item_count, UpTo, at_most};
+    ghost use Rattle.std.specs.Iterator.SizeHint.{IsWithinCount};
+    ghost use Rattle.graph_layer.specs.Left.{base_ids_left};
+
+    type Item = oid<'a>;
+
+    ghost next_gives = { YieldsFirstBy oid_bytes base_ids_left };
+
+    ghost remaining = { item_count base_ids_left };
+
+    #[tactic(auto, using(crate::proofs::Elements::element_laws))]
+    fn next(&mut self) -> Option<oid<'a>> {
+        if self.next == self.file.base_graph_count() {
+            return None;
+        }
+        let id = self.file.base_id_at(self.next);
+        self.next += 1;
+        Some(id)
+    }
+
+    fn size_hint(&self) -> (usize, Option<usize>)
+        ensures exact { result ≡ (length (base_ids_left self.now), Some (length (base_ids_left self.now))) }
+        ensures lower { IsWithinCount result.0 (item_count base_ids_left self.now) }
+        ensures upper { IfSome result.1 (UpTo (item_count base_ids_left self.now)) }
+    {
+        let left = (self.file.base_graph_count() - self.next) as usize;
+        (left, Some(left))
+    }
+}
+
+/// An iterator over the commits of a layer, in the order of their positions. It gives each once,
+/// and then `None` for good.
+#[derive(Drop)]
+pub struct Commits<'a> {
+    file: &'a File,
+    next: u32,
+    ghost within: { next ≤ length file.now.ids },
+}
+
+impl<'a> Commits<'a> {
+    ghost use Rattle.graph_layer.specs.Left.{commits_left};
+    ghost use Rattle.graph_format.specs.Layer.{places_from};
+
+    fn new(file: &'a File) -> Commits<'a>
+        ensures { commits_left result ≡ places_from file.now 0 }
+    {
+        Commits { file, next: 0 }
+    }
+}
+
+impl<'a> Iterator for Commits<'a> {
+    ghost use Rattle.std.specs.Iterator.{YieldsFirstBy, item_count, UpTo, at_most};
+    ghost use Rattle.std.specs.Iterator.SizeHint.{IsWithinCount};
+    ghost use Rattle.graph_layer.specs.Commit.{commit_place};
+    ghost use Rattle.graph_layer.specs.Left.{commits_left};
+
+    type Item = Commit<'a>;
+
+    ghost next_gives = { YieldsFirstBy commit_place commits_left };
+
+    ghost remaining = { item_count commits_left };
+
+    #[tactic(auto, using(crate::proofs::Elements::element_laws))]
+    fn next(&mut self) -> Option<Commit<'a>> {
+        if self.next == self.file.num_commits() {
+            return None;
+        }
+        let commit = self.file.commit_at(Position(self.next));
+        self.next += 1;
+        Some(commit)
+    }
+
+    #[tactic(auto, using(crate::proofs::Elements::element_laws))]
+    fn size_hint(&self) -> (usize, Option<usize>)
+        ensures exact { result ≡ (length (commits_left self.now), Some (length (commits_left self.now))) }
+        ensures lower { IsWithinCount result.0 (item_count commits_left self.now) }
+        ensures upper { IfSome result.1 (UpTo (item_count commits_left self.now)) }
+    {
+        let commits = (self.file.num_commits() - self.next) as usize;
+        (commits, Some(commits))
+    }
+}

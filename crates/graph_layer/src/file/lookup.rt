@@ -1,0 +1,116 @@
+//! Lookup of an id by the fan.
+
+ghost use Rattle.std.specs.Prelude.{◌≡◌, ℕ, ◌+◌, ◌-◌, ◌*◌, ◌<◌, ◌≤◌, length, slice_index, slice_range, slice_get, Some, OnSome};
+ghost use Rattle.std.specs.Ordering.{nat_cmp};
+ghost use Rattle.std.specs.Cmp.Lexicographic.{slice_cmp};
+ghost use Rattle.gix_hash_core.specs.Kind.{id_len};
+ghost use Rattle.gix_hash_core.specs.Oid.{oid_bytes};
+ghost use Rattle.graph_format.specs.Lookup.{Found, file_place, bucket_start, bucket_size, digits};
+
+use crate::file::init::fan_at;
+use crate::file::{File, Position};
+use crate::numbers::word_at;
+use gix_hash_core::oid;
+use std::cmp::Ordering;
+
+/// How two ids compare. Their first four bytes, which hardly ever agree, are compared as numbers.
+#[inline(always)]
+fn order(one: &[u8], other: &[u8]) -> Ordering
+    requires one { 4 ≤ length one.now }
+    requires same { length one.now ≡ length other.now }
+    requires one_bytes { (i : ℕ) → slice_index one.now i < 256 }
+    requires other_bytes { (i : ℕ) → slice_index other.now i < 256 }
+    ensures { result ≡ slice_cmp nat_cmp one.now other.now }
+{
+    let first = word_at(one, 0);
+    let second = word_at(other, 0);
+    if first < second {
+        Ordering::Less
+    } else if second < first {
+        Ordering::Greater
+    } else {
+        one.cmp(&other)
+    }
+}
+
+#[tactic(auto, using(crate::proofs::Buckets::bucket_laws))]
+impl File {
+    /// The position of an id. The first byte of the id names the positions that are searched: from
+    /// the number that the fan has at the byte before it, 0 for the byte 0, up to, without, the
+    /// number that it has at the byte.
+    ///
+    /// A position that is answered always holds the id. Where the ids strictly ascend and the fan
+    /// is exact, the answer is `None` only for an id that is not in the layer. Opening checks
+    /// neither, so in a damaged file an id may be missed that is there, and which of several equal
+    /// ids is found is open. See "OID Fanout" and "OID Lookup" of Git's commit-graph format.
+    pub fn lookup(&self, id: oid<'_>) -> Option<Position>
+        ensures { Found self.now (oid_bytes id.entry) (file_place result) }
+    {
+        self.lookup_counted(id).0
+    }
+
+    /// An answer under the rule of `lookup`, and how many times the id was compared with an id of
+    /// the file. One comparison tells less, equal and greater apart. An id of another kind is
+    /// compared with none.
+    pub fn lookup_counted(&self, id: oid<'_>) -> (Option<Position>, u32)
+        ensures found { Found self.now (oid_bytes id.entry) (file_place result.0) }
+
+        // At most as many comparisons as the size of the id's bucket has binary digits.
+        ensures most { result.1 ≤ digits (bucket_size self.now.fan (slice_index (oid_bytes id.entry) 0)) }
+        ensures least { OnSome result.0 (1 ≤ result.1) }
+    {
+        let wanted = id.as_bytes();
+        let size = self.layout.kind.len_in_bytes();
+        let mut comparisons = 0;
+        if wanted.len() != size {
+            return (None, comparisons);
+        }
+        let (mut low, mut high) = self.bucket(wanted[0]);
+        while low < high {
+            let middle = low + (high - low) / 2;
+            comparisons += 1;
+            let other = self.id_bytes_at(middle, size);
+            match order(wanted, other) {
+                Ordering::Less => high = middle,
+                Ordering::Equal => return (Some(Position(middle)), comparisons),
+                Ordering::Greater => low = middle + 1,
+            }
+        }
+        (None, comparisons)
+    }
+
+    /// The first position of the bucket of a byte, and the first past it.
+    fn bucket(&self, byte: u8) -> (u32, u32)
+        ensures start { result.0 ≡ bucket_start self.now.fan byte }
+        ensures end { result.1 ≡ slice_index self.now.fan byte }
+        ensures order { result.0 ≤ result.1 }
+        ensures within { result.1 ≤ length self.now.ids }
+    {
+        let end = self.fan_number(byte);
+        if byte == 0 {
+            (0, end)
+        } else {
+            (self.fan_number(byte - 1), end)
+        }
+    }
+
+    /// The number that the fan has at a byte.
+    pub(super) fn fan_number(&self, byte: u8) -> u32
+        ensures number { result ≡ slice_index self.now.fan byte }
+        ensures rises { 0 < byte → slice_index self.now.fan (byte - 1) ≤ result }
+        ensures within { result ≤ length self.now.ids }
+    {
+        fan_at(&self.bytes, self.layout.places.fan, byte as usize)
+    }
+
+    /// The bytes of the id at a position, where ids have so many bytes.
+    fn id_bytes_at(&self, pos: u32, size: usize) -> &[u8]
+        requires within { pos < length self.now.ids }
+        requires size { size ≡ id_len self.now.kind }
+        ensures id { slice_get self.now.ids pos ≡ Some result.now }
+        ensures len { length result.now ≡ size }
+    {
+        let start = self.layout.places.ids.start + size * pos as usize;
+        &self.bytes[start..start + size]
+    }
+}

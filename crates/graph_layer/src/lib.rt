@@ -1,0 +1,9 @@
+//! One layer of a commit-graph: opening it, reading what it says, finding its commits, and checking it
+//! by itself.
+#![tactic(auto)]
+
+pub mod check;
+pub mod file;
+pub mod law;
+mod numbers;
+pub mod opening;

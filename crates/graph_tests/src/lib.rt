@@ -1,0 +1,30 @@
+//! Tests of the crates of a commit-graph together, on files that are built for them.
+//!
+//! [`fixtures`] has what several tests share: the files that they build, the diamond of four commits,
+//! and a folder that refuses.
+#![tactic(auto)]
+
+#[cfg(test)]
+mod building;
+#[cfg(test)]
+mod checking;
+#[cfg(test)]
+mod commits;
+#[cfg(test)]
+mod disk;
+#[cfg(test)]
+mod fixtures;
+#[cfg(test)]
+mod folders;
+#[cfg(test)]
+mod graphs;
+#[cfg(test)]
+mod opening;
+#[cfg(test)]
+mod parents;
+#[cfg(test)]
+mod texts;
+#[cfg(test)]
+mod traversing;
+#[cfg(test)]
+mod verifying;

@@ -1,0 +1,288 @@
+use crate::fixtures::{DIAMOND, Row, damaged_diamond, layer, opened};
+use gix_commitgraph::file::Commit;
+use gix_commitgraph::file::commit::ParentError;
+use gix_commitgraph::verify::{CommitFault, LayerFault, Outcome, VerifyError};
+use gix_commitgraph::{File, GENERATION_NUMBER_MAX, Graph, Position};
+use gix_hash_core::ObjectId;
+use std::alloc::{AllocError, Global};
+use std::collections::BTreeMap;
+use std::process::Abort;
+use std::test::Fail;
+
+const MAX: u32 = GENERATION_NUMBER_MAX;
+
+// The SHA-1 layer of these commits on these bases, under a name that no chain gives.
+fn file(
+    rt: &impl Abort,
+    alloc: Global,
+    bases: &[ObjectId],
+    rows: &[Row<'_>],
+) -> Result<File, Fail> {
+    Ok(opened(alloc, layer(rt, alloc, bases, rows)?, "commit-graph")?)
+}
+
+// The graph of one such layer for each of these lists of commits, with the right bases.
+fn graph(rt: &impl Abort, alloc: Global, layers: &[&[Row<'_>]]) -> Result<Graph, Fail> {
+    let mut files = Vec::new(alloc);
+    let mut checksums = Vec::new(alloc);
+    for rows in layers {
+        let file = file(rt, alloc, &checksums, rows)?;
+        checksums.push(file.checksum().to_owned())?;
+        files.push(file)?;
+    }
+    Ok(Graph::new(alloc, files)?)
+}
+
+// The graph of this one layer.
+fn graph_of_one(alloc: Global, file: File) -> Result<Graph, Fail> {
+    let mut files = Vec::new(alloc);
+    files.push(file)?;
+    Ok(Graph::new(alloc, files)?)
+}
+
+// The outcome with this longest path and these counts: numbers of parents, each with the number of
+// commits that have it.
+fn outcome(
+    alloc: Global,
+    longest_path_length: Option<u32>,
+    counts: &[(u32, u32)],
+) -> Result<Outcome, AllocError> {
+    let mut num_commits = 0u32;
+    let mut parent_counts = BTreeMap::new(alloc);
+    for (parents, commits) in counts {
+        num_commits = num_commits.saturating_add(*commits);
+        parent_counts.insert(*parents, *commits)?;
+    }
+    Ok(Outcome {
+        longest_path_length,
+        num_commits,
+        parent_counts,
+    })
+}
+
+// The error of the processor below.
+#[derive(Debug, Drop, PartialEq, Eq)]
+enum Refused {
+    Commit,
+    OutOfMemory,
+}
+
+// What the check answers where the processor refuses just the commits whose ids begin with this
+// byte, and the first bytes of the ids of the commits that it was called on, in order.
+fn checked(
+    alloc: Global,
+    graph: &Graph,
+    refused: Option<u8>,
+) -> (Result<Outcome, VerifyError<Refused>>, Vec<u8>) {
+    let mut seen = Vec::new(alloc);
+    let answer = graph.verify_integrity(
+        alloc,
+        &mut |commit: &Commit<'_>| -> Result<(), Refused> {
+            let byte = commit.id().first_byte();
+            seen.push(byte).map_err(|_| Refused::OutOfMemory)?;
+            if refused == Some(byte) {
+                return Err(Refused::Commit);
+            }
+            Ok(())
+        },
+    );
+    (answer, seen)
+}
+
+const TEN: &[Row<'static>] = &[
+    (0x11, &[], 1),
+    (0x22, &[0], 2),
+    (0x33, &[1], 3),
+    (0x44, &[2], 4),
+    (0x55, &[3], 5),
+    (0x66, &[4], 6),
+    (0x77, &[5], 7),
+    (0x88, &[6], 8),
+    (0x99, &[7], 9),
+    (0xaa, &[8], 10),
+];
+
+const OCTOPUS: &[Row<'static>] = &[
+    (0x11, &[], 1),
+    (0x22, &[0], 2),
+    (0x33, &[1], 3),
+    (0x44, &[0, 0, 2], 4),
+];
+
+#[test]
+fn right_graphs_pass(rt: HostRuntime) -> Result<(), Fail> {
+    let alloc = rt.alloc();
+    let rows: [(&[Row<'_>], Option<u32>, &[(u32, u32)]); 8] = [
+        (&[], Some(0), &[]),
+        (DIAMOND, Some(2), &[(0, 1), (1, 2), (2, 1)]),
+        (OCTOPUS, Some(3), &[(0, 1), (1, 2), (3, 1)]),
+        (
+            &[(0x11, &[1], 2), (0x22, &[], 1)],
+            Some(1),
+            &[(0, 1), (1, 1)],
+        ),
+        (&[(0x11, &[0], MAX)], None, &[(1, 1)]),
+        (TEN, Some(9), &[(0, 1), (1, 9)]),
+        (&[(0x11, &[1], MAX), (0x22, &[0], MAX)], None, &[(1, 2)]),
+        (
+            &[(0x11, &[0], MAX), (0x22, &[0], MAX), (0x33, &[], 1)],
+            None,
+            &[(0, 1), (1, 2)],
+        ),
+    ];
+    for (commits, longest, counts) in rows {
+        let (answer, seen) = checked(alloc, &graph(&rt, alloc, &[commits])?, None);
+        assert_eq!(rt; answer, Ok(outcome(alloc, longest, counts)?));
+        assert_eq!(rt; seen.len(), commits.len());
+        for (commit, byte) in commits.iter().zip(&seen) {
+            assert_eq!(rt; commit.0, *byte);
+        }
+    }
+    Ok(())
+}
+
+#[test]
+fn calls_are_in_the_order_of_the_graph(rt: HostRuntime) -> Result<(), Fail> {
+    let alloc = rt.alloc();
+    let lower: &[Row<'_>] = &[(0x33, &[1], 2), (0x44, &[], 1)];
+    let upper: &[Row<'_>] = &[(0x11, &[4], 4), (0x22, &[0, 2, 4], 5), (0x55, &[0], 3)];
+    let graph = graph(&rt, alloc, &[lower, upper])?;
+    let calls: &[u8] = &[0x33, 0x44, 0x11, 0x22, 0x55];
+    let (answer, seen) = checked(alloc, &graph, None);
+    let counts = [(0, 1), (1, 3), (3, 1)];
+    assert_eq!(rt; answer, Ok(outcome(alloc, Some(4), &counts)?));
+    assert_eq!(rt; seen.as_slice(), calls);
+    let (answer, seen) = checked(alloc, &graph, Some(0x55));
+    let (pos, error) = (Position(4), Refused::Commit);
+    assert_eq!(rt; answer, Err(VerifyError::Processor { pos, error }));
+    assert_eq!(rt; seen.as_slice(), calls);
+    Ok(())
+}
+
+#[test]
+fn a_refusal_of_the_processor_is_handed_back(rt: HostRuntime) -> Result<(), Fail> {
+    let (answer, seen) = checked(rt.alloc(), &graph(&rt, rt.alloc(), &[TEN])?, Some(0x33));
+    let (pos, error) = (Position(2), Refused::Commit);
+    assert_eq!(rt; answer, Err(VerifyError::Processor { pos, error }));
+    assert_eq!(rt; seen.as_slice(), [0x11, 0x22, 0x33].as_slice());
+    Ok(())
+}
+
+#[test]
+fn wrong_generation_numbers_are_refused(rt: HostRuntime) -> Result<(), Fail> {
+    let alloc = rt.alloc();
+    let rows: [(&[Row<'_>], u32, u32); 6] = [
+        (
+            &[
+                (0x11, &[], 1),
+                (0x22, &[0], 2),
+                (0x33, &[1], 3),
+                (0x44, &[0, 0, 2], 2),
+            ],
+            3,
+            4,
+        ),
+        (&[(0x11, &[], 0)], 0, 1),
+        (&[(0x11, &[0], 1)], 0, 2),
+        (
+            &[(0x11, &[1], MAX), (0x22, &[0], 1073741822)],
+            1,
+            1073741823,
+        ),
+        (&[(0x11, &[1], 5), (0x22, &[0], 5)], 0, 6),
+        (&[(0x11, &[], MAX)], 0, 1),
+    ];
+    for (commits, place, expected) in rows {
+        let (answer, seen) = checked(alloc, &graph(&rt, alloc, &[commits])?, None);
+        let pos = Position(place);
+        assert_eq!(rt; answer, Err(VerifyError::Generation { pos, expected }));
+        assert_eq!(rt; seen.len(), place as usize);
+    }
+    Ok(())
+}
+
+#[test]
+fn damaged_layers_are_refused(rt: HostRuntime) -> Result<(), Fail> {
+    let alloc = rt.alloc();
+    let rows: [(usize, &[u8], VerifyError<Refused>, usize); 3] = [
+        (
+            124,
+            &[0; 4],
+            VerifyError::Layer {
+                layer: 0,
+                fault: LayerFault::Fan { byte: 17 },
+            },
+            0,
+        ),
+        (
+            1232,
+            &[0; 20],
+            VerifyError::Commit {
+                pos: Position(2),
+                fault: CommitFault::NullTree,
+            },
+            2,
+        ),
+        (
+            1288,
+            b"\x70\0\0\0\0\0\0\x02",
+            VerifyError::Parent {
+                pos: Position(3),
+                error: ParentError::SecondWithoutFirst,
+            },
+            3,
+        ),
+    ];
+    for (from, bytes, error, calls) in rows {
+        let bytes = damaged_diamond(&rt, alloc, from, bytes)?;
+        let graph = graph_of_one(alloc, opened(alloc, bytes, "commit-graph")?)?;
+        let (answer, seen) = checked(alloc, &graph, None);
+        assert_eq!(rt; answer, Err(error));
+        assert_eq!(rt; seen.len(), calls);
+    }
+    Ok(())
+}
+
+#[test]
+fn a_base_too_many_is_refused(rt: HostRuntime) -> Result<(), Fail> {
+    let file = file(&rt, rt.alloc(), &[ObjectId::from([0x33; 20])], &[])?;
+    let (answer, seen) = checked(rt.alloc(), &graph_of_one(rt.alloc(), file)?, None);
+    assert_eq!(rt; answer, Err(VerifyError::BaseCount { layer: 0 }));
+    assert!(rt; seen.is_empty());
+    Ok(())
+}
+
+#[test]
+fn a_parent_in_a_later_layer_is_refused(rt: HostRuntime) -> Result<(), Fail> {
+    let layers: [&[Row<'_>]; 2] = [&[(0x11, &[1], 2)], &[(0x22, &[], 1)]];
+    let graph = graph(&rt, rt.alloc(), &layers)?;
+    let (answer, seen) = checked(rt.alloc(), &graph, None);
+    let (pos, parent) = (Position(0), Position(1));
+    assert_eq!(rt; answer, Err(VerifyError::ParentOutOfRange { pos, parent }));
+    assert!(rt; seen.is_empty());
+    Ok(())
+}
+
+#[test]
+fn up_to_256_layers_pass(rt: HostRuntime) -> Result<(), Fail> {
+    let alloc = rt.alloc();
+    let mut files = Vec::new(alloc);
+    for _ in 0..257 {
+        files.push(file(&rt, alloc, &[], &[])?)?;
+    }
+    let too_many = Graph::new(alloc, files)?;
+    let (answer, _) = checked(alloc, &too_many, None);
+    assert_eq!(rt; answer, Err(VerifyError::TooManyFiles));
+
+    let layers: [&[Row<'_>]; 256] = [&[]; 256];
+    let (answer, _) = checked(alloc, &graph(&rt, alloc, &layers)?, None);
+    assert_eq!(rt; answer, Ok(outcome(alloc, Some(0), &[])?));
+    Ok(())
+}
+
+#[test]
+fn an_outcome_is_equal_to_its_clone(rt: HostRuntime) -> Result<(), Fail> {
+    let outcome = outcome(rt.alloc(), Some(2), &[(0, 1), (1, 2), (2, 1)])?;
+    assert_eq!(rt; outcome.try_clone()?, outcome);
+    Ok(())
+}

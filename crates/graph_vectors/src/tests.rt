@@ -1,9 +1,0 @@
-mod building;
-mod checking;
-mod disk;
-mod fixtures;
-mod folders;
-mod opening;
-mod parents;
-mod traversing;
-mod verifying;

@@ -1,0 +1,4 @@
+pub mod Greatest
+pub mod WalkPaths
+pub mod WalkLaws
+pub mod Tallies

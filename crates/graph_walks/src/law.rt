@@ -1,0 +1,48 @@
+//! What generation numbers mean: laws of walks along parents ("topological level" in Git's
+//! commit-graph design). They hold of every history, whether or not it has cycles.
+
+ghost use Rattle.std.specs.Prelude.{◌≡◌, ◌<◌, ◌≤◌, ◌-◌, ℕ, List, length};
+ghost use Rattle.graph_walks.specs.Counts.{greatest};
+ghost use Rattle.graph_walks.specs.History.{Node, generation_at, generations};
+ghost use Rattle.graph_walks.specs.Generations.{AreLocal};
+ghost use Rattle.graph_walks.specs.Walks.{Reaches, ReachesAbove, CountWalks, IsLongestWalk};
+
+use crate::GENERATION_NUMBER_MAX;
+
+/// Where each generation number is one more than the greatest of its parents', up to the cap, each
+/// counts the commits of the longest walk, up to the cap.
+pub fn local_generations_count_walks()
+    ensures { (history : List Node) → AreLocal history → CountWalks history }
+{}
+
+/// Where each generation number counts the commits of the longest walk, up to the cap, each is one
+/// more than the greatest of its parents', up to the cap.
+pub fn generations_that_count_walks_are_local()
+    ensures { (history : List Node) → CountWalks history → AreLocal history }
+{}
+
+/// Along a walk the generation number never rises, also at the cap.
+pub fn generations_never_rise_along_walks()
+    ensures { (history : List Node) (p q : ℕ) → CountWalks history → Reaches history p q
+        → generation_at history q ≤ generation_at history p }
+{}
+
+/// Along a walk of two commits or more it falls, unless the walk ends at the cap.
+pub fn generations_fall_along_walks()
+    ensures { (history : List Node) (p q : ℕ) → CountWalks history → ReachesAbove history p q
+        → generation_at history q < GENERATION_NUMBER_MAX → generation_at history q < generation_at history p }
+{}
+
+/// No commit with a generation number below the cap lies on a cycle.
+pub fn cycles_are_at_the_cap()
+    ensures { (history : List Node) (p : ℕ) → CountWalks history → ReachesAbove history p p
+        → generation_at history p ≡ GENERATION_NUMBER_MAX }
+{}
+
+/// Where no generation number is at the cap, the greatest of them less one is the number of edges of
+/// the longest walk, and 0 where there are no commits.
+pub fn greatest_generation_is_the_longest_walk()
+    ensures { (history : List Node) → CountWalks history
+        → ((p : ℕ) → p < length history → generation_at history p < GENERATION_NUMBER_MAX)
+        → IsLongestWalk history (greatest (generations history) - 1) }
+{}
