@@ -3,13 +3,13 @@
 
 pub mod check;
 pub mod graph;
+pub mod layer;
 pub mod sound;
 pub mod stats;
+pub mod walk;
 
 pub use graph_format::law::{
     bytes_fall_into_pieces, each_is_answered, each_is_refused_or_read, edges,
-    falling_fans_are_named, limits_are_these_numbers, lookup, name,
+    falling_fans_are_named, limits_are_these_numbers, lookup,
     positions_are_ordered_by_their_numbers,
 };
-pub use graph_layer::law as layer;
-pub use graph_walks::law as walk;

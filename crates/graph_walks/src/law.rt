@@ -9,6 +9,11 @@ ghost use Rattle.graph_walks.specs.Walks.{Reaches, ReachesAbove, CountWalks, IsL
 
 use crate::GENERATION_NUMBER_MAX;
 
+/// The cap of generation numbers is the greatest number of 30 bits.
+pub fn the_cap_is_this_number()
+    ensures { GENERATION_NUMBER_MAX ≡ 1073741823 }
+{}
+
 /// Where each generation number is one more than the greatest of its parents', up to the cap, each
 /// counts the commits of the longest walk, up to the cap.
 pub fn local_generations_count_walks()

@@ -7,6 +7,8 @@ ghost use Rattle.gix_commitgraph.specs.Graph.{total};
 ghost use Rattle.graph_format.specs.Points.{calls};
 ghost use Rattle.gix_commitgraph.specs.Verify.{graph_points};
 
+pub use graph_layer::law::a_check_of_a_layer_calls_on_each_position_once;
+
 /// Where nothing stops it, the check of a graph calls the processor at the positions of its
 /// commits, at each once and in order, whichever layers they lie in. So it follows from the clause
 /// `agrees` of [`Graph::verify_integrity`](crate::Graph::verify_integrity) that after an `Ok` the

@@ -8,6 +8,7 @@ ghost use Rattle.graph_format.specs.Layer.{IsOpened};
 ghost use Rattle.gix_commitgraph.specs.Headline.{Stats};
 
 use crate::verify;
+pub use graph_layer::law::the_parent_counts_of_a_layer_add_up;
 
 /// The statistics of a graph of opened layers count each of its commits once: the values of
 /// `parent_counts` add up to `num_commits`.
