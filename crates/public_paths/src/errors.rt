@@ -8,9 +8,7 @@ use gix_commitgraph::opening::OpenError;
 use gix_commitgraph::verify::{CommitFault, LayerFault, VerifyError};
 
 fn of_a_file(error: &FileError) {
-    use FileError::{BaseCount, BaseMissing, BaseSize, Chunks, CommitDataSize, FanFalls, FanSize};
-    use FileError::{Hash, IdCount, IdsSize, NoCommitData, NoFan, NoIds, OutOfMemory, RecordCount};
-    use FileError::{Signature, TooManyEdges, TooSmall, Trailer, Version};
+    use FileError::*;
     match error {
         TooSmall | Signature | Version(_) | Hash(_) | Chunks(_) | BaseSize | BaseCount => {}
         NoCommitData | CommitDataSize | NoFan | FanSize | NoIds | IdsSize | TooManyEdges => {}
@@ -18,61 +16,52 @@ fn of_a_file(error: &FileError) {
     }
 }
 
-fn of_the_parents(error: &ParentError, field: &ParentEdge, word: &ExtraEdge) {
-    use ExtraEdge::{Internal, Last};
-    use ParentEdge::{ExtraEdgeIndex, GraphPosition, None};
-    use ParentError::{EdgeOverflow, FirstIsEdgeIndex, NoEdgeList, SecondWithoutFirst};
-    match error {
-        SecondWithoutFirst | FirstIsEdgeIndex | NoEdgeList | EdgeOverflow => {}
+fn of_parents(error: &ParentError, field: &ParentEdge, word: &ExtraEdge) {
+    use ExtraEdge::*;
+    use ParentEdge::*;
+    use ParentError::*;
+    match (error, field) {
+        (SecondWithoutFirst | FirstIsEdgeIndex | NoEdgeList | EdgeOverflow, None) => {}
+        (_, GraphPosition(_) | ExtraEdgeIndex(_)) => {}
     }
-    match (field, word) {
-        (None | GraphPosition(_) | ExtraEdgeIndex(_), Internal(_) | Last(_)) => {}
+    match word {
+        Internal(_) | Last(_) => {}
     }
 }
 
-fn of_the_check_of_a_layer<E>(error: &TraverseError<E>) {
-    use TraverseError::{
-        Checksum, Fan, FileName, NullId, NullTree, Order, OutOfMemory, Parent, Processor,
-    };
+fn of_a_layer<E>(error: &TraverseError<E>, layer: &LayerFault, commit: &CommitFault) {
+    use TraverseError::*;
     match error {
         Checksum | FileName | Fan { byte: _ } | NullId { pos: _ } | Order { pos: _ } => {}
-        NullTree { pos: _ }
-        | Processor { pos: _, error: _ }
-        | Parent { pos: _, error: _ }
-        | OutOfMemory => {}
+        NullTree { pos: _ } | Processor { pos: _, error: _ } => {}
+        Parent { pos: _, error: _ } | OutOfMemory => {}
+    }
+    match (layer, commit) {
+        (LayerFault::Checksum | LayerFault::FileName, CommitFault::NullId) => {}
+        (LayerFault::Fan { byte: _ }, _) | (_, CommitFault::Order | CommitFault::NullTree) => {}
     }
 }
 
-fn of_opening(error: &OpenError, graph: &GraphError) {
-    use OpenError::{ChainNotText, Device, Graph, Layer, NotOpened, NothingFound};
-    match error {
-        NothingFound | NotOpened | Device | ChainNotText { line: _ } => {}
-        Layer { layer: _, error: _ } | Graph(_) | OpenError::OutOfMemory => {}
-    }
+fn of_opening(error: &OpenError) {
     use GraphError::{HashMismatch, NoFiles, TooManyCommits};
-    match graph {
-        NoFiles | TooManyCommits(_) | HashMismatch { layer: _ } | GraphError::OutOfMemory => {}
+    use OpenError::*;
+    match error {
+        NothingFound | NotOpened | Device | ChainNotText { line: _ } | OutOfMemory => {}
+        Layer { layer: _, error: _ } | Graph(NoFiles | TooManyCommits(_)) => {}
+        Graph(HashMismatch { layer: _ } | GraphError::OutOfMemory) => {}
     }
 }
 
-fn of_the_check_of_a_graph<E>(error: &VerifyError<E>, layer: &LayerFault, commit: &CommitFault) {
-    use VerifyError::{BaseCount, BaseId, Commit, Generation, Layer, OutOfMemory, Parent};
-    use VerifyError::{ParentOutOfRange, Processor, TooManyFiles};
+fn of_a_graph<E>(error: &VerifyError<E>) {
+    use VerifyError::*;
     match error {
         TooManyFiles | BaseCount { layer: _ } | BaseId { layer: _, index: _ } => {}
-        Layer { layer: _, fault: _ } | Commit { pos: _, fault: _ } | Parent { pos: _, error: _ } =>
-            {}
-        ParentOutOfRange { pos: _, parent: _ }
-        | Generation {
+        Layer { layer: _, fault: _ } | Commit { pos: _, fault: _ } => {}
+        Parent { pos: _, error: _ } | ParentOutOfRange { pos: _, parent: _ } => {}
+        Generation {
             pos: _,
             expected: _,
         } => {}
         Processor { pos: _, error: _ } | OutOfMemory => {}
-    }
-    match layer {
-        LayerFault::Checksum | LayerFault::FileName | LayerFault::Fan { byte: _ } => {}
-    }
-    match commit {
-        CommitFault::NullId | CommitFault::Order | CommitFault::NullTree => {}
     }
 }

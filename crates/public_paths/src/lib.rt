@@ -1,5 +1,5 @@
-//! Every public path of `gix_commitgraph`, in a crate that uses that crate alone: it compiles only
-//! where each of them is there, and definitions that the contracts of that crate cite can be cited.
+//! Names every public path of `gix_commitgraph` from a crate that uses that crate alone, and cites
+//! definitions of its contracts: this compiles only where each of them is there.
 #![tactic(auto)]
 
 ghost use Rattle.std.specs.Prelude.{IfOk, MatchResult};
@@ -8,9 +8,8 @@ ghost use Rattle.gix_commitgraph.specs.Headline.{IsDeserved, LookupsAreScans, St
 ghost use Rattle.gix_commitgraph.specs.OpenAlways.{IsFromPath};
 ghost use Rattle.gix_commitgraph.specs.Sound.{Sound};
 
-mod calls;
 mod errors;
-mod files;
+mod items;
 
 use gix_commitgraph::file::Commit;
 use gix_commitgraph::opening::OpenError;
