@@ -8,6 +8,7 @@ ghost use Rattle.gix_commitgraph.specs.Headline.{IsDeserved, LookupsAreScans, St
 ghost use Rattle.gix_commitgraph.specs.OpenAlways.{IsFromPath};
 ghost use Rattle.gix_commitgraph.specs.Sound.{Sound};
 
+pub mod definitions;
 mod errors;
 mod items;
 
