@@ -21,8 +21,8 @@ from typing import NamedTuple
 TOP = os.path.dirname(os.path.dirname(os.path.abspath(__file__)))
 sys.path.insert(0, os.path.join(TOP, "scripts", "real_data"))
 
-from layer import Outline
-from repository import PERSON, Repository
+from damage.layer import Outline
+from histories.repository import PERSON, Repository
 
 COMMITS = 1_000_000
 RUNS = 7

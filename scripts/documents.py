@@ -1,6 +1,6 @@
 """What the documents name in backquotes: paths, edits that must fail, tests, definitions and other code.
 
-Each check gives the places that name what is not there.
+Each check gives the places that name what is not there, or the code that no document names.
 """
 
 import fnmatch
@@ -13,21 +13,35 @@ ANY_NAME = re.compile(r"\b[A-Z]+\b")
 """A name in capitals within a path, as in crates/NAME/src, stands for any name."""
 
 CODE = re.compile(r"[A-Za-z_]\w*((\.|::)\w+)*")
-CODE_DOCUMENTS = ("docs/DEFINITIONS.md", "docs/ARCHITECTURE.md")
+PROMISES = "docs/DEFINITIONS.md"
+"""The document that has to name every public law, every edit and every test."""
+
+CODE_DOCUMENTS = (PROMISES, "docs/ARCHITECTURE.md")
 WORDS_OF_TOOLS = {"untested"}
 """Words that look like names of code, and are those of a tool."""
 
 DEFINED = re.compile(r"\bpub (?:record |data )?(\w+)")
+LAW_FILE = re.compile(r"crates/\w+/src/(.*/)?law(/.*)?\.rt")
+LAW = re.compile(r"^pub fn (\w+)", re.MULTILINE)
+EDIT_FILE = re.compile(r"^crates/\w+/must-fail/(.*)\.edit$")
+TEST = re.compile(r"#\[test\]\s+(?:#\[.*\]\s+)*fn (\w+)")
 EDITS, TESTS = "Edits that must fail", "Tests"
 """The titles of the columns that hold names of edits and of tests."""
 
 
 def missing_paths(texts):
     """The places in documents that name a path which is the end of no path of the repository."""
-    paths = {"/" + path for path in texts} | {"/" + os.path.dirname(path) for path in texts}
+    paths = {"/" + part for path in texts for part in with_folders(path)}
     for place, _, _, name in quotations(texts, [path for path in texts if path.endswith(".md")]):
         if PATH.fullmatch(name) and not is_end(name.rstrip("/"), paths):
             yield "%s names %s" % (place, name)
+
+
+def with_folders(path):
+    """A path and the folders that it lies in, up to the top."""
+    while path:
+        yield path
+        path = os.path.dirname(path)
 
 
 def is_end(name, paths):
@@ -39,10 +53,35 @@ def is_end(name, paths):
 
 
 def missing_edits(texts):
-    """The places in the columns of edits that name none of the section's crate."""
-    for place, section, column, name in quotations(texts, CODE_DOCUMENTS):
-        if column == EDITS and "crates/%s/must-fail/%s.edit" % (section, name) not in texts:
-            yield "%s names %s of %s" % (place, name, section)
+    """The places in the columns of edits that name none of the crates of the section."""
+    for place, crates, column, name in quotations(texts, CODE_DOCUMENTS):
+        paths = ["crates/%s/must-fail/%s.edit" % (crate, name) for crate in crates]
+        if column == EDITS and not any(path in texts for path in paths):
+            yield "%s names %s of %s" % (place, name, " or ".join(crates))
+
+
+def unnamed_laws(texts):
+    """The public laws that are not named."""
+    return unnamed(texts, {path: LAW.findall(text) for path, text in texts.items() if LAW_FILE.fullmatch(path)})
+
+
+def unnamed_edits(texts):
+    """The edits that are not named."""
+    return unnamed(texts, {path: EDIT_FILE.findall(path) for path in texts})
+
+
+def unnamed_tests(texts):
+    """The tests that are not named."""
+    return unnamed(texts, {path: TEST.findall(text) for path, text in texts.items() if is_code(path)})
+
+
+def unnamed(texts, names):
+    """Those names, by their files, that the document of the promises has neither alone nor at the end of a path."""
+    known = {name.split("::")[-1] for _, _, _, name in quotations(texts, [PROMISES])}
+    for path in sorted(names):
+        for name in names[path]:
+            if name not in known:
+                yield "%s has %s" % (path, name)
 
 
 def missing_code(texts):
@@ -73,12 +112,12 @@ def is_code(path):
 
 
 def quotations(texts, paths):
-    """What documents have in backquotes: the place, the crate of its section, the title of its column, and the text."""
+    """What documents have in backquotes: the place, the crates of its section, the title of its column, and the text."""
     for path in paths:
-        section, titles = None, []
+        section, titles = [], []
         for number, line in enumerate(texts[path].split("\n"), 1):
             if line.startswith("## "):
-                section = "".join(QUOTED.findall(line)[:1])
+                section = QUOTED.findall(line)
             cells = line.split(" | ") if line.startswith("| ") else [line]
             if not line.startswith("|"):
                 titles = []

@@ -20,14 +20,10 @@ from functools import partial
 
 sys.path.insert(0, os.path.dirname(os.path.dirname(os.path.abspath(__file__))))
 
-import disk_checks
-import list_checks
-import path_checks
-import verify_checks
-import word_checks
-from differences import Differences
-from program import Program
-from repository import ID_LENGTH, Repository
+from checks import disk_checks, list_checks, path_checks, verify_checks, word_checks
+from checks.program import Program
+from expected.differences import Differences
+from histories.repository import ID_LENGTH, Repository
 from tally import Tally
 
 

@@ -44,3 +44,16 @@ pub mod Tallies
 pub mod Spans
 pub mod Headline
 pub mod InGraph
+pub use Rattle.gix_hash_core.specs.Digest
+pub use Rattle.gix_hash_core.specs.Kind
+pub use Rattle.gix_hash_core.specs.Oid
+pub use Rattle.graph_format.specs.declared.Position
+pub use Rattle.graph_format.specs.declared.error.FileError
+pub use Rattle.graph_format.specs.declared.error.GraphError
+pub use Rattle.graph_format.specs.declared.fault.CommitFault
+pub use Rattle.graph_format.specs.declared.fault.LayerFault
+pub use Rattle.graph_format.specs.declared.parents.ExtraEdge
+pub use Rattle.graph_format.specs.declared.parents.ParentEdge
+pub use Rattle.graph_format.specs.declared.parents.ParentError
+pub use Rattle.graph_layer.specs.declared.opening.error.OpenError
+pub use Rattle.graph_layer.specs.declared.file.verify.TraverseError

@@ -4,7 +4,7 @@ They are made from a file that Git wrote of merges of 2, 3 and 4 parents, whose 
 CDAT and EDGE in this order. The rules are those of Git's commit-graph format.
 """
 
-from original import GENERATION, NO_PARENT, PARENTS, TIME, TOP_BIT
+from damage.original import GENERATION, NO_PARENT, PARENTS, TIME, TOP_BIT
 
 GREATEST = {GENERATION: str(2**30 - 1), TIME: str(2**34 - 1)}
 """What a record says whose last eight bytes have all bits set."""

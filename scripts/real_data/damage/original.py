@@ -1,6 +1,6 @@
 """A right file of a commit-graph, and the ways to change one thing in it."""
 
-from layer import ENTRY, HEADER, Outline, big_endian, exact_fan
+from damage.layer import ENTRY, HEADER, Outline, big_endian, exact_fan
 
 CHUNKS = ("OIDF", "OIDL", "CDAT", "EDGE", "end")
 """The entries of the chunk table, in their order."""

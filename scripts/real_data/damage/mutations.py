@@ -6,8 +6,8 @@ A family of damages is a list of pairs: the bytes, and the judge of the answer t
 import random
 from functools import partial
 
-import judge
-from layer import HEADER, LEAST_SIZE, Outline
+from damage.layer import HEADER, LEAST_SIZE, Outline
+from expected import judge
 
 LISTED = ("OIDL", "CDAT", "EDGE", "BASE")
 """The chunks whose bytes a listing shows; opening does not depend on those bytes."""

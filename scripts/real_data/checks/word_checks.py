@@ -5,9 +5,9 @@ import resource
 import tempfile
 from functools import partial
 
-import damage
-import judge
-from list_checks import check_family
+from checks.list_checks import check_family
+from damage import mutations
+from expected import judge
 
 USAGE = "usage: graphtool list | verify PATH | find PATH HEX\n"
 """What the program writes on standard error where its words are no command."""
@@ -35,7 +35,7 @@ def check_all(program, tally):
     check_usage(program, tally)
     check_streams(program, tally)
     check_paths_beyond(program, tally)
-    check_family(program, tally, "random bytes", damage.noise(300, seed=2))
+    check_family(program, tally, "random bytes", mutations.noise(300, seed=2))
 
 
 def check_usage(program, tally):

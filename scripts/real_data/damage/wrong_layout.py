@@ -3,10 +3,10 @@
 They are made from the same right file as those of named.py.
 """
 
-import named
-from layer import contents, exact_fan, with_chunks
-from original import CHUNKS
-from wrong import passed, unopened, unverified
+from damage import named
+from damage.layer import contents, exact_fan, with_chunks
+from damage.original import CHUNKS
+from damage.wrong import passed, unopened, unverified
 
 MISSING_CHUNKS = {"OIDF": 10, "OIDL": 12, "CDAT": 8}
 """The conditions by which a file is refused that lacks a chunk."""

@@ -4,12 +4,12 @@ import os
 import shutil
 from functools import partial
 
-import histories
-import judge
-from facts import found, verified
-from layer import LEAST_SIZE
-from repository import ID_LENGTH, Repository, read_bytes, write_bytes
-from runs import check_runs
+from checks.runs import check_runs
+from damage.layer import LEAST_SIZE
+from expected import judge
+from expected.facts import found, verified
+from histories import shapes
+from histories.repository import ID_LENGTH, Repository, read_bytes, write_bytes
 
 NAME = "named größe.ñ, 名.graph"
 """The name of a folder with spaces, dots and letters beyond ASCII."""
@@ -25,8 +25,8 @@ def check_all(program, tally, new, differences):
     """The checks of names of graphs; a new repository comes from a function of its name."""
     check_file(program, tally, new(NAME))
     for name, history, size in (
-        ("a chain of 3 layers", histories.octopus(3, 4, 2)[:12], 4),
-        ("a chain of 20 layers", histories.tangled(40, seed=6), 2),
+        ("a chain of 3 layers", shapes.octopus(3, 4, 2)[:12], 4),
+        ("a chain of 20 layers", shapes.tangled(40, seed=6), 2),
     ):
         check_chain(program, tally, new("%s, %s" % (NAME, name)), (name, history, size), differences)
     check_alternate(program, tally, new("alternate"), differences)
@@ -34,7 +34,7 @@ def check_all(program, tally, new, differences):
 
 def check_file(program, tally, repository):
     """A graph of a single file, by its path, by that of its folder, and by other names."""
-    repository.add(histories.octopus(3, 4, 2))
+    repository.add(shapes.octopus(3, 4, 2))
     words = repository.words()
     layer, info = repository.new_graph(), repository.info_path()
     beside = [os.path.join(repository.folder, name) for name in file_names(layer, repository)]
@@ -166,7 +166,7 @@ def absent(words):
 
 def check_alternate(program, tally, lower, differences):
     """A chain whose lower layer stands in an alternate: it does not open here, but does for Git."""
-    ids = lower.add(histories.linear(8))
+    ids = lower.add(shapes.linear(8))
     lower.write_graph("--split=no-merge", tips=ids[:5])
     upper = Repository(lower.folder + " above", lower.object_format)
     write_bytes(os.path.join(upper.info_path(), "alternates"), os.path.join(lower.folder, "objects").encode() + b"\n")

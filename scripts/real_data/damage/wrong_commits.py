@@ -3,10 +3,10 @@
 They are made from the same right file as those of named.py.
 """
 
-from layer import big_endian
-from listing import GREATEST_GENERATION
-from original import NO_PARENT, TOP_BIT, Original
-from wrong import Wrong, judged, passed, unverified
+from damage.layer import big_endian
+from damage.original import NO_PARENT, TOP_BIT, Original
+from damage.wrong import Wrong, judged, passed, unverified
+from expected.listing import GREATEST_GENERATION
 
 
 def all_wrong(file):

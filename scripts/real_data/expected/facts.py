@@ -2,7 +2,7 @@
 
 from collections import Counter
 
-from listing import GREATEST_GENERATION, TIME_BITS, generations, places
+from expected.listing import GREATEST_GENERATION, TIME_BITS, generations, places
 
 
 def verified(words):

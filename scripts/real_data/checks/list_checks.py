@@ -3,20 +3,19 @@
 import os
 from functools import partial
 
-import damage
-import histories
-import judge
-import named
-from layer import Outline
-from listing import listing
-from original import Original
-from runs import check_runs
+from checks.runs import check_runs
+from damage import mutations, named
+from damage.layer import Outline
+from damage.original import Original
+from expected import judge
+from expected.listing import listing
+from histories import shapes
 
 
 def check_all(program, tally, new):
     """The checks of all that `list` reads; a new repository comes from a function of its name."""
     check_empty(new("empty"), tally)
-    for name, history in histories.ALL.items():
+    for name, history in shapes.ALL.items():
         check_history(program, tally, new(name), name, history)
     check_chain(program, tally, new("chain"))
     check_named_damage(program, tally, new("named damage"))
@@ -63,7 +62,7 @@ def other_chunks(layer, repository, expected):
 
 def check_chain(program, tally, repository):
     """The listing of each layer of a split commit-graph, and the answers to a damaged one."""
-    ids = repository.add(histories.tangled(90, seed=3))
+    ids = repository.add(shapes.tangled(90, seed=3))
     parts = [ids[:20], ids[20:22], ids[22:70], ids[70:]]
     for part in parts:
         repository.write_graph("--split=no-merge", tips=part)
@@ -73,13 +72,13 @@ def check_chain(program, tally, repository):
     tally.check("%s, a chain" % kind, None if len(layers) == len(parts) else "it has %d layers" % len(layers))
     for number, ((_, layer), text) in enumerate(zip(layers, texts)):
         tally.check("%s, layer %d of a chain" % (kind, number), judge.same(text, program.list(layer)))
-    family = damage.edits(layers[1][1], kind, texts[1], 0xFF)
+    family = mutations.edits(layers[1][1], kind, texts[1], 0xFF)
     check_family(program, tally, "%s, a layer of a chain with all bits of each byte changed" % kind, family)
 
 
 def check_named_damage(program, tally, repository):
     """The exact answers to a file in which one thing is wrong."""
-    repository.add(histories.octopus(3, 4, 2))
+    repository.add(shapes.octopus(3, 4, 2))
     kind, words = repository.object_format, repository.words()
     text = listing(kind, words, [list(words)], [])
     original = Original(repository.new_graph(generation_version=1), kind, text)
@@ -93,18 +92,18 @@ def check_named_damage(program, tally, repository):
 
 def check_damage(program, tally, repository):
     """The answers to a small file that is cut or changed in every place, or at random."""
-    repository.add(histories.octopus(3, 4))
+    repository.add(shapes.octopus(3, 4))
     kind, words = repository.object_format, repository.words()
     layer = repository.new_graph()
     text = listing(kind, words, [list(words)], [])
     families = {
-        "every prefix of a file": damage.truncations(layer, kind),
-        "a file and more bytes": damage.extensions(layer),
-        "a file with each byte's lowest bit changed": damage.edits(layer, kind, text, 0x01),
-        "a file with each byte's highest bit changed": damage.edits(layer, kind, text, 0x80),
-        "a file with all bits of each byte changed": damage.edits(layer, kind, text, 0xFF),
-        "a file with some random bytes": damage.scribbles(layer, 500, seed=4),
-        "a file with offsets in other places": damage.shuffled_tables(layer, kind, 500, seed=5),
+        "every prefix of a file": mutations.truncations(layer, kind),
+        "a file and more bytes": mutations.extensions(layer),
+        "a file with each byte's lowest bit changed": mutations.edits(layer, kind, text, 0x01),
+        "a file with each byte's highest bit changed": mutations.edits(layer, kind, text, 0x80),
+        "a file with all bits of each byte changed": mutations.edits(layer, kind, text, 0xFF),
+        "a file with some random bytes": mutations.scribbles(layer, 500, seed=4),
+        "a file with offsets in other places": mutations.shuffled_tables(layer, kind, 500, seed=5),
     }
     for name, family in families.items():
         check_family(program, tally, "%s, %s" % (kind, name), family)

@@ -6,8 +6,8 @@ A tree has the bytes of each file by its path from the folder, and None for a fo
 import os
 import shutil
 
-from layer import sealed
-from repository import ID_LENGTH, write_bytes
+from damage.layer import sealed
+from histories.repository import ID_LENGTH, write_bytes
 
 FILE = "commit-graph"
 GRAPHS = "commit-graphs"

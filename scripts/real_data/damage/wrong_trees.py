@@ -5,9 +5,9 @@ They are made from a right chain of three layers. Layers, lines and positions co
 
 from typing import NamedTuple, Optional
 
-from layer import Outline, big_endian, contents, with_chunks
-from repository import ID_LENGTH
-from trees import CHAIN, FILE, GRAPHS, Layer, chain, text, without
+from damage.layer import Outline, big_endian, contents, with_chunks
+from damage.trees import CHAIN, FILE, GRAPHS, Layer, chain, text, without
+from histories.repository import ID_LENGTH
 
 NOT_OPENED = "refused open 2\n"
 HIGH = "a layer with a high generation"

@@ -7,8 +7,8 @@ and then for each commit in turn its id, its tree, its parents and its generatio
 
 from typing import NamedTuple
 
-from facts import summary
-from listing import GREATEST_GENERATION
+from expected.facts import summary
+from expected.listing import GREATEST_GENERATION
 
 CHECKSUM = "refused verify 4 layer 0 fault 1\n"
 """The answer to a file that opens, with a checksum that is not right."""

@@ -5,7 +5,7 @@ Each judge takes the answer last, and says None where it is right, or else a com
 
 import re
 
-from listing import first_difference
+from expected.listing import first_difference
 
 REFUSAL = re.compile(rb"refused file (5 chunk [1-7]|[1-46-9]|1[0-9])\n")
 """The line that refuses a file: the number of the condition, for the chunk table with its own."""

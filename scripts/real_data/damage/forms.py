@@ -2,9 +2,9 @@
 
 from functools import partial
 
-import judge
-from layer import Outline, contents, sealed, with_chunks
-from wrong import CHECKSUM
+from damage.layer import Outline, contents, sealed, with_chunks
+from damage.wrong import CHECKSUM
+from expected import judge
 
 
 def right(layer, object_format):

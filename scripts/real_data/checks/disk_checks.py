@@ -3,12 +3,12 @@
 import os
 from functools import partial
 
-import histories
-import judge
-import trees
-from facts import verified
-from repository import ID_LENGTH, Repository, write_bytes
-from wrong_trees import NOT_OPENED, Right, all_wrong
+from damage import trees
+from damage.wrong_trees import NOT_OPENED, Right, all_wrong
+from expected import judge
+from expected.facts import verified
+from histories import shapes
+from histories.repository import ID_LENGTH, Repository, write_bytes
 
 NOTHING_FOUND = "refused open 1\n"
 LAYER_SIZE = 5
@@ -30,13 +30,13 @@ def right_chain(repository):
     """A chain of three layers, and the layers of other chains to damage it with."""
     kind = repository.object_format
     other_kind = next(name for name in ID_LENGTH if name != kind)
-    ids = repository.add(histories.tangled(3 * LAYER_SIZE, seed=7))
+    ids = repository.add(shapes.tangled(3 * LAYER_SIZE, seed=7))
     parts = [ids[:stop] for stop in range(LAYER_SIZE, len(ids) + 1, LAYER_SIZE)]
     layers = write_chain(repository, parts)
     strangers = []
     for object_format in (kind, other_kind):
         stranger = Repository("%s, %s" % (repository.folder, object_format), object_format)
-        strangers += write_chain(stranger, [stranger.add(histories.linear(4))])
+        strangers += write_chain(stranger, [stranger.add(shapes.linear(4))])
     words = repository.words()
     texts = [verified({commit: words[commit] for commit in words if commit in tips}) for tips in parts]
     return Right(kind, layers, texts, strangers)

@@ -2,7 +2,7 @@
 
 import hashlib
 
-from repository import ID_LENGTH
+from histories.repository import ID_LENGTH
 
 HEADER = 8
 ENTRY = 12

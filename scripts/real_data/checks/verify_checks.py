@@ -5,19 +5,16 @@ import resource
 import tempfile
 from functools import partial
 
-import damage
-import forms
-import histories
-import judge
-import wrong_commits
-import wrong_layout
-from facts import found, verified
-from layer import sealed
-from listing import listing
-from original import Original
-from repository import write_bytes
-from runs import check_runs
-from wrong import CHECKSUM
+from checks.runs import check_runs
+from damage import forms, mutations, wrong_commits, wrong_layout
+from damage.layer import sealed
+from damage.original import Original
+from damage.wrong import CHECKSUM
+from expected import judge
+from expected.facts import found, verified
+from expected.listing import listing
+from histories import shapes
+from histories.repository import write_bytes
 
 MOST_FINDS = 60
 """Of a file with more commits, some alone are looked up."""
@@ -25,10 +22,10 @@ MOST_FINDS = 60
 
 def check_all(program, tally, new, differences):
     """The checks of single files; a new repository comes from a function of its name."""
-    for name, history in histories.ALL.items():
+    for name, history in shapes.ALL.items():
         check_history(program, tally, new("verified " + name), name, history, differences)
     repository = new("wrong")
-    repository.add(histories.octopus(3, 4, 2))
+    repository.add(shapes.octopus(3, 4, 2))
     check_wrong(program, tally, repository, differences)
     check_beside_dates(program, tally, repository, differences)
     check_forms(program, tally, repository, differences)
@@ -112,8 +109,8 @@ def check_chance(program, tally, repository):
     kind, layer = repository.object_format, repository.new_graph(generation_version=1)
     right = partial(judge.in_form_of_check, len(repository.words()))
     families = {
-        "some random bytes": damage.scribbles(layer, 200, seed=8),
-        "offsets in other places": damage.shuffled_tables(layer, kind, 200, seed=9),
+        "some random bytes": mutations.scribbles(layer, 200, seed=8),
+        "offsets in other places": mutations.shuffled_tables(layer, kind, 200, seed=9),
     }
     for name, family in families.items():
         files = [(sealed(edited, kind), right) for edited, _ in family]

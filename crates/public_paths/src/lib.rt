@@ -1,0 +1,38 @@
+//! Names every public path of `gix_commitgraph` from a crate that uses that crate alone, and cites
+//! definitions of its contracts: this compiles only where each of them is there.
+#![tactic(auto)]
+
+ghost use Rattle.std.specs.Prelude.{IfOk, MatchResult};
+ghost use Rattle.gix_commitgraph.specs.Graph.{IsGraph};
+ghost use Rattle.gix_commitgraph.specs.Headline.{IsDeserved, LookupsAreScans, Stats};
+ghost use Rattle.gix_commitgraph.specs.OpenAlways.{IsFromPath};
+ghost use Rattle.gix_commitgraph.specs.Sound.{Sound};
+
+pub mod definitions;
+mod errors;
+mod items;
+
+use gix_commitgraph::file::Commit;
+use gix_commitgraph::opening::OpenError;
+use gix_commitgraph::verify::{Outcome, VerifyError};
+use gix_commitgraph::{Graph, at};
+use std::alloc::Global;
+use std::convert::Infallible;
+use std::rt::Files;
+
+/// Opens a graph by its path.
+pub fn open<R: Files>(rt: &R, alloc: Global, path: &str) -> Result<Graph, OpenError>
+    ensures from { IfOk result (IsFromPath path.now) }
+    ensures graph { IfOk result IsGraph }
+{
+    at(rt, alloc, path)
+}
+
+/// Checks a graph.
+pub fn check(alloc: Global, graph: &Graph) -> Result<Outcome, VerifyError<Infallible>>
+    ensures sound { MatchResult result (λ _. Sound graph.now) (IsDeserved graph.now) }
+    ensures statistics { IfOk result (Stats graph.now) }
+    ensures lookups { IfOk result (λ _. LookupsAreScans graph.now) }
+{
+    graph.verify_integrity(alloc, &mut |_: &Commit<'_>| Ok(()))
+}

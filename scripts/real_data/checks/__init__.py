@@ -1,0 +1,1 @@
+"""Runs of the program, each compared with what it has to answer."""

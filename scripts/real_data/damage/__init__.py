@@ -1,0 +1,1 @@
+"""Damaged files and folders, each made from what Git wrote."""

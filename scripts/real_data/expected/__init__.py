@@ -1,0 +1,1 @@
+"""What the program has to answer, made from Git's own words."""

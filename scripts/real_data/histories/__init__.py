@@ -1,0 +1,1 @@
+"""Histories, and the repositories that the installed Git makes of them."""
