@@ -1,7 +1,7 @@
 //! Tests of the crates of a commit-graph together, on files that are built for them.
 //!
-//! [`fixtures`] has what several tests share: the files that they build, the diamond of four commits,
-//! and a folder that refuses.
+//! [`fixtures`] has what several tests share, those of other crates too: the files that they build,
+//! the diamond of four commits, and a folder that runs out of memory.
 #![tactic(auto)]
 
 #[cfg(test)]
@@ -12,8 +12,7 @@ mod checking;
 mod commits;
 #[cfg(test)]
 mod disk;
-#[cfg(test)]
-mod fixtures;
+pub mod fixtures;
 #[cfg(test)]
 mod folders;
 #[cfg(test)]
