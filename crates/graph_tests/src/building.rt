@@ -57,7 +57,7 @@ fn extra_words_stand_in_their_places(rt: HostRuntime) -> Result<(), Fail> {
 
 #[test]
 fn base_ids_follow_the_records(rt: HostRuntime) -> Result<(), Fail> {
-    let plan = bare(rt.alloc(), Kind::Sha256, ObjectId::from([0x33; 32]))?;
+    let plan = bare(rt.alloc(), Kind::Sha256, &[ObjectId::from([0x33; 32])])?;
     let bytes = built(&rt, rt.alloc(), &plan)?;
     assert_eq!(rt; bytes.len(), 1156);
     assert!(rt; has_at(&bytes, 44, b"BASE\0\0\0\0\0\0\x04\x44"));

@@ -18,7 +18,7 @@ fn a_checksum_is_the_digest_of_the_bytes_before_it(rt: HostRuntime) -> Result<()
         (Kind::Sha256, ObjectId::from([0x33; 32])),
     ];
     for (kind, base) in rows {
-        let mut bytes = built(&rt, rt.alloc(), &bare(rt.alloc(), kind, base)?)?;
+        let mut bytes = built(&rt, rt.alloc(), &bare(rt.alloc(), kind, &[base])?)?;
         let size = bytes.len();
         assert!(rt; size >= 1100);
         assert!(rt; has_right_checksum(rt.alloc(), &bytes)?);

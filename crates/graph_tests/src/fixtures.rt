@@ -1,5 +1,5 @@
-//! What the tests share: files written byte by byte, layers built from rows, and a folder that runs
-//! out of memory.
+//! What the tests of this crate and of others share: files written byte by byte, layers built from
+//! rows, the diamond of four commits, and a folder that runs out of memory.
 
 ghost use Rattle.std.specs.Prelude.{None};
 
@@ -10,10 +10,15 @@ use graph_vectors::{LayerPlan, PlanCommit, build, reseal};
 use std::alloc::{AllocError, Global};
 use std::process::Abort;
 
-pub(super) const END: &[u8; 4] = b"\0\0\0\0";
+/// The id of the entry that ends a table of chunks.
+pub const END: &[u8; 4] = b"\0\0\0\0";
 
-// A file: a header, the entries of a table of chunks, and what follows the table.
-pub(super) fn written(
+/// A file: a header, the entries of a table of chunks, and what follows the table.
+///
+/// # Errors
+///
+/// `AllocError` where an allocation failed.
+pub fn written(
     alloc: Global,
     header: &[u8; 8],
     entries: &[(&[u8; 4], u64)],
@@ -30,8 +35,12 @@ pub(super) fn written(
     Ok(bytes)
 }
 
-// Numbers of four bytes, each repeated as often as the count before it says.
-pub(super) fn words(alloc: Global, runs: &[(u32, u32)]) -> Result<Vec<u8>, AllocError> {
+/// Numbers of four bytes, each repeated as often as the count before it says.
+///
+/// # Errors
+///
+/// `AllocError` where an allocation failed.
+pub fn words(alloc: Global, runs: &[(u32, u32)]) -> Result<Vec<u8>, AllocError> {
     let mut bytes = Vec::new(alloc);
     for (count, number) in runs {
         for _ in 0..*count {
@@ -41,69 +50,136 @@ pub(super) fn words(alloc: Global, runs: &[(u32, u32)]) -> Result<Vec<u8>, Alloc
     Ok(bytes)
 }
 
-// The layer of these bytes, whose file has this path.
-pub(super) fn opened(alloc: Global, bytes: Vec<u8>, path: &str) -> Result<File, FileError> {
+/// Where the extra edge list begins in a file of one commit that has one.
+const EDGES_AT: u64 = 1148;
+
+/// The SHA-1 file of one commit with these last sixteen bytes of its record, and these bytes of an
+/// extra edge list. The commit's id consists of the byte 0x11, the id of its root tree of 0x22. The
+/// checksum, which opening leaves alone, is null.
+///
+/// # Errors
+///
+/// `AllocError` where an allocation failed.
+pub fn one_commit(
+    alloc: Global,
+    fields: &[u8; 16],
+    edges: Option<&[u8]>,
+) -> Result<Vec<u8>, AllocError> {
+    let fan = words(alloc, &[(17, 0), (239, 1)])?;
+    let (id, tree, trailer) = ([0x11; 20], [0x22; 20], [0; 20]);
+    let Some(edges) = edges else {
+        let entries: [(&[u8; 4], u64); 4] = [
+            (b"OIDF", 56),
+            (b"OIDL", 1080),
+            (b"CDAT", 1100),
+            (END, 1136),
+        ];
+        let parts = [fan.as_slice(), &id, &tree, fields, &trailer];
+        return written(alloc, b"CGPH\x01\x01\x03\x00", &entries, &parts);
+    };
+    let entries: [(&[u8; 4], u64); 5] = [
+        (b"OIDF", 68),
+        (b"OIDL", 1092),
+        (b"CDAT", 1112),
+        (b"EDGE", EDGES_AT),
+        (END, EDGES_AT.saturating_add(edges.len() as u64)),
+    ];
+    let parts = [fan.as_slice(), &id, &tree, fields, edges, &trailer];
+    written(alloc, b"CGPH\x01\x01\x04\x00", &entries, &parts)
+}
+
+/// The layer of these bytes, whose file has this path.
+///
+/// # Errors
+///
+/// The refusal of [`File::new`], or [`FileError::OutOfMemory`] where the path's allocation failed.
+pub fn opened(alloc: Global, bytes: Vec<u8>, path: &str) -> Result<File, FileError> {
     let path = String::from_str(alloc, path).map_err(|_| FileError::OutOfMemory)?;
     File::new(alloc, bytes, path)
 }
 
-// A commit: the byte that its id consists of, its parents and its generation number.
-pub(super) type Row<'a> = (u8, &'a [u32], u32);
+/// A commit: the byte that its id consists of, its parents and its generation number.
+pub type Row<'a> = (u8, &'a [u32], u32);
 
-pub(super) const DIAMOND: &[Row<'static>] = &[
+/// A diamond: a root, two commits on it, and their merge.
+pub const DIAMOND: &[Row<'static>] = &[
     (0x11, &[], 1),
     (0x22, &[0], 2),
     (0x33, &[0], 2),
     (0x44, &[1, 2], 3),
 ];
 
-// The SHA-1 plan of these commits on these bases. The ids of their root trees consist of the byte
-// 0x99, and their time is 7.
-pub(super) fn planned(
+/// The plan of a commit with this id. The id of its root tree consists of the byte 0x99, and its
+/// time is 7.
+///
+/// # Errors
+///
+/// `AllocError` where an allocation failed.
+pub fn planned_commit(
+    alloc: Global,
+    id: ObjectId,
+    parents: &[u32],
+    generation: u32,
+) -> Result<PlanCommit, AllocError> {
+    Ok(PlanCommit {
+        id,
+        tree: ObjectId::from([0x99; 20]),
+        parents: Vec::from_slice(alloc, parents)?,
+        generation,
+        time: 7,
+    })
+}
+
+/// The SHA-1 plan of these commits on these bases, each with the tree and the time of
+/// [`planned_commit`].
+///
+/// # Errors
+///
+/// `AllocError` where an allocation failed.
+pub fn planned(
     alloc: Global,
     bases: &[ObjectId],
     rows: &[Row<'_>],
 ) -> Result<LayerPlan, AllocError> {
-    let mut commits = Vec::new(alloc);
+    let mut plan = bare(alloc, Kind::Sha1, bases)?;
     for (byte, parents, generation) in rows {
-        commits.push(PlanCommit {
-            id: ObjectId::from([*byte; 20]),
-            tree: ObjectId::from([0x99; 20]),
-            parents: Vec::from_slice(alloc, parents)?,
-            generation: *generation,
-            time: 7,
-        })?;
+        let id = ObjectId::from([*byte; 20]);
+        plan.commits
+            .push(planned_commit(alloc, id, parents, *generation)?)?;
     }
-    Ok(LayerPlan {
-        kind: Kind::Sha1,
-        bases: Vec::from_slice(alloc, bases)?,
-        commits,
-    })
+    Ok(plan)
 }
 
-// The plan of a layer of this kind without commits, which has this one base.
-pub(super) fn bare(alloc: Global, kind: Kind, base: ObjectId) -> Result<LayerPlan, AllocError> {
-    let mut bases = Vec::new(alloc);
-    bases.push(base)?;
+/// The plan of a layer of this kind on these bases, without commits.
+///
+/// # Errors
+///
+/// `AllocError` where an allocation failed.
+pub fn bare(alloc: Global, kind: Kind, bases: &[ObjectId]) -> Result<LayerPlan, AllocError> {
     Ok(LayerPlan {
         kind,
-        bases,
+        bases: Vec::from_slice(alloc, bases)?,
         commits: Vec::new(alloc),
     })
 }
 
-// The file of a plan, which has to be buildable.
-pub(super) fn built(
-    rt: &impl Abort,
-    alloc: Global,
-    plan: &LayerPlan,
-) -> Result<Vec<u8>, AllocError> {
+/// The file of a plan. Where the plan is not buildable, the process aborts.
+///
+/// # Errors
+///
+/// `AllocError` where an allocation failed.
+pub fn built(rt: &impl Abort, alloc: Global, plan: &LayerPlan) -> Result<Vec<u8>, AllocError> {
     assert!(rt; plan.is_buildable());
     build(alloc, plan)
 }
 
-// The file of the SHA-1 layer of these commits on these bases.
-pub(super) fn layer(
+/// The file of the SHA-1 layer of these commits on these bases. Where no file can hold them, the
+/// process aborts.
+///
+/// # Errors
+///
+/// `AllocError` where an allocation failed.
+pub fn layer(
     rt: &impl Abort,
     alloc: Global,
     bases: &[ObjectId],
@@ -112,9 +188,14 @@ pub(super) fn layer(
     built(rt, alloc, &planned(alloc, bases, rows)?)
 }
 
-// The diamond's file with these bytes written over it from a place on, and with a right checksum.
-// Its fan begins at byte 56, its ids at 1080, and its records, of 36 bytes each, at 1160.
-pub(super) fn damaged_diamond(
+/// The diamond's file with these bytes written over it from a place on, and with a right checksum.
+/// Its fan begins at byte 56, its ids at 1080, and its records, of 36 bytes each, at 1160. Where the
+/// bytes do not fit in its 1324 bytes, the process aborts.
+///
+/// # Errors
+///
+/// `AllocError` where an allocation failed.
+pub fn damaged_diamond(
     rt: &impl Abort,
     alloc: Global,
     from: usize,
@@ -128,11 +209,13 @@ pub(super) fn damaged_diamond(
     Ok(file)
 }
 
-// A folder in memory of which all reads but the first ones find no memory left.
+/// A folder in memory of which all reads but the first ones find no memory left.
 #[derive(Drop)]
-pub(super) struct Refusing {
-    pub(super) memory: Memory,
-    pub(super) reads_before: u32,
+pub struct Refusing {
+    /// The folder that is read.
+    pub memory: Memory,
+    /// How many more reads find memory.
+    pub reads_before: u32,
 }
 
 impl Folder for Refusing {

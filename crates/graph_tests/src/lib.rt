@@ -1,7 +1,7 @@
 //! Tests of the crates of a commit-graph together, on files that are built for them.
 //!
-//! [`fixtures`] has what several tests share: the files that they build, the diamond of four commits,
-//! and a folder that refuses.
+//! The module `fixtures` has what several tests share: the files that they build, the diamond of
+//! four commits, and a folder that runs out of memory.
 #![tactic(auto)]
 
 #[cfg(test)]

@@ -51,19 +51,6 @@ fn the_least_files(rt: HostRuntime) -> Result<(), Fail> {
 }
 
 #[test]
-fn a_file_is_shown_by_its_path(rt: HostRuntime) -> Result<(), Fail> {
-    let header = b"CGPH\x01\x01\x03\x00";
-    let bytes = written(rt.alloc(), header, &ENTRIES, &[FAN, TRAILER])?;
-    let file = opened(rt.alloc(), bytes, "a \"graph\"")?;
-    let text = format!(in rt.alloc(); "{file:?} {file:#?}")?;
-    assert_eq!(rt;
-        text.as_str(),
-        r#"File(""a \"graph\""") File(""a \"graph\""")"#
-    );
-    Ok(())
-}
-
-#[test]
 fn chunks_that_may_stand_there(rt: HostRuntime) -> Result<(), Fail> {
     let rows: [([(&[u8; 4], u64); 5], &[u8]); 2] = [
         (

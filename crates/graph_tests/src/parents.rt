@@ -1,42 +1,10 @@
 ghost use Rattle.std.specs.Iterator.{IsFinite};
 
-use crate::fixtures::{END, opened, words, written};
+use crate::fixtures::{one_commit, opened};
 use gix_commitgraph::file::commit::ParentError;
-use gix_commitgraph::{File, Position, file};
+use gix_commitgraph::{Position, file};
 use std::alloc::Global;
 use std::test::Fail;
-
-// A SHA-1 layer of one commit with these last sixteen bytes of its record, and these bytes of an
-// extra edge list.
-fn one_commit(alloc: Global, fields: &[u8; 16], edges: Option<&[u8]>) -> Result<File, Fail> {
-    let fan = words(alloc, &[(17, 0), (239, 1)])?;
-    let (id, tree, trailer) = ([0x11; 20], [0x22; 20], [0; 20]);
-    let bytes = match edges {
-        Some(edges) => {
-            let end = 1148u64.saturating_add(edges.len() as u64);
-            let entries: [(&[u8; 4], u64); 5] = [
-                (b"OIDF", 68),
-                (b"OIDL", 1092),
-                (b"CDAT", 1112),
-                (b"EDGE", 1148),
-                (END, end),
-            ];
-            let parts = [fan.as_slice(), &id, &tree, fields, edges, &trailer];
-            written(alloc, b"CGPH\x01\x01\x04\x00", &entries, &parts)?
-        }
-        None => {
-            let entries: [(&[u8; 4], u64); 4] = [
-                (b"OIDF", 56),
-                (b"OIDL", 1080),
-                (b"CDAT", 1100),
-                (END, 1136),
-            ];
-            let parts = [fan.as_slice(), &id, &tree, fields, &trailer];
-            written(alloc, b"CGPH\x01\x01\x03\x00", &entries, &parts)?
-        }
-    };
-    Ok(opened(alloc, bytes, "")?)
-}
 
 // The hint before each item, and the items. It calls the trait's `next`, where a call on a
 // `Parents` would be one of its own `next`.
@@ -75,7 +43,7 @@ fn generations_and_times(rt: HostRuntime) -> Result<(), Fail> {
         ),
     ];
     for (fields, generation, time) in rows {
-        let file = one_commit(rt.alloc(), fields, None)?;
+        let file = opened(rt.alloc(), one_commit(rt.alloc(), fields, None)?, "")?;
         assert_eq!(rt; file.num_commits(), 1);
         let commit = file.commit_at(file::Position(0));
         assert_eq!(rt; commit.generation(), generation);
@@ -84,71 +52,83 @@ fn generations_and_times(rt: HostRuntime) -> Result<(), Fail> {
     Ok(())
 }
 
+// The hints and the items of a commit's parents, as `walked` writes them.
+fn parents_of(alloc: Global, fields: &[u8; 16], edges: Option<&[u8]>) -> Result<String, Fail> {
+    let file = opened(alloc, one_commit(alloc, fields, edges)?, "")?;
+    if file.num_commits() != 1 {
+        return Err(Fail::new("the file has one commit"));
+    }
+    walked(alloc, &mut file.commit_at(file::Position(0)).iter_parents())
+}
+
 #[test]
 fn parents_of_one_commit(rt: HostRuntime) -> Result<(), Fail> {
-    let rows: [(&[u8; 16], Option<&[u8]>, &str); 11] = [
-        (
-            b"\x70\0\0\0\x70\0\0\0\0\0\0\x04\0\0\0\0",
-            None,
-            "(0, Some(0))",
-        ),
+    let rows: [(&[u8; 16], &str); 5] = [
+        (b"\x70\0\0\0\x70\0\0\0\0\0\0\x04\0\0\0\0", "(0, Some(0))"),
         (
             b"\x70\0\0\0\0\0\0\x07\0\0\0\x04\0\0\0\0",
-            None,
             "(1, Some(1)) SecondWithoutFirst, (0, Some(0))",
         ),
         (
             b"\x80\0\0\0\x70\0\0\0\0\0\0\x04\0\0\0\0",
-            None,
             "(1, Some(1)) FirstIsEdgeIndex, (0, Some(0))",
         ),
         (
             b"\0\0\0\x05\x70\0\0\0\0\0\0\x04\0\0\0\0",
-            None,
             "(1, Some(1)) 5, (0, Some(0))",
         ),
         (
             b"\0\0\0\x05\0\0\0\x07\0\0\0\x04\0\0\0\0",
-            None,
             "(2, Some(2)) 5, (1, Some(1)) 7, (0, Some(0))",
         ),
+    ];
+    for (fields, want) in rows {
+        let parents = parents_of(rt.alloc(), fields, None)?;
+        assert_eq!(rt; parents.as_str(), want);
+    }
+    Ok(())
+}
+
+// The fields of a commit with the parent 5, whose other parents begin at the list's first word.
+const FROM_FIRST_WORD: &[u8; 16] = b"\0\0\0\x05\x80\0\0\0\0\0\0\x04\0\0\0\0";
+
+// The fields of a commit with the parent 5, whose other parents begin at the list's third word.
+const FROM_THIRD_WORD: &[u8; 16] = b"\0\0\0\x05\x80\0\0\x02\0\0\0\x04\0\0\0\0";
+
+// An extra edge list of two words: the parent 3, and the last parent 2.
+const TWO_WORDS: &[u8] = b"\0\0\0\x03\x80\0\0\x02";
+
+#[test]
+fn parents_in_the_extra_edge_list(rt: HostRuntime) -> Result<(), Fail> {
+    let rows: [(Option<&[u8]>, &str); 3] = [
         (
-            b"\0\0\0\x05\x80\0\0\0\0\0\0\x04\0\0\0\0",
-            Some(b"\0\0\0\x03\x80\0\0\x02"),
+            Some(TWO_WORDS),
             "(2, None) 5, (1, None) 3, (1, None) 2, (0, Some(0))",
         ),
         (
-            b"\0\0\0\x05\x80\0\0\x02\0\0\0\x04\0\0\0\0",
-            Some(b"\0\0\0\x03\x80\0\0\x02"),
-            "(2, None) 5, (1, None) EdgeOverflow, (0, Some(0))",
-        ),
-        (
-            b"\0\0\0\x05\x80\0\0\0\0\0\0\x04\0\0\0\0",
-            None,
-            "(2, None) 5, (1, None) NoEdgeList, (0, Some(0))",
-        ),
-        (
-            b"\0\0\0\x05\x80\0\0\0\0\0\0\x04\0\0\0\0",
-            Some(b"\0\0\0"),
-            "(2, None) 5, (1, None) EdgeOverflow, (0, Some(0))",
-        ),
-        (
-            b"\0\0\0\x05\x80\0\0\0\0\0\0\x04\0\0\0\0",
-            Some(b""),
-            "(2, None) 5, (1, None) EdgeOverflow, (0, Some(0))",
-        ),
-        (
-            b"\0\0\0\x05\x80\0\0\0\0\0\0\x04\0\0\0\0",
             Some(b"\x70\0\0\0\x80\0\0\x01"),
             "(2, None) 5, (1, None) 1879048192, (1, None) 1, (0, Some(0))",
         ),
+        (None, "(2, None) 5, (1, None) NoEdgeList, (0, Some(0))"),
     ];
-    for (fields, edges, want) in rows {
-        let file = one_commit(rt.alloc(), fields, edges)?;
-        assert_eq!(rt; file.num_commits(), 1);
-        let mut parents = file.commit_at(file::Position(0)).iter_parents();
-        let text = walked(rt.alloc(), &mut parents)?;
-        assert_eq!(rt; text.as_str(), want);
+    for (edges, want) in rows {
+        let parents = parents_of(rt.alloc(), FROM_FIRST_WORD, edges)?;
+        assert_eq!(rt; parents.as_str(), want);
+    }
+    Ok(())
+}
+
+#[test]
+fn an_extra_edge_list_runs_out(rt: HostRuntime) -> Result<(), Fail> {
+    let rows: [(&[u8; 16], &[u8]); 3] = [
+        (FROM_THIRD_WORD, TWO_WORDS),
+        (FROM_FIRST_WORD, b"\0\0\0"),
+        (FROM_FIRST_WORD, b""),
+    ];
+    for (fields, edges) in rows {
+        let parents = parents_of(rt.alloc(), fields, Some(edges))?;
+        let want = "(2, None) 5, (1, None) EdgeOverflow, (0, Some(0))";
+        assert_eq!(rt; parents.as_str(), want);
     }
     Ok(())
 }
@@ -167,7 +147,7 @@ fn the_first_parent(rt: HostRuntime) -> Result<(), Fail> {
         ),
     ];
     for (fields, want) in rows {
-        let file = one_commit(rt.alloc(), fields, Some(b""))?;
+        let file = opened(rt.alloc(), one_commit(rt.alloc(), fields, Some(b""))?, "")?;
         assert_eq!(rt; file.num_commits(), 1);
         assert_eq!(rt; file.commit_at(file::Position(0)).parent1(), want);
     }

@@ -1,9 +1,10 @@
+use crate::fixtures::{layer, opened};
 use gix_chunk_core::ChunkError;
 use gix_commitgraph::file::commit::ParentError;
 use gix_commitgraph::file::verify::TraverseError;
 use gix_commitgraph::opening::OpenError;
 use gix_commitgraph::verify::{CommitFault, LayerFault, VerifyError};
-use gix_commitgraph::{File, FileError, GraphError, Position, file};
+use gix_commitgraph::{FileError, GraphError, Position, file};
 use std::alloc::Global;
 use std::collections::{BTreeSet, HashSet};
 use std::hash::Hash;
@@ -52,25 +53,10 @@ fn positions_are_padded_numbers(rt: HostRuntime) -> Result<(), Fail> {
     Ok(())
 }
 
-// A SHA-1 layer without commits: a header, the chunks `OIDF`, `OIDL` and `CDAT`, of which the last
-// two are empty, and a trailer.
-fn empty_layer(alloc: Global) -> Result<Vec<u8>, Fail> {
-    let mut bytes = Vec::new(alloc);
-    bytes.extend_from_slice(b"CGPH\x01\x01\x03\x00")?;
-    bytes.extend_from_slice(b"OIDF\0\0\0\0\0\0\0\x38")?;
-    bytes.extend_from_slice(b"OIDL\0\0\0\0\0\0\x04\x38")?;
-    bytes.extend_from_slice(b"CDAT\0\0\0\0\0\0\x04\x38")?;
-    bytes.extend_from_slice(b"\0\0\0\0\0\0\0\0\0\0\x04\x38")?;
-    bytes.extend_from_slice(&[0; 1024])?;
-    bytes.extend_from_slice(&[0; 20])?;
-    Ok(bytes)
-}
-
 #[test]
 fn a_file_shows_its_path(rt: HostRuntime) -> Result<(), Fail> {
-    let bytes = empty_layer(rt.alloc())?;
-    let path = String::from_str(rt.alloc(), "a \"graph\"")?;
-    let file = File::new(rt.alloc(), bytes, path)?;
+    let bytes = layer(&rt, rt.alloc(), &[], &[])?;
+    let file = opened(rt.alloc(), bytes, "a \"graph\"")?;
     let want = r#"File(""a \"graph\""")"#;
     assert_eq!(rt; format!(in rt.alloc(); "{file:?}")?.as_str(), want);
     assert_eq!(rt; format!(in rt.alloc(); "{file:#?}")?.as_str(), want);

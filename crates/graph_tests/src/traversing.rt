@@ -28,6 +28,16 @@ fn refusal_of(
     (outcome.err(), calls)
 }
 
+// The same of the layer of these bytes.
+fn refusal_of_bytes(
+    alloc: Global,
+    bytes: Vec<u8>,
+    answer: Result<(), Refused>,
+) -> Result<(Option<TraverseError<Refused>>, u32), Fail> {
+    let file = opened(alloc, bytes, "commit-graph")?;
+    Ok(refusal_of(alloc, &file, answer))
+}
+
 #[test]
 fn faults_of_the_commits(rt: HostRuntime) -> Result<(), Fail> {
     let rows: [([Row<'_>; 2], TraverseError<Refused>); 2] = [
@@ -42,8 +52,7 @@ fn faults_of_the_commits(rt: HostRuntime) -> Result<(), Fail> {
     ];
     for (commits, error) in rows {
         let bytes = layer(&rt, rt.alloc(), &[], &commits)?;
-        let file = opened(rt.alloc(), bytes, "commit-graph")?;
-        let seen = refusal_of(rt.alloc(), &file, Ok(()));
+        let seen = refusal_of_bytes(rt.alloc(), bytes, Ok(()))?;
         assert_eq!(rt; seen, (Some(error), 1));
     }
     Ok(())
@@ -71,15 +80,13 @@ fn faults_of_the_layer(rt: HostRuntime) -> Result<(), Fail> {
     ];
     for (from, bytes, error, calls) in rows {
         let bytes = damaged_diamond(&rt, rt.alloc(), from, bytes)?;
-        let file = opened(rt.alloc(), bytes, "commit-graph")?;
-        let seen = refusal_of(rt.alloc(), &file, Ok(()));
+        let seen = refusal_of_bytes(rt.alloc(), bytes, Ok(()))?;
         assert_eq!(rt; seen, (Some(error), calls));
     }
     let mut bytes = layer(&rt, rt.alloc(), &[], DIAMOND)?;
     assert_eq!(rt; bytes.len(), 1324);
     bytes[1323] ^= 1;
-    let file = opened(rt.alloc(), bytes, "commit-graph")?;
-    let seen = refusal_of(rt.alloc(), &file, Ok(()));
+    let seen = refusal_of_bytes(rt.alloc(), bytes, Ok(()))?;
     assert_eq!(rt; seen, (Some(TraverseError::Checksum), 0));
     Ok(())
 }

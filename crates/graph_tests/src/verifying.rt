@@ -204,34 +204,16 @@ fn wrong_generation_numbers_are_refused(rt: HostRuntime) -> Result<(), Fail> {
 #[test]
 fn damaged_layers_are_refused(rt: HostRuntime) -> Result<(), Fail> {
     let alloc = rt.alloc();
+    let (layer, fault) = (0, LayerFault::Fan { byte: 17 });
+    let fan = VerifyError::Layer { layer, fault };
+    let (pos, fault) = (Position(2), CommitFault::NullTree);
+    let tree = VerifyError::Commit { pos, fault };
+    let (pos, error) = (Position(3), ParentError::SecondWithoutFirst);
+    let parent = VerifyError::Parent { pos, error };
     let rows: [(usize, &[u8], VerifyError<Refused>, usize); 3] = [
-        (
-            124,
-            &[0; 4],
-            VerifyError::Layer {
-                layer: 0,
-                fault: LayerFault::Fan { byte: 17 },
-            },
-            0,
-        ),
-        (
-            1232,
-            &[0; 20],
-            VerifyError::Commit {
-                pos: Position(2),
-                fault: CommitFault::NullTree,
-            },
-            2,
-        ),
-        (
-            1288,
-            b"\x70\0\0\0\0\0\0\x02",
-            VerifyError::Parent {
-                pos: Position(3),
-                error: ParentError::SecondWithoutFirst,
-            },
-            3,
-        ),
+        (124, &[0; 4], fan, 0),
+        (1232, &[0; 20], tree, 2),
+        (1288, b"\x70\0\0\0\0\0\0\x02", parent, 3),
     ];
     for (from, bytes, error, calls) in rows {
         let bytes = damaged_diamond(&rt, alloc, from, bytes)?;
