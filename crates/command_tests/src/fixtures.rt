@@ -1,5 +1,5 @@
-//! What the tests share: readers and writers that fail, layers built from rows, and folders that hold
-//! them.
+//! What the tests share: readers and writers that fail, layers built from rows, and folders that
+//! hold them.
 
 use gix_hash_core::{Kind, ObjectId, digest};
 use graph_folder::folder::Memory;

@@ -244,6 +244,12 @@ fn spells_what_was_found(rt: HostRuntime) -> Result<(), Fail> {
         let mut out = writer(alloc, usize::MAX, Some(write));
         assert_eq!(rt; write_outcome(&mut out, &outcome), Err(WriteFailed));
     }
+    Ok(())
+}
+
+#[test]
+fn spells_an_unknown_length(rt: HostRuntime) {
+    let alloc = rt.alloc();
     let unknown = Outcome {
         longest_path_length: None,
         num_commits: 0,
@@ -255,6 +261,11 @@ fn spells_what_was_found(rt: HostRuntime) -> Result<(), Fail> {
         out.bytes.as_slice(),
         b"ok commits 0 longest none\n".as_slice()
     );
+}
+
+#[test]
+fn spells_a_commit(rt: HostRuntime) -> Result<(), Fail> {
+    let alloc = rt.alloc();
     let found = Found {
         pos: Position(3),
         generation: 1073741823,
