@@ -8,18 +8,12 @@
 
 ghost use Rattle.std.specs.Prelude.{◌≡◌, MatchResult};
 
-mod line;
-mod listing;
-mod numbers;
-mod refusal;
-mod report;
-mod run;
 #[cfg(test)]
 mod tests;
 
+use graph_commands::line::write_line;
+use graph_commands::run::{WriteFailed, run_find, run_list, run_verify};
 use graph_folder::folder::Disk;
-use line::write_line;
-use run::{WriteFailed, run_find, run_list, run_verify};
 use std::io::Write;
 use std::process::ExitCode;
 use std::{env, io};

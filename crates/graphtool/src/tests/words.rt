@@ -1,8 +1,40 @@
-use crate::run::WriteFailed;
-use crate::tests::writer;
 use crate::{Command, respond, status_of};
+use graph_commands::run::WriteFailed;
 use std::alloc::{AllocError, Global};
+use std::io;
+use std::io::{ErrorKind, Write};
 use std::test::Fail;
+
+// A standard error that keeps what is written, unless it is closed.
+#[derive(Drop)]
+struct StandardError {
+    bytes: Vec<u8>,
+    writes: u32,
+    is_closed: bool,
+}
+
+impl Write for StandardError {
+    fn write(&mut self, buf: &[u8]) -> io::Result<usize> {
+        self.writes = self.writes.saturating_add(1);
+        if self.is_closed {
+            return Err(io::Error::from(ErrorKind::Other));
+        }
+        self.bytes.extend_from_slice(buf)?;
+        Ok(buf.len())
+    }
+
+    fn flush(&mut self) -> io::Result<()> {
+        Ok(())
+    }
+}
+
+fn standard_error(alloc: Global, is_closed: bool) -> StandardError {
+    StandardError {
+        bytes: Vec::new(alloc),
+        writes: 0,
+        is_closed,
+    }
+}
 
 // The program's own name, and then these words.
 fn command_line(alloc: Global, words: &[&str]) -> Result<Vec<String>, AllocError> {
@@ -66,7 +98,7 @@ fn other_words_are_no_command(rt: HostRuntime) -> Result<(), Fail> {
     for words in rows {
         let line = command_line(alloc, words)?;
         assert_eq!(rt; Command::from_words(&line), None);
-        let mut errors = writer(alloc, usize::MAX, None);
+        let mut errors = standard_error(alloc, false);
         assert_eq!(rt; respond(&rt, &line, &mut errors), 2);
         assert_eq!(rt; errors.writes, 1);
         assert_eq!(rt; String::from_utf8(errors.bytes)?.as_str(), USAGE_LINE);
@@ -79,18 +111,18 @@ fn other_words_are_no_command(rt: HostRuntime) -> Result<(), Fail> {
 fn reports_a_failed_write(rt: HostRuntime) -> Result<(), Fail> {
     let alloc = rt.alloc();
     for status in [0, 1, 2] {
-        let mut errors = writer(alloc, usize::MAX, None);
+        let mut errors = standard_error(alloc, false);
         assert_eq!(rt; status_of(Ok(status), &mut errors), status);
         assert_eq!(rt; errors.writes, 0);
     }
-    let mut errors = writer(alloc, usize::MAX, None);
+    let mut errors = standard_error(alloc, false);
     assert_eq!(rt; status_of(Err(WriteFailed), &mut errors), 2);
     assert_eq!(rt;
         errors.bytes.as_slice(),
         b"graphtool: the answer could not be written\n".as_slice()
     );
     // Standard error may be closed too.
-    let mut closed = writer(alloc, usize::MAX, Some(0));
+    let mut closed = standard_error(alloc, true);
     assert_eq!(rt; status_of(Err(WriteFailed), &mut closed), 2);
     Ok(())
 }

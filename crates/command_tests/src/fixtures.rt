@@ -1,0 +1,149 @@
+//! What the tests share: readers and writers that fail, layers built from rows, and folders that
+//! hold them.
+
+use gix_hash_core::{Kind, ObjectId, digest};
+use graph_folder::folder::Memory;
+use graph_vectors::{LayerPlan, PlanCommit, build};
+use std::alloc::{AllocError, Global};
+use std::io;
+use std::io::{ErrorKind, Read, Write};
+use std::process::Abort;
+use std::test::Fail;
+
+// A reader that gives at most so many bytes a read, and whose read of this number fails.
+#[derive(Drop)]
+pub(super) struct Source<'a> {
+    rest: &'a [u8],
+    most: usize,
+    fails_at: Option<usize>,
+    pub(super) reads: usize,
+}
+
+impl Read for Source<'_> {
+    fn read(&mut self, buf: &mut [u8]) -> io::Result<usize> {
+        let read = self.reads;
+        self.reads = read.saturating_add(1);
+        if self.fails_at == Some(read) {
+            return Err(io::Error::from(ErrorKind::OutOfMemory));
+        }
+        let count = self.most.min(buf.len()).min(self.rest.len());
+        buf[..count].copy_from_slice(&self.rest[..count]);
+        self.rest = &self.rest[count..];
+        Ok(count)
+    }
+}
+
+// A writer that takes at most so many bytes a write, and whose write of this number fails.
+#[derive(Drop)]
+pub(super) struct Sink {
+    pub(super) bytes: Vec<u8>,
+    most: usize,
+    fails_at: Option<usize>,
+    pub(super) writes: usize,
+}
+
+impl Write for Sink {
+    fn write(&mut self, buf: &[u8]) -> io::Result<usize> {
+        let write = self.writes;
+        self.writes = write.saturating_add(1);
+        if self.fails_at == Some(write) {
+            return Err(io::Error::from(ErrorKind::Other));
+        }
+        let count = self.most.min(buf.len());
+        self.bytes.extend_from_slice(&buf[..count])?;
+        Ok(count)
+    }
+
+    fn flush(&mut self) -> io::Result<()> {
+        Ok(())
+    }
+}
+
+pub(super) fn reader(rest: &[u8], most: usize, fails_at: Option<usize>) -> Source<'_> {
+    Source {
+        rest,
+        most,
+        fails_at,
+        reads: 0,
+    }
+}
+
+pub(super) fn writer(alloc: Global, most: usize, fails_at: Option<usize>) -> Sink {
+    Sink {
+        bytes: Vec::new(alloc),
+        most,
+        fails_at,
+        writes: 0,
+    }
+}
+
+// A commit that is planned: the byte that its id repeats, its parents and its generation number.
+pub(super) type Row<'a> = (u8, &'a [u32], u32);
+
+// A diamond: a root, two commits on it, and their merge.
+pub(super) const DIAMOND: &[Row<'static>] = &[
+    (0x11, &[], 1),
+    (0x22, &[0], 2),
+    (0x33, &[0], 2),
+    (0x44, &[1, 2], 3),
+];
+
+// The bytes of a SHA-1 file of these commits over these base layers. Each commit has the time 7.
+pub(super) fn built(
+    rt: &impl Abort,
+    alloc: Global,
+    bases: &[ObjectId],
+    rows: &[Row<'_>],
+) -> Result<Vec<u8>, AllocError> {
+    let mut commits = Vec::new(alloc);
+    for (id, parents, generation) in rows {
+        commits.push(PlanCommit {
+            id: ObjectId::from([*id; 20]),
+            tree: ObjectId::from([0xee; 20]),
+            parents: Vec::from_slice(alloc, parents)?,
+            generation: *generation,
+            time: 7,
+        })?;
+    }
+    let plan = LayerPlan {
+        kind: Kind::Sha1,
+        bases: Vec::from_slice(alloc, bases)?,
+        commits,
+    };
+    assert!(rt; plan.is_buildable());
+    build(alloc, &plan)
+}
+
+// The checksum of a SHA-1 file.
+pub(super) fn checksum_of(bytes: &[u8]) -> ObjectId {
+    let end = bytes.len().saturating_sub(20);
+    digest(Kind::Sha1, &bytes[..end])
+}
+
+// A folder in memory with one file.
+pub(super) fn with_file(alloc: Global, path: &str, bytes: Vec<u8>) -> Result<Memory, Fail> {
+    let mut memory = Memory::new(alloc);
+    memory.put_file(String::from_str(alloc, path)?, bytes)?;
+    Ok(memory)
+}
+
+// Adds the files of a chain in a folder: each layer as the file that is named after its checksum,
+// and the chain file with the lines of these layers.
+pub(super) fn put_chain(
+    alloc: Global,
+    memory: &mut Memory,
+    folder: &str,
+    layers: &[&[u8]],
+) -> Result<(), Fail> {
+    let mut chain = String::new(alloc);
+    for layer in layers {
+        let checksum = checksum_of(layer);
+        writeln!(chain, "{checksum}")?;
+        let path = format!(in alloc; "{folder}/graph-{checksum}.graph")?;
+        memory.put_file(path, Vec::from_slice(alloc, *layer)?)?;
+    }
+    memory.put_dir(String::from_str(alloc, folder)?)?;
+    let path = format!(in alloc; "{folder}/commit-graph-chain")?;
+    memory.put_file(path, chain.into_bytes())?;
+    Ok(())
+}

@@ -1,0 +1,20 @@
+//! Tests of the commands of `graphtool`, on layers, chains and folders that are built for them.
+//!
+//! [`fixtures`] has what several tests share: readers and writers that fail, layers built from rows,
+//! and folders that hold them.
+#![tactic(auto)]
+
+#[cfg(test)]
+mod finding;
+#[cfg(test)]
+mod fixtures;
+#[cfg(test)]
+mod lines;
+#[cfg(test)]
+mod listing;
+#[cfg(test)]
+mod on_disk;
+#[cfg(test)]
+mod opening;
+#[cfg(test)]
+mod verifying;

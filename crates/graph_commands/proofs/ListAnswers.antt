@@ -1,0 +1,23 @@
+-- From what was made and what was written to the answer of `list`.
+use Rattle.std.proofs.Common.{ℕ, List, refl}
+use Rattle.std.specs.Prelude.{Option, Some, None, Result, Ok, Err, IfOk, IfSome}
+use Rattle.std.specs.Io.KnownBytes.{Appends}
+use Rattle.graph_commands.specs.declared.refusal.Refusal.{Refusal}
+use Rattle.graph_commands.specs.Answer.{WritesAnswer, WritesRefusal}
+use Rattle.graph_commands.specs.List.{MayList, SpellsListing, list_text, list_status}
+
+-- a listing that was written
+pub writes_listing : (known old new : Option (List ℕ)) (text : List ℕ)
+    → IfSome known (λ input. SpellsListing input text) → Appends old new text
+    → IfSome known (λ input. WritesAnswer list_text list_status (MayList input) old new 0)
+writes_listing None old new text spells written = tt
+writes_listing (Some input) old new text spells written =
+    (Ok spells.0, spells.1, rw spells.2 at written, refl)
+
+-- a refusal that was written, if it was
+pub writes_refusal : {E : Type 0} (known old new : Option (List ℕ)) (refusal : Refusal) (result : Result ℕ E)
+    → IfSome known (λ input. MayList input (Err refusal)) → IfOk result (WritesRefusal refusal old new)
+    → IfOk result (λ status. IfSome known (λ input. WritesAnswer list_text list_status (MayList input) old new status))
+writes_refusal known old new refusal (Err failed) may written = tt
+writes_refusal None old new refusal (Ok status) may written = tt
+writes_refusal (Some input) old new refusal (Ok status) may written = (Err refusal, may, written.0, written.1)

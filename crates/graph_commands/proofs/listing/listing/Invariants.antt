@@ -1,0 +1,16 @@
+-- What is written is the lines so far.
+use Rattle.std.proofs.Common.{◌≡◌, ◌++◌, map}
+use Rattle.std.specs.String.{string_bytes}
+use Rattle.std.specs.List.{flat_map}
+use Rattle.gix_hash_core.specs.Oid.{oid_bytes}
+use Rattle.graph_layer.specs.Commit.{commit_place}
+use Rattle.graph_commands.specs.Listing.{layer_line, base_line}
+use Rattle.graph_commands.specs.Places.{place_line}
+use Rattle.graph_commands.proofs.listing.listing.Given as goal
+
+abbrev pub invariant-loop-base : goal.invariant-loop-base
+invariant-loop-base l = string_bytes l.text ≡ layer_line l.layer ++ flat_map base_line (map oid_bytes l.yielded)
+
+abbrev pub invariant-loop-commit : goal.invariant-loop-commit
+invariant-loop-commit l =
+    string_bytes l.text ≡ layer_line l.layer ++ (flat_map base_line l.layer.bases ++ flat_map place_line (map commit_place l.yielded))

@@ -1,0 +1,16 @@
+-- what it means that a command writes its answer
+use Rattle.std.specs.Prelude.{◌≡◌, ℕ, List, Option}
+use Rattle.std.specs.Io.KnownBytes.{Appends}
+use Rattle.graph_commands.specs.declared.refusal.Refusal.{Refusal}
+use Rattle.graph_commands.specs.Refusal.{refusal_text, refusal_status}
+use Rattle.graph_commands.specs.Text.{◌⧺◌, newline}
+
+-- the text of some answer that may be given is written, and the status is the answer's
+abbrev pub WritesAnswer : {A : Type 0} → (A → List ℕ) → (A → ℕ) → (A → Type 0)
+    → Option (List ℕ) → Option (List ℕ) → ℕ → Type 0
+WritesAnswer {A = A} text_of status_of MayAnswer old new status =
+    (answer : A) × MayAnswer answer × Appends old new (text_of answer) × (status ≡ status_of answer)
+
+-- the line of a refusal is written, and the status is the refusal's
+abbrev pub WritesRefusal : Refusal → Option (List ℕ) → Option (List ℕ) → ℕ → Type 0
+WritesRefusal refusal old new status = Appends old new (refusal_text refusal ⧺ newline) × (status ≡ refusal_status refusal)

@@ -1,0 +1,29 @@
+//! A line that is written whole.
+
+ghost use Rattle.std.specs.Prelude.{IfSome, OnOk};
+ghost use Rattle.std.specs.Fmt.{with_newline};
+ghost use Rattle.std.specs.Io.KnownBytes.{Appends};
+
+use crate::run::WriteFailed;
+use arrayvec::ArrayString;
+use std::fmt;
+use std::fmt::Display;
+use std::io::Write;
+
+// The most bytes of a line that is made before it is written. Each line of the program fits.
+const ROOM: usize = 128;
+
+/// Writes a text and the end of its line. A line of at most 128 bytes is made first and handed to
+/// the writer at once, so that none of it is written where that write fails. No memory is
+/// allocated. `WriteFailed` comes where the writer fails.
+pub fn write_line<W: Write, D: Display + Drop>(writer: &mut W, text: D) -> Result<(), WriteFailed>
+    ensures written { OnOk result (IfSome (with_newline (D.output text))
+        (Appends (W.contents writer.old) (W.contents writer.new))) }
+{
+    let mut line = ArrayString::<ROOM>::new();
+    match fmt::Write::writeln(&mut line, &text) {
+        Ok(()) => writer.write_all(line.as_str().as_bytes())?,
+        Err(fmt::Error) => writer.writeln(text)?,
+    }
+    Ok(())
+}

@@ -1,0 +1,185 @@
+//! The commands, over their inputs and a writer.
+
+ghost use Rattle.std.specs.Prelude.{◌≡◌, IfOk, IfErr, IfSome, Err};
+ghost use Rattle.std.specs.String.{string_bytes};
+ghost use Rattle.gix_hash_core.specs.Oid.{oid_bytes};
+ghost use Rattle.graph_commands.specs.Answer.{WritesAnswer, WritesRefusal};
+ghost use Rattle.graph_commands.specs.Opening.{MayOpen};
+ghost use Rattle.graph_commands.specs.List.{MayList, SpellsListing, list_text, list_status};
+ghost use Rattle.graph_commands.specs.Find.{MayBeFound, MayFind, find_text, find_status};
+ghost use Rattle.graph_commands.specs.Verify.{Passes, Fails, MayPass, MayVerify, verify_text, verify_status};
+
+use crate::line::write_line;
+use crate::listing::listing;
+use crate::refusal::Refusal;
+use crate::report::{Found, write_outcome};
+use gix_commitgraph::opening::open_in;
+use gix_commitgraph::verify::{Outcome, VerifyError};
+use gix_commitgraph::{File, FileError, Graph, file};
+use gix_hash_core::{ObjectId, oid};
+use graph_folder::folder::{Folder, read_all};
+use std::alloc::Global;
+use std::convert::Infallible;
+use std::io;
+use std::io::{Read, Write};
+
+// The exit status of a command that did what was asked.
+const DONE: u8 = 0;
+
+// The exit status of a search that found nothing.
+const NOT_FOUND: u8 = 1;
+
+/// A write failed. How much went out before is not known.
+#[derive(Clone, Copy, Debug, PartialEq, Eq)]
+pub struct WriteFailed;
+
+impl From<io::Error> for WriteFailed {
+    fn from(_error: io::Error) -> WriteFailed {
+        WriteFailed
+    }
+}
+
+/// Writes the listing of the layer that the reader gives, or one line that says why it is refused.
+/// The answer is the exit status. `WriteFailed` comes where the writer fails.
+pub fn run_list<R: Read, W: Write>(
+    alloc: Global,
+    reader: &mut R,
+    writer: &mut W,
+) -> Result<u8, WriteFailed>
+    ensures written { IfOk result (λ status. IfSome (R.remaining reader.old) (λ input.
+        WritesAnswer list_text list_status (MayList input)
+        (W.contents writer.old) (W.contents writer.new) status)) }
+{
+    match list(alloc, reader) {
+        Ok(text) => {
+            writer.write_all(text.as_bytes())?;
+            Ok(DONE)
+        }
+        Err(refusal) => refuse(writer, &refusal),
+    }
+}
+
+// The listing of the layer that the reader gives. All of it is made before the first write.
+fn list<R: Read>(alloc: Global, reader: &mut R) -> Result<String, Refusal>
+    ensures listed { IfOk result (λ text. IfSome (R.remaining reader.old) (λ input.
+        SpellsListing input (string_bytes text))) }
+    ensures refused { IfErr result (λ refusal. IfSome (R.remaining reader.old) (λ input.
+        MayList input (Err refusal))) }
+{
+    let input = read_all(alloc, reader)?;
+    let path = String::from_str(alloc, "-").map_err(|_| FileError::OutOfMemory)?;
+    let layer = File::new(alloc, input, path)?;
+    let text = listing(alloc, &layer).map_err(|_| FileError::OutOfMemory)?;
+    Ok(text)
+}
+
+/// Checks the graph that the path opens, and writes the statistics of its commits, or one line that
+/// says why the graph is refused. The answer is the exit status. `WriteFailed` comes where the writer
+/// fails.
+pub fn run_verify<T: Folder, W: Write>(
+    alloc: Global,
+    folder: &mut T,
+    path: &str,
+    writer: &mut W,
+) -> Result<u8, WriteFailed>
+    ensures written { IfOk result (WritesAnswer verify_text verify_status
+        (MayVerify (MayOpen (T.tree folder.old) path.now (T.failure_count folder.old) (T.failure_count folder.new)))
+        (W.contents writer.old) (W.contents writer.new)) }
+    ensures tree { T.tree folder.new ≡ T.tree folder.old }
+{
+    match verify(alloc, folder, path) {
+        Ok(outcome) => {
+            write_outcome(writer, &outcome)?;
+            Ok(DONE)
+        }
+        Err(refusal) => refuse(writer, &refusal),
+    }
+}
+
+// The statistics of the graph that the path opens, once it is checked.
+fn verify<T: Folder>(alloc: Global, folder: &mut T, path: &str) -> Result<Outcome, Refusal>
+    ensures passed { IfOk result
+        (MayPass (MayOpen (T.tree folder.old) path.now (T.failure_count folder.old) (T.failure_count folder.new))) }
+    ensures refused { IfErr result (λ refusal.
+        MayVerify (MayOpen (T.tree folder.old) path.now (T.failure_count folder.old) (T.failure_count folder.new)) (Err refusal)) }
+    ensures tree { T.tree folder.new ≡ T.tree folder.old }
+{
+    let graph = open_in(alloc, folder, path)?;
+    let outcome = check(alloc, &graph)?;
+    Ok(outcome)
+}
+
+// Checks the graph, accepting each commit.
+fn check(alloc: Global, graph: &Graph) -> Result<Outcome, VerifyError<Infallible>>
+    ensures passed { IfOk result (Passes graph.now) }
+    ensures refused { IfErr result (Fails graph.now) }
+{
+    graph.verify_integrity(alloc, &mut |_: &file::Commit<'_>| Ok(()))
+}
+
+/// Looks up the commit with an id, given in hexadecimal digits of either case, in the graph that the
+/// path opens. It writes one line: the commit's position, its generation number and its time; or that
+/// it is not there; or why the search is refused. A text that is no id opens nothing. The graph is not
+/// checked. The answer is the exit status. `WriteFailed` comes where the writer fails.
+pub fn run_find<T: Folder, W: Write>(
+    alloc: Global,
+    folder: &mut T,
+    path: &str,
+    hex: &str,
+    writer: &mut W,
+) -> Result<u8, WriteFailed>
+    ensures written { IfOk result (WritesAnswer find_text find_status
+        (MayFind hex.now (folder.new ≡ folder.old)
+        (MayOpen (T.tree folder.old) path.now (T.failure_count folder.old) (T.failure_count folder.new)))
+        (W.contents writer.old) (W.contents writer.new)) }
+    ensures tree { T.tree folder.new ≡ T.tree folder.old }
+{
+    match find(alloc, folder, path, hex) {
+        Ok(Some(found)) => {
+            write_line(writer, found)?;
+            Ok(DONE)
+        }
+        Ok(None) => {
+            write_line(writer, "none")?;
+            Ok(NOT_FOUND)
+        }
+        Err(refusal) => refuse(writer, &refusal),
+    }
+}
+
+// The commit whose id the digits spell, in the graph that the path opens.
+fn find<T: Folder>(
+    alloc: Global,
+    folder: &mut T,
+    path: &str,
+    hex: &str,
+) -> Result<Option<Found>, Refusal>
+    ensures may { MayFind hex.now (folder.new ≡ folder.old)
+        (MayOpen (T.tree folder.old) path.now (T.failure_count folder.old) (T.failure_count folder.new)) result }
+    ensures tree { T.tree folder.new ≡ T.tree folder.old }
+{
+    let id = ObjectId::from_hex(hex.as_bytes())?;
+    let graph = open_in(alloc, folder, path)?;
+    Ok(found_in(&graph, id.as_oid()))
+}
+
+// The commit with an id in the graph.
+fn found_in(graph: &Graph, id: oid<'_>) -> Option<Found>
+    ensures { MayBeFound graph.now (oid_bytes id.entry) result }
+{
+    let pos = graph.lookup(id)?;
+    let commit = graph.commit_at(pos);
+    Some(Found {
+        pos,
+        generation: commit.generation(),
+        time: commit.committer_timestamp(),
+    })
+}
+
+// Writes the line of a refusal, and answers its exit status.
+fn refuse<W: Write>(writer: &mut W, refusal: &Refusal) -> Result<u8, WriteFailed>
+    ensures { IfOk result (WritesRefusal refusal.now (W.contents writer.old) (W.contents writer.new)) }
+{
+    write_line(writer, refusal)?;
+    Ok(refusal.status())
+}
