@@ -1,7 +1,7 @@
 -- a graph: its layers, from the lowest on ("Base Graphs List"; "Commit-Graphs Chains" of Git's commit-graph design)
 use Rattle.std.specs.Prelude.{◌≡◌, ℕ, ◌+◌, ◌<◌, ◌≤◌, List, AllPairs, All, length, sum_by, take}
 use Rattle.std.specs.List.{flat_map}
-use Rattle.graph_format.specs.Layer.{Layer, IsOpened, places_from}
+use Rattle.graph_format.specs.Layer.{Layer, IsOpened, positions_from}
 use Rattle.graph_format.specs.declared.TheConstants.{MAX_COMMITS}
 
 -- the ids of a graph: those of its layers, one layer after another
@@ -10,7 +10,7 @@ graph_ids layers = flat_map (λ layer. layer.ids) layers
 
 -- its commits, each as its layer and its position there
 abbrev pub graph_commits : List Layer → List (Layer × ℕ)
-graph_commits layers = flat_map (λ layer. places_from layer 0) layers
+graph_commits layers = flat_map (λ layer. positions_from layer 0) layers
 
 -- how many commits it has
 abbrev pub total : List Layer → ℕ

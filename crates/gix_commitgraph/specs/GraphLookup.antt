@@ -1,7 +1,7 @@
 -- what the lookup of an id in a graph answers
 use Rattle.std.specs.Prelude.{◌≡◌, ℕ, ◌+◌, List, length, position, slice_get, Option, Some, None, unwrap_or, option_map, option_and_then, is_some}
 use Rattle.graph_format.specs.Layer.{Layer}
-use Rattle.graph_layer.specs.Commit.{commit_place}
+use Rattle.graph_layer.specs.Commit.{layer_and_position}
 use Rattle.gix_commitgraph.specs.Graph.{graph_commits, start}
 use Rattle.graph_format.specs.Lookup.{Found}
 use Rattle.graph_format.specs.declared.Position.{Position}
@@ -26,11 +26,11 @@ pub record FoundIn (layers : List Layer) (id : List ℕ) (answer : Option ℕ) :
   pub first : answer ≡ first_answer layers answers
 
 -- a position of a graph as a number
-abbrev pub graph_place : Option Position → Option ℕ
-graph_place pos = option_map (λ p. p.0) pos
+abbrev pub position_number : Option Position → Option ℕ
+position_number pos = option_map (λ p. p.0) pos
 
 -- The commit at an answer to the lookup of an id, none where the answer is none.
 pub record CommitFoundIn (layers : List Layer) (id : List ℕ) (commit : Option Commit) : Type 0 where
   pub answer : Option ℕ
   pub found : FoundIn layers id answer
-  pub there : option_map commit_place commit ≡ option_and_then (slice_get (graph_commits layers)) answer
+  pub there : option_map layer_and_position commit ≡ option_and_then (slice_get (graph_commits layers)) answer

@@ -5,7 +5,7 @@ use Rattle.std.specs.Ordering.{nat_cmp}
 use Rattle.graph_walks.specs.Counts.{greatest, count_of}
 use Rattle.graph_walks.specs.History.{Node, generations, parent_numbers, generation_at, parents_at}
 use Rattle.gix_commitgraph.specs.declared.verify.tally.Tally.{Tally}
-use Rattle.gix_commitgraph.specs.declared.verify.span.ParentTally.{ParentTally}
+use Rattle.gix_commitgraph.specs.declared.verify.commit.ParentTally.{ParentTally}
 
 -- The statistics of the commits so far.
 pub record Tallies (seen : List Node) (tally : Tally) : Type 0 where

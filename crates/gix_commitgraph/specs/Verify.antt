@@ -7,8 +7,8 @@ use Rattle.gix_chunk_core.specs.First.{◌when◌, ◌otherwise◌, first_below}
 use Rattle.graph_format.specs.Layer.{Layer, record_at}
 use Rattle.graph_format.specs.Parents.{position_of, parents_of, items_of}
 use Rattle.gix_commitgraph.specs.Graph.{start, stop}
-use Rattle.graph_format.specs.Wrong.{layer_fault, commit_fault}
-use Rattle.graph_format.specs.Points.{Point, check, call, first_some, Stop, refused, by_processor, no_memory}
+use Rattle.graph_format.specs.Faults.{layer_fault, commit_fault}
+use Rattle.graph_format.specs.Points.{Point, check, call, first_some, Cause, refused, by_processor, no_memory}
 use Rattle.graph_walks.specs.Counts.{count_of}
 use Rattle.graph_walks.specs.History.{Node, generation_at, generations, parent_numbers}
 use Rattle.graph_format.specs.StoredHistory.{history_of}
@@ -33,8 +33,8 @@ module _ {E : Type 0} where
   base_refusal layers i layer j = error.BaseId i j when not (bytes_eq (base_at layer j) (checksum_at layers j))
 
   -- all of its base ids: one for each layer before it
-  abbrev pub bases_refusal : List Layer → ℕ → Layer → Option (VerifyError E)
-  bases_refusal layers i layer =
+  abbrev pub base_ids_refusal : List Layer → ℕ → Layer → Option (VerifyError E)
+  base_ids_refusal layers i layer =
       error.BaseCount i when not (length layer.bases == i) otherwise first_below (base_refusal layers i layer) i
 
   -- one item of the parents of the commit at p, whose layer ends before stop
@@ -66,7 +66,7 @@ module _ {E : Type 0} where
   -- layer i: its base ids, the layer as a whole, and then each commit
   abbrev pub layer_points : List Layer → ℕ → Layer → List (Point (VerifyError E))
   layer_points layers i layer =
-      check (bases_refusal layers i layer)
+      check (base_ids_refusal layers i layer)
       ∷ check (option_map (error.Layer i) (layer_fault layer))
       ∷ flat_map (commit_points layers i layer) (range_with_len 0 (length layer.ids))
 
@@ -77,10 +77,10 @@ module _ {E : Type 0} where
       ∷ flat_map (λ e. layer_points layers e.0 e.1) (enumerate_from 0 layers)
 
   -- why the check stopped
-  abbrev pub stop_of : VerifyError E → Stop (VerifyError E) E
-  stop_of (error.Processor pos e) = by_processor pos.0 e
-  stop_of error.OutOfMemory = no_memory
-  stop_of x = refused x
+  abbrev pub cause_of : VerifyError E → Cause (VerifyError E) E
+  cause_of (error.Processor pos e) = by_processor pos.0 e
+  cause_of error.OutOfMemory = no_memory
+  cause_of x = refused x
 
 -- The statistics of some commits.
 pub record Summarizes (history : List Node) (outcome : Outcome) : Type 0 where

@@ -2,11 +2,11 @@
 
 ghost use Rattle.std.specs.Prelude.{◌≡◌, ◌+◌, ◌^◌, ◌<◌, ◌≤◌, All, length, slice_get, option_map, Some, IfSome};
 ghost use Rattle.gix_hash_core.specs.Oid.{oid_bytes};
-ghost use Rattle.graph_layer.specs.Commit.{commit_layer, commit_pos, commit_place};
+ghost use Rattle.graph_layer.specs.Commit.{commit_layer, commit_pos, layer_and_position};
 ghost use Rattle.gix_commitgraph.specs.Graph.{IsGraph, graph_ids, graph_commits, total};
 ghost use Rattle.graph_format.specs.Layer.{IsOpened};
-ghost use Rattle.gix_commitgraph.specs.GraphLookup.{FoundIn, CommitFoundIn, graph_place};
-ghost use Rattle.gix_commitgraph.specs.GraphLeft.{graph_ids_left, graph_commits_left};
+ghost use Rattle.gix_commitgraph.specs.GraphLookup.{FoundIn, CommitFoundIn, position_number};
+ghost use Rattle.gix_commitgraph.specs.GraphRemaining.{graph_ids_left, graph_commits_left};
 
 use crate::Position;
 use crate::file::{self, Commit, File};
@@ -16,7 +16,7 @@ use gix_hash_core::{Kind, oid};
 
 impl Graph {
     /// The kind of the ids of all layers.
-    #[tactic(auto, using(crate::proofs::Layers::kind_laws))]
+    #[tactic(auto, using(crate::proofs::LayerListLemmas::kind_laws))]
     pub fn object_hash(&self) -> Kind
         ensures kind { All (λ layer. layer.kind ≡ result) self.now }
         ensures some { 0 < length self.now }
@@ -47,7 +47,7 @@ impl Graph {
     /// The commit at a position, which is below `num_commits()`.
     pub fn commit_at(&self, pos: Position) -> Commit<'_>
         requires { pos.0 < total self.now }
-        ensures { slice_get (graph_commits self.now) pos.0 ≡ Some (commit_place result) }
+        ensures { slice_get (graph_commits self.now) pos.0 ≡ Some (layer_and_position result) }
     {
         let (file, place) = self.layer_at(pos);
         file.commit_at(place)
@@ -74,7 +74,7 @@ impl Graph {
     /// and the fan is exact, the answer is the least position that holds the id, and `None` only
     /// where none does. In a damaged file an id may be missed that is there.
     pub fn lookup(&self, id: oid<'_>) -> Option<Position>
-        ensures found { FoundIn self.now (oid_bytes id.entry) (graph_place result) }
+        ensures found { FoundIn self.now (oid_bytes id.entry) (position_number result) }
         ensures holds { IfSome result (λ pos. slice_get (graph_ids self.now) pos.0 ≡ Some (oid_bytes id.entry)) }
     {
         let (_, start, pos) = self.find(id)?;

@@ -2,7 +2,7 @@
 
 ghost use Rattle.std.specs.Prelude.{◌≡◌, ◌∷◌, [], ◌++◌, ◌<◌, ◌≤◌, length, MatchOption, IfSome, Some};
 ghost use Rattle.gix_commitgraph.specs.Graph.{graph_ids, graph_commits};
-ghost use Rattle.graph_format.specs.Layer.{places_from};
+ghost use Rattle.graph_format.specs.Layer.{positions_from};
 
 use crate::file::{self, Commit, File};
 use crate::graph::Graph;
@@ -10,7 +10,7 @@ use gix_hash_core::oid;
 
 /// Goes over the positions of each layer of a graph.
 #[derive(Drop)]
-struct Places<'a> {
+struct LayerCursor<'a> {
     /// The layer that it stands in, and the next position there.
     file: &'a File,
     next: u32,
@@ -19,16 +19,16 @@ struct Places<'a> {
     /// How many positions are left.
     left: usize,
     ghost within: { next ≤ length file.now.ids },
-    ghost counted: { left ≡ length (places_from file.now next ++ graph_commits rest.now) },
+    ghost counted: { left ≡ length (positions_from file.now next ++ graph_commits rest.now) },
 }
 
-impl<'a> Places<'a> {
-    ghost use Rattle.gix_commitgraph.specs.GraphLeft.{places_left};
+impl<'a> LayerCursor<'a> {
+    ghost use Rattle.gix_commitgraph.specs.GraphRemaining.{cursor_left};
 
-    fn new(graph: &'a Graph) -> Places<'a>
-        ensures { places_left result ≡ graph_commits graph.now }
+    fn new(graph: &'a Graph) -> LayerCursor<'a>
+        ensures { cursor_left result ≡ graph_commits graph.now }
     {
-        Places {
+        LayerCursor {
             file: &graph.files[0],
             next: 0,
             rest: &graph.files[1..],
@@ -38,22 +38,22 @@ impl<'a> Places<'a> {
 
     /// How many positions are left.
     fn len(&self) -> usize
-        ensures { result ≡ length (places_left self.now) }
+        ensures { result ≡ length (cursor_left self.now) }
     {
         self.left
     }
 
     /// The next layer that has a position left, and that position.
     fn next(&mut self) -> Option<(&'a File, file::Position)>
-        ensures next { MatchOption result ((places_left self.old ≡ []) × (places_left self.new ≡ []))
-            (λ place. places_left self.old ≡ (place.0.now, place.1.0) ∷ places_left self.new) }
+        ensures next { MatchOption result ((cursor_left self.old ≡ []) × (cursor_left self.new ≡ []))
+            (λ place. cursor_left self.old ≡ (place.0.now, place.1.0) ∷ cursor_left self.new) }
         ensures within { IfSome result (λ place. place.1.0 < length place.0.now.ids) }
     {
         while self.next == self.file.num_commits() {
             match self.rest.split_first() {
                 None => return None,
                 Some((file, rest)) => {
-                    *self = Places {
+                    *self = LayerCursor {
                         file,
                         next: 0,
                         rest,
@@ -73,17 +73,17 @@ impl<'a> Places<'a> {
 /// once, and then `None` for good.
 #[derive(Drop)]
 pub struct GraphIds<'a> {
-    places: Places<'a>,
+    places: LayerCursor<'a>,
 }
 
 impl<'a> GraphIds<'a> {
-    ghost use Rattle.gix_commitgraph.specs.GraphLeft.{graph_ids_left};
+    ghost use Rattle.gix_commitgraph.specs.GraphRemaining.{graph_ids_left};
 
     pub(crate) fn new(graph: &'a Graph) -> GraphIds<'a>
         ensures { graph_ids_left result ≡ graph_ids graph.now }
     {
         GraphIds {
-            places: Places::new(graph),
+            places: LayerCursor::new(graph),
         }
     }
 }
@@ -92,7 +92,7 @@ impl<'a> Iterator for GraphIds<'a> {
     ghost use Rattle.std.specs.Iterator.{YieldsFirstBy, item_count, UpTo, at_most};
     ghost use Rattle.std.specs.Iterator.SizeHint.{IsWithinCount};
     ghost use Rattle.gix_hash_core.specs.Oid.{oid_bytes};
-    ghost use Rattle.gix_commitgraph.specs.GraphLeft.{graph_ids_left};
+    ghost use Rattle.gix_commitgraph.specs.GraphRemaining.{graph_ids_left};
 
     type Item = oid<'a>;
 
@@ -119,17 +119,17 @@ impl<'a> Iterator for GraphIds<'a> {
 /// each once, and then `None` for good.
 #[derive(Drop)]
 pub struct GraphCommits<'a> {
-    places: Places<'a>,
+    places: LayerCursor<'a>,
 }
 
 impl<'a> GraphCommits<'a> {
-    ghost use Rattle.gix_commitgraph.specs.GraphLeft.{graph_commits_left};
+    ghost use Rattle.gix_commitgraph.specs.GraphRemaining.{graph_commits_left};
 
     pub(crate) fn new(graph: &'a Graph) -> GraphCommits<'a>
         ensures { graph_commits_left result ≡ graph_commits graph.now }
     {
         GraphCommits {
-            places: Places::new(graph),
+            places: LayerCursor::new(graph),
         }
     }
 }
@@ -137,12 +137,12 @@ impl<'a> GraphCommits<'a> {
 impl<'a> Iterator for GraphCommits<'a> {
     ghost use Rattle.std.specs.Iterator.{YieldsFirstBy, item_count, UpTo, at_most};
     ghost use Rattle.std.specs.Iterator.SizeHint.{IsWithinCount};
-    ghost use Rattle.graph_layer.specs.Commit.{commit_place};
-    ghost use Rattle.gix_commitgraph.specs.GraphLeft.{graph_commits_left};
+    ghost use Rattle.graph_layer.specs.Commit.{layer_and_position};
+    ghost use Rattle.gix_commitgraph.specs.GraphRemaining.{graph_commits_left};
 
     type Item = Commit<'a>;
 
-    ghost next_gives = { YieldsFirstBy commit_place graph_commits_left };
+    ghost next_gives = { YieldsFirstBy layer_and_position graph_commits_left };
 
     ghost remaining = { item_count graph_commits_left };
 

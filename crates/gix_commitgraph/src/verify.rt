@@ -1,6 +1,7 @@
 //! The check of a graph: what may be wrong with it, and the statistics of its commits.
 
-mod span;
+mod commit;
+mod layer;
 mod tally;
 
 ghost use Rattle.std.specs.Prelude.{IfOk, MatchResult};
@@ -99,7 +100,7 @@ impl Graph {
     ghost use Rattle.graph_layer.specs.Called.{MayBeCalled, CalledOn};
     ghost use Rattle.gix_commitgraph.specs.InGraph.{InGraph};
     ghost use Rattle.graph_format.specs.StoredHistory.{history_of};
-    ghost use Rattle.gix_commitgraph.specs.Verify.{graph_points, stop_of, Summarizes};
+    ghost use Rattle.gix_commitgraph.specs.Verify.{graph_points, cause_of, Summarizes};
     ghost use Rattle.gix_commitgraph.specs.Graph.{IsGraph};
     ghost use Rattle.gix_commitgraph.specs.Sound.{Sound};
     ghost use Rattle.gix_commitgraph.specs.Headline.{Stats, LookupsAreScans, IsDeserved};
@@ -145,7 +146,7 @@ impl Graph {
         // It is `Ok` exactly where no check fails and the processor accepts each commit, once and in
         // order; else it names the first check that fails, or hands back the processor's error.
         ensures agrees { Agrees (CalledOn F.FnMut (InGraph self.now)) (graph_points self.now)
-            processor.old processor.new stop_of result }
+            processor.old processor.new cause_of result }
         ensures outcome { IfOk result (Summarizes (history_of self.now)) }
 
         // A graph that passes is right, and a graph that is right is refused only by the processor
@@ -170,7 +171,7 @@ impl Graph {
         F: FnMut(&Commit<'a>) -> Result<(), E>,
         requires { MayBeCalled F.FnMut (InGraph self.now) }
         ensures agrees { Agrees (CalledOn F.FnMut (InGraph self.now)) (graph_points self.now)
-            processor.old processor.new stop_of result }
+            processor.old processor.new cause_of result }
         ensures outcome { IfOk result (Summarizes (history_of self.now)) }
         ensures graph { IsGraph self.now }
     {

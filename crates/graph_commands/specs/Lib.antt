@@ -3,7 +3,7 @@ pub mod Numbers
 pub mod Refusal
 pub mod Answer
 pub mod Listing
-pub mod Places
+pub mod PositionLines
 pub mod List
 pub mod Report
 pub mod Opening

@@ -2,10 +2,10 @@
 
 ghost use Rattle.std.specs.Prelude.{◌≡◌, ◌++◌, IfOk, OnOk};
 ghost use Rattle.std.specs.String.{string_bytes};
-ghost use Rattle.graph_layer.specs.Commit.{commit_place};
-ghost use Rattle.graph_layer.specs.ParentsLeft.{parents_left};
+ghost use Rattle.graph_layer.specs.Commit.{layer_and_position};
+ghost use Rattle.graph_layer.specs.RemainingParents.{parents_left};
 ghost use Rattle.graph_commands.specs.Listing.{kind_text, item_text, parents_text, listing_text};
-ghost use Rattle.graph_commands.specs.Places.{place_line};
+ghost use Rattle.graph_commands.specs.PositionLines.{position_line};
 
 use crate::numbers::parent_number;
 use gix_commitgraph::file::commit::{ParentError, Parents};
@@ -50,7 +50,7 @@ fn kind_name(kind: Kind) -> &'static str
 
 // Adds the line of a commit.
 fn push_commit(text: &mut String, commit: file::Commit<'_>) -> Result<(), AllocError>
-    ensures { OnOk result (string_bytes text.new ≡ string_bytes text.old ++ place_line (commit_place commit.entry)) }
+    ensures { OnOk result (string_bytes text.new ≡ string_bytes text.old ++ position_line (layer_and_position commit.entry)) }
 {
     let pos = commit.position().0;
     let id = commit.id();

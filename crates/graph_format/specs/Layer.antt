@@ -86,5 +86,5 @@ abbrev pub IsOpened : Layer → Type 0
 IsOpened layer = IsLayer (bytes_of layer) layer.path layer
 
 -- the positions of a layer from one on
-abbrev pub places_from : Layer → ℕ → List (Layer × ℕ)
-places_from layer i = map (λ pos. (layer, pos)) (range_with_len i (length layer.ids - i))
+abbrev pub positions_from : Layer → ℕ → List (Layer × ℕ)
+positions_from layer i = map (λ pos. (layer, pos)) (range_with_len i (length layer.ids - i))

@@ -2,11 +2,11 @@ pub use Rattle.graph_walks.specs.Counts
 pub use Rattle.graph_walks.specs.History
 pub use Rattle.graph_walks.specs.Generations
 pub use Rattle.graph_walks.specs.Walks
-pub mod Faults
+pub mod Reports
 pub mod Format
 pub mod Layer
 pub mod Refusal
-pub mod Checks
+pub mod RefusalSteps
 pub mod Opened
 pub mod Parents
 pub mod Law
@@ -15,7 +15,7 @@ pub mod Order
 pub mod Lookup
 pub mod LookupLaw
 pub mod Points
-pub mod Names
+pub mod NameRule
 pub mod StoredHistory
-pub mod Wrong
+pub mod Faults
 pub mod RightLayer

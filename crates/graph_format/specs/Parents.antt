@@ -26,52 +26,52 @@ abbrev pub extra_edge_of : ℕ → ExtraEdge
 extra_edge_of word =
     if nat_lt word 0x80000000 then extra.Internal (position_of word) else extra.Last (position_of (word - 0x80000000))
 
--- Parents in their order, and the fault that comes after them, if one does.
-pub record Parents : Type 0 where
+-- DecodedParents in their order, and the fault that comes after them, if one does.
+pub record DecodedParents : Type 0 where
   pub positions : List Position
   pub fault : Option ParentError
 
-abbrev pub no_parents : Parents
+abbrev pub no_parents : DecodedParents
 no_parents = record { positions = []; fault = None }
 
 -- no parent, and a fault
-abbrev pub faulty : ParentError → Parents
+abbrev pub faulty : ParentError → DecodedParents
 faulty error = record { positions = []; fault = Some error }
 
 -- one parent before others
-abbrev pub followed_by : Position → Parents → Parents
+abbrev pub followed_by : Position → DecodedParents → DecodedParents
 followed_by pos rest = record { positions = pos ∷ rest.positions; fault = rest.fault }
 
 -- one parent of the extra edge list, before what the later words list
-abbrev pub extra_parent : ExtraEdge → Parents → Parents
+abbrev pub extra_parent : ExtraEdge → DecodedParents → DecodedParents
 extra_parent (extra.Internal pos) rest = followed_by pos rest
 extra_parent (extra.Last pos) rest = followed_by pos no_parents
 
 -- the parents that words list, up to and with the last one; where the words run out before it, that is the fault
-abbrev pub listed : List ℕ → Parents
+abbrev pub listed : List ℕ → DecodedParents
 listed [] = faulty EdgeOverflow
 listed (word ∷ rest) = extra_parent (extra_edge_of word) (listed rest)
 
 -- "Extra Edge List": the parents that the bytes of this chunk list from the word of this index on
-abbrev pub extra_parents : List ℕ → ℕ → Parents
+abbrev pub extra_parents : List ℕ → ℕ → DecodedParents
 extra_parents bytes index = listed (drop index (words bytes))
 
 -- "Commit Data": what the second field gives, where the first is a position
-abbrev pub second_parents : ParentEdge → Option (List ℕ) → Parents
+abbrev pub second_parents : ParentEdge → Option (List ℕ) → DecodedParents
 second_parents edge.None edges = no_parents
 second_parents (edge.GraphPosition pos) edges = followed_by pos no_parents
 second_parents (edge.ExtraEdgeIndex index) None = faulty NoEdgeList
 second_parents (edge.ExtraEdgeIndex index) (Some edges) = extra_parents edges index
 
 -- "Commit Data": what both fields give
-abbrev pub both_parents : ParentEdge → ParentEdge → Option (List ℕ) → Parents
+abbrev pub both_parents : ParentEdge → ParentEdge → Option (List ℕ) → DecodedParents
 both_parents edge.None edge.None edges = no_parents
 both_parents edge.None _ edges = faulty SecondWithoutFirst
 both_parents (edge.ExtraEdgeIndex index) second edges = faulty FirstIsEdgeIndex
 both_parents (edge.GraphPosition pos) second edges = followed_by pos (second_parents second edges)
 
 -- the parents of a record, in a layer whose extra edge list has these bytes, or that has none
-abbrev pub parents_of : Record → Option (List ℕ) → Parents
+abbrev pub parents_of : Record → Option (List ℕ) → DecodedParents
 parents_of r edges = both_parents (edge_of r.parent1) (edge_of r.parent2) edges
 
 -- the fault, where there is one
@@ -80,7 +80,7 @@ fault_items None = []
 fault_items (Some error) = Err error ∷ []
 
 -- what an iterator over parents gives: each parent, and then the fault
-abbrev pub items_of : Parents → List (Result Position ParentError)
+abbrev pub items_of : DecodedParents → List (Result Position ParentError)
 items_of parents = map (λ pos. Ok pos) parents.positions ++ fault_items parents.fault
 
 -- the first of the items

@@ -34,10 +34,10 @@ calls_before_fault (check (Some x) ∷ points) = []
 calls_before_fault (call p ∷ points) = p ∷ calls_before_fault points
 
 -- why a check stopped
-pub data Stop (X E : Type 0) : Type 0 where
-  refused : X → Stop X E
-  by_processor : ℕ → E → Stop X E
-  no_memory : Stop X E
+pub data Cause (X E : Type 0) : Type 0 where
+  refused : X → Cause X E
+  by_processor : ℕ → E → Cause X E
+  no_memory : Cause X E
 
 -- `step f p r g`: a call of the processor in the state f, on the commit at p, may answer r and leave it in the state g.
 module _ {F E : Type 0} (step : F → ℕ → Result (Unit {0}) E → F → Type 0) where
@@ -67,19 +67,19 @@ module _ {F E : Type 0} (step : F → ℕ → Result (Unit {0}) E → F → Type
       pub answered : step then p (Err e) g
 
     -- Memory ran out behind points without a fault, whose calls the processor accepted.
-    pub record RunsOut : Type 0 where
+    pub record RunsOutOfMemory : Type 0 where
       pub before : List (Point X)
       pub after : List (Point X)
       pub split : points ≡ before ++ after
       pub no_fault : first_fault before ≡ None
       pub accepted : Accepts f (calls before) g
 
-    abbrev pub StopsBy : Stop X E → Type 0
+    abbrev pub StopsBy : Cause X E → Type 0
     StopsBy (refused x) = IsRefused x
     StopsBy (by_processor p e) = StopsAt p e
-    StopsBy no_memory = RunsOut
+    StopsBy no_memory = RunsOutOfMemory
 
-    -- The answer of a check and the state in which it leaves the processor. `stop` says why an error stops it.
-    abbrev pub Agrees : {T W : Type 0} → (W → Stop X E) → Result T W → Type 0
-    Agrees stop (Ok outcome) = Passes
-    Agrees stop (Err error) = StopsBy (stop error)
+    -- The answer of a check and the state in which it leaves the processor. `cause` says why an error stops it.
+    abbrev pub Agrees : {T W : Type 0} → (W → Cause X E) → Result T W → Type 0
+    Agrees cause (Ok outcome) = Passes
+    Agrees cause (Err error) = StopsBy (cause error)

@@ -3,7 +3,7 @@ use Rattle.std.specs.Prelude.{◌≡◌, ℕ, List, All, None}
 use Rattle.gix_hash_core.specs.Digest.{digest_of}
 use Rattle.graph_format.specs.Layer.{Layer}
 use Rattle.graph_format.specs.Order.{AreAscending, IsExactFan}
-use Rattle.graph_format.specs.Names.{Names}
+use Rattle.graph_format.specs.NameRule.{KeepsNameRule}
 use Rattle.graph_format.specs.Parents.{parents_of}
 
 -- an id with no byte but zero is that of no object
@@ -14,7 +14,7 @@ IsNull id = All (λ byte. byte ≡ 0) id
 pub record IsRightLayer (layer : Layer) : Type 0 where
   -- "TRAILER"
   pub checksum : layer.checksum ≡ digest_of layer.kind layer.body
-  pub name : Names layer.path layer.checksum
+  pub name : KeepsNameRule layer.path layer.checksum
   -- "OID Lookup"
   pub ascending : AreAscending layer.ids
   pub ids : All (λ id. ¬ IsNull id) layer.ids

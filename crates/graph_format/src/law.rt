@@ -16,14 +16,14 @@ ghost use Rattle.graph_walks.specs.declared.TheConstants.{GENERATION_NUMBER_MAX}
 
 /// For all bytes and each path: the bytes are refused, and are then a file of no layer, or they are
 /// not, and are then a file of exactly one.
-#[tactic(auto, using(crate::proofs::Decided::decided))]
+#[tactic(auto, using(crate::proofs::DecidedFileLemmas::decided))]
 pub fn each_is_refused_or_read()
     ensures { (bytes path : List ℕ) → IsDecided bytes path }
 {}
 
 /// For all bytes and each path: what opening answers where there is memory is a layer exactly where
 /// the bytes are a file of that layer, and an error exactly where that is their refusal.
-#[tactic(auto, using(crate::proofs::Decided::answered))]
+#[tactic(auto, using(crate::proofs::DecidedFileLemmas::answered))]
 pub fn each_is_answered()
     ensures { (bytes path : List ℕ) → IsAnswered bytes path }
 {}

@@ -3,12 +3,12 @@ use Rattle.std.specs.Prelude.{◌≡◌, ℕ, Result}
 use Rattle.std.specs.Fn.{Mut, CalledAt, TakesAt}
 use denote.Ref.{Bor}
 use Rattle.graph_format.specs.Layer.{Layer}
-use Rattle.graph_layer.specs.Commit.{commit_place}
+use Rattle.graph_layer.specs.Commit.{layer_and_position}
 use Rattle.graph_layer.specs.declared.file.commit.Commit.{Commit}
 
 -- the commit stands at a position of the layer
 abbrev pub InLayer : Layer → ℕ → Commit → Type 0
-InLayer layer position commit = commit_place commit ≡ (layer, position)
+InLayer layer position commit = layer_and_position commit ≡ (layer, position)
 
 module _ {F E : Type 0} (processor : Mut F (Bor Commit × Unit {0}) (Result (Unit {0}) E)) (StandsAt : ℕ → Commit → Type 0) where
   -- In whatever state it is, the processor may be called on every commit.

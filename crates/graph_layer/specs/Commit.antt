@@ -4,7 +4,7 @@ use Rattle.std.specs.Cmp.Lexicographic.{pointwise}
 use Rattle.std.specs.Ordering.{on, eq_of_both}
 use Rattle.graph_format.specs.Format.{Record}
 use Rattle.graph_format.specs.Layer.{Layer, record_at, bytes_of}
-use Rattle.graph_format.specs.Parents.{Parents, parents_of}
+use Rattle.graph_format.specs.Parents.{DecodedParents, parents_of}
 use Rattle.graph_layer.specs.declared.file.commit.Commit.{Commit}
 
 -- the layer that it is in
@@ -16,15 +16,15 @@ abbrev pub commit_pos : Commit → ℕ
 commit_pos c = c.pos.0
 
 -- its layer and its position
-abbrev pub commit_place : Commit → Layer × ℕ
-commit_place c = (commit_layer c, commit_pos c)
+abbrev pub layer_and_position : Commit → Layer × ℕ
+layer_and_position c = (commit_layer c, commit_pos c)
 
 -- its record in "Commit Data"
 abbrev pub commit_record : Commit → Record
 commit_record c = record_at (commit_layer c) (commit_pos c)
 
 -- its parents, by its record and its layer's "Extra Edge List"
-abbrev pub commit_parents : Commit → Parents
+abbrev pub commit_parents : Commit → DecodedParents
 commit_parents c = parents_of (commit_record c) (commit_layer c).edges
 
 -- the bytes of its file

@@ -2,8 +2,8 @@
 use Rattle.std.specs.Prelude.{◌≡◌, ℕ, List, slice_index, Some, None}
 use Rattle.gix_hash_core.specs.Kind.{kind_of}
 use Rattle.graph_format.specs.Format.{table_of, fan_of, commits_of}
-use Rattle.graph_layer.specs.Places.{ArePlaces}
-use Rattle.graph_format.specs.Checks.{checked}
+use Rattle.graph_layer.specs.ChunkRanges.{AreChunkRanges}
+use Rattle.graph_format.specs.RefusalSteps.{checked}
 use Rattle.graph_layer.specs.declared.file.init.layout.Layout.{Layout}
 
 -- The bytes are not refused, and have this layout.
@@ -12,5 +12,5 @@ pub record IsLayout (bytes : List ℕ) (layout : Layout) : Type 0 where
   pub kind : kind_of (slice_index bytes 5) ≡ Some layout.kind
   pub commits : layout.commits ≡ commits_of (fan_of bytes)
   pub base_count : layout.base_count ≡ slice_index bytes 7
-  pub places : ArePlaces bytes layout.places
-  pub end : layout.end ≡ (table_of bytes).end
+  pub places : AreChunkRanges bytes layout.places
+  pub trailer_start : layout.trailer_start ≡ (table_of bytes).end

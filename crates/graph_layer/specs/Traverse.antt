@@ -4,8 +4,8 @@ use Rattle.std.specs.HashMap.{get, IsUnchanged}
 use Rattle.std.specs.List.{flat_map, range_with_len}
 use Rattle.graph_format.specs.Layer.{Layer, record_at}
 use Rattle.graph_format.specs.Parents.{parents_of}
-use Rattle.graph_format.specs.Wrong.{layer_fault, commit_fault}
-use Rattle.graph_format.specs.Points.{Point, check, call, Stop, refused, by_processor, no_memory}
+use Rattle.graph_format.specs.Faults.{layer_fault, commit_fault}
+use Rattle.graph_format.specs.Points.{Point, check, call, Cause, refused, by_processor, no_memory}
 use Rattle.graph_walks.specs.Counts.{greatest, least, count_of}
 use Rattle.graph_walks.specs.History.{Node, generations, parent_numbers}
 use Rattle.graph_format.specs.StoredHistory.{layer_history}
@@ -43,10 +43,10 @@ module _ {E : Type 0} where
       check (option_map layer_refusal (layer_fault layer)) ∷ flat_map (commit_points layer) (range_with_len 0 (length layer.ids))
 
   -- why the check stopped
-  abbrev pub stop_of : TraverseError E → Stop (TraverseError E) E
-  stop_of (error.Processor pos e) = by_processor pos.0 e
-  stop_of error.OutOfMemory = no_memory
-  stop_of x = refused x
+  abbrev pub cause_of : TraverseError E → Cause (TraverseError E) E
+  cause_of (error.Processor pos e) = by_processor pos.0 e
+  cause_of error.OutOfMemory = no_memory
+  cause_of x = refused x
 
 -- The statistics of some commits of a layer.
 pub record Summarizes (history : List Node) (outcome : Outcome) : Type 0 where

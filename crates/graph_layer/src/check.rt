@@ -2,7 +2,7 @@
 
 ghost use Rattle.std.specs.Prelude.{◌≡◌, ◌<◌, length, slice_get, Some};
 ghost use Rattle.gix_hash_core.specs.Oid.{oid_bytes};
-ghost use Rattle.graph_format.specs.Wrong.{layer_fault, commit_fault};
+ghost use Rattle.graph_format.specs.Faults.{layer_fault, commit_fault};
 ghost use Rattle.graph_layer.specs.Commit.{commit_layer, commit_pos};
 
 use crate::file::{Commit, File};

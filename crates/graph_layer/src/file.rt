@@ -30,11 +30,11 @@ impl Model for File {
 
     ghost Value = { Layer };
 
-    ghost use Rattle.graph_layer.specs.Kept.{IsKept};
+    ghost use Rattle.graph_layer.specs.FileState.{IsFileState};
 
     ghost view = { λ a. decoded_layer a.bytes.items (string_bytes a.path) };
 
-    ghost invariant = { IsKept };
+    ghost invariant = { IsFileState };
 }
 
 /// The path alone, as `File("P")`, where P is the debug text of the path, with its own quotes: the

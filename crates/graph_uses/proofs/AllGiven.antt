@@ -2,7 +2,7 @@
 use Rattle.std.proofs.Common.{◌≡◌, List, [], ◌∷◌, ◌++◌, map, All, Option, None, Result, Ok, Err, refl, ap, sym, subst, ◌∙◌}
 use Rattle.std.specs.Result.{IsOk}
 use Rattle.std.proofs.lemmas.List.Elements.{All-nil, All-cons}
-use Rattle.graph_format.specs.Parents.{Parents, fault_items, items_of}
+use Rattle.graph_format.specs.Parents.{DecodedParents, fault_items, items_of}
 use Rattle.graph_format.specs.declared.Position.{Position}
 use Rattle.graph_format.specs.declared.parents.ParentError.{ParentError}
 
@@ -28,15 +28,15 @@ given-ok : (positions : List Position) → All IsOk (before positions [])
 given-ok [] = All-nil IsOk
 given-ok (pos ∷ positions) = All-cons IsOk (Ok pos) (before positions []) refl (given-ok positions)
 
-given : (parents : Parents) → parents.fault ≡ None → items_of parents ≡ before parents.positions []
+given : (parents : DecodedParents) → parents.fault ≡ None → items_of parents ≡ before parents.positions []
 given parents no_fault = ap (λ (fault : Option ParentError). before parents.positions (fault_items fault)) no_fault
 
 -- none of them is an error
-pub all-ok : (parents : Parents) → parents.fault ≡ None → All IsOk (items_of parents)
+pub all-ok : (parents : DecodedParents) → parents.fault ≡ None → All IsOk (items_of parents)
 all-ok parents no_fault = subst (All IsOk) (sym (given parents no_fault)) (given-ok parents.positions)
 
 -- when nothing is left, those that were taken are all parents
-pub all-taken : (parents : Parents) (taken : List Position) (left : Items) → parents.fault ≡ None → left ≡ [] → before taken left ≡ items_of parents → taken ≡ parents.positions
+pub all-taken : (parents : DecodedParents) (taken : List Position) (left : Items) → parents.fault ≡ None → left ≡ [] → before taken left ≡ items_of parents → taken ≡ parents.positions
 all-taken parents taken left no_fault none items =
     sym (positions-given taken)
     ∙ ap positions_of (ap (before taken) (sym none) ∙ items ∙ given parents no_fault)

@@ -2,17 +2,17 @@
 use Rattle.std.proofs.Common.{◌≡◌, ℕ, ◌+◌, ◌-◌, ◌<◌, List, length, slice_get, All, Some, None, unwrap_or, sym, ap, subst, ◌∙◌, arith}
 use Rattle.std.proofs.lemmas.Option.{get_or_from_slice_get, slice_get_within, unwrap_or-slice_get}
 use Rattle.graph_format.specs.Layer.{Layer, no_record, record_at}
-use Rattle.graph_format.specs.Parents.{Parents, parents_of}
+use Rattle.graph_format.specs.Parents.{DecodedParents, parents_of}
 use Rattle.graph_format.specs.Layer.{IsOpened}
 use Rattle.gix_commitgraph.specs.Graph.{graph_commits, start, total}
 use Rattle.gix_commitgraph.specs.GraphLaw.{LiesIn}
 use Rattle.gix_commitgraph.specs.Sound.{AreParentsKnown, Sound}
-use Rattle.gix_commitgraph.proofs.GraphLaws.{counted, lies-in_one, place-in}
-use Rattle.gix_commitgraph.proofs.Histories.{length-records}
-use Rattle.gix_commitgraph.proofs.Layers.{start-fits}
+use Rattle.gix_commitgraph.proofs.GraphLemmas.{counted, lies-in_one, place-in}
+use Rattle.gix_commitgraph.proofs.GraphHistoryLemmas.{length-records}
+use Rattle.gix_commitgraph.proofs.LayerListLemmas.{start-fits}
 
 -- parents come without a fault, and all of them are commits of the graph
-pub record AreThere (layers : List Layer) (parents : Parents) : Type 0 where
+pub record AreThere (layers : List Layer) (parents : DecodedParents) : Type 0 where
   pub no_fault : parents.fault ≡ None
   pub each : All (λ pos. pos.0 < total layers) parents.positions
 

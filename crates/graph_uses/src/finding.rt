@@ -4,7 +4,7 @@ ghost use Rattle.std.specs.Prelude.{◌≡◌, ◌<◌, ℕ, List, IfErr, IfOk, 
 ghost use Rattle.gix_hash_core.specs.Hexadecimal.{SpellsId, SpellsNone};
 ghost use Rattle.gix_hash_core.specs.Oid.{oid_bytes};
 ghost use Rattle.gix_commitgraph.specs.Graph.{graph_commits, graph_ids, total};
-ghost use Rattle.gix_commitgraph.specs.GraphLookup.{graph_place};
+ghost use Rattle.gix_commitgraph.specs.GraphLookup.{position_number};
 ghost use Rattle.gix_commitgraph.specs.Headline.{LookupsAreScans};
 ghost use Rattle.graph_format.specs.Layer.{Layer, record_at};
 ghost use Rattle.graph_format.specs.Lookup.{scan};
@@ -19,7 +19,7 @@ use gix_hash_core::{IdError, ObjectId, oid};
 pub fn find(graph: &Graph, id: &str) -> Result<Option<Position>, IdError>
     requires { LookupsAreScans graph.now }
     ensures scanned { IfOk result (λ pos. (bytes : List ℕ) × SpellsId id.now bytes
-        × (graph_place pos ≡ scan (graph_ids graph.now) bytes)) }
+        × (position_number pos ≡ scan (graph_ids graph.now) bytes)) }
     ensures within { IfOk result (λ found. IfSome found (λ pos. pos.0 < total graph.now)) }
     ensures refused { IfErr result (SpellsNone id.now) }
 {

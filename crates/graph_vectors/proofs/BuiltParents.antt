@@ -3,7 +3,7 @@ use Rattle.std.proofs.Common.{◌≡◌, ℕ, ◌+◌, ◌<◌, List, [], ◌∷
 use Rattle.std.proofs.lemmas.Bool.{lt-ltb, le-ltb, ne_eqb}
 use Rattle.std.proofs.lemmas.List.{drop_at}
 use Rattle.graph_format.specs.declared.parents.ParentEdge.TheVariants as edge
-use Rattle.graph_format.specs.Parents.{Parents, edge_of, no_parents, followed_by, listed, second_parents, both_parents}
+use Rattle.graph_format.specs.Parents.{DecodedParents, edge_of, no_parents, followed_by, listed, second_parents, both_parents}
 use Rattle.graph_vectors.specs.ExtraEdges.{no_parent, top_bit, listed_words, extra_words, first_field, second_field}
 use Rattle.graph_vectors.specs.Said.{parents_at}
 use Rattle.graph_vectors.proofs.Pieces.{All-first, All-others}
@@ -24,7 +24,7 @@ listed-listed_words parent [] rest h =
 listed-listed_words parent (next ∷ more) rest h =
     let first : parent < no_parent = All-first (λ p. p < no_parent) parent (next ∷ more) h in
     rw (lt-ltb parent top_bit (omega (arith, first)))
-    (ap (λ (ps : Parents). followed_by (record { 0 = parent }) ps) (listed-listed_words next more rest (All-others (λ p. p < no_parent) parent (next ∷ more) h)))
+    (ap (λ (ps : DecodedParents). followed_by (record { 0 = parent }) ps) (listed-listed_words next more rest (All-others (λ p. p < no_parent) parent (next ∷ more) h)))
 
 -- The edges hold these words: an index of one names the listing from it on.
 abbrev pub Hold : Option (List ℕ) → List ℕ → Type 0
@@ -47,4 +47,4 @@ both_parents-fields (first ∷ second ∷ third ∷ more) before after edges h e
     ∙ ap listed (drop_at before (listed_words second (third ∷ more) ++ after) (length before) refl)
     ∙ listed-listed_words second (third ∷ more) after others in
     rw (edge_of-position first (All-first (λ p. p < no_parent) first (second ∷ third ∷ more) h), edge_of-index (length before))
-    (ap (λ (ps : Parents). followed_by (record { 0 = first }) ps) held)
+    (ap (λ (ps : DecodedParents). followed_by (record { 0 = first }) ps) held)

@@ -3,14 +3,14 @@ use Rattle.std.specs.Prelude.{◌≡◌, ◌+◌, ◌<◌, ℕ, List, [], map, l
 use Rattle.gix_hash_core.specs.Digest.{digest_of}
 use Rattle.graph_format.specs.Format.{Record, words}
 use Rattle.graph_format.specs.Layer.{Layer, IsLayer}
-use Rattle.graph_format.specs.Parents.{Parents, parents_of}
+use Rattle.graph_format.specs.Parents.{DecodedParents, parents_of}
 use Rattle.graph_vectors.specs.ExtraEdges.{top_bit, all_extra_words}
 use Rattle.graph_vectors.specs.Written.{ids_of, ids_up_to}
 use Rattle.graph_vectors.specs.declared.plan.LayerPlan.{LayerPlan}
 use Rattle.graph_vectors.specs.declared.plan.PlanCommit.{PlanCommit}
 
 -- parents at these positions, and no fault
-abbrev pub parents_at : List ℕ → Parents
+abbrev pub parents_at : List ℕ → DecodedParents
 parents_at positions = record { positions = map (λ p. record { 0 = p }) positions; fault = None }
 
 -- The record of a commit, in a layer with these edges, says what the plan says of it. Where it has more than two parents,

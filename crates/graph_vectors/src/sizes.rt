@@ -7,7 +7,7 @@ use crate::edges::count_extra_words;
 use crate::plan::LayerPlan;
 
 /// The fan has 256 numbers of four bytes.
-pub(crate) const FAN_LEN: usize = 1024;
+pub(crate) const FAN_SIZE: usize = 1024;
 
 /// The bytes of a record beside its tree's id.
 const RECORD_FIELDS_LEN: usize = 16;
@@ -62,6 +62,6 @@ impl Sizes {
         requires { self.ids + self.records + self.edges + self.bases < 2 ^ 40 }
         ensures { result < 2 ^ 41 }
     {
-        self.first_offset() + FAN_LEN + self.ids + self.records + self.edges + self.bases
+        self.first_offset() + FAN_SIZE + self.ids + self.records + self.edges + self.bases
     }
 }

@@ -8,7 +8,7 @@ ghost use Rattle.graph_vectors.specs.Written.{header, planned_chunks};
 
 use crate::plan::LayerPlan;
 use crate::push::push_long;
-use crate::sizes::{FAN_LEN, Sizes};
+use crate::sizes::{FAN_SIZE, Sizes};
 use gix_hash_core::Kind;
 use std::alloc::AllocError;
 
@@ -81,7 +81,7 @@ pub(crate) fn push_table(
         OnOk result (file.new.items ≡ file.old.items ++ table) }
 {
     let offset = sizes.first_offset();
-    let ids = push_entry(file, *b"OIDF", offset, FAN_LEN)?;
+    let ids = push_entry(file, *b"OIDF", offset, FAN_SIZE)?;
     let records = push_entry(file, *b"OIDL", ids, sizes.ids)?;
     let edges = push_entry(file, *b"CDAT", records, sizes.records)?;
     let bases = push_optional_entry(file, *b"EDGE", edges, sizes.edges)?;

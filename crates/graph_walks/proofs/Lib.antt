@@ -1,4 +1,4 @@
-pub mod Greatest
-pub mod WalkPaths
-pub mod WalkLaws
-pub mod Tallies
+pub mod GreatestLemmas
+pub mod WalkPathLemmas
+pub mod WalkLemmas
+pub mod TallyLemmas

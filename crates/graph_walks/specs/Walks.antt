@@ -25,8 +25,8 @@ abbrev pub Reaches : List Node → ℕ → ℕ → Type 0
 Reaches history p q = (walk : List ℕ) × IsWalkBetween history p q walk
 
 -- some walk of at least two commits leads from p to q
-abbrev pub ReachesAbove : List Node → ℕ → ℕ → Type 0
-ReachesAbove history p q = (walk : List ℕ) × IsWalkBetween history p q walk × (2 ≤ length walk)
+abbrev pub IsProperAncestor : List Node → ℕ → ℕ → Type 0
+IsProperAncestor history p q = (walk : List ℕ) × IsWalkBetween history p q walk × (2 ≤ length walk)
 
 -- g is the number of commits of the longest walk from p, or the cap where there are walks as long as the cap
 pub record HasGeneration (history : List Node) (p g : ℕ) : Type 0 where
@@ -44,10 +44,10 @@ pub record IsLongestWalk (history : List Node) (k : ℕ) : Type 0 where
   pub longest : (p m : ℕ) → HasWalk history p (m + 1) → m ≤ k
 
 -- some commit has the greatest generation number that can be stored
-abbrev pub ReachesCap : List Node → Type 0
-ReachesCap history = (p : ℕ) × (p < length history) × (generation_at history p ≡ GENERATION_NUMBER_MAX)
+abbrev pub IsCapped : List Node → Type 0
+IsCapped history = (p : ℕ) × (p < length history) × (generation_at history p ≡ GENERATION_NUMBER_MAX)
 
 -- what is told of the longest walk: how many edges it has, and nothing where a commit's generation number is at the cap
 abbrev pub TellsLongest : List Node → Option ℕ → Type 0
-TellsLongest history None = ReachesCap history
-TellsLongest history (Some k) = (¬ ReachesCap history) × IsLongestWalk history k
+TellsLongest history None = IsCapped history
+TellsLongest history (Some k) = (¬ IsCapped history) × IsLongestWalk history k

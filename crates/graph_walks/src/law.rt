@@ -5,7 +5,7 @@ ghost use Rattle.std.specs.Prelude.{◌≡◌, ◌<◌, ◌≤◌, ◌-◌, ℕ,
 ghost use Rattle.graph_walks.specs.Counts.{greatest};
 ghost use Rattle.graph_walks.specs.History.{Node, generation_at, generations};
 ghost use Rattle.graph_walks.specs.Generations.{AreLocal};
-ghost use Rattle.graph_walks.specs.Walks.{Reaches, ReachesAbove, CountWalks, IsLongestWalk};
+ghost use Rattle.graph_walks.specs.Walks.{Reaches, IsProperAncestor, CountWalks, IsLongestWalk};
 
 use crate::GENERATION_NUMBER_MAX;
 
@@ -34,13 +34,13 @@ pub fn generations_never_rise_along_walks()
 
 /// Along a walk of two commits or more it falls, unless the walk ends at the cap.
 pub fn generations_fall_along_walks()
-    ensures { (history : List Node) (p q : ℕ) → CountWalks history → ReachesAbove history p q
+    ensures { (history : List Node) (p q : ℕ) → CountWalks history → IsProperAncestor history p q
         → generation_at history q < GENERATION_NUMBER_MAX → generation_at history q < generation_at history p }
 {}
 
 /// No commit with a generation number below the cap lies on a cycle.
 pub fn cycles_are_at_the_cap()
-    ensures { (history : List Node) (p : ℕ) → CountWalks history → ReachesAbove history p p
+    ensures { (history : List Node) (p : ℕ) → CountWalks history → IsProperAncestor history p p
         → generation_at history p ≡ GENERATION_NUMBER_MAX }
 {}
 

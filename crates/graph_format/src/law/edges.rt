@@ -11,7 +11,7 @@ use crate::parents::ParentError;
 /// the parents are the words up to it and it without that bit. Or none has it, and the parents are
 /// all of these words, after which comes `EdgeOverflow`. Where the index is at the list's end or
 /// past it, that error comes alone.
-#[tactic(auto, using(crate::proofs::Edges::edge_laws))]
+#[tactic(auto, using(crate::proofs::ExtraEdgeLemmas::edge_laws))]
 pub fn each_edge_list_ends_or_runs_out()
     ensures ends { (bytes : List ℕ) (k j : ℕ) → EndsAt (words bytes) k j → extra_parents bytes k ≡ up_to_last (words bytes) k j }
     ensures runs_out { (bytes : List ℕ) (k : ℕ) → RunsOut (words bytes) k → extra_parents bytes k ≡ all_from (words bytes) k }

@@ -20,10 +20,10 @@ fn id_from(bytes: &[u8], start: usize, kind: Kind) -> oid<'_>
     oid::try_from_bytes(&bytes[start..start + kind.len_in_bytes()]).unwrap()
 }
 
-#[tactic(auto, using(crate::proofs::Views::view_laws))]
+#[tactic(auto, using(crate::proofs::FileViewLemmas::view_laws))]
 impl File {
-    ghost use Rattle.graph_layer.specs.Left.{ids_left, base_ids_left, commits_left};
-    ghost use Rattle.graph_format.specs.Layer.{places_from};
+    ghost use Rattle.graph_layer.specs.Remaining.{ids_left, base_ids_left, commits_left};
+    ghost use Rattle.graph_format.specs.Layer.{positions_from};
 
     /// The number of layers below this one, on which it is based: byte 7 of the section "HEADER".
     pub fn base_graph_count(&self) -> u8
@@ -64,7 +64,7 @@ impl File {
     pub fn checksum(&self) -> oid<'_>
         ensures { oid_bytes result ≡ self.now.checksum }
     {
-        id_from(&self.bytes, self.layout.end, self.object_hash())
+        id_from(&self.bytes, self.layout.trailer_start, self.object_hash())
     }
 
     /// The id of the commit at a position below `num_commits()`: the section "OID Lookup".
@@ -102,7 +102,7 @@ impl File {
 
     /// The commits, in the order of their positions.
     pub fn iter_commits(&self) -> Commits<'_>
-        ensures { commits_left result ≡ places_from self.now 0 }
+        ensures { commits_left result ≡ positions_from self.now 0 }
     {
         Commits::new(self)
     }
@@ -146,7 +146,7 @@ impl File {
 
     /// The 64 bits that are a commit's generation number and its time.
     #[tactic(auto, unfolding(graph_format::specs::Format::record_of))]
-    pub(super) fn dates_at(&self, pos: Position) -> u64
+    pub(super) fn generation_and_time_at(&self, pos: Position) -> u64
         requires { pos.0 < length self.now.ids }
         ensures generation { (record_at self.now pos.0).generation ≡ result / 2 ^ 34 }
         ensures time { (record_at self.now pos.0).time ≡ result % 2 ^ 34 }
@@ -156,7 +156,7 @@ impl File {
 
     /// The two parent fields of a commit.
     #[tactic(auto, unfolding(graph_format::specs::Format::record_of))]
-    pub(super) fn edges_at(&self, pos: Position) -> (u32, u32)
+    pub(super) fn parent_fields_at(&self, pos: Position) -> (u32, u32)
         requires { pos.0 < length self.now.ids }
         ensures first { result.0 ≡ (record_at self.now pos.0).parent1 }
         ensures second { result.1 ≡ (record_at self.now pos.0).parent2 }
@@ -167,7 +167,7 @@ impl File {
     }
 
     /// The bytes of the extra edge list, where the file has one.
-    pub(super) fn edges(&self) -> Option<&[u8]>
+    pub(super) fn extra_edges(&self) -> Option<&[u8]>
         ensures { option_copied result ≡ self.now.edges }
     {
         match self.layout.places.edges {
@@ -187,7 +187,7 @@ pub struct Ids<'a> {
 }
 
 impl<'a> Ids<'a> {
-    ghost use Rattle.graph_layer.specs.Left.{ids_left};
+    ghost use Rattle.graph_layer.specs.Remaining.{ids_left};
 
     fn new(file: &'a File) -> Ids<'a>
         ensures { ids_left result ≡ file.now.ids }
@@ -199,7 +199,7 @@ impl<'a> Ids<'a> {
 impl<'a> Iterator for Ids<'a> {
     ghost use Rattle.std.specs.Iterator.{YieldsFirstBy, item_count, UpTo, at_most};
     ghost use Rattle.std.specs.Iterator.SizeHint.{IsWithinCount};
-    ghost use Rattle.graph_layer.specs.Left.{ids_left};
+    ghost use Rattle.graph_layer.specs.Remaining.{ids_left};
 
     type Item = oid<'a>;
 
@@ -207,7 +207,7 @@ impl<'a> Iterator for Ids<'a> {
 
     ghost remaining = { item_count ids_left };
 
-    #[tactic(auto, using(crate::proofs::Elements::element_laws))]
+    #[tactic(auto, using(crate::proofs::ElementLemmas::element_laws))]
     fn next(&mut self) -> Option<oid<'a>> {
         if self.next == self.file.num_commits() {
             return None;
@@ -237,7 +237,7 @@ pub struct BaseIds<'a> {
 }
 
 impl<'a> BaseIds<'a> {
-    ghost use Rattle.graph_layer.specs.Left.{base_ids_left};
+    ghost use Rattle.graph_layer.specs.Remaining.{base_ids_left};
 
     fn new(file: &'a File) -> BaseIds<'a>
         ensures { base_ids_left result ≡ file.now.bases }
@@ -249,7 +249,7 @@ impl<'a> BaseIds<'a> {
 impl<'a> Iterator for BaseIds<'a> {
     ghost use Rattle.std.specs.Iterator.{YieldsFirstBy, item_count, UpTo, at_most};
     ghost use Rattle.std.specs.Iterator.SizeHint.{IsWithinCount};
-    ghost use Rattle.graph_layer.specs.Left.{base_ids_left};
+    ghost use Rattle.graph_layer.specs.Remaining.{base_ids_left};
 
     type Item = oid<'a>;
 
@@ -257,7 +257,7 @@ impl<'a> Iterator for BaseIds<'a> {
 
     ghost remaining = { item_count base_ids_left };
 
-    #[tactic(auto, using(crate::proofs::Elements::element_laws))]
+    #[tactic(auto, using(crate::proofs::ElementLemmas::element_laws))]
     fn next(&mut self) -> Option<oid<'a>> {
         if self.next == self.file.base_graph_count() {
             return None;
@@ -287,11 +287,11 @@ pub struct Commits<'a> {
 }
 
 impl<'a> Commits<'a> {
-    ghost use Rattle.graph_layer.specs.Left.{commits_left};
-    ghost use Rattle.graph_format.specs.Layer.{places_from};
+    ghost use Rattle.graph_layer.specs.Remaining.{commits_left};
+    ghost use Rattle.graph_format.specs.Layer.{positions_from};
 
     fn new(file: &'a File) -> Commits<'a>
-        ensures { commits_left result ≡ places_from file.now 0 }
+        ensures { commits_left result ≡ positions_from file.now 0 }
     {
         Commits { file, next: 0 }
     }
@@ -300,16 +300,16 @@ impl<'a> Commits<'a> {
 impl<'a> Iterator for Commits<'a> {
     ghost use Rattle.std.specs.Iterator.{YieldsFirstBy, item_count, UpTo, at_most};
     ghost use Rattle.std.specs.Iterator.SizeHint.{IsWithinCount};
-    ghost use Rattle.graph_layer.specs.Commit.{commit_place};
-    ghost use Rattle.graph_layer.specs.Left.{commits_left};
+    ghost use Rattle.graph_layer.specs.Commit.{layer_and_position};
+    ghost use Rattle.graph_layer.specs.Remaining.{commits_left};
 
     type Item = Commit<'a>;
 
-    ghost next_gives = { YieldsFirstBy commit_place commits_left };
+    ghost next_gives = { YieldsFirstBy layer_and_position commits_left };
 
     ghost remaining = { item_count commits_left };
 
-    #[tactic(auto, using(crate::proofs::Elements::element_laws))]
+    #[tactic(auto, using(crate::proofs::ElementLemmas::element_laws))]
     fn next(&mut self) -> Option<Commit<'a>> {
         if self.next == self.file.num_commits() {
             return None;
@@ -319,7 +319,7 @@ impl<'a> Iterator for Commits<'a> {
         Some(commit)
     }
 
-    #[tactic(auto, using(crate::proofs::Elements::element_laws))]
+    #[tactic(auto, using(crate::proofs::ElementLemmas::element_laws))]
     fn size_hint(&self) -> (usize, Option<usize>)
         ensures exact { result ≡ (length (commits_left self.now), Some (length (commits_left self.now))) }
         ensures lower { IsWithinCount result.0 (item_count commits_left self.now) }

@@ -29,8 +29,8 @@ impl<'a> Commit<'a> {
     ghost use Rattle.gix_hash_core.specs.Oid.{oid_bytes};
     ghost use Rattle.graph_layer.specs.Commit.{commit_layer, commit_pos, commit_record, commit_parents};
     ghost use Rattle.graph_format.specs.Parents.{edge_of, items_of, first_of};
-    ghost use Rattle.graph_layer.specs.ParentsLeft.{parents_left, parents_hint, first_hint};
-    ghost use Rattle.graph_format.specs.Wrong.{commit_fault, is_out_of_order};
+    ghost use Rattle.graph_layer.specs.RemainingParents.{parents_left, parents_hint, first_hint};
+    ghost use Rattle.graph_format.specs.Faults.{commit_fault, is_out_of_order};
 
     pub(crate) fn new(file: &'a File, pos: file::Position) -> Commit<'a>
         requires { pos.0 < length file.now.ids }
@@ -66,7 +66,7 @@ impl<'a> Commit<'a> {
     pub fn generation(&self) -> u32
         ensures { result ≡ (commit_record self.now).generation }
     {
-        (self.file.dates_at(self.pos) >> TIME_BITS) as u32
+        (self.file.generation_and_time_at(self.pos) >> TIME_BITS) as u32
     }
 
     /// When the commit was made: the committer's time, in seconds since 1970-01-01 00:00:00 UTC, at
@@ -74,7 +74,7 @@ impl<'a> Commit<'a> {
     pub fn committer_timestamp(&self) -> u64
         ensures { result ≡ (commit_record self.now).time }
     {
-        self.file.dates_at(self.pos) % (1 << TIME_BITS)
+        self.file.generation_and_time_at(self.pos) % (1 << TIME_BITS)
     }
 
     /// The first parent, or `None` where the commit has none: the first item of `iter_parents`. An
@@ -140,7 +140,7 @@ impl<'a> Commit<'a> {
         ensures first { result.0 ≡ edge_of (commit_record self.now).parent1 }
         ensures second { result.1 ≡ edge_of (commit_record self.now).parent2 }
     {
-        let (first, second) = self.file.edges_at(self.pos);
+        let (first, second) = self.file.parent_fields_at(self.pos);
         (ParentEdge::from_raw(first), ParentEdge::from_raw(second))
     }
 }

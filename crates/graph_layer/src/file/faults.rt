@@ -4,8 +4,8 @@ ghost use Rattle.std.specs.Prelude.{◌≡◌, ◌==◌, ◌^◌, ◌<◌, ℕ, 
 ghost use Rattle.gix_chunk_core.specs.First.{first_below};
 ghost use Rattle.gix_hash_core.specs.Hexadecimal.{spells_id};
 ghost use Rattle.gix_hash_core.specs.Oid.{oid_bytes};
-ghost use Rattle.graph_format.specs.Names.{is_name, name_of, is_chain_name, hash_text, is_named_right};
-ghost use Rattle.graph_format.specs.Wrong.{wrong_fan, layer_fault};
+ghost use Rattle.graph_format.specs.NameRule.{is_name, name_of, is_chain_name, hash_text, is_named_right};
+ghost use Rattle.graph_format.specs.Faults.{wrong_fan, layer_fault};
 
 use crate::file::{File, Position};
 use gix_hash_core::{ObjectId, oid};

@@ -1,9 +1,9 @@
 //! Opening: whether bytes have the written format, and where its parts lie.
 
+mod chunks;
 mod fan;
 mod header;
 mod layout;
-mod places;
 
 ghost use Rattle.std.specs.Prelude.{◌≡◌, string_bytes, None, IfOk, MatchResult};
 ghost use Rattle.graph_format.specs.Layer.{IsLayer};
@@ -11,11 +11,11 @@ ghost use Rattle.graph_format.specs.Opened.{MayRefuse};
 ghost use Rattle.graph_format.specs.Refusal.{refusal};
 
 use crate::file::File;
+pub use chunks::{record_len, start_of};
 pub use fan::fan_at;
 use graph_format::error::FileError;
 pub use layout::Layout;
 use layout::layout_of;
-pub use places::{record_len, start_of};
 use std::alloc::Global;
 
 impl File {
@@ -25,7 +25,7 @@ impl File {
     /// permitting. Otherwise the error is the first of its kinds, in their order, whose rule the
     /// bytes break; it drops the bytes and the path. Memory is asked for only where the bytes break
     /// none of the rules, so damaged bytes are never answered with `OutOfMemory`.
-    #[tactic(auto, using(graph_format::proofs::Accepted::accepted_laws))]
+    #[tactic(auto, using(graph_format::proofs::AcceptedFileLemmas::accepted_laws))]
     pub fn new(_alloc: Global, bytes: Vec<u8>, path: String) -> Result<File, FileError>
         ensures layer { IfOk result (IsLayer bytes.items (string_bytes path)) }
         ensures refusal { MatchResult result (λ _. refusal bytes.items ≡ None) (MayRefuse bytes.items) }

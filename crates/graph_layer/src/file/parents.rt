@@ -35,7 +35,7 @@ pub struct Parents<'a> {
 
 impl<'a> Parents<'a> {
     ghost use Rattle.std.specs.Iterator.{YieldsFirst};
-    ghost use Rattle.graph_layer.specs.ParentsLeft.{parents_left, parents_hint, first_hint, hint_after};
+    ghost use Rattle.graph_layer.specs.RemainingParents.{parents_left, parents_hint, first_hint, hint_after};
 
     /// The parents that both fields of a commit of this file give.
     pub(crate) fn new(file: &'a File, first: ParentEdge, second: ParentEdge) -> Parents<'a>
@@ -68,7 +68,7 @@ impl<'a> Parents<'a> {
             }
             State::Second(ParentEdge::None) => None,
             State::Second(ParentEdge::GraphPosition(pos)) => Some(Ok(pos)),
-            State::Second(ParentEdge::ExtraEdgeIndex(index)) => match self.file.edges() {
+            State::Second(ParentEdge::ExtraEdgeIndex(index)) => match self.file.extra_edges() {
                 Some(edges) => Some(self.next_listed(edges, index as usize)),
                 None => Some(Err(ParentError::NoEdgeList)),
             },
@@ -78,7 +78,7 @@ impl<'a> Parents<'a> {
     }
 
     /// The parent that the word of this index in the extra edge list gives.
-    #[tactic(auto, using(crate::proofs::Listed::listed_laws))]
+    #[tactic(auto, using(crate::proofs::ListedParentLemmas::listed_laws))]
     fn next_listed(&mut self, edges: &'a [u8], index: usize) -> Result<Position, ParentError>
         ensures items { items_of (extra_parents edges.now index) ≡ result ∷ parents_left self.new }
         ensures hint { parents_hint self.new ≡ hint_after (1, None) (parents_left self.new) }
@@ -103,7 +103,7 @@ impl<'a> Parents<'a> {
 impl<'a> Iterator for Parents<'a> {
     ghost use Rattle.std.specs.Iterator.{item_count, UpTo};
     ghost use Rattle.std.specs.Iterator.SizeHint.{IsWithinCount};
-    ghost use Rattle.graph_layer.specs.ParentsLeft.{parents_left, parents_hint, GivesParent};
+    ghost use Rattle.graph_layer.specs.RemainingParents.{parents_left, parents_hint, GivesParent};
 
     type Item = Result<Position, ParentError>;
 
@@ -117,7 +117,7 @@ impl<'a> Iterator for Parents<'a> {
 
     /// Bounds on the number of items that are left. Both are exact, unless the second parent field
     /// is an index into the extra edge list: then, up to the last item, no upper one is known.
-    #[tactic(auto, using(crate::proofs::Listed::hint_laws))]
+    #[tactic(auto, using(crate::proofs::ListedParentLemmas::hint_laws))]
     fn size_hint(&self) -> (usize, Option<usize>)
         ensures table { result ≡ parents_hint self.now }
 

@@ -20,14 +20,14 @@ pub struct ChecksumMismatch;
 impl File {
     /// The digest of all bytes before the checksum, by the file's kind of hash, where it equals the
     /// checksum: the section "TRAILER". Where they differ, the error is `ChecksumMismatch`.
-    #[tactic(auto, using(crate::proofs::Checksums::checksum_laws))]
+    #[tactic(auto, using(crate::proofs::ChecksumLemmas::checksum_laws))]
     pub fn verify_checksum(&self) -> Result<ObjectId, ChecksumMismatch>
         ensures digest { IfOk result (λ id. id ≡ digest_of self.now.kind self.now.body) }
         ensures trailer { MatchResult result
             (λ _. self.now.checksum ≡ digest_of self.now.kind self.now.body)
             (λ _. self.now.checksum ≢ digest_of self.now.kind self.now.body) }
     {
-        let actual = digest(self.object_hash(), &self.bytes[..self.layout.end]);
+        let actual = digest(self.object_hash(), &self.bytes[..self.layout.trailer_start]);
         if actual.as_oid() == self.checksum() {
             Ok(actual)
         } else {
@@ -188,7 +188,7 @@ impl<'a> Commit<'a> {
     ghost use Rattle.graph_layer.specs.Called.{CalledOn, InLayer};
     ghost use Rattle.graph_layer.specs.Commit.{commit_layer, commit_pos, commit_parents};
     ghost use Rattle.graph_format.specs.Points.{Agrees};
-    ghost use Rattle.graph_layer.specs.Traverse.{commit_points, stop_of};
+    ghost use Rattle.graph_layer.specs.Traverse.{commit_points, cause_of};
 
     /// Checks the commit's ids, calls the processor on it, and decodes its parents. The answer is
     /// the number of its parents.
@@ -198,7 +198,7 @@ impl<'a> Commit<'a> {
         requires callable { (state : F) → TakesAt F.FnMut state self.now }
         requires few { length (commit_parents self.now).positions < 2 ^ 32 }
         ensures agrees { Agrees (CalledOn F.FnMut (InLayer (commit_layer self.now))) (commit_points (commit_layer self.now) (commit_pos self.now))
-            processor.old processor.new stop_of result }
+            processor.old processor.new cause_of result }
         ensures parents { IfOk result (λ parents. parents ≡ length (commit_parents self.now).positions) }
     {
         let pos = self.position();
@@ -218,7 +218,7 @@ impl<'a> Commit<'a> {
 impl File {
     ghost use Rattle.graph_layer.specs.Called.{MayBeCalled, CalledOn, InLayer};
     ghost use Rattle.graph_format.specs.Points.{Agrees};
-    ghost use Rattle.graph_layer.specs.Traverse.{layer_points, stop_of, FileStats};
+    ghost use Rattle.graph_layer.specs.Traverse.{layer_points, cause_of, FileStats};
 
     /// Checks the layer, and calls the processor on its commits, in the order of their positions.
     ///
@@ -244,7 +244,7 @@ impl File {
     where
         F: FnMut(&Commit<'a>) -> Result<(), E>,
         requires { MayBeCalled F.FnMut (InLayer self.now) }
-        ensures agrees { Agrees (CalledOn F.FnMut (InLayer self.now)) (layer_points self.now) processor.old processor.new stop_of result }
+        ensures agrees { Agrees (CalledOn F.FnMut (InLayer self.now)) (layer_points self.now) processor.old processor.new cause_of result }
         ensures outcome { IfOk result (FileStats self.now) }
     {
         if let Some(fault) = self.layer_fault() {

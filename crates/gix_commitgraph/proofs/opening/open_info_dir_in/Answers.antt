@@ -1,8 +1,8 @@
 use Rattle.std.proofs.Common.{◌≡◌, true, false, ◌∙◌, inr}
 use Rattle.gix_commitgraph.specs.OpenAlways.{IsFromInfo}
 use Rattle.graph_layer.specs.OpenAnswer.{is_settled}
-use Rattle.gix_commitgraph.proofs.InfoFolders.{info_opens-file, info_opens-chain}
-use Rattle.gix_commitgraph.proofs.Sources.{from_wider}
+use Rattle.gix_commitgraph.proofs.InfoOpeningLemmas.{info_opens-file, info_opens-chain}
+use Rattle.gix_commitgraph.proofs.OpenedPathLemmas.{from_wider}
 use Rattle.gix_commitgraph.proofs.opening.open_info_dir_in.Goals as goal
 
 pub returns-then-is_settled-clause-opens : goal.returns-then-is_settled-clause-opens

@@ -3,9 +3,9 @@ use Rattle.std.proofs.Common.{◌≡◌, ◌++◌, map}
 use Rattle.std.specs.String.{string_bytes}
 use Rattle.std.specs.List.{flat_map}
 use Rattle.gix_hash_core.specs.Oid.{oid_bytes}
-use Rattle.graph_layer.specs.Commit.{commit_place}
+use Rattle.graph_layer.specs.Commit.{layer_and_position}
 use Rattle.graph_commands.specs.Listing.{layer_line, base_line}
-use Rattle.graph_commands.specs.Places.{place_line}
+use Rattle.graph_commands.specs.PositionLines.{position_line}
 use Rattle.graph_commands.proofs.listing.listing.Given as goal
 
 abbrev pub invariant-loop-base : goal.invariant-loop-base
@@ -13,4 +13,4 @@ invariant-loop-base l = string_bytes l.text ≡ layer_line l.layer ++ flat_map b
 
 abbrev pub invariant-loop-commit : goal.invariant-loop-commit
 invariant-loop-commit l =
-    string_bytes l.text ≡ layer_line l.layer ++ (flat_map base_line l.layer.bases ++ flat_map place_line (map commit_place l.yielded))
+    string_bytes l.text ≡ layer_line l.layer ++ (flat_map base_line l.layer.bases ++ flat_map position_line (map layer_and_position l.yielded))

@@ -4,10 +4,10 @@ use Rattle.std.specs.List.{join_by}
 use Rattle.std.specs.String.{string_bytes}
 use Rattle.std.proofs.lemmas.List.{map-id}
 use Rattle.std.proofs.lemmas.Iterator.Consumers.{YieldsList-end}
-use Rattle.graph_layer.specs.ParentsLeft.{parents_left}
+use Rattle.graph_layer.specs.RemainingParents.{parents_left}
 use Rattle.graph_format.specs.declared.Position.{Position}
 use Rattle.graph_format.specs.declared.parents.ParentError.{ParentError}
-use Rattle.graph_layer.proofs.ParentItems.{parents-yield}
+use Rattle.graph_layer.proofs.ParentItemLemmas.{parents-yield}
 use Rattle.graph_commands.specs.Listing.{item_text, parents_text}
 use Rattle.graph_commands.proofs.listing.push_parents.Goals as goal
 

@@ -1,4 +1,4 @@
-use Rattle.graph_layer.proofs.LayerCalls.{calls-layer}
+use Rattle.graph_layer.proofs.LayerCallLemmas.{calls-layer}
 use Rattle.graph_layer.proofs.law.a_check_of_a_layer_calls_on_each_position_once.Goals as goal
 
 pub returns : goal.returns

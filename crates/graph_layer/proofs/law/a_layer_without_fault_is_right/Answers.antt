@@ -1,4 +1,4 @@
-use Rattle.graph_layer.proofs.LayerLaws.{layer_points-iff}
+use Rattle.graph_layer.proofs.LayerFaultFreeLemmas.{layer_points-iff}
 use Rattle.graph_layer.proofs.law.a_layer_without_fault_is_right.Goals as goal
 
 pub returns : goal.returns

@@ -1,7 +1,7 @@
 use Rattle.std.proofs.Common.{◌≡◌, rules}
 use Rattle.graph_layer.specs.OpenAnswer.{result_map_err}
 use Rattle.graph_layer.specs.OpenRefusals.{layer_refused}
-use Rattle.graph_layer.proofs.Opens.{layer_opens}
+use Rattle.graph_layer.proofs.LayerOpeningLemmas.{layer_opens}
 use Rattle.graph_layer.proofs.opening.new_layer.Goals as goal
 
 pub returns-clause-opens : goal.returns-clause-opens

@@ -1,18 +1,18 @@
 //! The fan of a file: for each first byte how many ids begin with it or a lesser one.
 
 ghost use Rattle.std.specs.Prelude.{◌≡◌, ◌+◌, ◌*◌, ◌<◌, ◌≤◌, length, slice_index, Some, None};
-ghost use Rattle.graph_format.specs.Faults.{Reports};
+ghost use Rattle.graph_format.specs.Reports.{Reports};
 ghost use Rattle.graph_format.specs.Format.{fan_of, fan_id};
 ghost use Rattle.graph_format.specs.Refusal.{falling_refusal};
-ghost use Rattle.graph_layer.specs.Places.{IsAt};
+ghost use Rattle.graph_layer.specs.ChunkRanges.{IsAt};
 
-use crate::file::init::places::Place;
+use crate::file::init::chunks::ChunkRange;
 use crate::numbers::word_at;
 use graph_format::error::FileError;
 
 /// The number at a place of the fan.
 #[tactic(auto, using(crate::proofs::FanLemmas::fan_laws))]
-pub fn fan_at(bytes: &[u8], fan: Place, i: usize) -> u32
+pub fn fan_at(bytes: &[u8], fan: ChunkRange, i: usize) -> u32
     requires place { IsAt bytes.now fan_id fan }
     requires size { fan.end ≡ fan.start + 1024 }
     requires within { i < 256 }
@@ -23,7 +23,7 @@ pub fn fan_at(bytes: &[u8], fan: Place, i: usize) -> u32
 
 /// Refuses a fan that falls.
 #[tactic(auto, using(crate::proofs::FanLemmas::first_laws), unfolding(graph_format::specs::Refusal::falling_refusal))]
-pub fn check_rising(bytes: &[u8], fan: Place) -> Result<(), FileError>
+pub fn check_rising(bytes: &[u8], fan: ChunkRange) -> Result<(), FileError>
     requires place { IsAt bytes.now fan_id fan }
     requires size { fan.end ≡ fan.start + 1024 }
     ensures { Reports result (falling_refusal (fan_of bytes.now)) }

@@ -2,9 +2,9 @@
 
 ghost use Rattle.std.specs.Prelude.{◌≡◌, ◌≤◌, length, slice_index, Some, OnOk, IfOk};
 ghost use Rattle.gix_hash_core.specs.Kind.{kind_of};
-ghost use Rattle.graph_format.specs.Faults.{Reports};
+ghost use Rattle.graph_format.specs.Reports.{Reports};
 ghost use Rattle.graph_format.specs.Format.{least_size, kind_in};
-ghost use Rattle.graph_format.specs.Checks.{header_refusal};
+ghost use Rattle.graph_format.specs.RefusalSteps.{header_refusal};
 
 use gix_hash_core::Kind;
 use graph_format::error::FileError;
@@ -19,7 +19,7 @@ const SIGNATURE: [u8; 4] = *b"CGPH";
 const MIN_FILE_SIZE: usize = HEADER_LEN + 4 * 12 + 256 * 4 + 20;
 
 /// The kind of a file's ids, where its header is right.
-#[tactic(auto, unfolding(graph_format::specs::Checks::header_refusal, graph_format::specs::Format::kind_in))]
+#[tactic(auto, unfolding(graph_format::specs::RefusalSteps::header_refusal, graph_format::specs::Format::kind_in))]
 pub fn kind_of_file(bytes: &[u8]) -> Result<Kind, FileError>
     ensures refusal { Reports result (header_refusal bytes.now) }
     ensures size { OnOk result (least_size ≤ length bytes.now) }

@@ -3,15 +3,15 @@
 ghost use Rattle.std.specs.Prelude.{◌≡◌, ◌+◌, ◌*◌, ◌<◌, ◌≤◌, length, slice_index, Some, None, IfOk};
 ghost use Rattle.gix_hash_core.specs.Kind.{id_len, kind_of};
 ghost use Rattle.gix_chunk_core.specs.Table.{Chunks};
-ghost use Rattle.graph_format.specs.Faults.{Reports};
+ghost use Rattle.graph_format.specs.Reports.{Reports};
 ghost use Rattle.graph_format.specs.Format.{table_of, fan_of, commits_of};
-ghost use Rattle.graph_format.specs.Checks.{counts_refusal, trailer_refusal, checked};
-ghost use Rattle.graph_layer.specs.Places.{ArePlaces};
+ghost use Rattle.graph_format.specs.RefusalSteps.{counts_refusal, trailer_refusal, checked};
+ghost use Rattle.graph_layer.specs.ChunkRanges.{AreChunkRanges};
 ghost use Rattle.graph_layer.specs.Layout.{IsLayout};
 
+use crate::file::init::chunks::{ChunkRanges, chunk_ranges, record_len};
 use crate::file::init::fan::{check_rising, fan_at};
 use crate::file::init::header::{HEADER_LEN, kind_of_file};
-use crate::file::init::places::{Places, places_of, record_len};
 use gix_chunk_core::Index;
 use gix_hash_core::Kind;
 use graph_format::error::FileError;
@@ -22,17 +22,22 @@ pub struct Layout {
     pub kind: Kind,
     pub commits: u32,
     pub base_count: u8,
-    pub places: Places,
+    pub places: ChunkRanges,
     /// Where the checksum begins.
-    pub end: usize,
+    pub trailer_start: usize,
 }
 
 /// Refuses bytes that end with no checksum, or lack the base ids.
-#[tactic(auto, using(crate::proofs::Counts::count_laws), unfolding(graph_format::specs::Checks::trailer_refusal))]
-fn check_trailer(bytes: &[u8], end: usize, kind: Kind, places: &Places) -> Result<(), FileError>
+#[tactic(auto, using(crate::proofs::ChunkSizeLemmas::count_laws), unfolding(graph_format::specs::RefusalSteps::trailer_refusal))]
+fn check_trailer(
+    bytes: &[u8],
+    end: usize,
+    kind: Kind,
+    places: &ChunkRanges,
+) -> Result<(), FileError>
     requires ends { end ≡ (table_of bytes.now).end }
     requires in_file { end ≤ length bytes.now }
-    requires places { ArePlaces bytes.now places.now }
+    requires places { AreChunkRanges bytes.now places.now }
     ensures { Reports result (trailer_refusal kind bytes.now) }
 {
     if bytes.len() - end != kind.len_in_bytes() {
@@ -45,10 +50,15 @@ fn check_trailer(bytes: &[u8], end: usize, kind: Kind, places: &Places) -> Resul
 }
 
 /// Refuses bytes that have another number of ids or records than the fan counts.
-#[tactic(auto, using(crate::proofs::Counts::count_laws), unfolding(graph_format::specs::Checks::counts_refusal))]
-fn check_counts(bytes: &[u8], commits: u32, kind: Kind, places: &Places) -> Result<(), FileError>
+#[tactic(auto, using(crate::proofs::ChunkSizeLemmas::count_laws), unfolding(graph_format::specs::RefusalSteps::counts_refusal))]
+fn check_counts(
+    bytes: &[u8],
+    commits: u32,
+    kind: Kind,
+    places: &ChunkRanges,
+) -> Result<(), FileError>
     requires commits { commits ≡ commits_of (fan_of bytes.now) }
-    requires places { ArePlaces bytes.now places.now }
+    requires places { AreChunkRanges bytes.now places.now }
     ensures { Reports result (counts_refusal kind bytes.now) }
 {
     if places.ids.size() / kind.len_in_bytes() != commits as usize {
@@ -61,7 +71,7 @@ fn check_counts(bytes: &[u8], commits: u32, kind: Kind, places: &Places) -> Resu
 }
 
 /// The layout of the bytes, or why they are refused.
-#[tactic(auto, using(crate::proofs::Counts::layout_laws), unfolding(graph_format::specs::Checks::checked))]
+#[tactic(auto, using(crate::proofs::ChunkSizeLemmas::layout_laws), unfolding(graph_format::specs::RefusalSteps::checked))]
 pub fn layout_of(bytes: &[u8]) -> Result<Layout, FileError>
     ensures refusal { Reports result (checked bytes.now) }
     ensures layout { IfOk result (IsLayout bytes.now) }
@@ -71,7 +81,7 @@ pub fn layout_of(bytes: &[u8]) -> Result<Layout, FileError>
         Ok(index) => index,
         Err(fault) => return Err(FileError::Chunks(fault)),
     };
-    let places = places_of(bytes, &index, kind)?;
+    let places = chunk_ranges(bytes, &index, kind)?;
     let end = index.highest_offset();
     check_trailer(bytes, end, kind, &places)?;
     check_rising(bytes, places.fan)?;
@@ -82,6 +92,6 @@ pub fn layout_of(bytes: &[u8]) -> Result<Layout, FileError>
         commits,
         base_count: bytes[7],
         places,
-        end,
+        trailer_start: end,
     })
 }

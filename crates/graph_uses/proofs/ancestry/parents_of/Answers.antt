@@ -2,11 +2,11 @@
 use Rattle.std.proofs.Common.{◌∷◌, ◌<◌, All, List, ap, map, subst, sym, ◌∙◌}
 use Rattle.std.specs.Result.{IsOk}
 use Rattle.std.proofs.lemmas.List.Elements.{All-head, All-tail}
-use Rattle.graph_layer.specs.Commit.{commit_layer, commit_parents, commit_place, commit_pos}
+use Rattle.graph_layer.specs.Commit.{commit_layer, commit_parents, layer_and_position, commit_pos}
 use Rattle.gix_commitgraph.specs.Graph.{total}
-use Rattle.graph_layer.specs.ParentsLeft.{parents_left}
+use Rattle.graph_layer.specs.RemainingParents.{parents_left}
 use Rattle.graph_format.specs.declared.Position.{Position}
-use Rattle.gix_commitgraph.proofs.Histories.{parents-at}
+use Rattle.gix_commitgraph.proofs.GraphHistoryLemmas.{parents-at}
 use Rattle.graph_uses.proofs.AllGiven.{all-ok, all-taken, before, before-push}
 use Rattle.graph_uses.proofs.KnownParents.{known-there}
 use Rattle.graph_uses.proofs.ancestry.parents_of.Goals as goal
@@ -14,7 +14,7 @@ use Rattle.graph_uses.proofs.ancestry.parents_of.Goals as goal
 pub loop-parent-init : goal.loop-parent-init
 loop-parent-init c =
     let parents = commit_parents c.commit_at.result in
-    let there = known-there c.args.graph.now c.args.pos.0 (commit_place c.commit_at.result) c.num_commits.ensures.graph.opened c.requires.sound c.requires.within c.commit_at.ensures in
+    let there = known-there c.args.graph.now c.args.pos.0 (layer_and_position c.commit_at.result) c.num_commits.ensures.graph.opened c.requires.sound c.requires.within c.commit_at.ensures in
     let same = ap parents_left c.into_iter-parent-iterator.ensures.into_iter_gives ∙ c.iter_parents-parent-items.ensures.items in
     record {
       items = ap (λ (taken : List Position). before taken (parents_left c.into_iter-parent-iterator.result)) c.new-parents.ensures.items;
@@ -42,7 +42,7 @@ returns-clause-parents c =
     let commit = c.commit_at.result in
     let layers = c.args.graph.now in
     let opened = c.num_commits.ensures.graph.opened in
-    let there = known-there layers c.args.pos.0 (commit_place commit) opened c.requires.sound c.requires.within c.commit_at.ensures in
+    let there = known-there layers c.args.pos.0 (layer_and_position commit) opened c.requires.sound c.requires.within c.commit_at.ensures in
     let same = ap parents_left c.into_iter-parent-iterator.ensures.into_iter_gives ∙ c.iter_parents-parent-items.ensures.items in
     ap (map (λ (pos : Position). pos.0)) (all-taken (commit_parents commit) c.loop-parent.parents.items (parents_left c.loop-parent.parent-iterator) there.no_fault c.in-None.ensures.steps.steps.0 (c.loop-parent.invariant.items ∙ same))
     ∙ sym (parents-at layers c.args.pos.0 (commit_pos commit) (commit_layer commit) opened c.commit_at.ensures)
@@ -51,7 +51,7 @@ pub returns-clause-within : goal.returns-clause-within
 returns-clause-within c =
     let commit = c.commit_at.result in
     let layers = c.args.graph.now in
-    let there = known-there layers c.args.pos.0 (commit_place commit) c.num_commits.ensures.graph.opened c.requires.sound c.requires.within c.commit_at.ensures in
+    let there = known-there layers c.args.pos.0 (layer_and_position commit) c.num_commits.ensures.graph.opened c.requires.sound c.requires.within c.commit_at.ensures in
     let same = ap parents_left c.into_iter-parent-iterator.ensures.into_iter_gives ∙ c.iter_parents-parent-items.ensures.items in
     subst (All (λ (pos : Position). pos.0 < total layers))
     (sym (all-taken (commit_parents commit) c.loop-parent.parents.items (parents_left c.loop-parent.parent-iterator) there.no_fault c.in-None.ensures.steps.steps.0 (c.loop-parent.invariant.items ∙ same)))

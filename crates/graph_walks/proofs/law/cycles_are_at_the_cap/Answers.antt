@@ -1,4 +1,4 @@
-use Rattle.graph_walks.proofs.WalkLaws.{cycle_at_cap}
+use Rattle.graph_walks.proofs.WalkLemmas.{cycle_at_cap}
 use Rattle.graph_walks.proofs.law.cycles_are_at_the_cap.Goals as goal
 
 pub returns : goal.returns

@@ -2,9 +2,9 @@ use Rattle.std.proofs.Common.{◌≡◌, [], length, map, fold, max, sym, ap, �
 use Rattle.graph_walks.specs.Counts.{greatest}
 use Rattle.graph_walks.specs.History.{generation_at}
 use Rattle.graph_format.specs.StoredHistory.{history_of}
-use Rattle.graph_layer.specs.ParentsLeft.{parents_left}
-use Rattle.graph_layer.proofs.ParentItems.{numbers_of, numbers-taken}
-use Rattle.gix_commitgraph.proofs.Spans.{span-commit, numbers-in_graph, numbers-few}
+use Rattle.graph_layer.specs.RemainingParents.{parents_left}
+use Rattle.graph_layer.proofs.ParentItemLemmas.{numbers_of, numbers-taken}
+use Rattle.gix_commitgraph.proofs.LayerSpanLemmas.{span-commit, numbers-in_graph, numbers-few}
 use Rattle.gix_commitgraph.proofs.graph.Graph.check_parents.Goals as goal
 
 pub overflow_add-count : goal.overflow_add-count

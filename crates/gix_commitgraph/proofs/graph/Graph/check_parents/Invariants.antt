@@ -4,10 +4,10 @@ use Rattle.graph_walks.specs.Counts.{greatest}
 use Rattle.graph_walks.specs.History.{generation_at}
 use Rattle.graph_format.specs.StoredHistory.{history_of}
 use Rattle.graph_format.specs.Parents.{items_of}
-use Rattle.graph_layer.specs.ParentsLeft.{parents_left}
+use Rattle.graph_layer.specs.RemainingParents.{parents_left}
 use Rattle.graph_format.specs.Points.{first_some}
 use Rattle.gix_commitgraph.specs.Verify.{item_refusal}
-use Rattle.graph_layer.proofs.ParentItems.{numbers_of}
+use Rattle.graph_layer.proofs.ParentItemLemmas.{numbers_of}
 use Rattle.gix_commitgraph.proofs.graph.Graph.check_parents.Given as goal
 
 -- The first refusal, the number of parents and their greatest generation number are those that the items left bring about.

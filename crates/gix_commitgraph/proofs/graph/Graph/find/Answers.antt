@@ -2,8 +2,8 @@ use Rattle.std.proofs.Common.{◌≡◌, ◌<◌, Some, length, slice_get, refl,
 use Rattle.std.proofs.lemmas.Option.{slice_get_read, slice_get_within}
 use Rattle.gix_hash_core.specs.Oid.{oid_bytes}
 use Rattle.gix_commitgraph.specs.Graph.{IsGraph}
-use Rattle.gix_commitgraph.proofs.Layers.{start-none, start-more, counted-fits, graph_commits-counted, graph_ids-counted}
-use Rattle.gix_commitgraph.proofs.GraphLookups.{missed-none, missed-more, found_in-counted, found_in-none}
+use Rattle.gix_commitgraph.proofs.LayerListLemmas.{start-none, start-more, counted-fits, graph_commits-counted, graph_ids-counted}
+use Rattle.gix_commitgraph.proofs.GraphLookupLemmas.{missed-none, missed-more, found_in-counted, found_in-none}
 use Rattle.gix_commitgraph.proofs.graph.Graph.find.Goals as goal
 
 pub loop-file-init : goal.loop-file-init

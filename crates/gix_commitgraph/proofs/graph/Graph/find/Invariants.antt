@@ -1,7 +1,7 @@
 use Rattle.std.proofs.Common.{◌≡◌}
 use Rattle.gix_hash_core.specs.Oid.{oid_bytes}
 use Rattle.gix_commitgraph.specs.Graph.{start}
-use Rattle.gix_commitgraph.proofs.GraphLookups.{IsMissed}
+use Rattle.gix_commitgraph.proofs.GraphLookupLemmas.{IsMissed}
 use Rattle.gix_commitgraph.proofs.graph.Graph.find.Given as goal
 
 abbrev pub invariant-loop-file : goal.invariant-loop-file

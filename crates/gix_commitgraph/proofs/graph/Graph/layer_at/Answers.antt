@@ -1,7 +1,7 @@
 use Rattle.std.proofs.Common.{◌≡◌, Some, length, slice_get, refl, sym, ap, ◌∙◌, arith}
 use Rattle.std.proofs.lemmas.Option.{slice_get_read}
 use Rattle.gix_commitgraph.specs.Graph.{graph_ids, graph_commits}
-use Rattle.gix_commitgraph.proofs.Layers.{start-none, start-more, start-all, graph_ids-at, graph_commits-at}
+use Rattle.gix_commitgraph.proofs.LayerListLemmas.{start-none, start-more, start-all, graph_ids-at, graph_commits-at}
 use Rattle.gix_commitgraph.proofs.graph.Graph.layer_at.Goals as goal
 
 pub loop-file-init : goal.loop-file-init

@@ -1,4 +1,4 @@
-use Rattle.gix_commitgraph.proofs.Layers.{graph-accepted}
+use Rattle.gix_commitgraph.proofs.LayerListLemmas.{graph-accepted}
 use Rattle.gix_commitgraph.proofs.graph.Graph.new.Goals as goal
 
 pub invariant_of-result : goal.invariant_of-result

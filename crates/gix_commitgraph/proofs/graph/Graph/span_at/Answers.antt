@@ -1,7 +1,7 @@
 use Rattle.std.proofs.Common.{◌≡◌, ◌<◌, Some, length, slice_get, refl, sym, ap, subst, ◌∙◌, arith}
 use Rattle.std.proofs.lemmas.Option.{slice_get_read}
 use Rattle.gix_commitgraph.specs.Graph.{IsGraph}
-use Rattle.gix_commitgraph.proofs.Layers.{start-more, counted-fits}
+use Rattle.gix_commitgraph.proofs.LayerListLemmas.{start-more, counted-fits}
 use Rattle.gix_commitgraph.proofs.graph.Graph.span_at.Goals as goal
 
 -- the layer is the one of this number

@@ -1,8 +1,8 @@
 use Rattle.std.proofs.Common.{refl, ◌∙◌}
 use Rattle.std.proofs.lemmas.Result.{err_from_is_err_and}
 use Rattle.graph_format.specs.StoredHistory.{history_of}
-use Rattle.gix_commitgraph.proofs.Spans.{span-commit, generation-in_graph}
-use Rattle.gix_commitgraph.proofs.CommitChecks.{refused_by_parents, refused_by_generation, stopped_by_processor, commit_passed, wrong_generation, right_generation, expected-is}
+use Rattle.gix_commitgraph.proofs.LayerSpanLemmas.{span-commit, generation-in_graph}
+use Rattle.gix_commitgraph.proofs.CommitCheckLemmas.{refused_by_parents, refused_by_generation, stopped_by_processor, commit_passed, wrong_generation, right_generation, expected-is}
 use Rattle.gix_commitgraph.proofs.graph.Graph.verify_commit.Goals as goal
 
 pub returns-in_err-parents-clause-agrees : goal.returns-in_err-parents-clause-agrees

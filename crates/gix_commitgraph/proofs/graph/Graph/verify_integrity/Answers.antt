@@ -1,4 +1,4 @@
-use Rattle.gix_commitgraph.proofs.Headline.{judged, right_stats, right_lookups}
+use Rattle.gix_commitgraph.proofs.HeadlineLemmas.{judged, right_stats, right_lookups}
 use Rattle.gix_commitgraph.proofs.graph.Graph.verify_integrity.Goals as goal
 
 pub returns-clause-sound : goal.returns-clause-sound

@@ -1,14 +1,14 @@
 use Rattle.std.proofs.Common.{◌≡◌, ◌+◌, [], ◌∷◌, ◌++◌, length, take, refl, sym, ap, ◌∙◌, arith, rules, add-zero}
 use Rattle.std.proofs.lemmas.List.{length_push}
 use Rattle.std.proofs.lemmas.Result.{err_from_is_err_and}
-use Rattle.graph_layer.specs.Commit.{commit_place}
+use Rattle.graph_layer.specs.Commit.{layer_and_position}
 use Rattle.graph_format.specs.StoredHistory.{history_of}
-use Rattle.graph_layer.specs.Left.{commits_left}
-use Rattle.graph_format.specs.Layer.{places_from}
-use Rattle.graph_format.proofs.Points.{ran_out}
-use Rattle.gix_commitgraph.proofs.Histories.{node_at}
-use Rattle.gix_commitgraph.proofs.Spans.{span-commit, span-stop, take-next, take-fits, parents-told}
-use Rattle.gix_commitgraph.proofs.LayerChecks.{turn, place-none, refused_by_bases, reached_first, stops_at_commit, reached_next, layer_passed}
+use Rattle.graph_layer.specs.Remaining.{commits_left}
+use Rattle.graph_format.specs.Layer.{positions_from}
+use Rattle.graph_format.proofs.PointLemmas.{ran_out}
+use Rattle.gix_commitgraph.proofs.GraphHistoryLemmas.{node_at}
+use Rattle.gix_commitgraph.proofs.LayerSpanLemmas.{span-commit, span-stop, take-next, take-fits, parents-told}
+use Rattle.gix_commitgraph.proofs.LayerCheckLemmas.{turn, place-none, refused_by_bases, reached_first, stops_at_commit, reached_next, layer_passed}
 use Rattle.gix_commitgraph.proofs.graph.Graph.verify_layer.Goals as goal
 
 pub returns-in_err-check_bases-clause-agrees : goal.returns-in_err-check_bases-clause-agrees
@@ -60,11 +60,11 @@ loop-commit-preserved g c =
     let more : length (c.loop-commit.yielded ++ c.in-Some-commit.commit ∷ []) ≡ length c.loop-commit.yielded + 1 = length_push c.loop-commit.yielded c.in-Some-commit.commit in
     let stands = span-commit c.args.self.now c.args.span c.in-Some-commit.commit _ c.requires.span this.in_span in
     let next = reached_next g.F.FnMut c.args.self.now c.args.span _ (length c.loop-commit.yielded) c.in-Some-commit.commit this.pos this.below _ _ c.loop-commit.invariant.reached c.in_ok-parents.ensures.agrees in
-    let added = c.in_ok-add.ensures _ (node_at (commit_place c.in-Some-commit.commit)) c.loop-commit.invariant.tally c.generation.ensures
+    let added = c.in_ok-add.ensures _ (node_at (layer_and_position c.in-Some-commit.commit)) c.loop-commit.invariant.tally c.generation.ensures
     (parents-told c.args.self.now c.args.span c.in-Some-commit.commit _ _ c.requires.span stands c.in_ok-parents.ensures.parents) in
     let seen = take-next c.args.self.now c.args.span c.in-Some-commit.commit (length c.loop-commit.yielded) _ _ c.requires.span stands (omega (arith, c.position.ensures.value, this.pos)) more in
     record {
-      left = this.left ∙ ap (places_from c.args.span.file.now) (sym more);
+      left = this.left ∙ ap (positions_from c.args.span.file.now) (sym more);
       within = omega (arith, more, this.below);
       reached = rw more next;
       tally = rw seen added;

@@ -2,9 +2,9 @@ use Rattle.std.proofs.Common.{◌≡◌, ◌≤◌, ℕ, length, take, sym, ap, 
 use Rattle.std.proofs.lemmas.Result.{err_from_is_err_and}
 use Rattle.gix_commitgraph.specs.Graph.{stop, IsGraph}
 use Rattle.graph_format.specs.StoredHistory.{history_of}
-use Rattle.gix_commitgraph.proofs.Histories.{take-all}
-use Rattle.gix_commitgraph.proofs.Layers.{start-none}
-use Rattle.gix_commitgraph.proofs.GraphChecks.{reached_layers, stops_in_layer, reached_next_layer, graph_passed}
+use Rattle.gix_commitgraph.proofs.GraphHistoryLemmas.{take-all}
+use Rattle.gix_commitgraph.proofs.LayerListLemmas.{start-none}
+use Rattle.gix_commitgraph.proofs.GraphCheckLemmas.{reached_layers, stops_in_layer, reached_next_layer, graph_passed}
 use Rattle.gix_commitgraph.proofs.graph.Graph.verify_layers.Goals as goal
 
 pub loop-layer-init : goal.loop-layer-init

@@ -1,7 +1,7 @@
 use Rattle.std.proofs.Common.{rules, ◌≡◌, ◌+◌, ◌∷◌, ◌∙◌, arith, vec_len}
 use Rattle.std.proofs.lemmas.Grind.{common_steps}
-use Rattle.gix_commitgraph.proofs.Chains.{layers_with-next}
-use Rattle.gix_commitgraph.proofs.Sources.{from-pushed}
+use Rattle.gix_commitgraph.proofs.ChainOpeningLemmas.{layers_with-next}
+use Rattle.gix_commitgraph.proofs.OpenedPathLemmas.{from-pushed}
 use Rattle.gix_commitgraph.proofs.opening.chain.open_layers.Goals as goal
 
 pub loop-line-preserved : goal.loop-line-preserved

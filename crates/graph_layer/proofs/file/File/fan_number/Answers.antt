@@ -1,5 +1,5 @@
 use Rattle.std.proofs.Common.{◌∙◌, arith}
-use Rattle.graph_layer.proofs.Buckets.{view-fan, view-fan-below, view-fan-rises}
+use Rattle.graph_layer.proofs.BucketLemmas.{view-fan, view-fan-below, view-fan-rises}
 use Rattle.graph_layer.proofs.file.File.fan_number.Goals as goal
 
 pub returns-clause-number : goal.returns-clause-number

@@ -1,6 +1,6 @@
 use Rattle.std.proofs.Common.{◌∙◌, ℕ, ◌<◌, length, length-set, ap, arith}
 use Rattle.std.proofs.lemmas.List.{length-replicate, get_or-replicate, take_all}
-use Rattle.graph_layer.proofs.FirstBytes.{ids_with, counted-more}
+use Rattle.graph_layer.proofs.FirstByteLemmas.{ids_with, counted-more}
 use Rattle.graph_layer.proofs.file.File.first_bytes.Goals as goal
 
 pub loop-pos-init : goal.loop-pos-init

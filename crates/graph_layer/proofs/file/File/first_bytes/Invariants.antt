@@ -1,5 +1,5 @@
 use Rattle.std.proofs.Common.{◌≡◌, ℕ, ◌<◌, take, length, slice_index}
-use Rattle.graph_layer.proofs.FirstBytes.{ids_with}
+use Rattle.graph_layer.proofs.FirstByteLemmas.{ids_with}
 use Rattle.graph_layer.proofs.file.File.first_bytes.Given as goal
 
 -- how many of the ids so far have each first byte

@@ -1,8 +1,8 @@
 use Rattle.std.proofs.Common.{◌∙◌, sym, ap, true, Option, List, ℕ, Bor}
 use Rattle.std.specs.Option.{option_map_or}
 use Rattle.gix_hash_core.specs.Hexadecimal.{spells_id}
-use Rattle.graph_format.specs.Names.{name_of}
-use Rattle.graph_layer.proofs.NameSteps.{named-right}
+use Rattle.graph_format.specs.NameRule.{name_of}
+use Rattle.graph_layer.proofs.NameTestLemmas.{named-right}
 use Rattle.graph_layer.proofs.file.File.is_named_right.Goals as goal
 
 pub returns-in-Some : goal.returns-in-Some

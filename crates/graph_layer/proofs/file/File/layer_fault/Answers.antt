@@ -5,8 +5,8 @@ use Rattle.std.proofs.lemmas.Slice.Eq.{bytes_eq-Decides}
 use Rattle.gix_chunk_core.specs.First.{first_below}
 use Rattle.gix_hash_core.specs.Digest.{digest_of}
 use Rattle.graph_format.specs.Layer.{Layer}
-use Rattle.graph_format.specs.Names.{is_named_right}
-use Rattle.graph_format.specs.Wrong.{wrong_fan, layer_fault}
+use Rattle.graph_format.specs.NameRule.{is_named_right}
+use Rattle.graph_format.specs.Faults.{wrong_fan, layer_fault}
 use Rattle.graph_format.specs.declared.fault.LayerFault.TheVariants.{Checksum, FileName, Fan}
 use Rattle.graph_layer.proofs.file.File.layer_fault.Goals as goal
 

@@ -1,10 +1,10 @@
 use Rattle.std.proofs.Common.{◌+◌, ◌-◌, ◌/◌, ◌^◌, ◌<◌, slice_index, sym, ap, ◌∙◌, arith}
 use Rattle.gix_hash_core.specs.Kind.{id_len}
 use Rattle.graph_format.specs.Lookup.{bucket_size}
-use Rattle.graph_layer.proofs.Buckets.{view-other_len}
-use Rattle.graph_format.proofs.Digits.{digits-enough, digits-lower}
-use Rattle.graph_layer.proofs.Searches.{stands_within-bucket, stands_within-lower, stands_within-upper, found-equal, found-none, found-other_len}
-use Rattle.graph_layer.proofs.Views.{view-kind}
+use Rattle.graph_layer.proofs.BucketLemmas.{view-other_len}
+use Rattle.graph_format.proofs.DigitLemmas.{digits-enough, digits-lower}
+use Rattle.graph_layer.proofs.SearchLemmas.{stands_within-bucket, stands_within-lower, stands_within-upper, found-equal, found-none, found-other_len}
+use Rattle.graph_layer.proofs.FileViewLemmas.{view-kind}
 use Rattle.graph_layer.proofs.file.File.lookup_counted.Goals as goal
 
 pub returns-then-wanted-size-clause-found : goal.returns-then-wanted-size-clause-found

@@ -1,5 +1,5 @@
 use Rattle.std.proofs.lemmas.Result.{err_from_is_err_and}
-use Rattle.graph_format.proofs.Grouped.{MayRefuse-checked}
+use Rattle.graph_format.proofs.RefusalStepLemmas.{MayRefuse-checked}
 use Rattle.graph_layer.proofs.file.File.new.Goals as goal
 
 pub returns-in_err-layout-clause-refusal : goal.returns-in_err-layout-clause-refusal

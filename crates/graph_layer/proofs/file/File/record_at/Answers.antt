@@ -1,4 +1,4 @@
-use Rattle.graph_layer.proofs.Views.{view-record_at}
+use Rattle.graph_layer.proofs.FileViewLemmas.{view-record_at}
 use Rattle.graph_layer.proofs.file.File.record_at.Goals as goal
 
 pub returns-clause-record : goal.returns-clause-record

@@ -2,9 +2,9 @@ use Rattle.std.proofs.Common.{◌≡◌, refl, ◌+◌, ◌<◌, length, take, a
 use Rattle.std.proofs.lemmas.Result.{err_from_is_err_and}
 use Rattle.graph_format.specs.StoredHistory.{layer_history}
 use Rattle.graph_layer.specs.Traverse.{Summarizes}
-use Rattle.graph_layer.proofs.Traverses.{reached_first, reached_next, stops_at_commit, said_there, stands_there, few_there}
-use Rattle.graph_layer.proofs.Summaries.{stats_of_all}
-use Rattle.graph_format.proofs.Points.{ran_out}
+use Rattle.graph_layer.proofs.TraverseLemmas.{reached_first, reached_next, stops_at_commit, said_there, stands_there, few_there}
+use Rattle.graph_layer.proofs.LayerStatisticsLemmas.{stats_of_all}
+use Rattle.graph_format.proofs.PointLemmas.{ran_out}
 use Rattle.graph_layer.proofs.file.File.traverse.Goals as goal
 
 pub loop-number-init : goal.loop-number-init

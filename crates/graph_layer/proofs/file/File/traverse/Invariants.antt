@@ -1,7 +1,7 @@
 use Rattle.std.proofs.Common.{take}
 use Rattle.graph_format.specs.StoredHistory.{layer_history}
 use Rattle.graph_layer.specs.Traverse.{Summarizes}
-use Rattle.graph_layer.proofs.Traverses.{ReachesCommit}
+use Rattle.graph_layer.proofs.TraverseLemmas.{ReachesCommit}
 use Rattle.graph_layer.proofs.file.File.traverse.Given as goal
 
 abbrev pub invariant-loop-number : goal.invariant-loop-number

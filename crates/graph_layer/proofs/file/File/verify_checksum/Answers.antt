@@ -1,7 +1,7 @@
 use Rattle.std.proofs.Common.{sym, ◌∙◌}
 use Rattle.std.specs.Cmp.Lexicographic.{same_text, other_text}
 use Rattle.std.proofs.lemmas.List.{length-take-le}
-use Rattle.graph_layer.proofs.Checksums.{view-body, view-body-in_file}
+use Rattle.graph_layer.proofs.ChecksumLemmas.{view-body, view-body-in_file}
 use Rattle.graph_layer.proofs.file.File.verify_checksum.Goals as goal
 
 pub slice_bounds-digest-end : goal.slice_bounds-digest-end

@@ -1,8 +1,8 @@
 use Rattle.std.proofs.Common.{◌∙◌, sym, arith}
 use Rattle.gix_chunk_core.proofs.FirstLemmas.{first_below-none, first_below-none_more, first_below-found}
-use Rattle.graph_format.specs.Wrong.{wrong_fan}
+use Rattle.graph_format.specs.Faults.{wrong_fan}
 use Rattle.graph_format.specs.declared.fault.LayerFault.TheVariants.{Fan}
-use Rattle.graph_layer.proofs.FirstBytes.{ids_below-zero, ids_below-next, ids_up_to-small, sum-is, wrong-at, right-at}
+use Rattle.graph_layer.proofs.FirstByteLemmas.{ids_below-zero, ids_below-next, ids_up_to-small, sum-is, wrong-at, right-at}
 use Rattle.graph_layer.proofs.file.File.wrong_byte.Goals as goal
 
 pub loop-byte-init : goal.loop-byte-init

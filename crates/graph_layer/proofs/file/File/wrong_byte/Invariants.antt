@@ -1,7 +1,7 @@
 use Rattle.std.proofs.Common.{◌≡◌, None}
 use Rattle.gix_chunk_core.specs.First.{first_below}
-use Rattle.graph_format.specs.Wrong.{wrong_fan}
-use Rattle.graph_layer.proofs.FirstBytes.{ids_below}
+use Rattle.graph_format.specs.Faults.{wrong_fan}
+use Rattle.graph_layer.proofs.FirstByteLemmas.{ids_below}
 use Rattle.graph_layer.proofs.file.File.wrong_byte.Given as goal
 
 -- the fan is right at the bytes so far

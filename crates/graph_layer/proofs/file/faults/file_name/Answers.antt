@@ -2,8 +2,8 @@ use Rattle.std.proofs.Common.{◌≡◌, map, lit<, rules, tests}
 use Rattle.std.proofs.lemmas.Iterator.{items_from_drains}
 use Rattle.std.proofs.lemmas.Iterator.Consumers.{YieldsList-from_filter, YieldsList-at}
 use Rattle.std.proofs.lemmas.Iterator.Splits.{YieldsList-from_str_split}
-use Rattle.graph_format.specs.Names.{is_name, names_in, name_of}
-use Rattle.graph_layer.proofs.NameSteps.{last-is}
+use Rattle.graph_format.specs.NameRule.{is_name, names_in, name_of}
+use Rattle.graph_layer.proofs.NameTestLemmas.{last-is}
 use Rattle.graph_layer.proofs.file.faults.file_name.Goals as goal
 
 pub returns : goal.returns

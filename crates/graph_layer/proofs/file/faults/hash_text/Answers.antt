@@ -1,4 +1,4 @@
-use Rattle.graph_layer.proofs.NameSteps.{stripped}
+use Rattle.graph_layer.proofs.NameTestLemmas.{stripped}
 use Rattle.graph_layer.proofs.file.faults.hash_text.Goals as goal
 
 pub returns : goal.returns

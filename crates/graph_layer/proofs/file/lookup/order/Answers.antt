@@ -1,5 +1,5 @@
 use Rattle.std.proofs.Common.{sym, arith}
-use Rattle.graph_layer.proofs.Fronts.{fronts-less, fronts-greater}
+use Rattle.graph_layer.proofs.IdOrderLemmas.{fronts-less, fronts-greater}
 use Rattle.graph_layer.proofs.file.lookup.order.Goals as goal
 
 pub returns-then-first-second : goal.returns-then-first-second

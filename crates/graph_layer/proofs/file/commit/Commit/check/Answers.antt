@@ -1,5 +1,5 @@
 use Rattle.graph_layer.specs.Commit.{commit_layer, commit_pos}
-use Rattle.graph_layer.proofs.Traverses.{called_there, stopped_by_processor, refused_by_parents, passed_commit}
+use Rattle.graph_layer.proofs.TraverseLemmas.{called_there, stopped_by_processor, refused_by_parents, passed_commit}
 use Rattle.graph_layer.proofs.file.commit.Commit.check.Goals as goal
 
 pub returns-in-Err-clause-agrees : goal.returns-in-Err-clause-agrees

@@ -1,7 +1,7 @@
 use Rattle.std.proofs.Common.{sym, ◌∙◌}
 use Rattle.std.proofs.lemmas.Result.{err_from_is_err_and}
 use Rattle.graph_layer.specs.Commit.{commit_parents}
-use Rattle.graph_layer.proofs.ParentCounts.{after-next, after-fault, after-end}
+use Rattle.graph_layer.proofs.ParentCountLemmas.{after-next, after-fault, after-end}
 use Rattle.graph_layer.proofs.file.commit.Commit.count_parents.Goals as goal
 
 pub returns-in_err-parent : goal.returns-in_err-parent

@@ -1,6 +1,6 @@
 use Rattle.std.proofs.Common.{refl, sym, ◌∙◌}
 use Rattle.graph_layer.specs.Commit.{commit_layer, commit_pos}
-use Rattle.graph_layer.proofs.CommitFaults.{commit_fault-by, null_id-at, null_tree-at}
+use Rattle.graph_layer.proofs.CommitFaultLemmas.{commit_fault-by, null_id-at, null_tree-at}
 use Rattle.graph_layer.proofs.file.commit.Commit.fault.Goals as goal
 
 pub returns-then-is_null : goal.returns-then-is_null

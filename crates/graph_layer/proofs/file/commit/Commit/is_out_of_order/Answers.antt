@@ -1,6 +1,6 @@
 use Rattle.std.proofs.Common.{ap, ◌∙◌, arith}
 use Rattle.std.specs.Ordering.{is_ge}
-use Rattle.graph_layer.proofs.CommitFaults.{out_of_order-at}
+use Rattle.graph_layer.proofs.CommitFaultLemmas.{out_of_order-at}
 use Rattle.graph_layer.proofs.file.commit.Commit.is_out_of_order.Goals as goal
 
 pub returns : goal.returns

@@ -1,4 +1,4 @@
-use Rattle.graph_layer.proofs.Listed.{second_hint-taken}
+use Rattle.graph_layer.proofs.ListedParentLemmas.{second_hint-taken}
 use Rattle.graph_layer.proofs.file.parents.Parents.next.Goals as goal
 
 pub returns-in-First-GraphPosition-default-clause-hint :

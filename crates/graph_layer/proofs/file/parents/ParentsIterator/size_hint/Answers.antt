@@ -1,6 +1,6 @@
 use Rattle.std.proofs.Common.{◌≡◌, ℕ, Option, None, ◌∙◌, rules}
-use Rattle.graph_layer.specs.ParentsLeft.{hint_in}
-use Rattle.graph_layer.proofs.Listed.{hint-none}
+use Rattle.graph_layer.specs.RemainingParents.{hint_in}
+use Rattle.graph_layer.proofs.ListedParentLemmas.{hint-none}
 use Rattle.graph_layer.proofs.file.parents.ParentsIterator.size_hint.Goals as goal
 
 pub returns-in-Second-ExtraEdgeIndex-clause-none :

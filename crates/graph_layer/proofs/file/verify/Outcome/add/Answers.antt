@@ -1,6 +1,6 @@
 use Rattle.std.proofs.Common.{refl, ◌∙◌, ap, max, min, arith}
 use Rattle.graph_layer.specs.Commit.{commit_layer, commit_pos}
-use Rattle.graph_layer.proofs.Summaries.{Summarizes-more}
+use Rattle.graph_layer.proofs.LayerStatisticsLemmas.{Summarizes-more}
 use Rattle.graph_layer.proofs.file.verify.Outcome.add.Goals as goal
 use Rattle.graph_layer.proofs.file.verify.Outcome.add.Goals.{then-self-eq0, else-self-eq0}
 

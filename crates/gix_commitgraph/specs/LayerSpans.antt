@@ -1,0 +1,19 @@
+-- the layers of a graph, each with the positions of its commits
+use Rattle.std.specs.Prelude.{◌≡◌, ◌+◌, ℕ, List, Some, slice_get}
+use Rattle.graph_format.specs.Layer.{Layer}
+use Rattle.graph_layer.specs.Commit.{commit_layer, commit_pos}
+use Rattle.gix_commitgraph.specs.Graph.{start, stop, IsGraph}
+use Rattle.graph_layer.specs.declared.file.commit.Commit.{Commit}
+use Rattle.gix_commitgraph.specs.declared.verify.layer.LayerSpan.{LayerSpan}
+
+-- A layer of a graph, and where its commits begin and end.
+pub record IsSpan (layers : List Layer) (span : LayerSpan) : Type 0 where
+  pub graph : IsGraph layers
+  pub there : slice_get layers span.layer ≡ Some span.file.now
+  pub first : span.first ≡ start layers span.layer
+  pub stop : span.stop ≡ stop layers span.layer
+
+-- A commit of that layer, at a position of the graph.
+pub record IsInSpan (span : LayerSpan) (commit : Commit) (pos : ℕ) : Type 0 where
+  pub layer : commit_layer commit ≡ span.file.now
+  pub at : pos ≡ span.first + commit_pos commit

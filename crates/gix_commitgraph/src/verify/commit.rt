@@ -1,0 +1,116 @@
+//! The check of one commit of a graph.
+
+ghost use Rattle.std.specs.Prelude.{◌≡◌, ◌<◌, length, IfOk};
+ghost use Rattle.std.specs.Result.{result_err};
+ghost use Rattle.std.specs.Fn.{TakesAt};
+
+use crate::file::{self, Commit};
+use crate::graph::Graph;
+use crate::verify::VerifyError;
+use crate::verify::layer::LayerSpan;
+use crate::{GENERATION_NUMBER_MAX, Position};
+use graph_layer::check::commit_fault;
+
+/// The number of a commit's parents, and the greatest of their generation numbers.
+#[derive(Drop)]
+struct ParentTally {
+    count: u32,
+    max_generation: u32,
+}
+
+impl Graph {
+    ghost use Rattle.graph_layer.specs.Commit.{commit_pos};
+    ghost use Rattle.gix_commitgraph.specs.Graph.{start};
+    ghost use Rattle.graph_walks.specs.History.{generation_at, parents_at};
+    ghost use Rattle.graph_format.specs.StoredHistory.{history_of};
+    ghost use Rattle.graph_format.specs.Points.{Agrees};
+    ghost use Rattle.graph_layer.specs.Called.{CalledOn};
+    ghost use Rattle.gix_commitgraph.specs.InGraph.{InGraph};
+    ghost use Rattle.gix_commitgraph.specs.Verify.{parents_refusal, commit_points, cause_of};
+    ghost use Rattle.gix_commitgraph.specs.Tallies.{ParentsTally};
+    ghost use Rattle.gix_commitgraph.specs.LayerSpans.{IsSpan, IsInSpan};
+
+    /// One commit: its ids, its parents, its generation number, the processor. The answer is the
+    /// number of its parents.
+    pub(super) fn verify_commit<'a, F, E>(
+        &'a self,
+        span: LayerSpan<'a>,
+        commit: &Commit<'a>,
+        pos: Position,
+        processor: &mut F,
+    ) -> Result<u32, VerifyError<E>>
+    where
+        F: FnMut(&Commit<'a>) -> Result<(), E>,
+        requires span { IsSpan self.now span }
+        requires commit { IsInSpan span commit.now pos.0 }
+        requires callable { (state : F) → TakesAt F.FnMut state commit.now }
+        ensures agrees { Agrees (CalledOn F.FnMut (InGraph self.now))
+            (commit_points self.now span.entry.layer span.entry.file.now (commit_pos commit.now))
+            processor.old processor.new cause_of result }
+        ensures parents { IfOk result (λ parents. parents ≡ length (parents_at (history_of self.now) pos.0)) }
+    {
+        if let Some(fault) = commit_fault(commit) {
+            return Err(VerifyError::Commit { pos, fault });
+        }
+        let parents = self.check_parents(span, commit, pos)?;
+        let expected = parents
+            .max_generation
+            .saturating_add(1)
+            .min(GENERATION_NUMBER_MAX);
+        if commit.generation() != expected {
+            return Err(VerifyError::Generation { pos, expected });
+        }
+        if let Err(error) = processor(commit) {
+            return Err(VerifyError::Processor { pos, error });
+        }
+        Ok(parents.count)
+    }
+
+    /// The parents of a commit, which are all to stand below the end of its layer.
+    fn check_parents<E>(
+        &self,
+        span: LayerSpan<'_>,
+        commit: &Commit<'_>,
+        pos: Position,
+    ) -> Result<ParentTally, VerifyError<E>>
+        requires span { IsSpan self.now span }
+        requires commit { IsInSpan span commit.now pos.0 }
+        ensures refusal { result_err result
+            ≡ parents_refusal self.now span.entry.layer span.entry.file.now (commit_pos commit.now) }
+        ensures parents { IfOk result (ParentsTally (history_of self.now) pos.0) }
+    {
+        let mut count = 0;
+        let mut max_generation = 0;
+        for parent in commit.iter_parents() {
+            match parent {
+                Err(error) => return Err(VerifyError::Parent { pos, error }),
+                Ok(parent) => {
+                    if parent.0 >= span.stop {
+                        return Err(VerifyError::ParentOutOfRange { pos, parent });
+                    }
+                    count += 1;
+                    max_generation = self.generation_at(span, parent).max(max_generation);
+                }
+            }
+        }
+        Ok(ParentTally {
+            count,
+            max_generation,
+        })
+    }
+
+    /// The generation number of a commit that stands below the end of this layer. One that stands
+    /// in it is read there.
+    fn generation_at(&self, span: LayerSpan<'_>, pos: Position) -> u32
+        requires span { IsSpan self.now span }
+        requires below { pos.0 < span.stop }
+        ensures { result ≡ generation_at (history_of self.now) pos.0 }
+    {
+        if pos.0 >= span.first {
+            let place = file::Position(pos.0 - span.first);
+            span.file.commit_at(place).generation()
+        } else {
+            self.commit_at(pos).generation()
+        }
+    }
+}

@@ -1,0 +1,103 @@
+//! The check of one layer of a graph.
+
+ghost use Rattle.std.specs.Prelude.{◌≡◌, ◌+◌, ◌<◌, length, take, IfOk, OnOk};
+ghost use Rattle.std.specs.Result.{result_err};
+
+use crate::Position;
+use crate::file::{Commit, File};
+use crate::graph::Graph;
+use crate::verify::VerifyError;
+use crate::verify::tally::Tally;
+use graph_layer::check::{base_id_at, layer_fault};
+
+/// A layer of a graph, and the positions of its commits there.
+#[derive(Clone, Copy)]
+pub(super) struct LayerSpan<'a> {
+    pub(super) file: &'a File,
+    /// How many layers are below it.
+    pub(super) layer: usize,
+    /// The position of its first commit, and the one after its last.
+    pub(super) first: u32,
+    pub(super) stop: u32,
+}
+
+impl Graph {
+    ghost use Rattle.gix_commitgraph.specs.Graph.{start, stop};
+    ghost use Rattle.graph_format.specs.StoredHistory.{history_of};
+    ghost use Rattle.graph_format.specs.Points.{Agrees};
+    ghost use Rattle.graph_layer.specs.Called.{MayBeCalled, CalledOn};
+    ghost use Rattle.gix_commitgraph.specs.InGraph.{InGraph};
+    ghost use Rattle.gix_commitgraph.specs.Verify.{base_ids_refusal, layer_points, cause_of};
+    ghost use Rattle.gix_commitgraph.specs.Tallies.{Tallies};
+    ghost use Rattle.gix_commitgraph.specs.LayerSpans.{IsSpan};
+
+    /// The layer of this number; `first` commits stand before it.
+    pub(super) fn span_at(&self, layer: usize, first: u32) -> LayerSpan<'_>
+        requires layer { layer < length self.now }
+        requires first { first ≡ start self.now layer }
+        ensures span { IsSpan self.now result }
+        ensures layer { result.layer ≡ layer }
+        ensures first { result.first ≡ first }
+    {
+        let file = &self.files[layer];
+        LayerSpan {
+            file,
+            layer,
+            first,
+            stop: first + file.num_commits(),
+        }
+    }
+
+    /// One layer: its base ids, the layer as a whole, and then each commit.
+    pub(super) fn verify_layer<'a, F, E>(
+        &'a self,
+        span: LayerSpan<'a>,
+        tally: &mut Tally,
+        processor: &mut F,
+    ) -> Result<(), VerifyError<E>>
+    where
+        F: FnMut(&Commit<'a>) -> Result<(), E>,
+        requires span { IsSpan self.now span }
+        requires callable { MayBeCalled F.FnMut (InGraph self.now) }
+        requires tally { Tallies (take span.first (history_of self.now)) tally.old }
+        ensures agrees { Agrees (CalledOn F.FnMut (InGraph self.now)) (layer_points self.now span.entry.layer span.entry.file.now)
+            processor.old processor.new cause_of result }
+        ensures tally { OnOk result (Tallies (take span.entry.stop (history_of self.now)) tally.new) }
+    {
+        self.check_bases(span)?;
+        if let Some(fault) = layer_fault(span.file) {
+            return Err(VerifyError::Layer {
+                layer: span.layer,
+                fault,
+            });
+        }
+        for commit in span.file.iter_commits() {
+            let pos = Position(span.first + commit.position().0);
+            let parents = self.verify_commit(span, &commit, pos, processor)?;
+            tally.add(commit.generation(), parents)?;
+        }
+        Ok(())
+    }
+
+    /// Whether the base ids of a layer are the checksums of the layers below it.
+    fn check_bases<E>(&self, span: LayerSpan<'_>) -> Result<(), VerifyError<E>>
+        requires { IsSpan self.now span }
+        ensures { result_err result ≡ base_ids_refusal self.now span.entry.layer span.entry.file.now }
+    {
+        let layer = span.layer;
+        let bases = span.file.base_graph_count();
+        if bases as usize != layer {
+            return Err(VerifyError::BaseCount { layer });
+        }
+        for index in 0..bases {
+            let below = index as usize;
+            if base_id_at(span.file, index) != self.files[below].checksum() {
+                return Err(VerifyError::BaseId {
+                    layer,
+                    index: below,
+                });
+            }
+        }
+        Ok(())
+    }
+}
