@@ -14,6 +14,14 @@ use crate::graph::Graph;
 use crate::iter::{GraphCommits, GraphIds};
 use gix_hash_core::{Kind, oid};
 
+/// Where an id was found: the layer, how many commits stand before it, and the position there.
+#[derive(Clone, Copy)]
+struct LookupByIdResult<'a> {
+    file: &'a File,
+    start: u32,
+    pos: file::Position,
+}
+
 impl Graph {
     /// The kind of the ids of all layers.
     #[tactic(auto, using(crate::proofs::LayerListLemmas::kind_laws))]
@@ -77,8 +85,8 @@ impl Graph {
         ensures found { FoundIn self.now (oid_bytes id.entry) (position_number result) }
         ensures holds { IfSome result (λ pos. slice_get (graph_ids self.now) pos.0 ≡ Some (oid_bytes id.entry)) }
     {
-        let (_, start, pos) = self.find(id)?;
-        Some(Position(start + pos.0))
+        let found = self.find(id)?;
+        Some(Position(found.start + found.pos.0))
     }
 
     /// The commit with an id: the one at a position that `lookup` may answer, or `None`.
@@ -86,8 +94,8 @@ impl Graph {
         ensures found { CommitFoundIn self.now (oid_bytes id.entry) result }
         ensures holds { IfSome result (λ commit. slice_get (commit_layer commit).ids (commit_pos commit) ≡ Some (oid_bytes id.entry)) }
     {
-        let (file, _, pos) = self.find(id)?;
-        Some(file.commit_at(pos))
+        let found = self.find(id)?;
+        Some(found.file.commit_at(found.pos))
     }
 
     /// The layer of a position, and the position there.
@@ -108,19 +116,19 @@ impl Graph {
         unreachable!()
     }
 
-    /// The first layer that finds an id, how many commits stand before it, and the position there.
-    fn find(&self, id: oid<'_>) -> Option<(&File, u32, file::Position)>
-        ensures found { FoundIn self.now (oid_bytes id.entry) (option_map (λ f. f.1 + f.2.0) result) }
-        ensures commit { IfSome result (λ f. slice_get (graph_commits self.now) (f.1 + f.2.0) ≡ Some (f.0.now, f.2.0)) }
-        ensures id { IfSome result (λ f. slice_get (graph_ids self.now) (f.1 + f.2.0) ≡ Some (oid_bytes id.entry)) }
-        ensures holds { IfSome result (λ f. slice_get f.0.now.ids f.2.0 ≡ Some (oid_bytes id.entry)) }
-        ensures within { IfSome result (λ f. f.2.0 < length f.0.now.ids) }
-        ensures few { IfSome result (λ f. f.1 + f.2.0 < 2 ^ 32) }
+    /// The first layer that finds an id, and where.
+    fn find(&self, id: oid<'_>) -> Option<LookupByIdResult<'_>>
+        ensures found { FoundIn self.now (oid_bytes id.entry) (option_map (λ f. f.start + f.pos.0) result) }
+        ensures commit { IfSome result (λ f. slice_get (graph_commits self.now) (f.start + f.pos.0) ≡ Some (f.file.now, f.pos.0)) }
+        ensures id { IfSome result (λ f. slice_get (graph_ids self.now) (f.start + f.pos.0) ≡ Some (oid_bytes id.entry)) }
+        ensures holds { IfSome result (λ f. slice_get f.file.now.ids f.pos.0 ≡ Some (oid_bytes id.entry)) }
+        ensures within { IfSome result (λ f. f.pos.0 < length f.file.now.ids) }
+        ensures few { IfSome result (λ f. f.start + f.pos.0 < 2 ^ 32) }
     {
         let mut start = 0;
         for file in &self.files {
             match file.lookup(id) {
-                Some(pos) => return Some((file, start, pos)),
+                Some(pos) => return Some(LookupByIdResult { file, start, pos }),
                 None => start += file.num_commits(),
             }
         }

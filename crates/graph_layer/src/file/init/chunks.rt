@@ -64,8 +64,8 @@ const EXTENDED_EDGES_LIST_CHUNK_ID: [u8; 4] = *b"EDGE";
 /// The chunk of the section "Base Graphs List".
 const BASE_GRAPHS_LIST_CHUNK_ID: [u8; 4] = *b"BASE";
 
-/// How many bytes the fan has.
-const FAN_SIZE: usize = 256 * WORD_LEN;
+/// How many numbers the fan has.
+const FAN_LEN: usize = 256;
 
 /// How many bytes a word of the extra edge list and a number of the fan have.
 const WORD_LEN: usize = 4;
@@ -127,7 +127,7 @@ fn check_fan(place: Option<ChunkRange>) -> Result<ChunkRange, FileError>
 {
     match place {
         None => Err(FileError::NoFan),
-        Some(place) if place.size() != FAN_SIZE => Err(FileError::FanSize),
+        Some(place) if place.size() != FAN_LEN * WORD_LEN => Err(FileError::FanSize),
         Some(place) => Ok(place),
     }
 }
