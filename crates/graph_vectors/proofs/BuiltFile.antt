@@ -4,7 +4,7 @@ use Rattle.gix_hash_core.specs.declared.kind.Kind.{Kind}
 use Rattle.gix_hash_core.specs.declared.kind.Kind.TheVariants.{Sha1, Sha256}
 use Rattle.gix_hash_core.specs.Kind.{kind_of}
 use Rattle.gix_chunk_core.specs.Table.{Table, Chunks, table_at, range_of}
-use Rattle.graph_format.specs.Format.{signature, table_of, place_of, chunk_of}
+use Rattle.graph_format.specs.Format.{signature, table_of, chunk_range_of, chunk_of}
 use Rattle.graph_vectors.specs.Chunks.{NamedChunk, with_chunks}
 use Rattle.graph_vectors.specs.Written.{header}
 use Rattle.graph_vectors.proofs.BuiltChunks.{AreLaidOut, bytes_named, chunks-laid, range_of-laid, table_at-end}
@@ -55,7 +55,7 @@ pub end-laid : (kind : Kind) (bases : ℕ) (chunks : List NamedChunk) (back : Li
 end-laid kind bases chunks back h = ap (λ (table : Table). table.end) (table_of-laid kind bases chunks back) ∙ table_at-end (header kind (length chunks) bases) back chunks h
 
 pub chunk_of-laid : (kind : Kind) (bases : ℕ) (chunks : List NamedChunk) (back id : List ℕ) → AreLaidOut (header kind (length chunks) bases) back chunks → chunk_of (laid_file kind bases chunks back) id ≡ bytes_named chunks id
-unfolding chunk_of place_of
+unfolding chunk_of chunk_range_of
 chunk_of-laid kind bases chunks back id h =
     ap (λ (table : Table). option_map (λ (place : ℕ × ℕ). slice_range (laid_file kind bases chunks back) place.0 place.1) (range_of table id)) (table_of-laid kind bases chunks back)
     ∙ range_of-laid (header kind (length chunks) bases) back id chunks h
