@@ -27,7 +27,7 @@ ghost use Rattle.gix_commitgraph.specs.Layer.{IsLayer, IsOpened, Layer, bytes_of
 ghost use Rattle.gix_commitgraph.specs.LayerFault.{LayerFault};
 ghost use Rattle.gix_commitgraph.specs.LayerOpening.{IsLayerError, IsReadError, bytes_at, layer_at};
 ghost use Rattle.gix_commitgraph.specs.Remaining.{base_ids_left, commits_left, ids_left};
-ghost use Rattle.gix_commitgraph.specs.Lookup.{Found, bucket_size, digits, position_number, scan};
+ghost use Rattle.gix_commitgraph.specs.Lookup.{Found, bucket_size, digits, position_number as layer_position_number, scan};
 ghost use Rattle.gix_commitgraph.specs.LookupLaw.{IsDigitCount, IsFirst};
 ghost use Rattle.gix_commitgraph.specs.NameRule.{KeepsNameRule, is_named_right};
 ghost use Rattle.gix_commitgraph.specs.Oid.{oid_bytes};
