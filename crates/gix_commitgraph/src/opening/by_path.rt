@@ -1,9 +1,8 @@
 //! The openers over the file system.
 
-ghost use Rattle.std.specs.Prelude.{◌≡◌, IfOk, IfErr, MatchResult};
+ghost use Rattle.std.specs.Prelude.{IfOk, IfErr, MatchResult};
 ghost use Rattle.gix_commitgraph.specs.Graph.{IsGraph};
 ghost use Rattle.gix_commitgraph.specs.OpenAlways.{IsFromFile, IsFromChain, IsFromInfo, IsFromPath};
-ghost use Rattle.graph_layer.specs.LayerOpening.{IsLayerError};
 ghost use Rattle.gix_commitgraph.specs.OpenAlways.{IsFileError, IsFolderError};
 ghost use Rattle.graph_layer.specs.OpenRefusals.{OutOfMemoryStandsAlone};
 

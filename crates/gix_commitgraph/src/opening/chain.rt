@@ -1,9 +1,10 @@
 //! The opener of a chain folder.
 
-ghost use Rattle.std.specs.Prelude.{◌≡◌, IfOk, IfErr, IfSome, IsErrOf, MatchResult, is_some};
+ghost use Rattle.std.specs.Prelude.{◌≡◌, IfOk, IfErr, IfSome, MatchResult, is_some};
 ghost use Rattle.std.specs.Option.{ForSome};
 ghost use Rattle.std.specs.Str.{is_utf8};
 ghost use Rattle.std.specs.Str.Lines.{lines};
+ghost use Rattle.graph_folder.specs.Tree.{is_file};
 ghost use Rattle.gix_commitgraph.specs.Graph.{IsGraph};
 ghost use Rattle.gix_commitgraph.specs.OpenAlways.{IsFromChain, IsFolderError};
 ghost use Rattle.graph_layer.specs.LayerOpening.{IsReadError};
@@ -15,12 +16,15 @@ ghost use Rattle.gix_commitgraph.specs.Paths.{chain_path, layer_path};
 
 use crate::file::File;
 use crate::graph::Graph;
+use crate::opening::OpenError;
+use crate::opening::file::new_graph;
 use crate::opening::path::{join, layer_path};
-use crate::opening::{CHAIN, OpenError, new_graph};
 use graph_folder::chain::Lines;
 use graph_folder::folder::Folder;
 use graph_layer::opening::{open_layer, read_file};
-use std::alloc::Global;
+use std::alloc::{AllocError, Global};
+
+const CHAIN: &str = "commit-graph-chain";
 
 /// Opens the chain folder at the path: the graph of the layers that the lines of its file
 /// `commit-graph-chain` name, the lowest first. The line L names the file `graph-L.graph` in the
@@ -31,8 +35,9 @@ use std::alloc::Global;
 ///
 /// The first of these that holds:
 ///
-/// 1. `NotOpened`, `Device`: the chain file does not stand at its path or may not be read, or a read
-///    of it failed. The folder's count of failures rises with each `Device`, and in no other case.
+/// 1. `NotOpened`, `Device`: the chain file does not stand at its path or may not be read, or a
+///    read of it failed. The folder's count of failures rises with each `Device`, and in no other
+///    case.
 /// 2. For each line in turn:
 ///    1. `ChainNotText`: it is not UTF-8.
 ///    2. `NotOpened`, `Device`: the same of the file of its layer.
@@ -45,9 +50,11 @@ pub fn open_chain_dir_in<T: Folder>(
     folder: &mut T,
     path: &str,
 ) -> Result<Graph, OpenError>
-    ensures opens { ForSome (T.tree folder.old) (λ tree. IsAsExpected result (chain_opened tree path.now)) }
+    ensures opens { ForSome (T.tree folder.old) (λ tree.
+        IsAsExpected result (chain_opened tree path.now)) }
     ensures tree { T.tree folder.new ≡ T.tree folder.old }
-    ensures failures { T.failure_count folder.new ≡ failures_after_opening result (T.failure_count folder.old) }
+    ensures failures { T.failure_count folder.new
+        ≡ failures_after_opening result (T.failure_count folder.old) }
     ensures from { MatchResult result (IsFromChain path.now) IsFolderError }
     ensures graph { IfOk result IsGraph }
     ensures memory { IfErr result OutOfMemoryStandsAlone }
@@ -57,12 +64,29 @@ pub fn open_chain_dir_in<T: Folder>(
     new_graph(alloc, files)
 }
 
-// The bytes of the chain file in the folder.
+/// Whether a chain file stands in the folder.
+pub(super) fn has_chain<T: Folder>(
+    alloc: Global,
+    folder: &mut T,
+    path: &str,
+) -> Result<bool, AllocError>
+    ensures answer { ForSome (T.tree folder.old) (λ tree.
+        IfOk result (λ found. found ≡ is_file tree (chain_path path.now))) }
+    ensures tree { T.tree folder.new ≡ T.tree folder.old }
+    ensures failures { T.failure_count folder.new ≡ T.failure_count folder.old }
+{
+    let chain = join(alloc, path, CHAIN)?;
+    folder.is_file(alloc, chain.as_str())
+}
+
+/// The bytes of the chain file in the folder.
 fn read_chain<T: Folder>(alloc: Global, folder: &mut T, path: &str) -> Result<Vec<u8>, OpenError>
     ensures opens { ForSome (T.tree folder.old)
-        (λ tree. IsAsExpected (result_map (λ text. text.items) result) (bytes_at tree (chain_path path.now))) }
+        (λ tree. IsAsExpected (result_map (λ text. text.items) result)
+        (bytes_at tree (chain_path path.now))) }
     ensures tree { T.tree folder.new ≡ T.tree folder.old }
-    ensures failures { T.failure_count folder.new ≡ failures_after_opening result (T.failure_count folder.old) }
+    ensures failures { T.failure_count folder.new
+        ≡ failures_after_opening result (T.failure_count folder.old) }
     ensures errors { IfErr result IsReadError }
     ensures memory { IfErr result OutOfMemoryStandsAlone }
 {
@@ -70,7 +94,7 @@ fn read_chain<T: Folder>(alloc: Global, folder: &mut T, path: &str) -> Result<Ve
     read_file(alloc, folder, chain.as_str())
 }
 
-// The layers that the lines of a chain name, in order.
+/// The layers that the lines of a chain name, in order.
 fn open_layers<T: Folder>(
     alloc: Global,
     folder: &mut T,
@@ -78,9 +102,11 @@ fn open_layers<T: Folder>(
     text: &[u8],
 ) -> Result<Vec<File>, OpenError>
     ensures opens { ForSome (T.tree folder.old)
-        (λ tree. IsAsExpected (result_map (λ files. files.items) result) (layers_of_lines tree path.now (lines text.now))) }
+        (λ tree. IsAsExpected (result_map (λ files. files.items) result)
+        (layers_of_lines tree path.now (lines text.now))) }
     ensures tree { T.tree folder.new ≡ T.tree folder.old }
-    ensures failures { T.failure_count folder.new ≡ failures_after_opening result (T.failure_count folder.old) }
+    ensures failures { T.failure_count folder.new
+        ≡ failures_after_opening result (T.failure_count folder.old) }
     ensures from { MatchResult result (λ files. IsFromChain path.now files.items) IsFolderError }
     ensures memory { IfErr result OutOfMemoryStandsAlone }
 {
@@ -92,7 +118,7 @@ fn open_layers<T: Folder>(
     Ok(files)
 }
 
-// The layer that a line of a chain names.
+/// The layer that a line of a chain names.
 fn open_line<T: Folder>(
     alloc: Global,
     folder: &mut T,
@@ -100,9 +126,11 @@ fn open_line<T: Folder>(
     layer: usize,
     line: &[u8],
 ) -> Result<File, OpenError>
-    ensures opens { ForSome (T.tree folder.old) (λ tree. IsAsExpected result (layer_of_line tree path.now layer line.now)) }
+    ensures opens { ForSome (T.tree folder.old) (λ tree.
+        IsAsExpected result (layer_of_line tree path.now layer line.now)) }
     ensures tree { T.tree folder.new ≡ T.tree folder.old }
-    ensures failures { T.failure_count folder.new ≡ failures_after_opening result (T.failure_count folder.old) }
+    ensures failures { T.failure_count folder.new
+        ≡ failures_after_opening result (T.failure_count folder.old) }
     ensures path { IfOk result (λ file. file.path ≡ layer_path path.now line.now) }
     ensures errors { IfErr result IsFolderError }
     ensures memory { IfErr result OutOfMemoryStandsAlone }
@@ -114,7 +142,7 @@ fn open_line<T: Folder>(
     open_layer(alloc, folder, layer, path)
 }
 
-// The bytes as text, if they are UTF-8.
+/// The bytes as text, if they are UTF-8.
 fn text_of(bytes: &[u8]) -> Option<&str>
     ensures variant { is_some result ≡ is_utf8 bytes.now }
     ensures value { IfSome result (λ text. text.now ≡ bytes.now) }

@@ -7,7 +7,7 @@ use std::alloc::{AllocError, Global};
 
 /// The path of `name` below `folder`: a slash stands between them unless the folder's path is empty
 /// or ends with one.
-pub fn join(alloc: Global, folder: &str, name: &str) -> Result<String, AllocError>
+pub(super) fn join(alloc: Global, folder: &str, name: &str) -> Result<String, AllocError>
     ensures { IfOk result (λ path. string_bytes path ≡ join_path folder.now name.now) }
 {
     let mut path = String::from_str(alloc, folder)?;
@@ -20,7 +20,7 @@ pub fn join(alloc: Global, folder: &str, name: &str) -> Result<String, AllocErro
 
 /// The path of the layer that a line of the folder's chain file names.
 #[tactic(auto, using(crate::proofs::PathLemmas::join_laws))]
-pub fn layer_path(alloc: Global, folder: &str, line: &str) -> Result<String, AllocError>
+pub(super) fn layer_path(alloc: Global, folder: &str, line: &str) -> Result<String, AllocError>
     ensures { IfOk result (λ path. string_bytes path ≡ layer_path folder.now line.now) }
 {
     let mut path = join(alloc, folder, "graph-")?;

@@ -20,6 +20,7 @@ loop-line-preserved g c = record {
       let counted : vec_len c.push.new.self ≡ vec_len c.loop-line.files + 1 = grind (arith, common_steps, pushed) in
       let opened = rw count at (c.in_ok-open_line.ensures.opens tree (c.loop-line.invariant.tree ∙ is)) in
       c.loop-line.invariant.layers tree is
-      ∙ layers_with-next tree c.args.path.now c.loop-line.files.items c.push.new.self.items (vec_len c.loop-line.files) (vec_len c.push.new.self)
+      ∙ layers_with-next tree c.args.path.now c.loop-line.files.items c.push.new.self.items (vec_len c.loop-line.files)
+      (vec_len c.push.new.self)
       c.in-Some.line.now c.next.new.self c.loop-line.line-iterator c.in_ok-open_line.field-0 names opened pushed counted;
 }

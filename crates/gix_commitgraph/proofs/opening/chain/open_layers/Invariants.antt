@@ -16,5 +16,6 @@ invariant-loop-line g l =
       tree : tree_of l.folder ≡ tree_of l.fn.folder;
       failures : failures l.folder ≡ failures l.fn.folder;
       from : IsFromChain l.path l.files.items;
-      layers : (tree : Tree) → tree_of l.fn.folder ≡ Some tree → layers_from tree l.path 0 (lines l.text) ≡ layers_with l.files.items tree l.path (vec_len l.files) l.line-iterator;
+      layers : (tree : Tree) → tree_of l.fn.folder ≡ Some tree
+          → layers_from tree l.path 0 (lines l.text) ≡ layers_with l.files.items tree l.path (vec_len l.files) l.line-iterator;
     }

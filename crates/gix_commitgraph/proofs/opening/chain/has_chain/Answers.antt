@@ -1,4 +1,4 @@
-use Rattle.gix_commitgraph.proofs.opening.has_chain.Goals as goal
+use Rattle.gix_commitgraph.proofs.opening.chain.has_chain.Goals as goal
 
 -- the path that was asked for is the one that was joined
 pub returns-clause-answer : goal.returns-clause-answer

@@ -3,7 +3,7 @@ use Rattle.gix_commitgraph.specs.OpenAlways.{IsFromInfo}
 use Rattle.graph_layer.specs.OpenAnswer.{is_settled}
 use Rattle.gix_commitgraph.proofs.InfoOpeningLemmas.{info_opens-file, info_opens-chain}
 use Rattle.gix_commitgraph.proofs.OpenedPathLemmas.{from_wider}
-use Rattle.gix_commitgraph.proofs.opening.open_info_dir_in.Goals as goal
+use Rattle.gix_commitgraph.proofs.opening.info.open_info_dir_in.Goals as goal
 
 pub returns-then-is_settled-clause-opens : goal.returns-then-is_settled-clause-opens
 returns-then-is_settled-clause-opens g c = λ tree is.
@@ -15,8 +15,11 @@ pub returns-clause-opens : goal.returns-clause-opens
 returns-clause-opens g c = λ tree is.
     let was = rw (c.as_str.ensures.value, c.in_ok-file.ensures) at (c.open_file_in-answer.ensures.opens tree is) in
     let settled : is_settled c.open_file_in-answer.result ≡ false = cc in
-    let second = rw (c.as_str-2.ensures.value, c.in_ok-chain.ensures) at (c.open_chain_dir_in.ensures.opens tree (c.open_file_in-answer.ensures.tree ∙ is)) in
-    info_opens-chain tree c.args.path.now c.open_chain_dir_in.result second _ _ _ c.open_file_in-answer.result settled was c.open_file_in-answer.ensures.failures c.open_chain_dir_in.ensures.failures
+    let second =
+    rw (c.as_str-2.ensures.value, c.in_ok-chain.ensures) at
+    (c.open_chain_dir_in.ensures.opens tree (c.open_file_in-answer.ensures.tree ∙ is)) in
+    info_opens-chain tree c.args.path.now c.open_chain_dir_in.result second _ _ _ c.open_file_in-answer.result settled was
+    c.open_file_in-answer.ensures.failures c.open_chain_dir_in.ensures.failures
 
 pub returns-clause-from : goal.returns-clause-from
 returns-clause-from g c =
