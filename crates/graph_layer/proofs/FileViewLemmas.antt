@@ -68,9 +68,9 @@ ids-lie kind commits bytes place ids at h =
       rw is.1 (pieces-lie bytes place.start place.end (id_len kind) commits at.in_file long at.order (quotient_ids kind _ _ long)),
     )
 
-pub view-ids : (bytes path : List ℕ) (layout : Layout) (layer : Layer) → IsLayout bytes layout → decoded_layer bytes path ≡ layer → (length layer.ids ≡ layout.commits) × ArePieces bytes layout.places.ids.start (id_len layer.kind) layer.ids
+pub view-ids : (bytes path : List ℕ) (layout : Layout) (layer : Layer) → IsLayout bytes layout → decoded_layer bytes path ≡ layer → (length layer.ids ≡ layout.commits) × ArePieces bytes layout.chunks.ids.start (id_len layer.kind) layer.ids
 view-ids bytes path layout layer kept view =
-    let lie = ids-lie layer.kind (commits_of layer.fan) bytes layout.places.ids layer.ids kept.places.ids (is-layer bytes path layout layer kept view).ids in
+    let lie = ids-lie layer.kind (commits_of layer.fan) bytes layout.chunks.ids layer.ids kept.chunks.ids (is-layer bytes path layout layer kept view).ids in
     (lie.0 ∙ view-commits bytes path layout layer kept view, lie.1)
 
 pub commits-ids : (bytes path : List ℕ) (layout : Layout) (layer : Layer) → IsLayout bytes layout → decoded_layer bytes path ≡ layer → layout.commits ≡ length layer.ids
@@ -82,10 +82,10 @@ piece-fits bytes start size parts i lie k =
     omega (arith, lie.room, row_fits_turned i size size (length parts) k (omega arith), mul_comm size i)
 
 -- the id at a position
-pub view-id : (bytes path : List ℕ) (layout : Layout) (layer : Layer) (i : ℕ) → IsLayout bytes layout → decoded_layer bytes path ≡ layer → i < length layer.ids → slice_get layer.ids i ≡ Some (slice_range bytes (layout.places.ids.start + id_len layer.kind * i) (layout.places.ids.start + id_len layer.kind * i + id_len layer.kind))
+pub view-id : (bytes path : List ℕ) (layout : Layout) (layer : Layer) (i : ℕ) → IsLayout bytes layout → decoded_layer bytes path ≡ layer → i < length layer.ids → slice_get layer.ids i ≡ Some (slice_range bytes (layout.chunks.ids.start + id_len layer.kind * i) (layout.chunks.ids.start + id_len layer.kind * i + id_len layer.kind))
 view-id bytes path layout layer i kept view k = (view-ids bytes path layout layer kept view).1.each i k
 
-pub view-id-fits : (bytes path : List ℕ) (layout : Layout) (layer : Layer) (i : ℕ) → IsLayout bytes layout → decoded_layer bytes path ≡ layer → i < length layer.ids → layout.places.ids.start + id_len layer.kind * i + id_len layer.kind ≤ length bytes
+pub view-id-fits : (bytes path : List ℕ) (layout : Layout) (layer : Layer) (i : ℕ) → IsLayout bytes layout → decoded_layer bytes path ≡ layer → i < length layer.ids → layout.chunks.ids.start + id_len layer.kind * i + id_len layer.kind ≤ length bytes
 view-id-fits bytes path layout layer i kept view k = piece-fits bytes _ _ layer.ids i (view-ids bytes path layout layer kept view).1 k
 
 positive : (kind : Kind) → 0 < id_len kind
@@ -119,9 +119,9 @@ records-lie kind commits bytes place records at h =
       (parts, pieces-lie bytes place.start place.end (record_len kind) commits at.in_file long at.order (quotient_records kind _ _ long), is.1),
     )
 
-view-records : (bytes path : List ℕ) (layout : Layout) (layer : Layer) → IsLayout bytes layout → decoded_layer bytes path ≡ layer → (length layer.records ≡ layout.commits) × ((parts : List (List ℕ)) × ArePieces bytes layout.places.records.start (record_len layer.kind) parts × (layer.records ≡ map (record_of layer.kind) parts))
+view-records : (bytes path : List ℕ) (layout : Layout) (layer : Layer) → IsLayout bytes layout → decoded_layer bytes path ≡ layer → (length layer.records ≡ layout.commits) × ((parts : List (List ℕ)) × ArePieces bytes layout.chunks.records.start (record_len layer.kind) parts × (layer.records ≡ map (record_of layer.kind) parts))
 view-records bytes path layout layer kept view =
-    let lie = records-lie layer.kind (commits_of layer.fan) bytes layout.places.records layer.records kept.places.records (is-layer bytes path layout layer kept view).records in
+    let lie = records-lie layer.kind (commits_of layer.fan) bytes layout.chunks.records layer.records kept.chunks.records (is-layer bytes path layout layer kept view).records in
     (lie.0 ∙ view-commits bytes path layout layer kept view, lie.1)
 
 pub commits-records : (bytes path : List ℕ) (layout : Layout) (layer : Layer) → IsLayout bytes layout → decoded_layer bytes path ≡ layer → layout.commits ≡ length layer.records
@@ -129,8 +129,8 @@ commits-records bytes path layout layer kept view = sym (view-records bytes path
 
 -- the record at a position, and that it lies in the file
 view-record-both : (bytes path : List ℕ) (layout : Layout) (layer : Layer) (i : ℕ) → IsLayout bytes layout → decoded_layer bytes path ≡ layer → i < length layer.ids
-    → (slice_get layer.records i ≡ Some (record_of layer.kind (part bytes (layout.places.records.start + record_len layer.kind * i) (record_len layer.kind))))
-    × (layout.places.records.start + record_len layer.kind * i + record_len layer.kind ≤ length bytes)
+    → (slice_get layer.records i ≡ Some (record_of layer.kind (part bytes (layout.chunks.records.start + record_len layer.kind * i) (record_len layer.kind))))
+    × (layout.chunks.records.start + record_len layer.kind * i + record_len layer.kind ≤ length bytes)
 view-record-both bytes path layout layer i kept view k =
     let records = view-records bytes path layout layer kept view in
     let parts = records.1.0 in
@@ -141,11 +141,11 @@ view-record-both bytes path layout layer i kept view k =
     )
 
 pub view-record : (bytes path : List ℕ) (layout : Layout) (layer : Layer) (i : ℕ) → IsLayout bytes layout → decoded_layer bytes path ≡ layer → i < length layer.ids
-    → slice_get layer.records i ≡ Some (record_of layer.kind (part bytes (layout.places.records.start + (id_len layer.kind + 16) * i) (id_len layer.kind + 16)))
+    → slice_get layer.records i ≡ Some (record_of layer.kind (part bytes (layout.chunks.records.start + (id_len layer.kind + 16) * i) (id_len layer.kind + 16)))
 view-record bytes path layout layer i kept view k = (view-record-both bytes path layout layer i kept view k).0
 
 pub view-record-fits : (bytes path : List ℕ) (layout : Layout) (layer : Layer) (i : ℕ) → IsLayout bytes layout → decoded_layer bytes path ≡ layer → i < length layer.ids
-    → layout.places.records.start + (id_len layer.kind + 16) * i + (id_len layer.kind + 16) ≤ length bytes
+    → layout.chunks.records.start + (id_len layer.kind + 16) * i + (id_len layer.kind + 16) ≤ length bytes
 view-record-fits bytes path layout layer i kept view k = (view-record-both bytes path layout layer i kept view k).1
 
 pub record_at-is : (layer : Layer) (i : ℕ) (r : Record) → slice_get layer.records i ≡ Some r → record_at layer i ≡ r
@@ -153,17 +153,17 @@ unfolding record_at
 record_at-is layer i r h = ap (λ (o : Option Record). unwrap_or o no_record) h
 
 pub view-record_at : (bytes path : List ℕ) (layout : Layout) (layer : Layer) (i size : ℕ) → IsLayout bytes layout → decoded_layer bytes path ≡ layer → i < length layer.ids → size ≡ id_len layer.kind + 16
-    → record_at layer i ≡ record_of layer.kind (part bytes (layout.places.records.start + size * i) size)
+    → record_at layer i ≡ record_of layer.kind (part bytes (layout.chunks.records.start + size * i) size)
 view-record_at bytes path layout layer i size kept view k e =
     record_at-is layer i _ (view-record bytes path layout layer i kept view k)
-    ∙ ap (λ (n : ℕ). record_of layer.kind (part bytes (layout.places.records.start + n * i) n)) (sym e)
+    ∙ ap (λ (n : ℕ). record_of layer.kind (part bytes (layout.chunks.records.start + n * i) n)) (sym e)
 
 edges-lie : (bytes : List ℕ) (place : Option ChunkRange) → IsChunkRange bytes edges_id place → option_map (λ p. slice_range bytes p.start p.end) place ≡ chunk_of bytes edges_id
 edges-lie bytes None h = sym h
 edges-lie bytes (Some place) h = sym h.chunk
 
-pub view-edges : (bytes path : List ℕ) (layout : Layout) (layer : Layer) → IsLayout bytes layout → decoded_layer bytes path ≡ layer → option_map (λ p. slice_range bytes p.start p.end) layout.places.edges ≡ layer.edges
-view-edges bytes path layout layer kept view = edges-lie bytes layout.places.edges kept.places.edges ∙ sym (is-layer bytes path layout layer kept view).edges
+pub view-edges : (bytes path : List ℕ) (layout : Layout) (layer : Layer) → IsLayout bytes layout → decoded_layer bytes path ≡ layer → option_map (λ p. slice_range bytes p.start p.end) layout.chunks.edges ≡ layer.edges
+view-edges bytes path layout layer kept view = edges-lie bytes layout.chunks.edges kept.chunks.edges ∙ sym (is-layer bytes path layout layer kept view).edges
 
 bases-lie : (kind : Kind) (count : ℕ) (bytes : List ℕ) (place : Option ChunkRange) (bases : List (List ℕ)) → IsChunkRange bytes bases_id place → MatchOption (chunk_of bytes bases_id) ((count ≡ 0) × (bases ≡ [])) (λ chunk. (length chunk ≡ id_len kind * count) × (bases ≡ pieces (id_len kind) chunk)) → (length bases ≡ count) × ArePieces bytes (start_of place) (id_len kind) bases
 bases-lie kind count bytes None bases at h =
@@ -177,16 +177,16 @@ bases-lie kind count bytes (Some place) bases at h =
       rw is.1 (pieces-lie bytes place.start place.end (id_len kind) count at.in_file long at.order (quotient_ids kind _ _ long)),
     )
 
-view-bases : (bytes path : List ℕ) (layout : Layout) (layer : Layer) → IsLayout bytes layout → decoded_layer bytes path ≡ layer → (length layer.bases ≡ slice_index bytes 7) × ArePieces bytes (start_of layout.places.bases) (id_len layer.kind) layer.bases
-view-bases bytes path layout layer kept view = bases-lie layer.kind _ bytes layout.places.bases layer.bases kept.places.bases (is-layer bytes path layout layer kept view).bases
+view-bases : (bytes path : List ℕ) (layout : Layout) (layer : Layer) → IsLayout bytes layout → decoded_layer bytes path ≡ layer → (length layer.bases ≡ slice_index bytes 7) × ArePieces bytes (start_of layout.chunks.bases) (id_len layer.kind) layer.bases
+view-bases bytes path layout layer kept view = bases-lie layer.kind _ bytes layout.chunks.bases layer.bases kept.chunks.bases (is-layer bytes path layout layer kept view).bases
 
 pub base_count-bases : (bytes path : List ℕ) (layout : Layout) (layer : Layer) → IsLayout bytes layout → decoded_layer bytes path ≡ layer → layout.base_count ≡ length layer.bases
 base_count-bases bytes path layout layer kept view = kept.base_count ∙ sym (view-bases bytes path layout layer kept view).0
 
-pub view-base : (bytes path : List ℕ) (layout : Layout) (layer : Layer) (i : ℕ) → IsLayout bytes layout → decoded_layer bytes path ≡ layer → i < length layer.bases → slice_get layer.bases i ≡ Some (slice_range bytes (start_of layout.places.bases + id_len layer.kind * i) (start_of layout.places.bases + id_len layer.kind * i + id_len layer.kind))
+pub view-base : (bytes path : List ℕ) (layout : Layout) (layer : Layer) (i : ℕ) → IsLayout bytes layout → decoded_layer bytes path ≡ layer → i < length layer.bases → slice_get layer.bases i ≡ Some (slice_range bytes (start_of layout.chunks.bases + id_len layer.kind * i) (start_of layout.chunks.bases + id_len layer.kind * i + id_len layer.kind))
 view-base bytes path layout layer i kept view k = (view-bases bytes path layout layer kept view).1.each i k
 
-pub view-base-fits : (bytes path : List ℕ) (layout : Layout) (layer : Layer) (i : ℕ) → IsLayout bytes layout → decoded_layer bytes path ≡ layer → i < length layer.bases → start_of layout.places.bases + id_len layer.kind * i + id_len layer.kind ≤ length bytes
+pub view-base-fits : (bytes path : List ℕ) (layout : Layout) (layer : Layer) (i : ℕ) → IsLayout bytes layout → decoded_layer bytes path ≡ layer → i < length layer.bases → start_of layout.chunks.bases + id_len layer.kind * i + id_len layer.kind ≤ length bytes
 view-base-fits bytes path layout layer i kept view k = (piece-fits bytes _ _ layer.bases i (view-bases bytes path layout layer kept view).1 k)
 
 -- the body and the checksum are all of the bytes

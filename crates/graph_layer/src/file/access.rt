@@ -73,7 +73,7 @@ impl File {
         ensures { slice_get self.now.ids pos.0 ≡ Some (oid_bytes result) }
     {
         let kind = self.object_hash();
-        let start = self.layout.places.ids.start + kind.len_in_bytes() * pos.0 as usize;
+        let start = self.layout.chunks.ids.start + kind.len_in_bytes() * pos.0 as usize;
         id_from(&self.bytes, start, kind)
     }
 
@@ -113,7 +113,7 @@ impl File {
         ensures { slice_get self.now.bases index ≡ Some (oid_bytes result) }
     {
         let kind = self.object_hash();
-        let start = start_of(self.layout.places.bases) + kind.len_in_bytes() * index as usize;
+        let start = start_of(self.layout.chunks.bases) + kind.len_in_bytes() * index as usize;
         id_from(&self.bytes, start, kind)
     }
 
@@ -131,7 +131,7 @@ impl File {
         ensures len { length result.now ≡ record_len self.now.kind }
     {
         let size = record_len(self.object_hash());
-        let start = self.layout.places.records.start + size * pos.0 as usize;
+        let start = self.layout.chunks.records.start + size * pos.0 as usize;
         &self.bytes[start..start + size]
     }
 
@@ -170,7 +170,7 @@ impl File {
     pub(super) fn extra_edges(&self) -> Option<&[u8]>
         ensures { option_copied result ≡ self.now.edges }
     {
-        match self.layout.places.edges {
+        match self.layout.chunks.edges {
             Some(place) => Some(&self.bytes[place.start..place.end]),
             None => None,
         }
