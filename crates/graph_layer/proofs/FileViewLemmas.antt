@@ -1,5 +1,5 @@
 -- what an opened file's fields say of its layer
-use Rattle.std.proofs.Common.{◌≡◌, ℕ, ◌+◌, ◌-◌, ◌*◌, ◌/◌, ◌<◌, ◌≤◌, List, [], map, length, drop, Option, Some, None, unwrap_or, option_map, IsSomeAnd, MatchOption, slice_range, slice_get, slice_index, sym, ap, subst, ◌∙◌, arith, length-drop, lit<}
+use Rattle.std.proofs.Common.{◌≡◌, ℕ, ◌+◌, ◌-◌, ◌*◌, ◌/◌, ◌<◌, ◌≤◌, List, [], map, length, drop, Option, Some, None, unwrap_or, option_map, IsSomeAnd, MatchOption, slice_range, slice_get, slice_index, refl, sym, ap, subst, ◌∙◌, arith, length-drop, lit<}
 use Rattle.std.proofs.lemmas.List.{length-map, take_rest, take-append-drop}
 use Rattle.std.proofs.lemmas.Nat.{row_fits_turned}
 use Rattle.std.proofs.Math.Nat.{mul_comm}
@@ -127,6 +127,10 @@ view-records bytes path layout layer kept view =
 pub commits-records : (bytes path : List ℕ) (layout : Layout) (layer : Layer) → IsLayout bytes layout → decoded_layer bytes path ≡ layer → layout.commits ≡ length layer.records
 commits-records bytes path layout layer kept view = sym (view-records bytes path layout layer kept view).0
 
+-- there are as many records as ids
+pub records-ids : (bytes path : List ℕ) (layout : Layout) (layer : Layer) → IsLayout bytes layout → decoded_layer bytes path ≡ layer → length layer.records ≡ length layer.ids
+records-ids bytes path layout layer kept view = sym (commits-records bytes path layout layer kept view) ∙ commits-ids bytes path layout layer kept view
+
 -- the record at a position, and that it lies in the file
 view-record-both : (bytes path : List ℕ) (layout : Layout) (layer : Layer) (i : ℕ) → IsLayout bytes layout → decoded_layer bytes path ≡ layer → i < length layer.ids
     → (slice_get layer.records i ≡ Some (record_of layer.kind (part bytes (layout.chunks.records.start + record_len layer.kind * i) (record_len layer.kind))))
@@ -157,6 +161,38 @@ pub view-record_at : (bytes path : List ℕ) (layout : Layout) (layer : Layer) (
 view-record_at bytes path layout layer i size kept view k e =
     record_at-is layer i _ (view-record bytes path layout layer i kept view k)
     ∙ ap (λ (n : ℕ). record_of layer.kind (part bytes (layout.chunks.records.start + n * i) n)) (sym e)
+
+-- a record begins with the id of its root tree
+tree-of : (kind : Kind) (bytes : List ℕ) (start size : ℕ) → size ≡ id_len kind + 16 → (record_of kind (part bytes start size)).tree ≡ slice_range bytes start (start + id_len kind)
+unfolding record_of
+tree-of kind bytes start size e =
+    slice_range-slice_range bytes start (start + size) 0 (0 + id_len kind) (omega (arith, e))
+    ∙ ap (λ (n : ℕ). slice_range bytes n (start + (0 + id_len kind))) (omega arith) ∙ ap (λ (n : ℕ). slice_range bytes start n) (omega arith)
+
+pub view-tree : (bytes path : List ℕ) (layout : Layout) (layer : Layer) (i size n : ℕ) → IsLayout bytes layout → decoded_layer bytes path ≡ layer → i < length layer.ids → size ≡ id_len layer.kind + 16 → n ≡ id_len layer.kind
+    → slice_range bytes (layout.chunks.records.start + size * i) (layout.chunks.records.start + size * i + n) ≡ (record_at layer i).tree
+view-tree bytes path layout layer i size n kept view k e is =
+    ap (λ (m : ℕ). slice_range bytes (layout.chunks.records.start + size * i) (layout.chunks.records.start + size * i + m)) is
+    ∙ sym (tree-of layer.kind bytes (layout.chunks.records.start + size * i) size e) ∙ sym (ap (λ (r : Record). r.tree) (view-record_at bytes path layout layer i size kept view k e))
+
+pub view-tree-fits : (bytes path : List ℕ) (layout : Layout) (layer : Layer) (i size n : ℕ) → IsLayout bytes layout → decoded_layer bytes path ≡ layer → i < length layer.ids → size ≡ id_len layer.kind + 16 → n ≡ id_len layer.kind
+    → layout.chunks.records.start + size * i + n ≤ length bytes
+view-tree-fits bytes path layout layer i size n kept view k e is =
+    let fits = view-record-fits bytes path layout layer i kept view k in
+    let same : size * i ≡ (id_len layer.kind + 16) * i = ap (λ (m : ℕ). m * i) e in
+    omega (arith, fits, same, is)
+
+-- the records are those of their chunk
+chunk-records : (kind : Kind) (bytes : List ℕ) (place : ChunkRange) (commits : ℕ) (records : List Record) → IsAt bytes records_id place → IsSomeAnd (chunk_of bytes records_id) (λ chunk. (length chunk ≡ record_len kind * commits) × (records ≡ map (record_of kind) (pieces (record_len kind) chunk))) → records ≡ map (record_of kind) (pieces (record_len kind) (slice_range bytes place.start place.end))
+chunk-records kind bytes place commits records at h = (rw at.chunk at h).1
+
+pub view-decoded : (bytes path : List ℕ) (layout : Layout) → IsLayout bytes layout → map (record_of layout.kind) (pieces (record_len layout.kind) (slice_range bytes layout.chunks.records.start layout.chunks.records.end)) ≡ (decoded_layer bytes path).records
+view-decoded bytes path layout kept =
+    let layer = decoded_layer bytes path in
+    let is = is-layer bytes path layout layer kept refl in
+    let chunk = slice_range bytes layout.chunks.records.start layout.chunks.records.end in
+    ap (λ (kind : Kind). map (record_of kind) (pieces (record_len kind) chunk)) (view-kind bytes path layout layer kept refl)
+    ∙ sym (chunk-records layer.kind bytes layout.chunks.records (commits_of layer.fan) layer.records kept.chunks.records is.records)
 
 edges-lie : (bytes : List ℕ) (place : Option ChunkRange) → IsChunkRange bytes edges_id place → option_map (λ p. slice_range bytes p.start p.end) place ≡ chunk_of bytes edges_id
 edges-lie bytes None h = sym h
@@ -205,4 +241,4 @@ view-layer bytes path layout layer kept view =
     let Q : List ℕ → Type 0 = λ p. IsLayer bytes p layer in
     subst P (sym (view-bytes bytes path layout layer kept view)) (subst Q (view-path bytes path layout layer kept view) (is-layer bytes path layout layer kept view))
 
-pub ruleset view_laws = (view-layer, view-checksum, view-checksum-in_file, view-bytes, base_count-bases, base_count-byte, commits-fan, view-base, view-base-fits, view-edges, view-kind, view-path, commits-ids, view-id, view-id-fits, commits-records, view-record, view-record-fits, record_at-is)
+pub ruleset view_laws = (view-layer, view-decoded, view-checksum, view-checksum-in_file, view-bytes, base_count-bases, base_count-byte, commits-fan, view-base, view-base-fits, view-edges, view-kind, view-path, commits-ids, view-id, view-id-fits, commits-records, records-ids, length-map, view-record, view-record-fits, view-tree, view-tree-fits, record_at-is)
