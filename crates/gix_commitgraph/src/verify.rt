@@ -185,6 +185,6 @@ impl Graph {
             self.verify_layer(span, &mut tally, processor)?;
             first = span.stop;
         }
-        Ok(tally.outcome())
+        Ok(tally.outcome()?)
     }
 }

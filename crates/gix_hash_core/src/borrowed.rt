@@ -70,7 +70,15 @@ impl<'a> oid<'a> {
     pub fn is_null(self) -> bool
         ensures { IsTrue result ↔ All (λ byte. byte ≡ 0) (oid_bytes self.entry) }
     {
-        self.bytes.iter().all(|byte| *byte == 0)
+        self.front() == 0 && self.bytes.iter().all(|byte| *byte == 0)
+    }
+
+    // The number that the id's first eight bytes make. It is 0 for hardly any id.
+    fn front(self) -> u64
+        ensures { All (λ byte. byte ≡ 0) (oid_bytes self.entry) → result ≡ 0 }
+    {
+        let id = self.bytes;
+        u64::from_be_bytes([id[0], id[1], id[2], id[3], id[4], id[5], id[6], id[7]])
     }
 
     /// The same id with bytes of its own.

@@ -1,6 +1,5 @@
 -- laws of the statistics of a layer
-use Rattle.std.proofs.Common.{◌≡◌, ◌==◌, ℕ, zero, suc, ◌+◌, ◌<◌, ◌≤◌, true, false, cond, if◌then◌else◌, List, [], ◌∷◌, ◌++◌, map, length, take, max, min, nat_eq, count_by, slice_get, unwrap_or, Some, refl, sym, ap, ◌∙◌, subst, ⊎_elim, arith}
-use Rattle.std.specs.HashMap.{get}
+use Rattle.std.proofs.Common.{◌≡◌, ◌==◌, ℕ, zero, suc, ◌+◌, ◌<◌, ◌≤◌, true, false, cond, if◌then◌else◌, List, [], ◌∷◌, ◌++◌, map, length, take, max, min, count_by, slice_get, unwrap_or, Some, refl, sym, ap, ◌∙◌, subst, ⊎_elim, arith}
 use Rattle.std.proofs.lemmas.List.{map-append, length-map, length-take-le, take_all}
 use Rattle.std.proofs.lemmas.List.Sums.{fold-append}
 use Rattle.std.proofs.lemmas.Bool.Decides.{nat_tests}
@@ -14,6 +13,9 @@ use Rattle.graph_format.specs.Parents.{parents_of}
 use Rattle.graph_format.specs.Layer.{IsOpened}
 use Rattle.graph_layer.specs.Traverse.{Summarizes, FileStats}
 use Rattle.graph_layer.specs.declared.file.verify.Outcome.{Outcome}
+use Rattle.graph_layer.specs.declared.file.verify.tally.Tally.{Tally}
+use Rattle.graph_layer.specs.Tallies.{Tallies}
+use Rattle.graph_layer.specs.ParentCounts.{counted}
 use Rattle.graph_format.proofs.LayerHistoryLemmas.{opened-paired, length-layer_history}
 
 nodes-more : (f : Record → Node) (records : List Record) (n : ℕ) → n < length records
@@ -64,14 +66,14 @@ count_of-other numbers n k apart =
     ap above_zero (count-more numbers n k ∙ rw test (omega arith))
 
 -- The statistics with one more commit, of this generation number and with so many parents.
-pub record IsMore (generation parents : ℕ) (before outcome : Outcome) : Type 0 where
-  pub max_generation : outcome.max_generation ≡ max before.max_generation generation
-  pub first : before.num_commits ≡ 0 → outcome.min_generation ≡ generation
-  pub later : 0 < before.num_commits → outcome.min_generation ≡ min before.min_generation generation
-  pub max_parents : outcome.max_parents ≡ max before.max_parents parents
-  pub num_commits : outcome.num_commits ≡ before.num_commits + 1
-  pub parent_counts : (k : ℕ) → get nat_eq outcome.parent_counts k
-      ≡ (if k == parents then Some (unwrap_or (get nat_eq before.parent_counts parents) 0 + 1) else get nat_eq before.parent_counts k)
+pub record IsMore (generation parents : ℕ) (before tally : Tally) : Type 0 where
+  pub max_generation : tally.max_generation ≡ max before.max_generation generation
+  pub first : before.num_commits ≡ 0 → tally.min_generation ≡ generation
+  pub later : 0 < before.num_commits → tally.min_generation ≡ min before.min_generation generation
+  pub max_parents : tally.max_parents ≡ max before.max_parents parents
+  pub num_commits : tally.num_commits ≡ before.num_commits + 1
+  pub parent_counts : (k : ℕ) → counted tally.parent_counts k
+      ≡ (if k == parents then Some (unwrap_or (counted before.parent_counts parents) 0 + 1) else counted before.parent_counts k)
 
 module _ (layer : Layer) (n : ℕ) (inside : n < length layer.records) where
   generations-more : generations (take (n + 1) (layer_history layer)) ≡ generations (take n (layer_history layer)) ++ (record_at layer n).generation ∷ []
@@ -97,8 +99,8 @@ module _ (layer : Layer) (n : ℕ) (inside : n < length layer.records) where
   count_generations : length (generations before_it) ≡ n
   count_generations = length-map before_it (λ node. node.generation) ∙ counted_before
 
-  summarized : (before outcome : Outcome) → Summarizes before_it before → IsMore (record_at layer n).generation parents before outcome → Summarizes (take (n + 1) (layer_history layer)) outcome
-  summarized before outcome summary more =
+  summarized : (before tally : Tally) → Tallies before_it before → IsMore (record_at layer n).generation parents before tally → Tallies (take (n + 1) (layer_history layer)) tally
+  summarized before tally summary more =
       let generation = (record_at layer n).generation in
       record {
         max_generation = more.max_generation ∙ ap (λ m. max m generation) summary.max_generation ∙ sym (ap greatest generations-more ∙ greatest-more (generations before_it) generation);
@@ -122,12 +124,12 @@ module _ (layer : Layer) (n : ℕ) (inside : n < length layer.records) where
       }
 
   -- the statistics with one more commit
-  pub Summarizes-more : (before outcome : Outcome) (count : ℕ) → count ≡ length (parents_of (record_at layer n) layer.edges).positions
-      → Summarizes before_it before → IsMore (record_at layer n).generation count before outcome → Summarizes (take (n + 1) (layer_history layer)) outcome
-  Summarizes-more before outcome count is summary more =
+  pub Tallies-more : (before tally : Tally) (count : ℕ) → count ≡ length (parents_of (record_at layer n) layer.edges).positions
+      → Tallies before_it before → IsMore (record_at layer n).generation count before tally → Tallies (take (n + 1) (layer_history layer)) tally
+  Tallies-more before tally count is summary more =
       let positions = (parents_of (record_at layer n) layer.edges).positions in
       let counted : count ≡ parents = is ∙ sym (length-map positions (λ pos. pos.0)) in
-      summarized before outcome summary (subst (λ (m : ℕ). IsMore (record_at layer n).generation m before outcome) counted more)
+      summarized before tally summary (subst (λ (m : ℕ). IsMore (record_at layer n).generation m before tally) counted more)
 
 -- with each commit of an opened layer, the statistics are those of the layer
 pub stats_of_all : (layer : Layer) (n : ℕ) (outcome : Outcome) → IsOpened layer → n ≡ length layer.ids → Summarizes (take n (layer_history layer)) outcome → FileStats layer outcome

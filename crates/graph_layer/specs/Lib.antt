@@ -31,3 +31,5 @@ pub mod Traverse
 pub mod OpenRefusals
 pub mod OpenAnswer
 pub mod LayerOpening
+pub mod ParentCounts
+pub mod Tallies

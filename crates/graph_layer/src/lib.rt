@@ -3,6 +3,7 @@
 #![tactic(auto)]
 
 pub mod check;
+pub mod counts;
 pub mod file;
 pub mod law;
 mod numbers;

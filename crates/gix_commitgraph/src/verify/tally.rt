@@ -1,20 +1,18 @@
 //! The statistics of a graph, gathered commit by commit.
 
-ghost use Rattle.std.specs.Prelude.{◌≡◌, ◌==◌, ◌+◌, ◌<◌, ◌^◌, ◌∷◌, ◌++◌, [], ℕ, List, Some, length, OnOk, unwrap_or, if◌then◌else◌};
-ghost use Rattle.std.specs.Ordering.{nat_cmp};
-ghost use Rattle.std.specs.BTreeMap.{get};
+ghost use Rattle.std.specs.Prelude.{◌≡◌, ◌+◌, ◌<◌, ◌^◌, ◌∷◌, ◌++◌, [], List, length, IfOk, OnOk};
 
 use crate::GENERATION_NUMBER_MAX;
 use crate::verify::Outcome;
+use graph_layer::counts::ParentCounts;
 use std::alloc::{AllocError, Global};
-use std::collections::BTreeMap;
 
 /// The statistics of the commits so far.
 #[derive(Drop)]
 pub(super) struct Tally {
     max_generation: u32,
     num_commits: u32,
-    parent_counts: BTreeMap<u32, u32>,
+    parent_counts: ParentCounts,
 }
 
 impl Tally {
@@ -29,7 +27,7 @@ impl Tally {
         Tally {
             max_generation: 0,
             num_commits: 0,
-            parent_counts: BTreeMap::new(alloc),
+            parent_counts: ParentCounts::new(alloc),
         }
     }
 
@@ -40,34 +38,24 @@ impl Tally {
             → generation ≡ node.generation → parents ≡ length node.parents
             → Tallies (seen ++ node ∷ []) self.new) }
     {
-        count_one(&mut self.parent_counts, parents)?;
+        self.parent_counts.add(parents)?;
         self.max_generation = self.max_generation.max(generation);
         self.num_commits += 1;
         Ok(())
     }
 
     /// The statistics as an outcome, once all commits are added.
-    pub(super) fn outcome(self) -> Outcome
-        ensures { (seen : List Node) → Tallies seen self → Summarizes seen result }
+    pub(super) fn outcome(self) -> Result<Outcome, AllocError>
+        ensures { IfOk result (λ outcome. (seen : List Node) → Tallies seen self → Summarizes seen outcome) }
     {
-        Outcome {
+        Ok(Outcome {
             longest_path_length: if self.max_generation < GENERATION_NUMBER_MAX {
                 Some(self.max_generation.saturating_sub(1))
             } else {
                 None
             },
             num_commits: self.num_commits,
-            parent_counts: self.parent_counts,
-        }
+            parent_counts: self.parent_counts.into_map()?,
+        })
     }
-}
-
-/// Counts one more under a number.
-fn count_one(counts: &mut BTreeMap<u32, u32>, number: u32) -> Result<(), AllocError>
-    requires { unwrap_or (get nat_cmp counts.old number) 0 + 1 < 2 ^ 32 }
-    ensures { OnOk result ((k : ℕ) → get nat_cmp counts.new k
-        ≡ (if k == number then Some (unwrap_or (get nat_cmp counts.old number) 0 + 1) else get nat_cmp counts.old k)) }
-{
-    *counts.entry(number)?.or_insert(0) += 1;
-    Ok(())
 }

@@ -4,6 +4,7 @@ ghost use Rattle.std.specs.Prelude.{◌≡◌, ◌<◌, ◌^◌, ◌↔◌, leng
 
 use crate::file;
 use crate::file::File;
+use crate::file::lookup::order;
 pub use crate::file::parents::Parents;
 use gix_hash_core::oid;
 use graph_format::Position;
@@ -114,8 +115,10 @@ impl<'a> Commit<'a> {
         if self.pos.0 == 0 {
             return false;
         }
-        let before = self.file.id_at(file::Position(self.pos.0 - 1));
-        before.cmp(&self.id()).is_ge()
+        let size = self.file.object_hash().len_in_bytes();
+        let before = self.file.id_bytes_at(self.pos.0 - 1, size);
+        let id = self.file.id_bytes_at(self.pos.0, size);
+        order(before, id).is_ge()
     }
 
     /// The number of the commit's parents, repeats counted, or the error that ends their decoding.

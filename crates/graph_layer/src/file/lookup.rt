@@ -9,21 +9,21 @@ ghost use Rattle.graph_format.specs.Lookup.{Found, position_number, bucket_start
 
 use crate::file::init::fan_at;
 use crate::file::{File, Position};
-use crate::numbers::word_at;
+use crate::numbers::long_at;
 use gix_hash_core::oid;
 use std::cmp::Ordering;
 
-/// How two ids compare. Their first four bytes, which hardly ever agree, are compared as numbers.
+/// How two ids compare. Their first eight bytes, which hardly ever agree, are compared as numbers.
 #[inline(always)]
-fn order(one: &[u8], other: &[u8]) -> Ordering
-    requires one { 4 ≤ length one.now }
+pub fn order(one: &[u8], other: &[u8]) -> Ordering
+    requires one { 8 ≤ length one.now }
     requires same { length one.now ≡ length other.now }
     requires one_bytes { (i : ℕ) → slice_index one.now i < 256 }
     requires other_bytes { (i : ℕ) → slice_index other.now i < 256 }
     ensures { result ≡ slice_cmp nat_cmp one.now other.now }
 {
-    let first = word_at(one, 0);
-    let second = word_at(other, 0);
+    let first = long_at(one, 0);
+    let second = long_at(other, 0);
     if first < second {
         Ordering::Less
     } else if second < first {
@@ -104,7 +104,7 @@ impl File {
     }
 
     /// The bytes of the id at a position, where ids have so many bytes.
-    fn id_bytes_at(&self, pos: u32, size: usize) -> &[u8]
+    pub(super) fn id_bytes_at(&self, pos: u32, size: usize) -> &[u8]
         requires within { pos < length self.now.ids }
         requires size { size ≡ id_len self.now.kind }
         ensures id { slice_get self.now.ids pos ≡ Some result.now }

@@ -1,9 +1,12 @@
 //! Checks of what one layer says.
 
+mod tally;
+
 ghost use Rattle.std.specs.Prelude.{◌≡◌, ◌≢◌, ◌==◌, ℕ, ◌+◌, ◌<◌, ◌^◌, [], length, take, nat_eq, if◌then◌else◌, unwrap_or, Some, IfOk, OnOk, MatchResult};
 ghost use Rattle.std.specs.HashMap.{get};
 ghost use Rattle.gix_hash_core.specs.Digest.{digest_of};
 
+use crate::file::verify::tally::Tally;
 use crate::file::{Commit, File, Position};
 use gix_hash_core::{ObjectId, digest};
 use graph_format::fault::{CommitFault, LayerFault};
@@ -51,20 +54,8 @@ pub struct Outcome {
     pub parent_counts: HashMap<u32, u32>,
 }
 
-/// Counts one more under a number.
-fn count_one(counts: &mut HashMap<u32, u32>, number: u32) -> Result<(), AllocError>
-    requires { unwrap_or (get nat_eq counts.old number) 0 + 1 < 2 ^ 32 }
-    ensures { OnOk result ((k : ℕ) → get nat_eq counts.new k
-        ≡ (if k == number then Some (unwrap_or (get nat_eq counts.old number) 0 + 1) else get nat_eq counts.old k)) }
-{
-    *counts.entry(number)?.or_insert(0) += 1;
-    Ok(())
-}
-
 impl Outcome {
-    ghost use Rattle.graph_layer.specs.Commit.{commit_layer, commit_pos, commit_parents};
-    ghost use Rattle.graph_format.specs.StoredHistory.{layer_history};
-    ghost use Rattle.graph_layer.specs.Traverse.{IsCopy, Summarizes};
+    ghost use Rattle.graph_layer.specs.Traverse.{IsCopy};
 
     /// An equal outcome. The error is that an allocation failed.
     pub fn try_clone(&self) -> Result<Outcome, AllocError>
@@ -74,40 +65,6 @@ impl Outcome {
             parent_counts: self.parent_counts.clone()?,
             ..*self
         })
-    }
-
-    /// The statistics of no commits.
-    fn new(alloc: Global) -> Outcome
-        ensures { Summarizes [] result }
-    {
-        Outcome {
-            max_generation: 0,
-            min_generation: 0,
-            max_parents: 0,
-            num_commits: 0,
-            parent_counts: HashMap::new(alloc),
-        }
-    }
-
-    /// Adds a commit with this number of parents to those before it in its layer.
-    fn add(&mut self, commit: &Commit<'_>, parents: u32) -> Result<(), AllocError>
-        requires small { commit_pos commit.now + 1 < 2 ^ 32 }
-        requires record { commit_pos commit.now < length (commit_layer commit.now).records }
-        requires parents { parents ≡ length (commit_parents commit.now).positions }
-        requires before { Summarizes (take (commit_pos commit.now) (layer_history (commit_layer commit.now))) self.old }
-        ensures { OnOk result (Summarizes (take (commit_pos commit.now + 1) (layer_history (commit_layer commit.now))) self.new) }
-    {
-        count_one(&mut self.parent_counts, parents)?;
-        let generation = commit.generation();
-        self.min_generation = if self.num_commits == 0 {
-            generation
-        } else {
-            self.min_generation.min(generation)
-        };
-        self.max_generation = self.max_generation.max(generation);
-        self.max_parents = self.max_parents.max(parents);
-        self.num_commits += 1;
-        Ok(())
     }
 }
 
@@ -250,12 +207,12 @@ impl File {
         if let Some(fault) = self.layer_fault() {
             return Err(TraverseError::of_layer(fault));
         }
-        let mut outcome = Outcome::new(alloc);
+        let mut tally = Tally::new(alloc);
         for number in 0..self.num_commits() {
             let commit = self.commit_at(Position(number));
             let parents = commit.check(processor)?;
-            outcome.add(&commit, parents)?;
+            tally.add(&commit, parents)?;
         }
-        Ok(outcome)
+        Ok(tally.outcome(alloc)?)
     }
 }

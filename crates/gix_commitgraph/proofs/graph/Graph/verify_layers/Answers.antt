@@ -1,5 +1,6 @@
 use Rattle.std.proofs.Common.{◌≡◌, ◌≤◌, ℕ, length, take, sym, ap, subst, ◌∙◌, arith}
 use Rattle.std.proofs.lemmas.Result.{err_from_is_err_and}
+use Rattle.graph_format.proofs.PointLemmas.{ran_out}
 use Rattle.gix_commitgraph.specs.Graph.{stop, IsGraph}
 use Rattle.graph_format.specs.StoredHistory.{history_of}
 use Rattle.gix_commitgraph.proofs.GraphHistoryLemmas.{take-all}
@@ -32,6 +33,11 @@ loop-layer-preserved g c = record {
   tally = c.in_ok-verify_layer.ensures.tally;
 }
 
+pub returns-in_err-outcome-clause-agrees : goal.returns-in_err-outcome-clause-agrees
+returns-in_err-outcome-clause-agrees g c =
+    let no_memory = err_from_is_err_and c.from_residual-in_err-outcome.result c.from_residual-in_err-outcome.ensures.1 in
+    rw (no_memory.1, no_memory.2) (ran_out _ _ _ _ _ c.loop-layer.invariant.reached)
+
 pub returns-clause-agrees : goal.returns-clause-agrees
 returns-clause-agrees g c =
     let past : length c.args.self.now ≤ c.loop-layer.layer = omega (arith, c.len-layer-end.ensures, c.self.inside.files.ok.0, ap length c.self.view_is, c.loop-layer-test.false) in
@@ -43,4 +49,4 @@ returns-clause-outcome g c =
     let graph : IsGraph c.args.self.now = subst IsGraph c.self.view_is c.self.invariant in
     let all : take c.loop-layer.first (history_of c.args.self.now) ≡ history_of c.args.self.now =
     ap (λ (n : ℕ). take n (history_of c.args.self.now)) c.loop-layer.invariant.first ∙ take-all c.args.self.now c.loop-layer.layer graph.opened past in
-    rw all at (c.outcome.ensures _ c.loop-layer.invariant.tally)
+    rw all at (c.in_ok-outcome.ensures _ c.loop-layer.invariant.tally)

@@ -1,7 +1,7 @@
 use Rattle.std.proofs.Common.{◌≡◌, refl, ◌+◌, ◌<◌, length, take, arith}
 use Rattle.std.proofs.lemmas.Result.{err_from_is_err_and}
 use Rattle.graph_format.specs.StoredHistory.{layer_history}
-use Rattle.graph_layer.specs.Traverse.{Summarizes}
+use Rattle.graph_layer.specs.Tallies.{Tallies}
 use Rattle.graph_layer.proofs.TraverseLemmas.{reached_first, reached_next, stops_at_commit, said_there, stands_there, few_there}
 use Rattle.graph_layer.proofs.LayerStatisticsLemmas.{stats_of_all}
 use Rattle.graph_format.proofs.PointLemmas.{ran_out}
@@ -10,7 +10,7 @@ use Rattle.graph_layer.proofs.file.File.traverse.Goals as goal
 pub loop-number-init : goal.loop-number-init
 loop-number-init g c = record {
   reached = reached_first g.F.FnMut c.args.self.now c.args.processor.now c.in_default.ensures;
-  summary = c.new-outcome.ensures;
+  tally = c.new-tally.ensures;
 }
 
 pub check-requires : goal.check-requires
@@ -48,10 +48,15 @@ loop-number-preserved g c =
     let inside : c.loop-number.number < length c.args.self.now.ids = omega (arith, c.loop-number-test.true, c.num_commits-number-end.ensures.ids) in
     record {
       reached = reached_next g.F.FnMut c.args.self.now c.args.processor.now commit c.loop-number.number at.layer at.pos inside _ _ c.loop-number.invariant.reached c.in_ok-parents.ensures.agrees;
-      summary = said_there commit at.layer at.pos (λ layer pos. Summarizes (take (pos + 1) (layer_history layer)) c.add.new.self) c.in_ok-add.ensures;
+      tally = said_there commit at.layer at.pos (λ layer pos. Tallies (take (pos + 1) (layer_history layer)) c.add.new.self) c.in_ok-add.ensures;
     }
+
+pub returns-in_err-outcome-clause-agrees : goal.returns-in_err-outcome-clause-agrees
+returns-in_err-outcome-clause-agrees g c =
+    let error = err_from_is_err_and c.from_residual-in_err-outcome.result c.from_residual-in_err-outcome.ensures.1 in
+    rw (error.1, error.2) (ran_out _ _ _ _ _ c.loop-number.invariant.reached)
 
 pub returns-clause-outcome : goal.returns-clause-outcome
 returns-clause-outcome g c =
     let all : c.loop-number.number ≡ length c.args.self.now.ids = omega (arith, c.loop-number-test.false, c.loop-number.auto.number-end, c.num_commits-number-end.ensures.ids) in
-    stats_of_all c.args.self.now c.loop-number.number _ c.num_commits-number-end.ensures.layer all c.loop-number.invariant.summary
+    stats_of_all c.args.self.now c.loop-number.number _ c.num_commits-number-end.ensures.layer all (c.in_ok-outcome.ensures _ c.loop-number.invariant.tally)

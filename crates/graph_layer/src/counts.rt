@@ -1,0 +1,61 @@
+//! How many commits have each number of parents.
+
+ghost use Rattle.std.specs.Prelude.{◌≡◌, ◌==◌, ℕ, ◌+◌, ◌<◌, ◌^◌, Some, None, OnOk, IfOk, unwrap_or, if◌then◌else◌};
+ghost use Rattle.std.specs.Ordering.{nat_cmp};
+ghost use Rattle.std.specs.BTreeMap.{get};
+
+use std::alloc::{AllocError, Global};
+use std::collections::BTreeMap;
+
+/// How many commits have each number of parents. Hardly any commit has more than 2: those are
+/// counted in a map, and the others, which would take most of a check's time there, in an array.
+#[derive(Drop)]
+pub struct ParentCounts {
+    few: [u32; 3],
+    more: BTreeMap<u32, u32>,
+    ghost above: { (k : ℕ) → k < 3 → get nat_cmp more k ≡ None },
+}
+
+impl ParentCounts {
+    ghost use Rattle.graph_layer.specs.ParentCounts.{counted};
+
+    /// The counts of no commits.
+    pub fn new(alloc: Global) -> ParentCounts
+        ensures { (k : ℕ) → counted result k ≡ None }
+    {
+        ParentCounts {
+            few: [0; 3],
+            more: BTreeMap::new(alloc),
+        }
+    }
+
+    /// Counts one more commit with so many parents. The error is that an allocation failed.
+    pub fn add(&mut self, parents: u32) -> Result<(), AllocError>
+        requires { unwrap_or (counted self.old parents) 0 + 1 < 2 ^ 32 }
+        ensures { OnOk result ((k : ℕ) → counted self.new k
+            ≡ (if k == parents then Some (unwrap_or (counted self.old parents) 0 + 1) else counted self.old k)) }
+    {
+        if parents < 3 {
+            self.few[parents as usize] += 1;
+        } else {
+            *self.more.entry(parents)?.or_insert(0) += 1;
+        }
+        Ok(())
+    }
+
+    /// For each number of parents that some commit has, the number of commits that have it. The
+    /// error is that an allocation failed.
+    pub fn into_map(self) -> Result<BTreeMap<u32, u32>, AllocError>
+        ensures { IfOk result (λ map. (k : ℕ) → get nat_cmp map k ≡ counted self k) }
+    {
+        let few = self.few;
+        let mut counts = self.more;
+        for parents in 0..3 {
+            let count = few[parents as usize];
+            if count > 0 {
+                counts.insert(parents, count)?;
+            }
+        }
+        Ok(counts)
+    }
+}
