@@ -1,0 +1,7 @@
+pub mod PlaceLemmas
+pub mod PathLemmas
+pub mod QueueLemmas
+pub mod StepLemmas
+pub mod ShortestWalkLemmas
+pub mod VisitLemmas
+pub mod QueryLemmas

@@ -1,0 +1,5 @@
+pub mod Checked
+pub mod Counts
+pub mod Answer
+pub mod Queue
+pub mod Commits

@@ -1,0 +1,25 @@
+//! Whether one commit of a commit-graph is an ancestor of another, and by which shortest walk along
+//! parents.
+//!
+//! [`Checked::new`] checks a graph once. [`Checked::ancestor_walk`] then goes over the ancestors of
+//! a commit breadth first. It relies on the generation numbers, which the check has found right, and
+//! leaves out each commit whose number is too low to lead to the one that is looked for
+//! ("topological level" in Git's commit-graph design).
+#![tactic(auto)]
+
+mod checked;
+mod commits;
+pub mod law;
+mod search;
+
+pub use checked::{Checked, NoFault};
+use gix_commitgraph::Position;
+
+/// The answer of a query for a walk from one commit to another.
+#[derive(Debug, Drop)]
+pub struct Reached {
+    /// A shortest walk, both commits included, or `None` where there is no walk.
+    pub walk: Option<Vec<Position>>,
+    /// How many commits were visited: taken from the queue of the search.
+    pub visits: u32,
+}
