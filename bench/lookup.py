@@ -36,8 +36,11 @@ ROUNDS = 7
 LIBRARIES = {
     "gix_hash_core": "sha1 sha2 hex thiserror",
     "gix_chunk_core": "thiserror",
+    "graph_walks": "",
+    "graph_format": "gix_hash_core gix_chunk_core graph_walks thiserror",
     "graph_folder": "thiserror",
-    "gix_commitgraph": "gix_hash_core gix_chunk_core graph_folder thiserror",
+    "graph_layer": "gix_hash_core gix_chunk_core graph_walks graph_format graph_folder thiserror",
+    "gix_commitgraph": "gix_hash_core gix_chunk_core graph_walks graph_format graph_layer graph_folder thiserror",
 }
 PROGRAM = "lookup_bench"
 PROGRAM_LIBRARIES = "gix_hash_core gix_commitgraph anyhow"
