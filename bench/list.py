@@ -29,6 +29,10 @@ RUNS = 7
 MOST_HASHES = 4
 """A listing is to take no longer than so many runs of sha1sum over the same file."""
 
+MOST_BYTES = 20
+"""Beside the input, a listing is to need no more memory than so many bytes a commit, and SPARE_BYTES."""
+SPARE_BYTES = 4_000_000
+
 
 class Run(NamedTuple):
     """What a run took, in seconds and in bytes at most."""
@@ -141,9 +145,9 @@ def report(runs, size, output):
     print_rate("whole", runs["list"].seconds, size)
     hashes = runs["list"].seconds / runs["sha1sum"].seconds
     memory = runs["list"].memory
-    most_memory = size + 2 * output
+    most_memory = size + MOST_BYTES * COMMITS + SPARE_BYTES
     print("time     %11.2f runs of sha1sum, at most %d wanted" % (hashes, MOST_HASHES))
-    print("memory   %11d bytes at most, %d wanted: input and twice the output" % (memory, most_memory))
+    print("memory   %11d bytes at most, %d wanted: input and %d bytes a commit" % (memory, most_memory, MOST_BYTES))
     return 0 if hashes <= MOST_HASHES and memory <= most_memory else 1
 
 

@@ -4,15 +4,16 @@ use Rattle.std.specs.Prelude.{Option, Some, None, Result, Ok, Err, IfOk, IfSome}
 use Rattle.std.specs.Io.KnownBytes.{Appends}
 use Rattle.graph_commands.specs.declared.refusal.Refusal.{Refusal}
 use Rattle.graph_commands.specs.Answer.{WritesAnswer, WritesRefusal}
-use Rattle.graph_commands.specs.List.{MayList, SpellsListing, list_text, list_status}
+use Rattle.graph_format.specs.Layer.{Layer}
+use Rattle.graph_commands.specs.Listing.{listing_text}
+use Rattle.graph_commands.specs.List.{MayList, list_text, list_status}
 
 -- a listing that was written
-pub writes_listing : (known old new : Option (List ℕ)) (text : List ℕ)
-    → IfSome known (λ input. SpellsListing input text) → Appends old new text
+pub writes_listing : (known old new : Option (List ℕ)) (layer : Layer)
+    → IfSome known (λ input. MayList input (Ok layer)) → Appends old new (listing_text layer)
     → IfSome known (λ input. WritesAnswer list_text list_status (MayList input) old new 0)
-writes_listing None old new text spells written = tt
-writes_listing (Some input) old new text spells written =
-    (Ok spells.0, spells.1, rw spells.2 at written, refl)
+writes_listing None old new layer may written = tt
+writes_listing (Some input) old new layer may written = (Ok layer, may, written, refl)
 
 -- a refusal that was written, if it was
 pub writes_refusal : {E : Type 0} (known old new : Option (List ℕ)) (refusal : Refusal) (result : Result ℕ E)

@@ -2,6 +2,7 @@ pub mod Text
 pub mod Numbers
 pub mod Refusal
 pub mod Answer
+pub mod Block
 pub mod Listing
 pub mod PositionLines
 pub mod List

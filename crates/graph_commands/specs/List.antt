@@ -33,7 +33,3 @@ list_text (Err refusal) = refusal_text refusal ⧺ newline
 abbrev pub list_status : Result Layer Refusal → ℕ
 list_status (Ok layer) = 0
 list_status (Err refusal) = refusal_status refusal
-
--- the text is the listing of the layer that the input is a file of
-abbrev pub SpellsListing : List ℕ → List ℕ → Type 0
-SpellsListing input text = (layer : Layer) × IsLayer input list_path layer × (text ≡ listing_text layer)

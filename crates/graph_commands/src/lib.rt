@@ -5,6 +5,8 @@
 //! what a check and a search found, and [`line`] writes a line whole.
 #![tactic(auto)]
 
+mod block;
+mod bytes;
 pub mod line;
 mod listing;
 mod numbers;

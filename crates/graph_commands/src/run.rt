@@ -1,16 +1,16 @@
 //! The commands, over their inputs and a writer.
 
-ghost use Rattle.std.specs.Prelude.{◌≡◌, IfOk, IfErr, IfSome, Err};
-ghost use Rattle.std.specs.String.{string_bytes};
+ghost use Rattle.std.specs.Prelude.{◌≡◌, [], IfOk, IfErr, IfSome, Ok, Err};
 ghost use Rattle.gix_hash_core.specs.Oid.{oid_bytes};
 ghost use Rattle.graph_commands.specs.Answer.{WritesAnswer, WritesRefusal};
 ghost use Rattle.graph_commands.specs.Opening.{MayOpen};
-ghost use Rattle.graph_commands.specs.List.{MayList, SpellsListing, list_text, list_status};
+ghost use Rattle.graph_commands.specs.List.{MayList, list_text, list_status};
 ghost use Rattle.graph_commands.specs.Find.{MayBeFound, MayFind, find_text, find_status};
 ghost use Rattle.graph_commands.specs.Verify.{Passes, Fails, MayPass, MayVerify, verify_text, verify_status};
 
+use crate::block::Block;
 use crate::line::write_line;
-use crate::listing::listing;
+use crate::listing::write_listing;
 use crate::refusal::Refusal;
 use crate::report::{Found, write_outcome};
 use gix_commitgraph::opening::open_in;
@@ -50,27 +50,29 @@ pub fn run_list<R: Read, W: Write>(
         WritesAnswer list_text list_status (MayList input)
         (W.contents writer.old) (W.contents writer.new) status)) }
 {
-    match list(alloc, reader) {
-        Ok(text) => {
-            writer.write_all(text.as_bytes())?;
+    match prepare(alloc, reader) {
+        Ok((layer, mut block)) => {
+            write_listing(&mut block, writer, &layer)?;
             Ok(DONE)
         }
         Err(refusal) => refuse(writer, &refusal),
     }
 }
 
-// The listing of the layer that the reader gives. All of it is made before the first write.
-fn list<R: Read>(alloc: Global, reader: &mut R) -> Result<String, Refusal>
-    ensures listed { IfOk result (λ text. IfSome (R.remaining reader.old) (λ input.
-        SpellsListing input (string_bytes text))) }
+// The layer that the reader gives, and a block to write its listing with. All that a listing needs
+// memory for is there before the first write.
+fn prepare<R: Read>(alloc: Global, reader: &mut R) -> Result<(File, Block), Refusal>
+    ensures layer { IfOk result (λ prepared. IfSome (R.remaining reader.old) (λ input.
+        MayList input (Ok prepared.0))) }
+    ensures block { IfOk result (λ prepared. prepared.1 ≡ []) }
     ensures refused { IfErr result (λ refusal. IfSome (R.remaining reader.old) (λ input.
         MayList input (Err refusal))) }
 {
     let input = read_all(alloc, reader)?;
     let path = String::from_str(alloc, "-").map_err(|_| FileError::OutOfMemory)?;
     let layer = File::new(alloc, input, path)?;
-    let text = listing(alloc, &layer).map_err(|_| FileError::OutOfMemory)?;
-    Ok(text)
+    let block = Block::new(alloc).map_err(|_| FileError::OutOfMemory)?;
+    Ok((layer, block))
 }
 
 /// Checks the graph that the path opens, and writes the statistics of its commits, or one line that

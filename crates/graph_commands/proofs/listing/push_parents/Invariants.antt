@@ -1,13 +1,17 @@
--- What is written is the items so far, joined.
-use Rattle.std.proofs.Common.{◌≡◌, ◌++◌, nat_lt, length}
+-- What is added is the items so far, joined.
+use Rattle.std.proofs.Common.{◌≡◌}
 use Rattle.std.specs.Prelude.{codes}
-use Rattle.std.specs.String.{string_bytes}
 use Rattle.std.specs.List.{join_by}
+use Rattle.std.specs.Io.KnownBytes.{Appends}
+use Rattle.graph_commands.specs.Block.{with_block}
 use Rattle.graph_commands.specs.Listing.{item_text}
+use Rattle.graph_commands.proofs.BlockLemmas.{has_some}
 use Rattle.graph_commands.proofs.listing.push_parents.Given as goal
 
 abbrev pub invariant-loop-item : goal.invariant-loop-item
-invariant-loop-item l = record {
-  written : string_bytes l.text ≡ string_bytes l.initial.text ++ join_by item_text (codes ",") l.yielded;
-  any : l.any ≡ nat_lt 0 (length l.yielded);
+invariant-loop-item g l = record {
+  written :
+      Appends (with_block (g.W.Write.contents l.initial.writer) l.initial.block) (with_block (g.W.Write.contents l.writer) l.block)
+      (join_by item_text (codes ",") l.yielded);
+  any : l.any ≡ has_some l.yielded;
 }

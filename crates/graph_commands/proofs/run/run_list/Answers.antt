@@ -2,11 +2,9 @@
 use Rattle.graph_commands.proofs.ListAnswers.{writes_listing, writes_refusal}
 use Rattle.graph_commands.proofs.run.run_list.Goals as goal
 
-pub returns-in_ok-write_all-in-Ok : goal.returns-in_ok-write_all-in-Ok
-returns-in_ok-write_all-in-Ok g c = record {
-  written =
-      writes_listing _ _ _ _ c.in-Ok.ensures.listed
-      (rw c.as_bytes.ensures.value at c.in_ok-write_all-in-Ok.ensures.bytes);
+pub returns-in_ok-write_listing-in-Ok : goal.returns-in_ok-write_listing-in-Ok
+returns-in_ok-write_listing-in-Ok g c = record {
+  written = writes_listing _ _ _ c.in-Ok.layer c.in-Ok.ensures.layer c.in_ok-write_listing-in-Ok.ensures;
 }
 
 pub returns-in-Err : goal.returns-in-Err
