@@ -5,6 +5,10 @@
 #![tactic(auto)]
 
 #[cfg(test)]
+mod conditions;
+#[cfg(test)]
+mod damaged;
+#[cfg(test)]
 mod finding;
 #[cfg(test)]
 mod fixtures;
@@ -12,6 +16,8 @@ mod fixtures;
 mod lines;
 #[cfg(test)]
 mod listing;
+#[cfg(test)]
+mod odd_chunks;
 #[cfg(test)]
 mod on_disk;
 #[cfg(test)]
