@@ -7,11 +7,11 @@ use crate::Position;
 use thiserror::Error;
 
 /// What a parent field has in place of a position where no parent is there.
-const NO_PARENT: u32 = 0x7000_0000;
+pub const NO_PARENT: u32 = 0x7000_0000;
 
 /// The top bit of a word. A parent field with it is an index into the extra edge list, and a word
 /// of that list with it is the last parent.
-const TOP_BIT: u32 = 0x8000_0000;
+pub const TOP_BIT: u32 = 0x8000_0000;
 
 /// Why the parents of a commit, or some of them, cannot be decoded. Displayed as the name of the
 /// variant.

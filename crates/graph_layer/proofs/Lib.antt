@@ -3,6 +3,7 @@ pub mod ChunkLemmas
 pub mod ChunkSizeLemmas
 pub mod DecodedRecordLemmas
 pub mod ListedParentLemmas
+pub mod ParentBoundLemmas
 pub mod FileViewLemmas
 pub mod ElementLemmas
 pub mod FanLemmas

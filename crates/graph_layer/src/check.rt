@@ -31,7 +31,8 @@ pub fn parent_edges(commit: &Commit<'_>) -> (ParentEdge, ParentEdge)
     ensures first { result.0 ≡ edge_of (commit_record commit.now).parent1 }
     ensures second { result.1 ≡ edge_of (commit_record commit.now).parent2 }
 {
-    commit.parent_edges()
+    let (first, second) = commit.parent_fields();
+    (ParentEdge::from_raw(first), ParentEdge::from_raw(second))
 }
 
 /// The id of a layer below this one ("Base Graphs List").

@@ -1,6 +1,6 @@
 //! Accessors of a layer, and iterators over its ids, its base ids and its commits.
 
-ghost use Rattle.std.specs.Prelude.{◌≡◌, ◌+◌, ◌*◌, ◌<◌, ◌≤◌, length, map, drop, slice_index, slice_range, slice_get, Some, IfSome, option_map, option_copied, bytes_eq};
+ghost use Rattle.std.specs.Prelude.{◌≡◌, ◌+◌, ◌*◌, ◌<◌, ◌≤◌, length, map, drop, slice_index, slice_range, slice_get, Some, IfSome, option_map, bytes_eq};
 ghost use Rattle.gix_hash_core.specs.Kind.{id_len};
 ghost use Rattle.gix_hash_core.specs.Oid.{oid_bytes};
 ghost use Rattle.graph_format.specs.Format.{words, commits_of};
@@ -163,16 +163,6 @@ impl File {
         ensures len { length result.now ≡ length self.now.ids }
     {
         &self.records.second_fields
-    }
-
-    /// The bytes of the extra edge list, where the file has one.
-    pub(super) fn edge_bytes(&self) -> Option<&[u8]>
-        ensures { option_copied result ≡ self.now.edges }
-    {
-        match self.layout.chunks.edges {
-            Some(place) => Some(&self.bytes[place.start..place.end]),
-            None => None,
-        }
     }
 
     /// The words of the extra edge list, where the file has one.

@@ -89,7 +89,7 @@ impl<'a> Commit<'a> {
         ensures items { parents_left result ≡ items_of (commit_parents self.entry) }
         ensures hint { parents_hint result ≡ first_hint (edge_of (commit_record self.entry).parent1) (edge_of (commit_record self.entry).parent2) }
     {
-        let (first, second) = self.parent_edges();
+        let (first, second) = self.parent_fields();
         Parents::new(self.file, first, second)
     }
 
@@ -136,23 +136,22 @@ impl<'a> Commit<'a> {
         Ok(count)
     }
 
-    /// What both parent fields say.
+    /// Both parent fields.
     #[tactic(auto, using(crate::proofs::DecodedRecordLemmas::field_laws))]
-    pub(crate) fn parent_edges(&self) -> (ParentEdge, ParentEdge)
-        ensures first { result.0 ≡ edge_of (commit_record self.now).parent1 }
-        ensures second { result.1 ≡ edge_of (commit_record self.now).parent2 }
+    pub(crate) fn parent_fields(&self) -> (u32, u32)
+        ensures first { result.0 ≡ (commit_record self.now).parent1 }
+        ensures second { result.1 ≡ (commit_record self.now).parent2 }
     {
         let index = self.pos.0 as usize;
         let first = self.file.first_fields()[index];
-        let second = self.file.second_fields()[index];
-        (ParentEdge::from_raw(first), ParentEdge::from_raw(second))
+        (first, self.file.second_fields()[index])
     }
 }
 
 /// The ids in hexadecimal, and the other fields as numbers and as what the parent fields say.
 impl<'a> fmt::Debug for Commit<'a> {
     fn fmt<W: fmt::Write>(&self, f: &mut fmt::Formatter<W>) -> fmt::Result {
-        let (first, second) = self.parent_edges();
+        let (first, second) = self.parent_fields();
         write!(
             f,
             "Commit {{ id: {}, lex_pos: {}, generation: {}, root_tree_id: {}, parent1: {:?}, parent2: {:?} }}",
@@ -160,8 +159,8 @@ impl<'a> fmt::Debug for Commit<'a> {
             self.pos.0,
             self.generation(),
             self.root_tree_id(),
-            first,
-            second
+            ParentEdge::from_raw(first),
+            ParentEdge::from_raw(second)
         )
     }
 }

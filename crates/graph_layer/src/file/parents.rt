@@ -1,26 +1,11 @@
 //! The parents of a commit, one after another.
 
-ghost use Rattle.std.specs.Prelude.{◌≡◌, ◌<◌, ◌≤◌, ◌∷◌, [], Some, length, IfSome};
-ghost use Rattle.graph_format.specs.Parents.{items_of, extra_parents, both_parents};
+ghost use Rattle.std.specs.Prelude.{◌≡◌, ◌≢◌, ◌⊎◌, ◌<◌, ◌≤◌, ◌∷◌, [], true, Some, length, IfSome};
+ghost use Rattle.graph_format.specs.Parents.{edge_of, items_of, both_parents};
 
 use crate::file::File;
-use crate::numbers::word_at;
 use graph_format::Position;
-use graph_format::parents::{ExtraEdge, ParentEdge, ParentError};
-use std::mem;
-
-/// Where an iterator over parents stands.
-#[derive(Clone, Copy)]
-enum State<'a> {
-    /// Before the first item, with both parent fields.
-    First(ParentEdge, ParentEdge),
-    /// After the first position, with the second parent field.
-    Second(ParentEdge),
-    /// Before the word of this index in the extra edge list.
-    Extra(&'a [u8], usize),
-    /// After the last item.
-    Exhausted,
-}
+use graph_format::parents::{ExtraEdge, NO_PARENT, ParentError, TOP_BIT};
 
 /// An iterator over the parents of a commit, as the sections "Commit Data" and "Extra Edge List" of
 /// Git's commit-graph format have them.
@@ -30,7 +15,14 @@ enum State<'a> {
 #[derive(Drop)]
 pub struct Parents<'a> {
     file: &'a File,
-    state: State<'a>,
+    /// The parent field that gives the next item. In the extra edge list it is the index of the
+    /// next word, with the top bit of a field added; an index may need more bits than a field has.
+    next: u64,
+    /// The parent field after that one.
+    after: u32,
+    /// Whether the first field is behind.
+    started: bool,
+    ghost second_is_last: { started ≡ true → after ≡ 0x70000000 },
 }
 
 impl<'a> Parents<'a> {
@@ -38,13 +30,15 @@ impl<'a> Parents<'a> {
     ghost use Rattle.graph_layer.specs.RemainingParents.{parents_left, parents_hint, first_hint, hint_after};
 
     /// The parents that both fields of a commit of this file give.
-    pub(crate) fn new(file: &'a File, first: ParentEdge, second: ParentEdge) -> Parents<'a>
-        ensures items { parents_left result ≡ items_of (both_parents first second file.now.edges) }
-        ensures hint { parents_hint result ≡ first_hint first second }
+    pub(crate) fn new(file: &'a File, first: u32, second: u32) -> Parents<'a>
+        ensures items { parents_left result ≡ items_of (both_parents (edge_of first) (edge_of second) file.now.edges) }
+        ensures hint { parents_hint result ≡ first_hint (edge_of first) (edge_of second) }
     {
         Parents {
             file,
-            state: State::First(first, second),
+            next: first as u64,
+            after: second,
+            started: false,
         }
     }
 
@@ -56,46 +50,51 @@ impl<'a> Parents<'a> {
         ensures steps { YieldsFirst parents_left self.old result self.new }
         ensures hint { parents_hint self.new ≡ hint_after (parents_hint self.old) (parents_left self.new) }
     {
-        match mem::replace(&mut self.state, State::Exhausted) {
-            State::First(ParentEdge::None, ParentEdge::None) => None,
-            State::First(ParentEdge::None, _) => Some(Err(ParentError::SecondWithoutFirst)),
-            State::First(ParentEdge::ExtraEdgeIndex(_), _) => {
-                Some(Err(ParentError::FirstIsEdgeIndex))
-            }
-            State::First(ParentEdge::GraphPosition(pos), second) => {
-                self.state = State::Second(second);
-                Some(Ok(pos))
-            }
-            State::Second(ParentEdge::None) => None,
-            State::Second(ParentEdge::GraphPosition(pos)) => Some(Ok(pos)),
-            State::Second(ParentEdge::ExtraEdgeIndex(index)) => match self.file.edge_bytes() {
-                Some(edges) => Some(self.next_listed(edges, index as usize)),
-                None => Some(Err(ParentError::NoEdgeList)),
-            },
-            State::Extra(edges, index) => Some(self.next_listed(edges, index)),
-            State::Exhausted => None,
+        let word = self.next;
+        if word < TOP_BIT as u64 && word != NO_PARENT as u64 {
+            self.next = self.after as u64;
+            self.after = NO_PARENT;
+            self.started = true;
+            Some(Ok(Position(word as u32)))
+        } else if word == NO_PARENT as u64 && self.after == NO_PARENT {
+            None
+        } else {
+            Some(self.next_beyond_fields())
         }
     }
 
-    /// The parent that the word of this index in the extra edge list gives.
-    #[tactic(auto, using(crate::proofs::ListedParentLemmas::listed_laws))]
-    fn next_listed(&mut self, edges: &'a [u8], index: usize) -> Result<Position, ParentError>
-        ensures items { items_of (extra_parents edges.now index) ≡ result ∷ parents_left self.new }
-        ensures hint { parents_hint self.new ≡ hint_after (1, None) (parents_left self.new) }
+    /// The next item where no position in a parent field is it: one of the extra edge list, or the
+    /// error that ends the parents.
+    #[cold]
+    #[inline(never)]
+    fn next_beyond_fields(&mut self) -> Result<Position, ParentError>
+        requires { 0x80000000 ≤ self.old.next ⊎ ((self.old.next ≡ 0x70000000) × (self.old.after ≢ 0x70000000)) }
+        ensures items { parents_left self.old ≡ result ∷ parents_left self.new }
+        ensures hint { parents_hint self.new ≡ hint_after (parents_hint self.old) (parents_left self.new) }
     {
-        if index >= edges.len() / 4 {
-            self.state = State::Exhausted;
+        let word = self.next;
+        self.next = NO_PARENT as u64;
+        self.after = NO_PARENT;
+        if !self.started {
+            return Err(if word < TOP_BIT as u64 {
+                ParentError::SecondWithoutFirst
+            } else {
+                ParentError::FirstIsEdgeIndex
+            });
+        }
+        let Some(edges) = self.file.extra_edges() else {
+            return Err(ParentError::NoEdgeList);
+        };
+        let index = (word - TOP_BIT as u64) as usize;
+        if index >= edges.len() {
             return Err(ParentError::EdgeOverflow);
         }
-        match ExtraEdge::from_raw(word_at(edges, 4 * index)) {
+        match ExtraEdge::from_raw(edges[index]) {
             ExtraEdge::Internal(pos) => {
-                self.state = State::Extra(edges, index + 1);
+                self.next = word + 1;
                 Ok(pos)
             }
-            ExtraEdge::Last(pos) => {
-                self.state = State::Exhausted;
-                Ok(pos)
-            }
+            ExtraEdge::Last(pos) => Ok(pos),
         }
     }
 }
@@ -117,7 +116,7 @@ impl<'a> Iterator for Parents<'a> {
 
     /// Bounds on the number of items that are left. Both are exact, unless the second parent field
     /// is an index into the extra edge list: then, up to the last item, no upper one is known.
-    #[tactic(auto, using(crate::proofs::ListedParentLemmas::hint_laws))]
+    #[tactic(auto, using(crate::proofs::ParentBoundLemmas::hint_laws))]
     fn size_hint(&self) -> (usize, Option<usize>)
         ensures table { result ≡ parents_hint self.now }
 
@@ -131,20 +130,24 @@ impl<'a> Iterator for Parents<'a> {
         ensures lower { IsWithinCount result.0 (item_count parents_left self.now) }
         ensures upper { IfSome result.1 (UpTo (item_count parents_left self.now)) }
     {
-        match self.state {
-            State::First(ParentEdge::None, ParentEdge::None) => (0, Some(0)),
-            State::First(ParentEdge::None, _) => (1, Some(1)),
-            State::First(ParentEdge::ExtraEdgeIndex(_), _) => (1, Some(1)),
-            State::First(ParentEdge::GraphPosition(_), ParentEdge::None) => (1, Some(1)),
-            State::First(ParentEdge::GraphPosition(_), ParentEdge::GraphPosition(_)) => {
-                (2, Some(2))
+        if self.next >= TOP_BIT as u64 {
+            if self.started {
+                (1, None)
+            } else {
+                (1, Some(1))
             }
-            State::First(ParentEdge::GraphPosition(_), ParentEdge::ExtraEdgeIndex(_)) => (2, None),
-            State::Second(ParentEdge::None) => (0, Some(0)),
-            State::Second(ParentEdge::GraphPosition(_)) => (1, Some(1)),
-            State::Second(ParentEdge::ExtraEdgeIndex(_)) => (1, None),
-            State::Extra(..) => (1, None),
-            State::Exhausted => (0, Some(0)),
+        } else if self.next == NO_PARENT as u64 {
+            if self.after == NO_PARENT {
+                (0, Some(0))
+            } else {
+                (1, Some(1))
+            }
+        } else if self.after == NO_PARENT {
+            (1, Some(1))
+        } else if self.after >= TOP_BIT {
+            (2, None)
+        } else {
+            (2, Some(2))
         }
     }
 }

@@ -1,8 +1,7 @@
-use Rattle.graph_layer.proofs.ListedParentLemmas.{second_hint-taken}
+use Rattle.graph_layer.proofs.ParentBoundLemmas.{hint-taken}
 use Rattle.graph_layer.proofs.file.parents.Parents.next.Goals as goal
 
-pub returns-in-First-GraphPosition-default-clause-hint :
-    goal.returns-in-First-GraphPosition-default-clause-hint
-returns-in-First-GraphPosition-default-clause-hint c =
-    let first = c.in-First-GraphPosition-default in
-    second_hint-taken c.args.self.now.state first.pos first.second _ cc
+pub returns-then-word-2-clause-hint : goal.returns-then-word-2-clause-hint
+returns-then-word-2-clause-hint c =
+    let old = c.args.self.now in
+    hint-taken old.started old.next old.after old.file.now.edges c.if-word.true c.if-word-2.true old.second_is_last
