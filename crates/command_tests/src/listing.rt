@@ -241,3 +241,30 @@ fn reports_each_write_that_fails(rt: HostRuntime) -> Result<(), Fail> {
     }
     Ok(())
 }
+
+// A listing that is longer than a block is written in two parts, either of which may fail.
+#[test]
+fn lists_in_blocks(rt: HostRuntime) -> Result<(), Fail> {
+    let alloc = rt.alloc();
+    let mut edges = vec![in alloc; 0; 40_000]?;
+    edges.push(0x8000_0000)?;
+    let plan = Plan {
+        hash: 1,
+        bases: &[],
+        commits: &[(0, 0x8000_0000, FIRST)],
+        edges: Some(&edges),
+    };
+    let bytes = file(alloc, &plan)?;
+    let mut whole = writer(alloc, usize::MAX, None);
+    let status = run_list(alloc, &mut reader(&bytes, usize::MAX, None), &mut whole);
+    assert_eq!(rt; status, Ok(0));
+    assert_eq!(rt; whole.bytes.len(), 29 + 88 + 80_003 + 1);
+    assert!(rt; whole.bytes.ends_with(b",0,0\n"));
+    assert_eq!(rt; whole.writes, 2);
+    for write in 0..2 {
+        let mut out = writer(alloc, usize::MAX, Some(write));
+        let status = run_list(alloc, &mut reader(&bytes, usize::MAX, None), &mut out);
+        assert_eq!(rt; status, Err(WriteFailed));
+    }
+    Ok(())
+}
