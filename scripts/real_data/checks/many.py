@@ -62,7 +62,8 @@ class Bench:
         child = os.posix_spawn(self.program, (self.program, *words), {}, file_actions=self.actions)
         signal.setitimer(signal.ITIMER_REAL, SECONDS)
         try:
-            status = os.waitstatus_to_exitcode(os.waitpid(child, 0)[1])
+            ended = os.waitpid(child, 0)[1]
+            status = os.WEXITSTATUS(ended) if os.WIFEXITED(ended) else -os.WTERMSIG(ended)
         except Hung:
             os.kill(child, signal.SIGKILL)
             os.waitpid(child, 0)
