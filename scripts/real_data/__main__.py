@@ -1,12 +1,15 @@
 """Checks `graphtool` on real data: commit-graphs that the installed Git writes, and damaged ones.
 
-usage: python3 scripts/real_data PROGRAM
+usage: python3 scripts/real_data PROGRAM [every-value]
 
 - `list`: the listing of each layer, and the refusal of damaged ones.
 - `verify`: what it counts in each file and chain, and what it finds wrong with damaged ones, beside
   the verdict of `git commit-graph verify`. Where the two verdicts differ is printed as a table, and has
   to be what differences.py lists.
 - `find`: where each commit stands, in files and chains that are named in every way.
+- each byte of three small files, changed to some other values, or with `every-value` to all of them, beside
+  a slow reading of the file; two million runs then, which take more than half an hour.
+- surroundings that are hostile: streams, paths, chain files, and every amount of memory.
 
 What an answer has to be is made from Git's own words, `git rev-list --parents` and `git cat-file`,
 with Git's use of commit-graphs off; the generations are counted up from the parents. Each comparison
@@ -20,17 +23,19 @@ from functools import partial
 
 sys.path.insert(0, os.path.dirname(os.path.dirname(os.path.abspath(__file__))))
 
-from checks import disk_checks, list_checks, path_checks, verify_checks, word_checks
+from checks import disk_checks, list_checks, path_checks, surroundings_checks, sweep_checks, verify_checks, word_checks
 from checks.program import Program
 from expected.differences import Differences
 from histories.repository import ID_LENGTH, Repository
 from tally import Tally
 
 
-def main(path):
+def main(path, every_value=False):
     """Runs all checks on the program at a path, and answers the exit status."""
     program, tally, differences = Program(os.path.abspath(path)), Tally(), Differences()
     word_checks.check_all(program, tally)
+    surroundings_checks.check_all(program, tally)
+    sweep_checks.check_all(program, tally, every_value)
     with tempfile.TemporaryDirectory() as folder:
         for object_format in ID_LENGTH:
             new = partial(new_repository, folder, object_format)
@@ -48,6 +53,6 @@ def new_repository(folder, object_format, name):
 
 
 if __name__ == "__main__":
-    if len(sys.argv) != 2:
+    if sys.argv[2:] not in ([], ["every-value"]) or len(sys.argv) < 2:
         sys.exit(__doc__)
-    sys.exit(main(sys.argv[1]))
+    sys.exit(main(sys.argv[1], every_value=len(sys.argv) == 3))
