@@ -1,5 +1,5 @@
 -- What the reads of the search say of its queue.
-use Rattle.std.proofs.Common.{◌≡◌, ◌⊎◌, ℕ, suc, zero, ◌+◌, ◌<◌, ◌≤◌, List, [], ◌∷◌, ◌++◌, length, reverse, get_or, set, Contains, true, false, Option, Some, None, Result, Ok, Err, refl, sym, ap, ap₂, ◌∙◌, subst, inl, inr, ⊎_elim, arith}
+use Rattle.std.proofs.Common.{◌≡◌, ◌⊎◌, ℕ, suc, zero, ◌+◌, ◌<◌, ◌≤◌, List, [], ◌∷◌, ◌++◌, length, reverse, get_or, set, Contains, true, false, Option, Some, None, Result, Ok, Err, refl, sym, ap, ap₂, ◌∙◌, subst, subst₂, inl, inr, ⊎_elim, arith}
 use Rattle.std.specs.Prelude.{is_some}
 use Rattle.std.proofs.lemmas.Bool.{false≢true}
 use Rattle.std.proofs.lemmas.List.{get_or_read, reverse-append}
@@ -19,26 +19,28 @@ mark_read : (h : List Node) (least : ℕ) (queued : List Queued) (marks : List (
 mark_read h least queued marks p m queue within read = get_or_read marks p m (omega (arith, queue.marks_len)) read None
 
 -- a commit that was not reached before is queued and marked
-module _ (h : List Node) (least : ℕ) (queue : List Position) (marks : List (Option ℕ)) (pos : Position) (child : ℕ) (m : Option ℕ) (is_queue : IsQueue h least (with_marks queue marks) marks) (within : child < length (with_marks queue marks)) (up : ChildrenUpTo (with_marks queue marks) child) (parent : IsParent h (commit_in (with_marks queue marks) child) pos.0) (read : m ≡ get_or marks pos.0 m) (unmarked : m ≡ None) (high : least ≤ generation_at h pos.0) (more : List Position) (pushed : more ≡ queue ++ pos ∷ []) where
+module _ (h : List Node) (least : ℕ) (queue : List Position) (marks : List (Option ℕ)) (pos : Position) (child : ℕ) (m : Option ℕ) (is_queue : IsQueue h least (with_marks queue marks) marks) (within : child < length (with_marks queue marks)) (up : ChildrenUpTo (with_marks queue marks) child) (parent : IsParent h (commit_in (with_marks queue marks) child) pos.0) (read : m ≡ get_or marks pos.0 m) (unmarked : m ≡ None) (high : least ≤ generation_at h pos.0) (more : List Position) (after : List (Option ℕ)) (pushed : more ≡ queue ++ pos ∷ []) (marked : after ≡ set marks pos.0 (Some child)) where
   is_new : mark_of marks pos.0 ≡ None
   is_new = sym (mark_read h least (with_marks queue marks) marks pos.0 m is_queue parent.1 read) ∙ unmarked
 
-  with_added : with_marks more (set marks pos.0 (Some child)) ≡ with_marks queue marks ++ record { commit = pos.0; child = child } ∷ []
+  with_added : with_marks more after ≡ with_marks queue marks ++ record { commit = pos.0; child = child } ∷ []
   with_added =
-      ap (λ (xs : List Position). with_marks xs (set marks pos.0 (Some child))) pushed
+      ap₂ with_marks pushed marked
       ∙ with_marks-queued queue marks pos child (omega (arith, is_queue.marks_len, parent.1))
       (not_queued h least (with_marks queue marks) marks (record { commit = pos.0; child = child }) is_queue within up parent is_new high)
 
-  pub added_is_queue : IsQueue h least (with_marks more (set marks pos.0 (Some child))) (set marks pos.0 (Some child))
-  added_is_queue = subst (λ (xs : List Queued). IsQueue h least xs (set marks pos.0 (Some child))) (sym with_added) (queue_push h least (with_marks queue marks) marks (record { commit = pos.0; child = child }) is_queue within up parent is_new high)
+  pub added_is_queue : IsQueue h least (with_marks more after) after
+  added_is_queue =
+      subst₂ (IsQueue h least) (sym with_added) (sym marked)
+      (queue_push h least (with_marks queue marks) marks (record { commit = pos.0; child = child }) is_queue within up parent is_new high)
 
-  pub added_children : ChildrenUpTo (with_marks more (set marks pos.0 (Some child))) child
+  pub added_children : ChildrenUpTo (with_marks more after) child
   added_children = subst (λ (xs : List Queued). ChildrenUpTo xs child) (sym with_added) (children_push (with_marks queue marks) (record { commit = pos.0; child = child }) up)
 
-  pub added_extends : Extends (with_marks queue marks) (with_marks more (set marks pos.0 (Some child)))
+  pub added_extends : Extends (with_marks queue marks) (with_marks more after)
   added_extends = subst (λ (xs : List Queued). Extends (with_marks queue marks) xs) (sym with_added) (extends_push (with_marks queue marks) (record { commit = pos.0; child = child }))
 
-  pub added_is_queued : QueuedFrom (with_marks more (set marks pos.0 (Some child))) child pos.0
+  pub added_is_queued : QueuedFrom (with_marks more after) child pos.0
   added_is_queued = subst (λ (xs : List Queued). QueuedFrom xs child pos.0) (sym with_added) (queued_push (with_marks queue marks) (record { commit = pos.0; child = child }))
 
 -- a commit that has a mark was queued

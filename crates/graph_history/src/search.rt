@@ -1,10 +1,10 @@
 //! A breadth-first search along parents.
 
-ghost use Rattle.std.specs.Prelude.{◌≡◌, ◌+◌, ◌<◌, ◌≤◌, ℕ, length, OnOk, IfOk};
+ghost use Rattle.std.specs.Prelude.{◌≡◌, ◌+◌, ◌<◌, ◌≤◌, ◌++◌, ◌∷◌, [], ℕ, Some, length, nat_le, slice_set, OnOk, IfOk};
 ghost use Rattle.graph_walks.specs.History.{IsParent, generation_at};
 ghost use Rattle.graph_walks.specs.Walks.{IsWalkBetween};
 ghost use Rattle.graph_format.specs.StoredHistory.{history_of};
-ghost use Rattle.gix_commitgraph.specs.Graph.{total};
+ghost use Rattle.gix_commitgraph.specs.Graph.{IsGraph, total};
 ghost use Rattle.gix_commitgraph.specs.Sound.{Sound};
 ghost use Rattle.graph_history.specs.Answer.{IsAnswer, numbers_of};
 ghost use Rattle.graph_history.specs.Queue.{queued_by, commit_in, child_in, IsSearching, BeginsWith, ChildrenUpTo};
@@ -54,19 +54,39 @@ impl<'g> Search<'g> {
     {
         the_history_of_a_graph_is_that_of_its_layers();
         let commits = graph.num_commits() as usize;
-        let least = generation_of(graph, to);
-        let mut queue = Vec::new(alloc);
-        let mut marks = vec![in alloc; None; commits]?;
-        if least <= generation_of(graph, from) {
-            queue.push(from)?;
-            marks[from.0 as usize] = Some(0);
-        }
-        Ok(Search {
+        let mut search = Search {
             graph,
-            least,
-            queue,
-            marks,
-        })
+            least: generation_of(graph, to),
+            queue: Vec::new(alloc),
+            marks: vec![in alloc; None; commits]?,
+        };
+        if search.may_lead(from) {
+            search.append(from, 0)?;
+        }
+        Ok(search)
+    }
+
+    /// Whether a commit may lead to the one that is looked for, as its generation number has it.
+    fn may_lead(&self, commit: Position) -> bool
+        requires graph { IsGraph self.now.graph.now }
+        requires commit { commit.0 < length (history_of self.now.graph.now) }
+        ensures { result ≡ nat_le self.now.least (generation_at (history_of self.now.graph.now) commit.0) }
+    {
+        self.least <= generation_of(self.graph, commit)
+    }
+
+    /// Puts a commit at the end of the queue, and marks it as reached from a place.
+    fn append(&mut self, commit: Position, child: u32) -> Result<(), AllocError>
+        requires { commit.0 < length self.old.marks.items }
+        ensures graph { self.new.graph.now ≡ self.old.graph.now }
+        ensures least { self.new.least ≡ self.old.least }
+        ensures queue { OnOk result (self.new.queue.items ≡ self.old.queue.items ++ commit ∷ []) }
+        ensures marks { OnOk result
+            (self.new.marks.items ≡ slice_set self.old.marks.items commit.0 (Some child)) }
+    {
+        self.queue.push(commit)?;
+        self.marks[commit.0 as usize] = Some(child);
+        Ok(())
     }
 
     /// How many commits were reached.
@@ -111,10 +131,8 @@ impl<'g> Search<'g> {
             (self.old.least ≤ generation_at (history_of self.old.graph.now) commit.0
             → QueuedFrom (queued_by self.new) child commit.0) }
     {
-        let index = commit.0 as usize;
-        if self.marks[index].is_none() && self.least <= generation_of(self.graph, commit) {
-            self.queue.push(commit)?;
-            self.marks[index] = Some(child);
+        if self.marks[commit.0 as usize].is_none() && self.may_lead(commit) {
+            self.append(commit, child)?;
         }
         Ok(())
     }
