@@ -5,6 +5,7 @@ use gix_hash_core::{Kind, ObjectId, digest};
 use graph_folder::folder::Memory;
 use graph_vectors::{LayerPlan, PlanCommit, build};
 use std::alloc::{AllocError, Global};
+use std::fmt::Display;
 use std::io;
 use std::io::{ErrorKind, Read, Write};
 use std::process::Abort;
@@ -112,6 +113,19 @@ pub(super) fn built(
     };
     assert!(rt; plan.is_buildable());
     build(alloc, &plan)
+}
+
+// Compares the text of each value with the one beside it.
+pub(super) fn compare_texts<T: Display>(
+    rt: &impl Abort,
+    alloc: Global,
+    rows: &[(T, &str)],
+) -> Result<(), AllocError> {
+    for (value, want) in rows {
+        let text = value.to_string(alloc)?;
+        assert_eq!(rt; text.as_str(), *want);
+    }
+    Ok(())
 }
 
 // The checksum of a SHA-1 file.

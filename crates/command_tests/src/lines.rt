@@ -1,4 +1,4 @@
-use crate::fixtures::writer;
+use crate::fixtures::{compare_texts, writer};
 use gix_chunk_core::ChunkError;
 use gix_commitgraph::file::commit::ParentError;
 use gix_commitgraph::opening::OpenError;
@@ -11,7 +11,6 @@ use graph_commands::report::{Found, write_outcome};
 use graph_commands::run::WriteFailed;
 use graph_folder::folder::ReadError;
 use std::collections::BTreeMap;
-use std::convert::Infallible;
 use std::test::Fail;
 
 #[test]
@@ -67,10 +66,7 @@ fn spells_each_refusal(rt: HostRuntime) -> Result<(), Fail> {
         (Refusal::File(FileError::RecordCount), "refused file 19"),
         (Refusal::File(FileError::OutOfMemory), "refused file 20"),
     ];
-    for (refusal, want) in rows {
-        assert_eq!(rt; refusal.to_string(rt.alloc())?.as_str(), want);
-    }
-    Ok(())
+    Ok(compare_texts(&rt, rt.alloc(), &rows)?)
 }
 
 fn chunks(error: ChunkError) -> Refusal {
@@ -80,66 +76,65 @@ fn chunks(error: ChunkError) -> Refusal {
 #[test]
 fn spells_each_refusal_of_an_opener(rt: HostRuntime) -> Result<(), Fail> {
     let rows = [
-        (OpenError::NothingFound, "refused open 1"),
-        (OpenError::NotOpened, "refused open 2"),
-        (OpenError::Device, "refused open 3"),
+        (Refusal::Open(OpenError::NothingFound), "refused open 1"),
+        (Refusal::Open(OpenError::NotOpened), "refused open 2"),
+        (Refusal::Open(OpenError::Device), "refused open 3"),
         (
-            OpenError::ChainNotText { line: 12 },
+            Refusal::Open(OpenError::ChainNotText { line: 12 }),
             "refused open 4 line 12",
         ),
         (
-            OpenError::Layer {
+            Refusal::Open(OpenError::Layer {
                 layer: 10,
                 error: FileError::Trailer,
-            },
+            }),
             "refused open 5 layer 10 file 15",
         ),
         (
-            OpenError::Layer {
+            Refusal::Open(OpenError::Layer {
                 layer: 0,
                 error: FileError::Chunks(ChunkError::NoChunks),
-            },
+            }),
             "refused open 5 layer 0 file 5 chunk 1",
         ),
         (
-            OpenError::Graph(GraphError::NoFiles),
+            Refusal::Open(OpenError::Graph(GraphError::NoFiles)),
             "refused open 6 graph 1",
         ),
         (
-            OpenError::Graph(GraphError::TooManyCommits(1879048192)),
+            Refusal::Open(OpenError::Graph(GraphError::TooManyCommits(1879048192))),
             "refused open 6 graph 2",
         ),
         (
-            OpenError::Graph(GraphError::HashMismatch { layer: 1 }),
+            Refusal::Open(OpenError::Graph(GraphError::HashMismatch { layer: 1 })),
             "refused open 6 graph 3",
         ),
         (
-            OpenError::Graph(GraphError::OutOfMemory),
+            Refusal::Open(OpenError::Graph(GraphError::OutOfMemory)),
             "refused open 6 graph 4",
         ),
-        (OpenError::OutOfMemory, "refused open 7"),
+        (Refusal::Open(OpenError::OutOfMemory), "refused open 7"),
     ];
-    for (error, want) in rows {
-        let line = Refusal::Open(error).to_string(rt.alloc())?;
-        assert_eq!(rt; line.as_str(), want);
-    }
-    Ok(())
+    Ok(compare_texts(&rt, rt.alloc(), &rows)?)
 }
 
 #[test]
 fn spells_each_refusal_of_a_check(rt: HostRuntime) -> Result<(), Fail> {
     let pos = Position(1879048190);
     let rows = [
-        (VerifyError::TooManyFiles, "refused verify 1"),
         (
-            VerifyError::BaseCount { layer: 255 },
+            Refusal::Verify(VerifyError::TooManyFiles),
+            "refused verify 1",
+        ),
+        (
+            Refusal::Verify(VerifyError::BaseCount { layer: 255 }),
             "refused verify 2 layer 255",
         ),
         (
-            VerifyError::BaseId {
+            Refusal::Verify(VerifyError::BaseId {
                 layer: 12,
                 index: 3,
-            },
+            }),
             "refused verify 3 layer 12 index 3",
         ),
         (
@@ -183,44 +178,39 @@ fn spells_each_refusal_of_a_check(rt: HostRuntime) -> Result<(), Fail> {
             "refused verify 6 position 9 error 4",
         ),
         (
-            VerifyError::ParentOutOfRange {
+            Refusal::Verify(VerifyError::ParentOutOfRange {
                 pos,
                 parent: Position(1),
-            },
+            }),
             "refused verify 7 position 1879048190 parent 1",
         ),
         (
-            VerifyError::Generation {
+            Refusal::Verify(VerifyError::Generation {
                 pos,
                 expected: 1073741823,
-            },
+            }),
             "refused verify 8 position 1879048190 expected 1073741823",
         ),
-        (VerifyError::OutOfMemory, "refused verify 10"),
+        (
+            Refusal::Verify(VerifyError::OutOfMemory),
+            "refused verify 10",
+        ),
     ];
-    for (error, want) in rows {
-        let line = Refusal::Verify(error).to_string(rt.alloc())?;
-        assert_eq!(rt; line.as_str(), want);
-    }
-    Ok(())
+    Ok(compare_texts(&rt, rt.alloc(), &rows)?)
 }
 
-fn layer_fault(fault: LayerFault) -> VerifyError<Infallible> {
-    VerifyError::Layer { layer: 7, fault }
+fn layer_fault(fault: LayerFault) -> Refusal {
+    Refusal::Verify(VerifyError::Layer { layer: 7, fault })
 }
 
-fn commit_fault(fault: CommitFault) -> VerifyError<Infallible> {
-    VerifyError::Commit {
-        pos: Position(8),
-        fault,
-    }
+fn commit_fault(fault: CommitFault) -> Refusal {
+    let pos = Position(8);
+    Refusal::Verify(VerifyError::Commit { pos, fault })
 }
 
-fn parent_fault(error: ParentError) -> VerifyError<Infallible> {
-    VerifyError::Parent {
-        pos: Position(9),
-        error,
-    }
+fn parent_fault(error: ParentError) -> Refusal {
+    let pos = Position(9);
+    Refusal::Verify(VerifyError::Parent { pos, error })
 }
 
 #[test]

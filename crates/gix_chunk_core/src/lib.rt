@@ -4,8 +4,6 @@
 mod error;
 mod index;
 mod law;
-#[cfg(test)]
-mod tests;
 
 pub use error::ChunkError;
 pub use index::Index;

@@ -9,8 +9,6 @@ mod digests;
 mod kind;
 pub mod law;
 mod object_id;
-#[cfg(test)]
-mod tests;
 
 pub use borrowed::oid;
 pub use digests::digest;

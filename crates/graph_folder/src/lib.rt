@@ -5,7 +5,5 @@
 pub mod chain;
 pub mod folder;
 mod law;
-#[cfg(test)]
-mod tests;
 
 pub use law::texts_are_cut_into_lines;

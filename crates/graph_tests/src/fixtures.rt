@@ -8,6 +8,7 @@ use gix_hash_core::{Kind, ObjectId};
 use graph_folder::folder::{Folder, Memory, ReadError};
 use graph_vectors::{LayerPlan, PlanCommit, build, reseal};
 use std::alloc::{AllocError, Global};
+use std::fmt::Display;
 use std::process::Abort;
 
 /// The id of the entry that ends a table of chunks.
@@ -35,17 +36,15 @@ pub fn written(
     Ok(bytes)
 }
 
-/// Numbers of four bytes, each repeated as often as the count before it says.
+/// Numbers of four bytes each.
 ///
 /// # Errors
 ///
 /// `AllocError` where an allocation failed.
-pub fn words(alloc: Global, runs: &[(u32, u32)]) -> Result<Vec<u8>, AllocError> {
+pub fn words(alloc: Global, numbers: &[u32]) -> Result<Vec<u8>, AllocError> {
     let mut bytes = Vec::new(alloc);
-    for (count, number) in runs {
-        for _ in 0..*count {
-            bytes.extend_from_slice(&number.to_be_bytes())?;
-        }
+    for number in numbers {
+        bytes.extend_from_slice(&number.to_be_bytes())?;
     }
     Ok(bytes)
 }
@@ -65,7 +64,9 @@ pub fn one_commit(
     fields: &[u8; 16],
     edges: Option<&[u8]>,
 ) -> Result<Vec<u8>, AllocError> {
-    let fan = words(alloc, &[(17, 0), (239, 1)])?;
+    let mut fan = [1; 256];
+    fan[..17].copy_from_slice(&[0; 17]);
+    let fan = words(alloc, &fan)?;
     let (id, tree, trailer) = ([0x11; 20], [0x22; 20], [0; 20]);
     let Some(edges) = edges else {
         let entries: [(&[u8; 4], u64); 4] = [
@@ -207,6 +208,23 @@ pub fn damaged_diamond(
     file[from..to].copy_from_slice(bytes);
     reseal(Kind::Sha1, &mut file);
     Ok(file)
+}
+
+/// Compares the text of each value with the one beside it. Where two differ, the process aborts.
+///
+/// # Errors
+///
+/// `AllocError` where an allocation failed.
+pub fn compare_texts<T: Display>(
+    rt: &impl Abort,
+    alloc: Global,
+    rows: &[(T, &str)],
+) -> Result<(), AllocError> {
+    for (value, want) in rows {
+        let text = value.to_string(alloc)?;
+        assert_eq!(rt; text.as_str(), *want);
+    }
+    Ok(())
 }
 
 /// A folder in memory of which all reads but the first ones find no memory left.

@@ -46,6 +46,15 @@ fn info_folder(rt: &impl Abort, alloc: Global) -> Result<Memory, AllocError> {
     Ok(memory)
 }
 
+// Asserts that an opener answers a graph of so many commits, or this refusal.
+fn assert_answer(rt: &impl Abort, answer: Result<Graph, OpenError>, want: Result<u32, OpenError>) {
+    let commits = match answer {
+        Ok(graph) => Ok(graph.num_commits()),
+        Err(error) => Err(error),
+    };
+    assert_eq!(rt; commits, want);
+}
+
 // The first bytes of the graph's ids, in order.
 fn first_bytes(alloc: Global, graph: &Graph) -> Result<Vec<u8>, AllocError> {
     let mut bytes = Vec::new(alloc);
@@ -69,12 +78,10 @@ fn a_chain_has_the_layers_of_its_lines(rt: HostRuntime) -> Result<(), Fail> {
     ];
     for (chain, want) in rows {
         put_text(&mut memory, alloc, "c/commit-graph-chain", chain)?;
-        for answer in [
-            open_chain_dir_in(alloc, &mut memory, "c"),
-            open_in(alloc, &mut memory, "c"),
-        ] {
-            assert_eq!(rt; first_bytes(alloc, &answer?)?.as_slice(), want);
-        }
+        let graph = open_chain_dir_in(alloc, &mut memory, "c")?;
+        assert_eq!(rt; first_bytes(alloc, &graph)?.as_slice(), want);
+        let graph = open_in(alloc, &mut memory, "c")?;
+        assert_eq!(rt; first_bytes(alloc, &graph)?.as_slice(), want);
     }
     Ok(())
 }
@@ -85,22 +92,17 @@ fn chains_are_refused(rt: HostRuntime) -> Result<(), Fail> {
     let mut memory = Memory::new(alloc);
     put_chain(&rt, &mut memory, alloc, "c")?;
     put_text(&mut memory, alloc, "c/graph-.graph", &[0; 1099])?;
+    let (layer, error) = (1, FileError::TooSmall);
     let rows: [(&[u8], OpenError); 5] = [
         (b"aa\nmissing", OpenError::NotOpened),
-        (
-            b"aa\n\nbb\n",
-            OpenError::Layer {
-                layer: 1,
-                error: FileError::TooSmall,
-            },
-        ),
+        (b"aa\n\nbb\n", OpenError::Layer { layer, error }),
         (b"", OpenError::Graph(GraphError::NoFiles)),
         (b"\xff\n", OpenError::ChainNotText { line: 0 }),
         (b"aa\n\xff\n", OpenError::ChainNotText { line: 1 }),
     ];
     for (text, want) in rows {
         put_text(&mut memory, alloc, "c/commit-graph-chain", text)?;
-        assert_eq!(rt; open_in(alloc, &mut memory, "c").err(), Some(want));
+        assert_answer(&rt, open_in(alloc, &mut memory, "c"), Err(want));
     }
     assert_eq!(rt; memory.failures(), 0);
     Ok(())
@@ -111,34 +113,27 @@ fn what_does_not_stand_there_is_not_opened(rt: HostRuntime) -> Result<(), Fail> 
     let alloc = rt.alloc();
     let mut memory = Memory::new(alloc);
     let nothing = open_in(alloc, &mut memory, "i");
-    assert_eq!(rt; nothing.err(), Some(OpenError::NothingFound));
+    assert_answer(&rt, nothing, Err(OpenError::NothingFound));
     memory.put_dir(String::from_str(alloc, "i")?)?;
-    for answer in [
-        open_in(alloc, &mut memory, "i"),
-        open_info_dir_in(alloc, &mut memory, "i"),
-        open_file_in(alloc, &mut memory, "i"),
-    ] {
-        assert_eq!(rt; answer.err(), Some(OpenError::NotOpened));
-    }
+    let by_kind = open_in(alloc, &mut memory, "i");
+    assert_answer(&rt, by_kind, Err(OpenError::NotOpened));
+    let as_info_folder = open_info_dir_in(alloc, &mut memory, "i");
+    assert_answer(&rt, as_info_folder, Err(OpenError::NotOpened));
+    let as_file = open_file_in(alloc, &mut memory, "i");
+    assert_answer(&rt, as_file, Err(OpenError::NotOpened));
     Ok(())
 }
 
 #[test]
 fn a_damaged_file_leaves_the_chain(rt: HostRuntime) -> Result<(), Fail> {
     let alloc = rt.alloc();
-    for (damaged, commits) in [(true, 3), (false, 4)] {
-        let mut memory = info_folder(&rt, alloc)?;
-        if !damaged {
-            let file = layer(&rt, alloc, &[], DIAMOND)?;
-            put(&mut memory, alloc, "i/commit-graph", file)?;
-        }
-        for answer in [
-            open_info_dir_in(alloc, &mut memory, "i"),
-            open_in(alloc, &mut memory, "i"),
-        ] {
-            assert_eq!(rt; answer?.num_commits(), commits);
-        }
-    }
+    let mut memory = info_folder(&rt, alloc)?;
+    assert_answer(&rt, open_info_dir_in(alloc, &mut memory, "i"), Ok(3));
+    assert_answer(&rt, open_in(alloc, &mut memory, "i"), Ok(3));
+    let file = layer(&rt, alloc, &[], DIAMOND)?;
+    put(&mut memory, alloc, "i/commit-graph", file)?;
+    assert_answer(&rt, open_info_dir_in(alloc, &mut memory, "i"), Ok(4));
+    assert_answer(&rt, open_in(alloc, &mut memory, "i"), Ok(4));
     Ok(())
 }
 
@@ -148,10 +143,10 @@ fn a_file_is_opened_alone(rt: HostRuntime) -> Result<(), Fail> {
     let mut memory = info_folder(&rt, alloc)?;
     let (layer, error) = (0, FileError::TooSmall);
     let damaged = open_file_in(alloc, &mut memory, "i/commit-graph");
-    assert_eq!(rt; damaged.err(), Some(OpenError::Layer { layer, error }));
+    assert_answer(&rt, damaged, Err(OpenError::Layer { layer, error }));
     memory.fail_read(0);
     let failed = open_file_in(alloc, &mut memory, "i/commit-graphs/graph-aa.graph");
-    assert_eq!(rt; failed.err(), Some(OpenError::Device));
+    assert_answer(&rt, failed, Err(OpenError::Device));
     assert_eq!(rt; memory.failures(), 1);
     Ok(())
 }
@@ -159,16 +154,17 @@ fn a_file_is_opened_alone(rt: HostRuntime) -> Result<(), Fail> {
 #[test]
 fn a_failed_read_is_device(rt: HostRuntime) -> Result<(), Fail> {
     let alloc = rt.alloc();
-    for read in 0..6u32 {
+    for (read, want, failures) in [
+        (0, Ok(3), 1),
+        (1, Err(OpenError::Device), 1),
+        (2, Err(OpenError::Device), 1),
+        (3, Err(OpenError::Device), 1),
+        (4, Err(OpenError::Device), 1),
+        (5, Ok(3), 0),
+    ] {
         let mut memory = info_folder(&rt, alloc)?;
         memory.fail_read(read);
-        let answer = open_info_dir_in(alloc, &mut memory, "i");
-        if read == 0 || read == 5 {
-            assert_eq!(rt; answer?.num_commits(), 3, "read {read}");
-        } else {
-            assert_eq!(rt; answer.err(), Some(OpenError::Device), "read {read}");
-        }
-        let failures = if read < 5 { 1 } else { 0 };
+        assert_answer(&rt, open_info_dir_in(alloc, &mut memory, "i"), want);
         assert_eq!(rt; memory.failures(), failures, "read {read}");
     }
     Ok(())
@@ -177,35 +173,23 @@ fn a_failed_read_is_device(rt: HostRuntime) -> Result<(), Fail> {
 #[test]
 fn a_refused_chain_decides_after_a_failed_read(rt: HostRuntime) -> Result<(), Fail> {
     let alloc = rt.alloc();
+    let (layer, error) = (1, FileError::TooSmall);
     let rows: [(&[u8], OpenError); 4] = [
-        (
-            b"aa\nshort\n",
-            OpenError::Layer {
-                layer: 1,
-                error: FileError::TooSmall,
-            },
-        ),
+        (b"aa\nshort\n", OpenError::Layer { layer, error }),
         (b"aa\nmissing\n", OpenError::NotOpened),
         (b"aa\n\xff\n", OpenError::ChainNotText { line: 1 }),
         (b"", OpenError::Graph(GraphError::NoFiles)),
     ];
+    let (chain_file, short) = (
+        "i/commit-graphs/commit-graph-chain",
+        "i/commit-graphs/graph-short.graph",
+    );
     for (chain, want) in rows {
         let mut memory = info_folder(&rt, alloc)?;
-        put_text(
-            &mut memory,
-            alloc,
-            "i/commit-graphs/commit-graph-chain",
-            chain,
-        )?;
-        put_text(
-            &mut memory,
-            alloc,
-            "i/commit-graphs/graph-short.graph",
-            &[0; 1099],
-        )?;
+        put_text(&mut memory, alloc, chain_file, chain)?;
+        put_text(&mut memory, alloc, short, &[0; 1099])?;
         memory.fail_read(0);
-        let answer = open_info_dir_in(alloc, &mut memory, "i");
-        assert_eq!(rt; answer.err(), Some(want));
+        assert_answer(&rt, open_info_dir_in(alloc, &mut memory, "i"), Err(want));
         assert_eq!(rt; memory.failures(), 1);
     }
     Ok(())
@@ -220,7 +204,7 @@ fn running_out_of_memory_is_no_damage(rt: HostRuntime) -> Result<(), Fail> {
             reads_before: read,
         };
         let answer = open_info_dir_in(alloc, &mut folder, "i");
-        assert_eq!(rt; answer.err(), Some(OpenError::OutOfMemory), "read {read}");
+        assert_answer(&rt, answer, Err(OpenError::OutOfMemory));
         assert_eq!(rt; folder.failures(), 0, "read {read}");
     }
     Ok(())

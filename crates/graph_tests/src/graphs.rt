@@ -1,4 +1,4 @@
-use crate::fixtures::{bare, built, damaged_diamond, opened, planned_commit};
+use crate::fixtures::{bare, built, compare_texts, damaged_diamond, opened, planned_commit};
 use gix_commitgraph::{File, Graph, GraphError, Position, file};
 use gix_hash_core::{Kind, ObjectId};
 use std::alloc::Global;
@@ -176,9 +176,5 @@ fn errors_are_their_names(rt: HostRuntime) -> Result<(), Fail> {
         (GraphError::HashMismatch { layer: 1 }, "HashMismatch"),
         (GraphError::OutOfMemory, "OutOfMemory"),
     ];
-    for (error, want) in rows {
-        let text = error.to_string(rt.alloc())?;
-        assert_eq!(rt; text.as_str(), want);
-    }
-    Ok(())
+    Ok(compare_texts(&rt, rt.alloc(), &rows)?)
 }

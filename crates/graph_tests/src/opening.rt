@@ -202,7 +202,10 @@ fn base_ids_of_a_wrong_size(rt: HostRuntime) -> Result<(), Fail> {
 
 #[test]
 fn a_falling_fan(rt: HostRuntime) -> Result<(), Fail> {
-    let fan = words(rt.alloc(), &[(4, 0), (1, 2), (1, 1), (250, 2)])?;
+    let mut fan = [2; 256];
+    fan[..4].copy_from_slice(&[0; 4]);
+    fan[5] = 1;
+    let fan = words(rt.alloc(), &fan)?;
     let entries: [(&[u8; 4], u64); 4] = [
         (b"OIDF", 56),
         (b"OIDL", 1080),

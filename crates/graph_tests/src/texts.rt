@@ -1,4 +1,4 @@
-use crate::fixtures::{layer, opened};
+use crate::fixtures::{compare_texts, layer, opened};
 use gix_chunk_core::ChunkError;
 use gix_commitgraph::file::commit::ParentError;
 use gix_commitgraph::file::verify::TraverseError;
@@ -34,11 +34,7 @@ fn errors_are_their_names(rt: HostRuntime) -> Result<(), Fail> {
         (FileError::RecordCount, "RecordCount"),
         (FileError::OutOfMemory, "OutOfMemory"),
     ];
-    for (error, want) in rows {
-        let text = error.to_string(rt.alloc())?;
-        assert_eq!(rt; text.as_str(), want);
-    }
-    Ok(())
+    Ok(compare_texts(&rt, rt.alloc(), &rows)?)
 }
 
 #[test]
@@ -114,10 +110,7 @@ fn errors_of_openers_are_their_names(rt: HostRuntime) -> Result<(), Fail> {
         (OpenError::Graph(GraphError::NoFiles), "Graph"),
         (OpenError::OutOfMemory, "OutOfMemory"),
     ];
-    for (error, want) in rows {
-        assert_eq!(rt; error.to_string(rt.alloc())?.as_str(), want);
-    }
-    Ok(())
+    Ok(compare_texts(&rt, rt.alloc(), &rows)?)
 }
 
 #[test]
@@ -127,18 +120,13 @@ fn faults_are_their_names(rt: HostRuntime) -> Result<(), Fail> {
         (LayerFault::FileName, "FileName"),
         (LayerFault::Fan { byte: 17 }, "Fan"),
     ];
-    for (fault, want) in rows {
-        assert_eq!(rt; fault.to_string(rt.alloc())?.as_str(), want);
-    }
+    compare_texts(&rt, rt.alloc(), &rows)?;
     let rows = [
         (CommitFault::NullId, "NullId"),
         (CommitFault::Order, "Order"),
         (CommitFault::NullTree, "NullTree"),
     ];
-    for (fault, want) in rows {
-        assert_eq!(rt; fault.to_string(rt.alloc())?.as_str(), want);
-    }
-    Ok(())
+    Ok(compare_texts(&rt, rt.alloc(), &rows)?)
 }
 
 #[test]
@@ -175,10 +163,7 @@ fn errors_of_a_graph_are_their_names(rt: HostRuntime) -> Result<(), Fail> {
         (VerifyError::Processor { pos, error: "no" }, "Processor"),
         (VerifyError::OutOfMemory, "OutOfMemory"),
     ];
-    for (error, want) in rows {
-        assert_eq!(rt; error.to_string(rt.alloc())?.as_str(), want);
-    }
-    Ok(())
+    Ok(compare_texts(&rt, rt.alloc(), &rows)?)
 }
 
 #[test]
@@ -201,8 +186,5 @@ fn errors_of_a_layer_are_their_names(rt: HostRuntime) -> Result<(), Fail> {
         ),
         (TraverseError::OutOfMemory, "OutOfMemory"),
     ];
-    for (error, want) in rows {
-        assert_eq!(rt; error.to_string(rt.alloc())?.as_str(), want);
-    }
-    Ok(())
+    Ok(compare_texts(&rt, rt.alloc(), &rows)?)
 }

@@ -3,123 +3,144 @@ use gix_commitgraph::File;
 use gix_commitgraph::file::commit::ParentError;
 use gix_commitgraph::file::verify::{Outcome, TraverseError};
 use gix_commitgraph::file::{Commit, Position};
-use std::alloc::Global;
+use std::alloc::{AllocError, Global};
+use std::process::Abort;
 use std::test::Fail;
 
 // The error of a processor that refuses.
 #[derive(Clone, Copy, Debug, PartialEq, Eq)]
 struct Refused;
 
-// Why the check refuses the layer where the processor always answers this, and how often the
-// processor was called.
-fn refusal_of(
+// What the check of a layer answers where the processor always answers the same, how often the
+// processor was called, and whether that was at the positions 0, 1, 2 and so on.
+fn checked(
     alloc: Global,
     file: &File,
     answer: Result<(), Refused>,
-) -> (Option<TraverseError<Refused>>, u32) {
+) -> (Result<Outcome, TraverseError<Refused>>, u32, bool) {
     let mut calls: u32 = 0;
+    let mut in_order = true;
     let outcome = file.traverse(
         alloc,
-        &mut |_: &Commit<'_>| {
+        &mut |commit: &Commit<'_>| {
+            in_order = in_order && commit.position() == Position(calls);
             calls = calls.saturating_add(1);
             answer
         },
     );
-    (outcome.err(), calls)
+    (outcome, calls, in_order)
 }
 
-// The same of the layer of these bytes.
-fn refusal_of_bytes(
+// Why the check refuses a layer, and how often the processor was called.
+type Refusal = (Option<TraverseError<Refused>>, u32);
+
+// The refusal of the layer of these bytes, at a path and with a processor that always answers this.
+fn refusal_of(
     alloc: Global,
-    bytes: Vec<u8>,
+    bytes: &[u8],
+    path: &str,
     answer: Result<(), Refused>,
-) -> Result<(Option<TraverseError<Refused>>, u32), Fail> {
-    let file = opened(alloc, bytes, "commit-graph")?;
-    Ok(refusal_of(alloc, &file, answer))
+) -> Result<Refusal, Fail> {
+    let file = opened(alloc, Vec::from_slice(alloc, bytes)?, path)?;
+    let (outcome, calls, _) = checked(alloc, &file, answer);
+    Ok((outcome.err(), calls))
+}
+
+// Compares the refusal of the layer of these bytes at a path, whose commits the processor accepts.
+fn compare_at(
+    rt: &impl Abort,
+    alloc: Global,
+    bytes: &[u8],
+    path: &str,
+    want: Refusal,
+) -> Result<(), Fail> {
+    assert_eq!(rt; refusal_of(alloc, bytes, path, Ok(()))?, want);
+    Ok(())
+}
+
+// The same at a path that names no checksum.
+fn compare(rt: &impl Abort, alloc: Global, bytes: &[u8], want: Refusal) -> Result<(), Fail> {
+    compare_at(rt, alloc, bytes, "commit-graph", want)
 }
 
 #[test]
 fn faults_of_the_commits(rt: HostRuntime) -> Result<(), Fail> {
-    let rows: [([Row<'_>; 2], TraverseError<Refused>); 2] = [
-        (
-            [(0x11, &[], 1), (0, &[], 1)],
-            TraverseError::NullId { pos: Position(1) },
-        ),
-        (
-            [(0x11, &[], 1), (0x11, &[], 1)],
-            TraverseError::Order { pos: Position(1) },
-        ),
-    ];
-    for (commits, error) in rows {
-        let bytes = layer(&rt, rt.alloc(), &[], &commits)?;
-        let seen = refusal_of_bytes(rt.alloc(), bytes, Ok(()))?;
-        assert_eq!(rt; seen, (Some(error), 1));
-    }
-    Ok(())
+    let alloc = rt.alloc();
+    let pos = Position(1);
+    let bytes = layer(&rt, alloc, &[], &[(0x11, &[], 1), (0, &[], 1)])?;
+    compare(&rt, alloc, &bytes, (Some(TraverseError::NullId { pos }), 1))?;
+    let bytes = layer(&rt, alloc, &[], &[(0x11, &[], 1), (0x11, &[], 1)])?;
+    compare(&rt, alloc, &bytes, (Some(TraverseError::Order { pos }), 1))
+}
+
+// The diamond's file with the last bit of its checksum turned.
+fn with_wrong_checksum(rt: &impl Abort, alloc: Global) -> Result<Vec<u8>, Fail> {
+    let mut bytes = layer(rt, alloc, &[], DIAMOND)?;
+    assert_eq!(rt; bytes.len(), 1324);
+    bytes[1323] ^= 1;
+    Ok(bytes)
 }
 
 #[test]
 fn faults_of_the_layer(rt: HostRuntime) -> Result<(), Fail> {
-    let rows: [(usize, &[u8], TraverseError<Refused>, u32); 3] = [
-        (124, &[0; 4], TraverseError::Fan { byte: 17 }, 0),
-        (
-            1232,
-            &[0; 20],
-            TraverseError::NullTree { pos: Position(2) },
-            2,
-        ),
-        (
-            1288,
-            b"\x70\0\0\0\0\0\0\x02",
-            TraverseError::Parent {
-                pos: Position(3),
-                error: ParentError::SecondWithoutFirst,
-            },
-            4,
-        ),
+    let alloc = rt.alloc();
+    let fan = TraverseError::Fan { byte: 17 };
+    let tree = TraverseError::NullTree { pos: Position(2) };
+    let (pos, error) = (Position(3), ParentError::SecondWithoutFirst);
+    let parent = TraverseError::Parent { pos, error };
+    let rows: [(usize, &[u8], Refusal); 3] = [
+        (124, &[0; 4], (Some(fan), 0)),
+        (1232, &[0; 20], (Some(tree), 2)),
+        (1288, b"\x70\0\0\0\0\0\0\x02", (Some(parent), 4)),
     ];
-    for (from, bytes, error, calls) in rows {
-        let bytes = damaged_diamond(&rt, rt.alloc(), from, bytes)?;
-        let seen = refusal_of_bytes(rt.alloc(), bytes, Ok(()))?;
-        assert_eq!(rt; seen, (Some(error), calls));
+    for (from, bytes, want) in rows {
+        let bytes = damaged_diamond(&rt, alloc, from, bytes)?;
+        compare(&rt, alloc, &bytes, want)?;
     }
-    let mut bytes = layer(&rt, rt.alloc(), &[], DIAMOND)?;
-    assert_eq!(rt; bytes.len(), 1324);
-    bytes[1323] ^= 1;
-    let seen = refusal_of_bytes(rt.alloc(), bytes, Ok(()))?;
-    assert_eq!(rt; seen, (Some(TraverseError::Checksum), 0));
-    Ok(())
+    let bytes = with_wrong_checksum(&rt, alloc)?;
+    compare(&rt, alloc, &bytes, (Some(TraverseError::Checksum), 0))
 }
 
 #[test]
 fn the_processor_comes_before_the_parents(rt: HostRuntime) -> Result<(), Fail> {
-    let bytes = damaged_diamond(&rt, rt.alloc(), 1180, b"\x70\0\0\0\0\0\0\x07")?;
-    let file = opened(rt.alloc(), bytes, "commit-graph")?;
+    let alloc = rt.alloc();
+    let bytes = damaged_diamond(&rt, alloc, 1180, b"\x70\0\0\0\0\0\0\x07")?;
     let pos = Position(0);
     let error = ParentError::SecondWithoutFirst;
-    let seen = refusal_of(rt.alloc(), &file, Ok(()));
-    assert_eq!(rt; seen, (Some(TraverseError::Parent { pos, error }), 1));
+    compare(
+        &rt,
+        alloc,
+        &bytes,
+        (Some(TraverseError::Parent { pos, error }), 1),
+    )?;
     let error = Refused;
-    let seen = refusal_of(rt.alloc(), &file, Err(error));
-    assert_eq!(rt; seen, (Some(TraverseError::Processor { pos, error }), 1));
+    let want = (Some(TraverseError::Processor { pos, error }), 1);
+    assert_eq!(rt;
+        refusal_of(alloc, &bytes, "commit-graph", Err(error))?,
+        want
+    );
     Ok(())
 }
 
-// What the check of a right layer answers, and the positions of the commits on which it called the
-// processor.
-fn traversed(alloc: Global, file: &File) -> Result<(Outcome, Vec<u32>), Fail> {
-    let mut positions = Vec::new(alloc);
-    let outcome = file.traverse(
-        alloc,
-        &mut |commit: &Commit<'_>| { positions.push(commit.position().0) },
-    )?;
-    Ok((outcome, positions))
+// Compares an outcome: the greatest and the least generation number, the most parents and the number
+// of commits; and how many commits have each number of parents.
+fn compare_outcome(
+    rt: &impl Abort,
+    outcome: &Outcome,
+    want: (u32, u32, u32, u32),
+    counts: &[(u32, u32)],
+) {
+    let (greatest, least) = (outcome.max_generation, outcome.min_generation);
+    let seen = (greatest, least, outcome.max_parents, outcome.num_commits);
+    assert_eq!(rt; seen, want);
+    assert_eq!(rt; outcome.parent_counts.len(), counts.len());
+    for (parents, count) in counts {
+        assert_eq!(rt; outcome.parent_counts.get(parents).copied(), Some(*count));
+    }
 }
 
 #[test]
 fn right_layers_pass(rt: HostRuntime) -> Result<(), Fail> {
-    // the greatest and the least generation number, the most parents, the number of commits, and
-    // how many of them have each number of parents
     let rows: [(&[Row<'_>], (u32, u32, u32, u32), &[(u32, u32)]); 2] = [
         (&[], (0, 0, 0, 0), &[]),
         (DIAMOND, (3, 1, 2, 4), &[(0, 1), (1, 2), (2, 1)]),
@@ -127,21 +148,18 @@ fn right_layers_pass(rt: HostRuntime) -> Result<(), Fail> {
     for (commits, want, counts) in rows {
         let bytes = layer(&rt, rt.alloc(), &[], commits)?;
         let file = opened(rt.alloc(), bytes, "commit-graph")?;
-        let (outcome, positions) = traversed(rt.alloc(), &file)?;
-        let (greatest, least) = (outcome.max_generation, outcome.min_generation);
-        let seen = (greatest, least, outcome.max_parents, outcome.num_commits);
-        assert_eq!(rt; seen, want);
-        assert_eq!(rt; outcome.parent_counts.len(), counts.len());
-        for (parents, count) in counts {
-            assert_eq!(rt; outcome.parent_counts.get(parents).copied(), Some(*count));
-        }
+        let (outcome, calls, in_order) = checked(rt.alloc(), &file, Ok(()));
+        assert!(rt; in_order && calls as usize == commits.len());
+        let outcome = outcome?;
+        compare_outcome(&rt, &outcome, want, counts);
         assert_eq!(rt; outcome.try_clone()?, outcome);
-        assert_eq!(rt; positions.len(), commits.len());
-        for (place, pos) in positions.iter().enumerate() {
-            assert_eq!(rt; *pos as usize, place);
-        }
     }
     Ok(())
+}
+
+// A path that ends with the name of a layer of this checksum, and what follows the name.
+fn path_of(alloc: Global, folder: &str, checksum: &str, end: &str) -> Result<String, AllocError> {
+    format!(in alloc; "{folder}graph-{checksum}.graph{end}")
 }
 
 #[test]
@@ -149,22 +167,13 @@ fn names_of_files(rt: HostRuntime) -> Result<(), Fail> {
     let alloc = rt.alloc();
     let bytes = layer(&rt, alloc, &[], DIAMOND)?;
     let file = opened(alloc, Vec::from_slice(alloc, &bytes)?, "")?;
-    let digits = format!(in alloc; "{}", file.checksum())?;
-    let capitals: String = digits
-        .chars()
-        .map(|c| c.to_ascii_uppercase())
-        .collect(alloc)?;
-    let upper = format!(in alloc; "graph-{capitals}.graph")?;
-    let lower = format!(in alloc; "x/graph-{digits}.graph/.")?;
-    for (path, want) in [
-        ("x/graph-.graph", (Some(TraverseError::FileName), 0)),
-        ("commit-graph", (None, 4)),
-        ("graph-ab", (None, 4)),
-        (upper.as_str(), (None, 4)),
-        (lower.as_str(), (None, 4)),
-    ] {
-        let file = opened(alloc, Vec::from_slice(alloc, &bytes)?, path)?;
-        assert_eq!(rt; refusal_of(alloc, &file, Ok(())), want);
+    let digits = file.checksum().to_string(alloc)?;
+    let capitals = digits.to_ascii_uppercase(alloc)?;
+    let upper = path_of(alloc, "", &capitals, "")?;
+    let lower = path_of(alloc, "x/", &digits, "/.")?;
+    for path in ["commit-graph", "graph-ab", upper.as_str(), lower.as_str()] {
+        compare_at(&rt, alloc, &bytes, path, (None, 4))?;
     }
-    Ok(())
+    let fault = Some(TraverseError::FileName);
+    compare_at(&rt, alloc, &bytes, "x/graph-.graph", (fault, 0))
 }

@@ -89,6 +89,33 @@ fn checked(
     (answer, seen)
 }
 
+// Compares the refusal of a graph whose commits the processor accepts, and the number of its calls.
+fn compare_refusal(
+    rt: &impl Abort,
+    alloc: Global,
+    graph: &Graph,
+    want: VerifyError<Refused>,
+    calls: usize,
+) {
+    let (answer, seen) = checked(alloc, graph, None);
+    assert_eq!(rt; answer.err(), Some(want));
+    assert_eq!(rt; seen.len(), calls);
+}
+
+// Compares the outcome of a right graph: its longest path and the counts of the numbers of parents.
+// The first bytes of the ids of the commits that the processor was called on are answered, in order.
+fn compare_outcome(
+    rt: &impl Abort,
+    alloc: Global,
+    graph: &Graph,
+    longest: Option<u32>,
+    counts: &[(u32, u32)],
+) -> Result<Vec<u8>, Fail> {
+    let (answer, seen) = checked(alloc, graph, None);
+    assert_eq!(rt; answer, Ok(outcome(alloc, longest, counts)?));
+    Ok(seen)
+}
+
 const TEN: &[Row<'static>] = &[
     (0x11, &[], 1),
     (0x22, &[0], 2),
@@ -131,8 +158,8 @@ fn right_graphs_pass(rt: HostRuntime) -> Result<(), Fail> {
         ),
     ];
     for (commits, longest, counts) in rows {
-        let (answer, seen) = checked(alloc, &graph(&rt, alloc, &[commits])?, None);
-        assert_eq!(rt; answer, Ok(outcome(alloc, longest, counts)?));
+        let graph = graph(&rt, alloc, &[commits])?;
+        let seen = compare_outcome(&rt, alloc, &graph, longest, counts)?;
         assert_eq!(rt; seen.len(), commits.len());
         for (commit, byte) in commits.iter().zip(&seen) {
             assert_eq!(rt; commit.0, *byte);
@@ -148,9 +175,8 @@ fn calls_are_in_the_order_of_the_graph(rt: HostRuntime) -> Result<(), Fail> {
     let upper: &[Row<'_>] = &[(0x11, &[4], 4), (0x22, &[0, 2, 4], 5), (0x55, &[0], 3)];
     let graph = graph(&rt, alloc, &[lower, upper])?;
     let calls: &[u8] = &[0x33, 0x44, 0x11, 0x22, 0x55];
-    let (answer, seen) = checked(alloc, &graph, None);
     let counts = [(0, 1), (1, 3), (3, 1)];
-    assert_eq!(rt; answer, Ok(outcome(alloc, Some(4), &counts)?));
+    let seen = compare_outcome(&rt, alloc, &graph, Some(4), &counts)?;
     assert_eq!(rt; seen.as_slice(), calls);
     let (answer, seen) = checked(alloc, &graph, Some(0x55));
     let (pos, error) = (Position(4), Refused::Commit);
@@ -193,10 +219,10 @@ fn wrong_generation_numbers_are_refused(rt: HostRuntime) -> Result<(), Fail> {
         (&[(0x11, &[], MAX)], 0, 1),
     ];
     for (commits, place, expected) in rows {
-        let (answer, seen) = checked(alloc, &graph(&rt, alloc, &[commits])?, None);
+        let graph = graph(&rt, alloc, &[commits])?;
         let pos = Position(place);
-        assert_eq!(rt; answer, Err(VerifyError::Generation { pos, expected }));
-        assert_eq!(rt; seen.len(), place as usize);
+        let want = VerifyError::Generation { pos, expected };
+        compare_refusal(&rt, alloc, &graph, want, place as usize);
     }
     Ok(())
 }
@@ -218,9 +244,7 @@ fn damaged_layers_are_refused(rt: HostRuntime) -> Result<(), Fail> {
     for (from, bytes, error, calls) in rows {
         let bytes = damaged_diamond(&rt, alloc, from, bytes)?;
         let graph = graph_of_one(alloc, opened(alloc, bytes, "commit-graph")?)?;
-        let (answer, seen) = checked(alloc, &graph, None);
-        assert_eq!(rt; answer, Err(error));
-        assert_eq!(rt; seen.len(), calls);
+        compare_refusal(&rt, alloc, &graph, error, calls);
     }
     Ok(())
 }
@@ -228,9 +252,14 @@ fn damaged_layers_are_refused(rt: HostRuntime) -> Result<(), Fail> {
 #[test]
 fn a_base_too_many_is_refused(rt: HostRuntime) -> Result<(), Fail> {
     let file = file(&rt, rt.alloc(), &[ObjectId::from([0x33; 20])], &[])?;
-    let (answer, seen) = checked(rt.alloc(), &graph_of_one(rt.alloc(), file)?, None);
-    assert_eq!(rt; answer, Err(VerifyError::BaseCount { layer: 0 }));
-    assert!(rt; seen.is_empty());
+    let graph = graph_of_one(rt.alloc(), file)?;
+    compare_refusal(
+        &rt,
+        rt.alloc(),
+        &graph,
+        VerifyError::BaseCount { layer: 0 },
+        0,
+    );
     Ok(())
 }
 
@@ -238,10 +267,9 @@ fn a_base_too_many_is_refused(rt: HostRuntime) -> Result<(), Fail> {
 fn a_parent_in_a_later_layer_is_refused(rt: HostRuntime) -> Result<(), Fail> {
     let layers: [&[Row<'_>]; 2] = [&[(0x11, &[1], 2)], &[(0x22, &[], 1)]];
     let graph = graph(&rt, rt.alloc(), &layers)?;
-    let (answer, seen) = checked(rt.alloc(), &graph, None);
     let (pos, parent) = (Position(0), Position(1));
-    assert_eq!(rt; answer, Err(VerifyError::ParentOutOfRange { pos, parent }));
-    assert!(rt; seen.is_empty());
+    let want = VerifyError::ParentOutOfRange { pos, parent };
+    compare_refusal(&rt, rt.alloc(), &graph, want, 0);
     Ok(())
 }
 
@@ -253,12 +281,10 @@ fn up_to_256_layers_pass(rt: HostRuntime) -> Result<(), Fail> {
         files.push(file(&rt, alloc, &[], &[])?)?;
     }
     let too_many = Graph::new(alloc, files)?;
-    let (answer, _) = checked(alloc, &too_many, None);
-    assert_eq!(rt; answer, Err(VerifyError::TooManyFiles));
+    compare_refusal(&rt, alloc, &too_many, VerifyError::TooManyFiles, 0);
 
     let layers: [&[Row<'_>]; 256] = [&[]; 256];
-    let (answer, _) = checked(alloc, &graph(&rt, alloc, &layers)?, None);
-    assert_eq!(rt; answer, Ok(outcome(alloc, Some(0), &[])?));
+    compare_outcome(&rt, alloc, &graph(&rt, alloc, &layers)?, Some(0), &[])?;
     Ok(())
 }
 

@@ -9,5 +9,3 @@ pub mod error;
 pub mod finding;
 pub mod in_memory;
 pub mod query;
-#[cfg(test)]
-mod tests;

@@ -1,12 +1,12 @@
-use crate::ancestry::parents_of;
-use crate::checked::{check, open_checked};
-use crate::finding::{find, time_of};
-use crate::in_memory::open_bytes;
-use crate::query::parents_at_path;
 use gix_commitgraph::opening::OpenError;
 use gix_commitgraph::verify::{CommitFault, VerifyError};
 use gix_commitgraph::{FileError, Position};
 use gix_hash_core::{IdError, Kind, ObjectId};
+use graph_uses::ancestry::parents_of;
+use graph_uses::checked::{check, open_checked};
+use graph_uses::finding::{find, time_of};
+use graph_uses::in_memory::open_bytes;
+use graph_uses::query::parents_at_path;
 use graph_vectors::{LayerPlan, PlanCommit, build};
 use std::alloc::Global;
 use std::fs;

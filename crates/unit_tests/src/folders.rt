@@ -1,5 +1,5 @@
-use crate::chain::Lines;
-use crate::folder::{Disk, Folder, Memory, ReadError, read_all};
+use graph_folder::chain::Lines;
+use graph_folder::folder::{Disk, Folder, Memory, ReadError, read_all};
 use std::alloc::{AllocError, Global};
 use std::io::{ErrorKind, Read};
 use std::test::Fail;

@@ -1,4 +1,4 @@
-use crate::{IdError, Kind, ObjectId, digest, oid};
+use gix_hash_core::{IdError, Kind, ObjectId, digest, oid};
 use std::hash::{DefaultHasher, Hash, Hasher};
 use std::test::Fail;
 

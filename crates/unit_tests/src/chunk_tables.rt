@@ -1,4 +1,4 @@
-use crate::{ChunkError, Index};
+use gix_chunk_core::{ChunkError, Index};
 use std::ops::Range;
 use std::test::Fail;
 
