@@ -146,13 +146,16 @@ fn long_chain(rt: &impl Abort, alloc: Global, layers: u32) -> Result<Vec<Vec<u8>
     let mut files = Vec::new(alloc);
     let mut checksums = Vec::new(alloc);
     for layer in 0..layers {
-        let parents: &[u32] = if layer == 0 { &[] } else { &[layer - 1] };
+        let mut parents = Vec::new(alloc);
+        if layer > 0 {
+            parents.push(layer - 1)?;
+        }
         let bases = &checksums[..checksums.len().min(255)];
         let file = built(
             rt,
             alloc,
             bases,
-            &[(0x11, parents, layer.saturating_add(1))],
+            &[(0x11, &parents, layer.saturating_add(1))],
         )?;
         checksums.push(checksum_of(&file))?;
         files.push(file)?;

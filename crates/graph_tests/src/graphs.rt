@@ -141,8 +141,9 @@ fn empty_layers_have_no_positions(rt: HostRuntime) -> Result<(), Fail> {
 fn one_of_256_layers_is_found_in_eight_or_nine_comparisons(rt: HostRuntime) -> Result<(), Fail> {
     let commit: &[ObjectId] = &[id(0x11, 0)];
     let graph = graph_of(&rt, rt.alloc(), &[commit; 256])?;
+    assert_eq!(rt; graph.num_commits(), 256);
     let mut most = 0;
-    for pos in 0..256 {
+    for pos in 0..graph.num_commits() {
         let (layer, count) = graph.layer_of_counted(Position(pos));
         assert_eq!(rt; layer, pos as usize);
         most = count.max(most);
