@@ -23,4 +23,6 @@ mod on_disk;
 #[cfg(test)]
 mod opening;
 #[cfg(test)]
+mod refusing;
+#[cfg(test)]
 mod verifying;
