@@ -1,16 +1,20 @@
 #!/usr/bin/env python3
-"""Measures lookups and reads of commits, beside the same work in plain Rust.
+"""Measures lookups, reads and checks of commit-graphs, beside the same work in plain Rust.
 
 usage: python3 bench/lookup.py [FOLDER]
 
 FOLDER keeps the files and both programs for further runs; without it all is made anew, which takes
-some minutes. The files are one layer of a million commits, and a chain of ten layers of the same
-commits. Both programs read the same files, in turn, and have to give the same sums. A line a
-figure: ours and the baseline's, in nanoseconds an item, each the best of all runs, and their ratio.
-The items are lookups of ids that are there and of ids that are not, in a random order that is
-always the same; commits with all their parents, in order; and commits at random positions, each
-with its generation number, its time and its parents. Then two figures of ours alone: the check of
-the checksums, and the check of the whole graph, which has that one in it.
+some minutes. The files are one layer of a million commits, a chain of ten layers of the same
+commits, and two layers whose commits share one long list of further parents, the second twice as
+large as the first. Both programs read the same files, in turn, and have to give the same sums.
+
+A line a figure: ours and the baseline's, in nanoseconds an item, each the best of all runs, and
+their ratio. The items are the commits that are opened; lookups of ids that are there and of ids that
+are not, in a random order that is always the same; commits with all their parents, in order; commits
+at random positions, each with its generation number, its time and its parents; and the commits of
+the layers whose checksums are checked, and of the graphs that are. Then how the check of a graph
+compares with that of its checksums, and how each check grows from the first to the second of the two
+layers, where twice is right.
 
 Ours is bench/lookup/main.rt.txt, which is proved and built by LLVM, over the repository's crates.
 The baseline is bench/lookup/baseline.rs, by `rustc -O` for the same processor. The status is 1
@@ -33,17 +37,18 @@ LAYERS = 10
 ROUNDS = 7
 """How often each program is run. The two take turns."""
 
-LIBRARIES = {
-    "gix_hash_core": "sha1 sha2 hex thiserror",
-    "gix_chunk_core": "thiserror",
-    "graph_walks": "",
-    "graph_format": "gix_hash_core gix_chunk_core graph_walks thiserror",
-    "graph_folder": "thiserror",
-    "graph_layer": "gix_hash_core gix_chunk_core graph_walks graph_format graph_folder thiserror",
-    "gix_commitgraph": "gix_hash_core gix_chunk_core graph_walks graph_format graph_layer graph_folder thiserror",
-}
+SHARED_COMMITS = 2_000
+"""How many commits the smaller layer with one shared list has."""
+SHARED_WORDS = 14
+"""How many words a commit that list has: then it is as long as the other chunks."""
+ROOTS = 16
+"""How many commits of such a layer have no parents. The others have these."""
+
 PROGRAM = "lookup_bench"
-PROGRAM_LIBRARIES = "gix_hash_core gix_commitgraph anyhow"
+PROGRAM_LIBRARIES = ["gix_hash_core", "gix_commitgraph", "anyhow"]
+
+NAMES = ["present", "absent", "positions", "once", "twice", "layer"] + ["chain-%d" % layer for layer in range(LAYERS)]
+"""The names of the inputs, in the order in which the programs take them."""
 
 NO_PARENT = 0x70000000
 TOP_BIT = 0x80000000
@@ -68,21 +73,29 @@ def report(ours, baseline):
     for name in baseline[0]:
         best, sums = best_and_sums(name, ours)
         other, other_sums = best_and_sums(name, baseline)
-        items = COMMITS
+        items = commits_of(name)
         print("%-16s %10d %10.2f %10.2f %7.3f" % (name, items, best / items, other / items, best / other))
         if len(sums | other_sums) != 1:
             print("%-16s the sums differ: %s and %s" % (name, sums, other_sums))
             agreed = False
-    return 0 if all([agreed, report_checks("layer", ours), report_checks("chain", ours)]) else 1
+    for name in ("layer", "chain"):
+        print_ratio(name + "-integrity", name + "-checksum", ours, baseline)
+    for check in ("integrity", "traverse"):
+        print_ratio("twice-" + check, "once-" + check, ours, baseline)
+    return 0 if agreed else 1
 
 
-def report_checks(name, ours):
-    """Prints how long the check of a graph takes beside that of its checksums alone."""
-    checksum, _ = best_and_sums(name + "-checksum", ours)
-    whole, sums = best_and_sums(name + "-integrity", ours)
-    print("%-16s %10.2f ns a commit" % (name + "-checksum", checksum / COMMITS))
-    print("%-16s %10.2f ns a commit, %.3f times the checksum" % (name + "-integrity", whole / COMMITS, whole / checksum))
-    return sums == {(1, COMMITS)}
+def commits_of(name):
+    """How many commits the files of a figure have."""
+    return {"once": SHARED_COMMITS, "twice": 2 * SHARED_COMMITS}.get(name.split("-")[0], COMMITS)
+
+
+def print_ratio(name, other, ours, baseline):
+    """Prints how a figure compares with another of the same program, in each program that has it."""
+    for program, runs in (("ours", ours), ("rust", baseline)):
+        if name in runs[0]:
+            ratio = best_and_sums(name, runs)[0] / best_and_sums(other, runs)[0]
+            print("%-16s %s: %.3f times %s" % (name, program, ratio, other))
 
 
 def best_and_sums(name, runs):
@@ -104,7 +117,7 @@ def baseline_program(folder):
     """The path of the baseline, built."""
     program = os.path.join(folder, "baseline")
     source = os.path.join(SOURCES, "baseline.rs")
-    flags = ["--edition", "2021", "-O", "-C", "target-cpu=x86-64-v2"]
+    flags = ["--edition", "2024", "-O", "-C", "target-cpu=x86-64-v2", "-C", "codegen-units=1"]
     subprocess.check_call(["rustc"] + flags + [source, "-o", program])
     return program
 
@@ -116,10 +129,11 @@ def our_program(folder):
     os.makedirs(os.path.join(crate, "src"), exist_ok=True)
     if not os.path.exists(os.path.join(repository, ".git")):
         subprocess.check_call(["git", "init", "--quiet", repository])
-    lines = ["%s: %s\n" % line for line in [*LIBRARIES.items(), (PROGRAM, PROGRAM_LIBRARIES)]]
+    libraries = needed(PROGRAM_LIBRARIES, crates())
     with open(os.path.join(repository, "crates.txt"), "w") as file:
-        file.writelines(lines)
-    for library in LIBRARIES:
+        for name, uses in [*libraries.items(), (PROGRAM, PROGRAM_LIBRARIES)]:
+            file.write("%s: %s\n" % (name, " ".join(uses)))
+    for library in libraries:
         copy_crate(library, repository)
     shutil.copyfile(os.path.join(SOURCES, "main.rt.txt"), os.path.join(crate, "src", "main.rt"))
     built = os.path.join(crate, "out", PROGRAM)
@@ -130,6 +144,23 @@ def our_program(folder):
     if not os.path.exists(built):
         raise RuntimeError(run.stdout.decode())
     return built
+
+
+def crates():
+    """The crates of this repository, each with the libraries that it uses."""
+    with open(os.path.join(TOP, "crates.txt")) as file:
+        lines = [line.split(":") for line in file if ":" in line and not line.startswith("#")]
+    return {name: uses.split() for name, uses in lines}
+
+
+def needed(names, known):
+    """The known ones of some crates, and of all that they use."""
+    found = {}
+    for name in names:
+        if name in known:
+            found.update(needed(known[name], known))
+            found[name] = known[name]
+    return found
 
 
 def copy_crate(library, repository):
@@ -145,9 +176,8 @@ def copy_crate(library, repository):
 
 
 def written_files(folder):
-    """The paths of the inputs: ids that are there, ids that are not, positions, the layer, the chain's layers."""
-    names = ["present", "absent", "positions", "layer"] + ["chain-%d" % layer for layer in range(LAYERS)]
-    paths = [os.path.join(folder, name) for name in names]
+    """The paths of the inputs: ids that are there, ids that are not, positions, the layers, the chain's layers."""
+    paths = [os.path.join(folder, name) for name in NAMES]
     if not all(os.path.exists(path) for path in paths):
         for path, data in zip(paths, inputs()):
             with open(path, "wb") as file:
@@ -161,6 +191,8 @@ def inputs():
     yield b"".join(digest("commit", place) for place in order)
     yield b"".join(digest("absent", place) for place in range(COMMITS))
     yield struct.pack(">%dI" % COMMITS, *sorted(range(COMMITS), key=lambda place: digest("position", place)))
+    yield shared_layer(SHARED_COMMITS)
+    yield shared_layer(2 * SHARED_COMMITS)
     yield layer_file(range(COMMITS), positions_of([range(COMMITS)]), [])
     size = COMMITS // LAYERS
     parts = [range(start, start + size) for start in range(0, COMMITS, size)]
@@ -200,6 +232,11 @@ def layer_file(part, positions, bases):
     edges, records = [], []
     for place, name in zip(places, ids):
         records.append(record(place, name, positions, edges))
+    return layer_of(ids, records, edges, bases)
+
+
+def layer_of(ids, records, edges, bases):
+    """The bytes of a layer's file with these ids, records, words of the extra edge list and base ids."""
     chunks = [
         (b"OIDF", fan(ids)),
         (b"OIDL", b"".join(ids)),
@@ -209,6 +246,16 @@ def layer_file(part, positions, bases):
     if bases:
         chunks.append((b"BASE", b"".join(bases)))
     return with_trailer(struct.pack(">4s4B", b"CGPH", 1, 1, len(chunks), len(bases)) + table(chunks))
+
+
+def shared_layer(commits):
+    """The bytes of a layer in which all commits but the roots have the same list of further parents."""
+    ids = sorted(digest("shared", place) for place in range(commits))
+    edges = [place % ROOTS for place in range(SHARED_WORDS * commits - 1)] + [TOP_BIT]
+    root = struct.pack(">2IQ", NO_PARENT, NO_PARENT, 1 << 34)
+    other = struct.pack(">2IQ", 0, TOP_BIT, 2 << 34)
+    records = [name[::-1] + (root if pos < ROOTS else other) for pos, name in enumerate(ids)]
+    return layer_of(ids, records, edges, [])
 
 
 def fan(ids):
