@@ -1,3 +1,4 @@
 pub mod PlaceLemmas
 pub mod ListAnswers
 pub mod Appended
+pub mod AncestorAnswers
