@@ -7,6 +7,8 @@ usage: python3 scripts/real_data PROGRAM
   the verdict of `git commit-graph verify`. Where the two verdicts differ is printed as a table, and has
   to be what differences.py lists.
 - `find`: where each commit stands, in files and chains that are named in every way.
+- `ancestor`: a shortest walk between each pair of commits, or that there is none, as
+  `git merge-base --is-ancestor` says, and how many commits were visited.
 
 What an answer has to be is made from Git's own words, `git rev-list --parents` and `git cat-file`,
 with Git's use of commit-graphs off; the generations are counted up from the parents. Each comparison
@@ -20,7 +22,7 @@ from functools import partial
 
 sys.path.insert(0, os.path.dirname(os.path.dirname(os.path.abspath(__file__))))
 
-from checks import disk_checks, list_checks, path_checks, verify_checks, word_checks
+from checks import ancestor_checks, disk_checks, list_checks, path_checks, verify_checks, word_checks
 from checks.program import Program
 from expected.differences import Differences
 from histories.repository import ID_LENGTH, Repository
@@ -37,6 +39,7 @@ def main(path):
             list_checks.check_all(program, tally, new)
             verify_checks.check_all(program, tally, new, differences)
             path_checks.check_all(program, tally, new, differences)
+            ancestor_checks.check_all(program, tally, new)
             disk_checks.check_all(program, tally, new, differences)
     differences.check(tally)
     return tally.finish()
