@@ -7,6 +7,8 @@ usage: python3 scripts/real_data PROGRAM [every-value]
   the verdict of `git commit-graph verify`. Where the two verdicts differ is printed as a table, and has
   to be what differences.py lists.
 - `find`: where each commit stands, in files and chains that are named in every way.
+- `ancestor`: a shortest walk between each pair of commits, or that there is none, as
+  `git merge-base --is-ancestor` says, and how many commits were visited.
 - each byte of three small files, changed to some other values, or with `every-value` to all of them, beside
   a slow reading of the file; two million runs then, which take more than half an hour.
 - surroundings that are hostile: streams, paths, chain files, and every amount of memory.
@@ -23,7 +25,16 @@ from functools import partial
 
 sys.path.insert(0, os.path.dirname(os.path.dirname(os.path.abspath(__file__))))
 
-from checks import disk_checks, list_checks, path_checks, surroundings_checks, sweep_checks, verify_checks, word_checks
+from checks import (
+    ancestor_checks,
+    disk_checks,
+    list_checks,
+    path_checks,
+    surroundings_checks,
+    sweep_checks,
+    verify_checks,
+    word_checks,
+)
 from checks.program import Program
 from expected.differences import Differences
 from histories.repository import ID_LENGTH, Repository
@@ -42,6 +53,7 @@ def main(path, every_value=False):
             list_checks.check_all(program, tally, new)
             verify_checks.check_all(program, tally, new, differences)
             path_checks.check_all(program, tally, new, differences)
+            ancestor_checks.check_all(program, tally, new)
             disk_checks.check_all(program, tally, new, differences)
     differences.check(tally)
     return tally.finish()

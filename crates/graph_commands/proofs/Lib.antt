@@ -2,3 +2,4 @@ pub mod PlaceLemmas
 pub mod ListAnswers
 pub mod Appended
 pub mod BlockLemmas
+pub mod AncestorAnswers

@@ -10,3 +10,4 @@ pub mod Report
 pub mod Opening
 pub mod Verify
 pub mod Find
+pub mod Ancestor

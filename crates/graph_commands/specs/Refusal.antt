@@ -1,6 +1,5 @@
 -- the lines of refusals, without their ends, and the exit statuses that go with them
 use Rattle.std.specs.Prelude.{ℕ, List, codes, decimal}
-use Rattle.std.specs.declared.convert.Infallible.{Infallible}
 use Rattle.graph_format.specs.declared.error.FileError.{FileError}
 use Rattle.graph_format.specs.declared.error.FileError.TheVariants.{Chunks}
 use Rattle.graph_layer.specs.declared.opening.error.OpenError.{OpenError}
@@ -10,7 +9,7 @@ use Rattle.graph_format.specs.declared.fault.LayerFault.TheVariants.{Checksum, F
 use Rattle.gix_commitgraph.specs.declared.verify.VerifyError.{VerifyError}
 use Rattle.gix_commitgraph.specs.declared.verify.VerifyError.TheVariants as check
 use Rattle.graph_commands.specs.declared.refusal.Refusal.{Refusal}
-use Rattle.graph_commands.specs.declared.refusal.Refusal.TheVariants.{Id, Read, File, Open, Verify}
+use Rattle.graph_commands.specs.declared.refusal.Refusal.TheVariants.{Id, Read, File, Open, Verify, Check, Walk}
 use Rattle.graph_commands.specs.Numbers.{id_number, read_number, chunk_number, file_number, graph_number, commit_number, parent_number}
 use Rattle.graph_commands.specs.Text.{◌⧺◌}
 
@@ -35,8 +34,8 @@ fault_text Checksum = codes "1"
 fault_text FileName = codes "2"
 fault_text (Fan byte) = codes "3 byte " ⧺ decimal byte
 
--- a graph that fails its check. The program's processor refuses no commit, so no text is needed for its refusal
-abbrev pub verify_text : VerifyError Infallible → List ℕ
+-- a graph that fails its check. The processors of the program refuse no commit, so that the line of such a refusal never comes
+abbrev pub verify_text : {E : Type 0} → VerifyError E → List ℕ
 verify_text check.TooManyFiles = codes "1"
 verify_text (check.BaseCount layer) = codes "2 layer " ⧺ decimal layer
 verify_text (check.BaseId layer index) = codes "3 layer " ⧺ decimal layer ⧺ codes " index " ⧺ decimal index
@@ -45,7 +44,7 @@ verify_text (check.Commit pos fault) = codes "5 position " ⧺ decimal pos.0 ⧺
 verify_text (check.Parent pos error) = codes "6 position " ⧺ decimal pos.0 ⧺ codes " error " ⧺ decimal (parent_number error)
 verify_text (check.ParentOutOfRange pos parent) = codes "7 position " ⧺ decimal pos.0 ⧺ codes " parent " ⧺ decimal parent.0
 verify_text (check.Generation pos expected) = codes "8 position " ⧺ decimal pos.0 ⧺ codes " expected " ⧺ decimal expected
-verify_text (check.Processor pos error) = elim error [ ]
+verify_text (check.Processor pos error) = codes "9 position " ⧺ decimal pos.0
 verify_text check.OutOfMemory = codes "10"
 
 -- why a command was refused
@@ -55,6 +54,8 @@ refusal_text (Read error) = codes "refused read " ⧺ decimal (read_number error
 refusal_text (File error) = codes "refused " ⧺ file_text error
 refusal_text (Open error) = codes "refused open " ⧺ open_text error
 refusal_text (Verify error) = codes "refused verify " ⧺ verify_text error
+refusal_text (Check error) = codes "refused verify " ⧺ verify_text error
+refusal_text Walk = codes "refused walk"
 
 -- 2 for a text that is no id, and 1 for what is wrong with what was read
 abbrev pub refusal_status : Refusal → ℕ

@@ -14,7 +14,7 @@ use Rattle.gix_commitgraph.specs.declared.verify.Outcome.{Outcome}
 use Rattle.gix_commitgraph.specs.declared.verify.VerifyError.{VerifyError}
 use Rattle.gix_commitgraph.specs.declared.verify.VerifyError.TheVariants.{OutOfMemory}
 use Rattle.graph_commands.specs.declared.refusal.Refusal.{Refusal}
-use Rattle.graph_commands.specs.declared.refusal.Refusal.TheVariants.{Id, Read, File, Open, Verify}
+use Rattle.graph_commands.specs.declared.refusal.Refusal.TheVariants.{Id, Read, File, Open, Verify, Check, Walk}
 use Rattle.graph_commands.specs.Refusal.{refusal_text, refusal_status}
 use Rattle.graph_commands.specs.Report.{outcome_text}
 use Rattle.graph_commands.specs.Text.{◌⧺◌, newline}
@@ -47,6 +47,8 @@ MayVerify MayOpen (Err (Open error)) = MayOpen (Err error)
 MayVerify MayOpen (Err (Id error)) = ⊥
 MayVerify MayOpen (Err (Read error)) = ⊥
 MayVerify MayOpen (Err (File error)) = ⊥
+MayVerify MayOpen (Err (Check error)) = ⊥
+MayVerify MayOpen (Err Walk) = ⊥
 
 -- what the check found, or the line of a refusal
 abbrev pub verify_text : Result Outcome Refusal → List ℕ

@@ -5,6 +5,7 @@
 //! what a check and a search found, and [`line`] writes a line whole.
 #![tactic(auto)]
 
+mod ancestor;
 mod block;
 mod bytes;
 pub mod line;

@@ -10,6 +10,7 @@ use gix_commitgraph::opening::OpenError;
 use gix_commitgraph::verify::{LayerFault, VerifyError};
 use gix_hash_core::IdError;
 use graph_folder::folder::ReadError;
+use graph_history::NoFault;
 use std::convert::Infallible;
 use std::fmt;
 
@@ -26,6 +27,10 @@ pub enum Refusal {
     Open(OpenError),
     /// The graph fails its check, or the check ran out of memory.
     Verify(VerifyError<Infallible>),
+    /// The graph fails the check before a query, or the check ran out of memory.
+    Check(VerifyError<NoFault>),
+    /// The search of a query ran out of memory.
+    Walk,
 }
 
 impl From<IdError> for Refusal {
@@ -78,6 +83,16 @@ impl From<VerifyError<Infallible>> for Refusal {
     }
 }
 
+impl From<VerifyError<NoFault>> for Refusal {
+    ghost use Rattle.graph_commands.specs.declared.refusal.Refusal.TheVariants.{Check};
+
+    ghost from_gives = { λ error refusal. refusal ≡ Check error };
+
+    fn from(error: VerifyError<NoFault>) -> Refusal {
+        Refusal::Check(error)
+    }
+}
+
 // The exit status of a command that was refused for its words.
 const WRONG_WORDS: u8 = 2;
 
@@ -110,6 +125,8 @@ impl fmt::Display for Refusal {
             Refusal::File(error) => write!(f, "refused {}", FileText(error)),
             Refusal::Open(error) => write!(f, "refused open {}", OpenText(error)),
             Refusal::Verify(error) => write!(f, "refused verify {}", VerifyText(error)),
+            Refusal::Check(error) => write!(f, "refused verify {}", VerifyText(error)),
+            Refusal::Walk => write!(f, "refused walk"),
         }
     }
 }
@@ -157,9 +174,9 @@ impl fmt::Display for OpenText<'_> {
 
 // A graph that fails its check: what stands after `refused verify`.
 #[derive(Clone, Copy)]
-struct VerifyText<'a>(&'a VerifyError<Infallible>);
+struct VerifyText<'a, E>(&'a VerifyError<E>);
 
-impl fmt::Display for VerifyText<'_> {
+impl<E> fmt::Display for VerifyText<'_, E> {
     ghost use Rattle.graph_commands.specs.Refusal.{verify_text};
 
     ghost output = { λ text. Some (verify_text text.0.now) };
@@ -186,7 +203,7 @@ impl fmt::Display for VerifyText<'_> {
             VerifyError::Generation { pos, expected } => {
                 write!(f, "8 position {} expected {expected}", pos.0)
             }
-            VerifyError::Processor { error, .. } => match *error {},
+            VerifyError::Processor { pos, .. } => write!(f, "9 position {}", pos.0),
             VerifyError::OutOfMemory => write!(f, "10"),
         }
     }

@@ -8,6 +8,7 @@ ghost use Rattle.graph_commands.specs.List.{MayList, list_text, list_status};
 ghost use Rattle.graph_commands.specs.Find.{MayBeFound, MayFind, find_text, find_status};
 ghost use Rattle.graph_commands.specs.Verify.{Passes, Fails, MayPass, MayVerify, verify_text, verify_status};
 
+pub use crate::ancestor::{Ancestry, run_ancestor};
 use crate::block::Block;
 use crate::line::write_line;
 use crate::listing::write_listing;
@@ -179,7 +180,7 @@ fn found_in(graph: &Graph, id: oid<'_>) -> Option<Found>
 }
 
 // Writes the line of a refusal, and answers its exit status.
-fn refuse<W: Write>(writer: &mut W, refusal: &Refusal) -> Result<u8, WriteFailed>
+pub(crate) fn refuse<W: Write>(writer: &mut W, refusal: &Refusal) -> Result<u8, WriteFailed>
     ensures { IfOk result (WritesRefusal refusal.now (W.contents writer.old) (W.contents writer.new)) }
 {
     write_line(writer, refusal)?;

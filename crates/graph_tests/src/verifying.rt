@@ -22,7 +22,7 @@ fn file(
 }
 
 // The graph of one such layer for each of these lists of commits, with the right bases.
-fn graph(rt: &impl Abort, alloc: Global, layers: &[&[Row<'_>]]) -> Result<Graph, Fail> {
+pub fn graph(rt: &impl Abort, alloc: Global, layers: &[&[Row<'_>]]) -> Result<Graph, Fail> {
     let mut files = Vec::new(alloc);
     let mut checksums = Vec::new(alloc);
     for rows in layers {
@@ -116,7 +116,7 @@ fn compare_outcome(
     Ok(seen)
 }
 
-const TEN: &[Row<'static>] = &[
+pub const TEN: &[Row<'static>] = &[
     (0x11, &[], 1),
     (0x22, &[0], 2),
     (0x33, &[1], 3),
@@ -129,7 +129,7 @@ const TEN: &[Row<'static>] = &[
     (0xaa, &[8], 10),
 ];
 
-const OCTOPUS: &[Row<'static>] = &[
+pub const OCTOPUS: &[Row<'static>] = &[
     (0x11, &[], 1),
     (0x22, &[0], 2),
     (0x33, &[1], 3),

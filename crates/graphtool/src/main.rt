@@ -1,5 +1,5 @@
-//! `graphtool`: lists the layers of Git's commit-graphs, checks commit-graphs, and finds commits in
-//! them.
+//! `graphtool`: lists the layers of Git's commit-graphs, checks commit-graphs, and finds commits and
+//! walks to their ancestors in them.
 //!
 //! The exit status is 0 where the command did what was asked, 1 where it was refused or nothing was
 //! found, and 2 for other words than a command, for a text that is no id and for a failed write. Wrong
@@ -12,13 +12,13 @@ ghost use Rattle.std.specs.Prelude.{◌≡◌, MatchResult};
 mod tests;
 
 use graph_commands::line::write_line;
-use graph_commands::run::{WriteFailed, run_find, run_list, run_verify};
+use graph_commands::run::{WriteFailed, run_ancestor, run_find, run_list, run_verify};
 use graph_folder::folder::Disk;
 use std::io::Write;
 use std::process::ExitCode;
 use std::{env, io};
 
-const USAGE: &str = "usage: graphtool list | verify PATH | find PATH HEX";
+const USAGE: &str = "usage: graphtool list | verify PATH | find PATH HEX | ancestor PATH HEX HEX";
 
 const WRITE_FAILED: &str = "graphtool: the answer could not be written";
 
@@ -72,9 +72,21 @@ enum Command<'a> {
     // The layer on standard input is to be listed.
     List,
     // The graph at a path is to be checked.
-    Verify { path: &'a str },
+    Verify {
+        path: &'a str,
+    },
     // The commit with an id is to be found in the graph at a path.
-    Find { path: &'a str, hex: &'a str },
+    Find {
+        path: &'a str,
+        hex: &'a str,
+    },
+    // A walk along parents, from the commit with the first id to the one with the second, is to be
+    // found in the graph at a path.
+    Ancestor {
+        path: &'a str,
+        first: &'a str,
+        second: &'a str,
+    },
 }
 
 impl<'a> Command<'a> {
@@ -89,6 +101,13 @@ impl<'a> Command<'a> {
                 path: path.as_str(),
                 hex: hex.as_str(),
             }),
+            [_, name, path, first, second] if name.as_str() == "ancestor" => {
+                Some(Command::Ancestor {
+                    path: path.as_str(),
+                    first: first.as_str(),
+                    second: second.as_str(),
+                })
+            }
             _ => None,
         }
     }
@@ -102,6 +121,11 @@ impl<'a> Command<'a> {
             Command::Find { path, hex } => {
                 run_find(alloc, &mut Disk::new(rt), path, hex, &mut writer)
             }
+            Command::Ancestor {
+                path,
+                first,
+                second,
+            } => { run_ancestor(alloc, &mut Disk::new(rt), path, first, second, &mut writer) }
         }
     }
 }

@@ -50,3 +50,7 @@ class Program:
     def find(self, path, commit, **streams):
         """The answer to `find` of an id at a path."""
         return self.run("find", path, commit, stdin=subprocess.DEVNULL, **streams)
+
+    def ancestor(self, path, first, second, **streams):
+        """The answer to `ancestor` of two ids at a path."""
+        return self.run("ancestor", path, first, second, stdin=subprocess.DEVNULL, **streams)

@@ -9,7 +9,7 @@ from checks.list_checks import check_family
 from damage import mutations
 from expected import judge
 
-USAGE = "usage: graphtool list | verify PATH | find PATH HEX\n"
+USAGE = "usage: graphtool list | verify PATH | find PATH HEX | ancestor PATH HEX HEX\n"
 """What the program writes on standard error where its words are no command."""
 
 FAILED_WRITE = "graphtool: the answer could not be written\n"
@@ -21,6 +21,7 @@ OTHER_WORDS = [
     *(["list", "."], ["list", ""], ["list", "list"], ["LIST"], ["lis"], ["lists"], [b"li\xffst"]),
     *(["verify"], ["verify", ".", "."], ["verify", b"\xff"], ["VERIFY", "."], ["check", "."], ["verify ", "."]),
     *(["find"], ["find", "."], ["find", ".", ID, ""], ["Find", ".", ID], ["lookup", ".", ID], ["verify", ".", ID]),
+    *(["ancestor", ".", ID], ["ancestor", ".", ID, ID, ID], ["find", ".", ID, ID], ["ancestors", ".", ID, ID]),
     *(["find", b"\xff", ID], ["find", ".", b"\xff" * 40], [".", "find", ID], [".", ID, "find"]),
 ]
 """Words that are no command: too few, too many, others, or no text."""
@@ -45,6 +46,8 @@ def check_usage(program, tally):
         tally.check("usage after the words %r" % words, complaint)
     complaint = judge.exactly(2, "refused id 1\n", "", program.find(ID, "."))
     tally.check("find, its path and its id exchanged", complaint)
+    complaint = judge.exactly(2, "refused id 1\n", "", program.ancestor(ID, ".", ID))
+    tally.check("ancestor, its path and its first id exchanged", complaint)
 
 
 def check_streams(program, tally):

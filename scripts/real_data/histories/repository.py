@@ -86,6 +86,14 @@ class Repository:
         run = subprocess.run(command, env=self.surroundings, capture_output=True, check=False)
         return Verdict(run.returncode, bool(run.stderr))
 
+    def reaches(self, first, second):
+        """Whether Git says that a commit has another among its ancestors, or is that one."""
+        command = ("git", "-c", "core.commitGraph=false", "merge-base", "--is-ancestor", second, first)
+        run = subprocess.run(command, env=self.surroundings, capture_output=True, check=False)
+        if run.returncode not in (0, 1):
+            raise RuntimeError("git merge-base: " + run.stderr.decode())
+        return run.returncode == 0
+
     def info_path(self):
         """The folder in which Git looks for commit-graphs."""
         return os.path.join(self.folder, "objects", "info")

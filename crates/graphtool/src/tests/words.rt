@@ -49,7 +49,7 @@ fn command_line(alloc: Global, words: &[&str]) -> Result<Vec<String>, AllocError
 #[test]
 fn reads_the_words_of_each_command(rt: HostRuntime) -> Result<(), Fail> {
     let alloc = rt.alloc();
-    let rows: [(&[&str], Command<'_>); 5] = [
+    let rows: [(&[&str], Command<'_>); 6] = [
         (&["list"], Command::List),
         (&["verify", "a path"], Command::Verify { path: "a path" }),
         (&["verify", ""], Command::Verify { path: "" }),
@@ -67,6 +67,14 @@ fn reads_the_words_of_each_command(rt: HostRuntime) -> Result<(), Fail> {
                 hex: "",
             },
         ),
+        (
+            &["ancestor", "a", "b", "c"],
+            Command::Ancestor {
+                path: "a",
+                first: "b",
+                second: "c",
+            },
+        ),
     ];
     for (words, want) in rows {
         let line = command_line(alloc, words)?;
@@ -75,12 +83,13 @@ fn reads_the_words_of_each_command(rt: HostRuntime) -> Result<(), Fail> {
     Ok(())
 }
 
-const USAGE_LINE: &str = "usage: graphtool list | verify PATH | find PATH HEX\n";
+const USAGE_LINE: &str =
+    "usage: graphtool list | verify PATH | find PATH HEX | ancestor PATH HEX HEX\n";
 
 #[test]
 fn other_words_are_no_command(rt: HostRuntime) -> Result<(), Fail> {
     let alloc = rt.alloc();
-    let rows: [&[&str]; 13] = [
+    let rows: [&[&str]; 15] = [
         &[],
         &[""],
         &["List"],
@@ -93,6 +102,8 @@ fn other_words_are_no_command(rt: HostRuntime) -> Result<(), Fail> {
         &["find", "g"],
         &["find", "g", "h", "i"],
         &["g", "h", "find"],
+        &["ancestor", "g", "h"],
+        &["ancestor", "g", "h", "i", "j"],
         &["--help"],
     ];
     for words in rows {

@@ -1,0 +1,160 @@
+//! The command `ancestor`, and the lines that it writes. Writing them allocates nothing.
+
+ghost use Rattle.std.specs.Prelude.{◌≡◌, ◌++◌, IfOk, OnOk, codes};
+ghost use Rattle.std.specs.Io.KnownBytes.{Appends};
+ghost use Rattle.std.specs.List.{flat_map};
+ghost use Rattle.gix_hash_core.specs.Oid.{oid_bytes};
+ghost use Rattle.graph_commands.specs.Ancestor.{MayAnswerIn, MayRelate, ancestor_text, ancestor_status, ancestry_text, ancestry_status};
+ghost use Rattle.graph_commands.specs.Ancestor.{step_text, walk_line, visits_line};
+ghost use Rattle.graph_commands.specs.Answer.{WritesAnswer};
+ghost use Rattle.graph_commands.specs.Opening.{MayOpen};
+ghost use Rattle.graph_commands.specs.Text.{newline};
+
+use crate::line::write_line;
+use crate::refusal::Refusal;
+use crate::run::{WriteFailed, refuse};
+use gix_commitgraph::opening::open_in;
+use gix_commitgraph::{Graph, Position};
+use gix_hash_core::{ObjectId, oid};
+use graph_folder::folder::Folder;
+use graph_history::{Checked, Reached};
+use std::alloc::Global;
+use std::io::Write;
+
+// The exit status of a query that found a walk.
+const REACHED: u8 = 0;
+
+// The exit status of a query that found none, or one of whose ids is not there.
+const NOT_REACHED: u8 = 1;
+
+/// Looks for a shortest walk along parents from the commit with the first id to the one with the
+/// second, both given in hexadecimal digits of either case, in the graph that the path opens. The
+/// graph is checked first.
+///
+/// It writes the walk by its positions, or that there is none, and in a second line how many commits
+/// were visited; or which id is not in the graph; or why the query is refused. A text that is no id
+/// opens nothing. The answer is the exit status. `WriteFailed` comes where the writer fails.
+pub fn run_ancestor<T: Folder, W: Write>(
+    alloc: Global,
+    folder: &mut T,
+    path: &str,
+    first: &str,
+    second: &str,
+    writer: &mut W,
+) -> Result<u8, WriteFailed>
+    ensures written { IfOk result (WritesAnswer ancestor_text ancestor_status
+        (MayRelate first.now second.now (folder.new ≡ folder.old)
+        (MayOpen (T.tree folder.old) path.now (T.failure_count folder.old) (T.failure_count folder.new)))
+        (W.contents writer.old) (W.contents writer.new)) }
+    ensures tree { T.tree folder.new ≡ T.tree folder.old }
+{
+    match ancestor(alloc, folder, path, first, second) {
+        Ok(ancestry) => {
+            write_ancestry(writer, &ancestry)?;
+            Ok(ancestry.status())
+        }
+        Err(refusal) => refuse(writer, &refusal),
+    }
+}
+
+// The answer to the query between the commits whose ids the digits spell, in the graph that the path
+// opens.
+fn ancestor<T: Folder>(
+    alloc: Global,
+    folder: &mut T,
+    path: &str,
+    first: &str,
+    second: &str,
+) -> Result<Ancestry, Refusal>
+    ensures may { MayRelate first.now second.now (folder.new ≡ folder.old)
+        (MayOpen (T.tree folder.old) path.now (T.failure_count folder.old) (T.failure_count folder.new)) result }
+    ensures tree { T.tree folder.new ≡ T.tree folder.old }
+{
+    let first = ObjectId::from_hex(first.as_bytes())?;
+    let second = ObjectId::from_hex(second.as_bytes())?;
+    let graph = open_in(alloc, folder, path)?;
+    ancestry_in(alloc, &graph, first.as_oid(), second.as_oid())
+}
+
+// The answer to the query between the commits with these ids in the graph, which is checked first.
+fn ancestry_in(
+    alloc: Global,
+    graph: &Graph,
+    first: oid<'_>,
+    second: oid<'_>,
+) -> Result<Ancestry, Refusal>
+    ensures { MayAnswerIn graph.now (oid_bytes first.entry) (oid_bytes second.entry) result }
+{
+    let checked = Checked::new(alloc, graph)?;
+    let Some(from) = graph.lookup(first) else {
+        return Ok(Ancestry::FirstUnknown);
+    };
+    let Some(to) = graph.lookup(second) else {
+        return Ok(Ancestry::SecondUnknown);
+    };
+    match checked.ancestor_walk(alloc, from, to) {
+        Ok(reached) => Ok(Ancestry::Known(reached)),
+        Err(_) => Err(Refusal::Walk),
+    }
+}
+
+/// What a query for a walk from the commit with one id to the commit with another found.
+#[derive(Debug, Drop)]
+pub enum Ancestry {
+    /// The first id is not in the graph.
+    FirstUnknown,
+    /// The first id is in the graph, and the second is not.
+    SecondUnknown,
+    /// Both are, and this is the answer.
+    Known(Reached),
+}
+
+impl Ancestry {
+    /// The exit status of the command.
+    fn status(&self) -> u8
+        ensures { result ≡ ancestry_status self.now }
+    {
+        match self {
+            Ancestry::Known(Reached { walk: Some(_), .. }) => REACHED,
+            _ => NOT_REACHED,
+        }
+    }
+}
+
+// Writes what a query found.
+fn write_ancestry<W: Write>(writer: &mut W, ancestry: &Ancestry) -> Result<(), WriteFailed>
+    ensures { OnOk result (Appends (W.contents writer.old) (W.contents writer.new)
+        (ancestry_text ancestry.now)) }
+{
+    match ancestry {
+        Ancestry::FirstUnknown => write_line(writer, "unknown 1"),
+        Ancestry::SecondUnknown => write_line(writer, "unknown 2"),
+        Ancestry::Known(reached) => write_reached(writer, reached),
+    }
+}
+
+// Writes the line of the walk, and how many commits were visited.
+fn write_reached<W: Write>(writer: &mut W, reached: &Reached) -> Result<(), WriteFailed>
+    ensures { OnOk result (Appends (W.contents writer.old) (W.contents writer.new)
+        (walk_line reached.now.walk ++ visits_line reached.now.visits)) }
+{
+    match &reached.walk {
+        Some(walk) => write_walk(writer, walk)?,
+        None => write_line(writer, "none")?,
+    }
+    let visits = reached.visits;
+    write_line(writer, format_args!("visits {visits}"))
+}
+
+// Writes the positions of a walk.
+fn write_walk<W: Write>(writer: &mut W, walk: &[Position]) -> Result<(), WriteFailed>
+    ensures { OnOk result (Appends (W.contents writer.old) (W.contents writer.new)
+        (codes "walk" ++ flat_map step_text walk.now ++ newline)) }
+{
+    write!(writer, "walk")?;
+    for Position(position) in walk {
+        write!(writer, " {position}")?;
+    }
+    writeln!(writer)?;
+    Ok(())
+}
