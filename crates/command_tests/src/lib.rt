@@ -5,6 +5,8 @@
 #![tactic(auto)]
 
 #[cfg(test)]
+mod ancestors;
+#[cfg(test)]
 mod finding;
 #[cfg(test)]
 mod fixtures;
