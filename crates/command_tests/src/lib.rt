@@ -5,6 +5,8 @@
 #![tactic(auto)]
 
 #[cfg(test)]
+mod ancestors;
+#[cfg(test)]
 mod conditions;
 #[cfg(test)]
 mod damaged;
