@@ -1,0 +1,55 @@
+//! Makes one call after some allocations, so that each allocation of the call can be made to fail.
+//!
+//! The first line of standard input names the call. For each byte after that name, the newline
+//! among them, one allocation is made before the call. Where the program is run so that one allocation fails, their number decides
+//! which of the call's it is. What the call answered is written to standard output, without any
+//! further allocation. `scripts/refused_memory` runs it.
+#![tactic(auto)]
+
+mod calls;
+mod stage;
+
+use calls::call;
+use stage::Stage;
+use std::alloc::{AllocError, Global};
+use std::io::Read;
+
+// The most bytes of an input.
+const LONGEST_INPUT: usize = 4096;
+
+fn main(rt: HostRuntime) -> std::io::Result<()> {
+    let mut input = [0; LONGEST_INPUT];
+    let len = rt.reader().read(&mut input)?;
+    let (name, rest) = first_line(&input[..len]);
+    let Ok(mut stage) = Stage::new(&rt, rt.alloc()) else {
+        return println!(rt; "refused before the call");
+    };
+    let made = allocations_made(rt.alloc(), rest.len());
+    if made < rest.len() {
+        return println!(rt; "refused after {made} allocations");
+    }
+    call(&rt, rt.alloc(), name, &mut stage)
+}
+
+// The bytes before the first newline, and those after it.
+fn first_line(input: &[u8]) -> (&[u8], &[u8]) {
+    match input.iter().position(|byte| *byte == b'\n') {
+        Some(at) => (&input[..at], &input[at..]),
+        None => (input, &[]),
+    }
+}
+
+// Makes so many allocations, and answers how many there were before one failed.
+fn allocations_made(alloc: Global, count: usize) -> usize {
+    for made in 0..count {
+        if one_allocation(alloc).is_err() {
+            return made;
+        }
+    }
+    count
+}
+
+fn one_allocation(alloc: Global) -> Result<(), AllocError> {
+    let _one = Box::new(alloc, 0u8)?;
+    Ok(())
+}

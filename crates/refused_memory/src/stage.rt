@@ -1,0 +1,170 @@
+//! What the calls need: plans, bytes, layers and graphs, and folders in memory and on disk.
+
+use anyhow::{Result, ensure};
+use gix_commitgraph::{File, Graph};
+use gix_hash_core::{Kind, ObjectId};
+use graph_folder::folder::Memory;
+use graph_vectors::{LayerPlan, PlanCommit, build};
+use std::alloc::{AllocError, Global};
+use std::fs;
+use std::rt::Files;
+
+/// What stands ready before a call.
+#[derive(Drop)]
+pub struct Stage {
+    /// The plan of a layer of four commits, one of which has three parents.
+    pub plan: LayerPlan,
+    /// The file of that plan.
+    pub bytes: Vec<u8>,
+    /// The path of a file.
+    pub path: String,
+    /// The layer of that file.
+    pub layer: File,
+    /// The layers of a chain of three, each of one commit.
+    pub layers: Vec<File>,
+    /// The graph of the same layers.
+    pub graph: Graph,
+    /// The file `f`, and the folders `chain`, `info` and `damaged`: that of the chain, an info folder
+    /// with the chain, and one with a damaged file beside the chain.
+    pub memory: Memory,
+    /// Room for what is written.
+    pub out: Vec<u8>,
+}
+
+impl Stage {
+    /// The same each time. The folder `disk` is an info folder with the chain, and `f` a file.
+    pub fn new<R: Files + Alloc>(rt: &R, alloc: Global) -> Result<Stage> {
+        let plan = plan(
+            alloc,
+            &[],
+            &[(1, &[], 1), (2, &[0], 2), (3, &[1], 3), (4, &[0, 0, 2], 4)],
+        )?;
+        let bytes = file(alloc, &plan)?;
+        let chain = chain(alloc)?;
+        put_on_disk(rt, alloc, &bytes, &chain)?;
+        Ok(Stage {
+            layer: opened(alloc, &bytes)?,
+            memory: memory(alloc, &bytes, &chain)?,
+            layers: layers(alloc, &chain)?,
+            graph: Graph::new(alloc, layers(alloc, &chain)?)?,
+            path: String::from_str(alloc, "f")?,
+            out: Vec::with_capacity(alloc, 4096)?,
+            plan,
+            bytes,
+        })
+    }
+}
+
+// A commit: the byte that its id consists of, its parents and its generation number.
+type Row<'a> = (u8, &'a [u32], u32);
+
+fn plan(alloc: Global, bases: &[ObjectId], rows: &[Row<'_>]) -> Result<LayerPlan, AllocError> {
+    let mut commits = Vec::new(alloc);
+    for (byte, parents, generation) in rows {
+        commits.push(PlanCommit {
+            id: ObjectId::from([*byte; 20]),
+            tree: ObjectId::from([0x99; 20]),
+            parents: Vec::from_slice(alloc, parents)?,
+            generation: *generation,
+            time: 7,
+        })?;
+    }
+    Ok(LayerPlan {
+        kind: Kind::Sha1,
+        bases: Vec::from_slice(alloc, bases)?,
+        commits,
+    })
+}
+
+fn file(alloc: Global, plan: &LayerPlan) -> Result<Vec<u8>> {
+    ensure!(plan.is_buildable(), "no file can hold it");
+    Ok(build(alloc, plan)?)
+}
+
+fn opened(alloc: Global, bytes: &[u8]) -> Result<File> {
+    let path = String::from_str(alloc, "f")?;
+    Ok(File::new(alloc, Vec::from_slice(alloc, bytes)?, path)?)
+}
+
+// The files of a chain of three layers of one commit, each on the one before.
+fn chain(alloc: Global) -> Result<Vec<Vec<u8>>> {
+    let mut files = Vec::new(alloc);
+    let mut checksums = Vec::new(alloc);
+    let rows: [Row<'_>; 3] = [(1, &[], 1), (2, &[0], 2), (3, &[1, 0], 3)];
+    for row in rows {
+        let bytes = file(alloc, &plan(alloc, &checksums, &[row])?)?;
+        checksums.push(opened(alloc, &bytes)?.checksum().to_owned())?;
+        files.push(bytes)?;
+    }
+    Ok(files)
+}
+
+fn layers(alloc: Global, chain: &[Vec<u8>]) -> Result<Vec<File>> {
+    let mut layers = Vec::new(alloc);
+    for bytes in chain {
+        layers.push(opened(alloc, bytes)?)?;
+    }
+    Ok(layers)
+}
+
+// The name of a layer's file in its folder, and the line of the chain file.
+fn name_and_line(alloc: Global, bytes: &[u8]) -> Result<(String, String)> {
+    let layer = opened(alloc, bytes)?;
+    let checksum = layer.checksum();
+    let name = format!(in alloc; "graph-{checksum}.graph")?;
+    Ok((name, format!(in alloc; "{checksum}\n")?))
+}
+
+fn memory(alloc: Global, bytes: &[u8], chain: &[Vec<u8>]) -> Result<Memory> {
+    let mut memory = Memory::new(alloc);
+    put(alloc, &mut memory, "f", bytes)?;
+    put(alloc, &mut memory, "damaged/commit-graph", b"damaged")?;
+    for folder in ["chain", "info/commit-graphs", "damaged/commit-graphs"] {
+        memory.put_dir(String::from_str(alloc, folder)?)?;
+        let mut lines = String::new(alloc);
+        for bytes in chain {
+            let (name, line) = name_and_line(alloc, bytes)?;
+            lines.push_str(&line)?;
+            put(
+                alloc,
+                &mut memory,
+                format!(in alloc; "{folder}/{name}")?.as_str(),
+                bytes,
+            )?;
+        }
+        let path = format!(in alloc; "{folder}/commit-graph-chain")?;
+        memory.put_file(path, lines.into_bytes())?;
+    }
+    for folder in ["info", "damaged"] {
+        memory.put_dir(String::from_str(alloc, folder)?)?;
+    }
+    Ok(memory)
+}
+
+fn put(alloc: Global, memory: &mut Memory, path: &str, bytes: &[u8]) -> Result<(), AllocError> {
+    memory.put_file(
+        String::from_str(alloc, path)?,
+        Vec::from_slice(alloc, bytes)?,
+    )
+}
+
+fn put_on_disk<R: Files + Alloc>(
+    rt: &R,
+    alloc: Global,
+    bytes: &[u8],
+    chain: &[Vec<u8>],
+) -> Result<()> {
+    let _ = fs::remove_dir_all(rt, "disk");
+    fs::write(rt, "f", bytes)?;
+    fs::create_dir(rt, "disk")?;
+    fs::create_dir(rt, "disk/commit-graphs")?;
+    let mut lines = String::new(alloc);
+    for bytes in chain {
+        let (name, line) = name_and_line(alloc, bytes)?;
+        lines.push_str(&line)?;
+        let path = format!(in alloc; "disk/commit-graphs/{name}")?;
+        fs::write(rt, path.as_str(), bytes.as_slice())?;
+    }
+    fs::write(rt, "disk/commit-graphs/commit-graph-chain", lines.as_str())?;
+    Ok(())
+}
