@@ -1,4 +1,3 @@
 pub mod FaultLemmas
-pub mod FirstLemmas
 pub mod RangeLemmas
 pub mod TableLemmas

@@ -101,7 +101,7 @@ fn end_fault(bytes: &[u8], at: usize, i: usize) -> Option<ChunkError>
 }
 
 /// Why the table of `count` chunks is refused, if it is.
-#[tactic(auto, using(crate::proofs::FirstLemmas::first_laws), unfolding(crate::specs::Fault::table_fault))]
+#[tactic(auto, using(first_faults::proofs::FirstLemmas::first_laws), unfolding(crate::specs::Fault::table_fault))]
 fn table_fault(bytes: &[u8], at: usize, count: usize) -> Option<ChunkError>
     requires { count < 2 ^ 32 }
     ensures { result ≡ table_fault bytes.now at count }

@@ -3,7 +3,6 @@
 ghost use Rattle.std.specs.Prelude.{◌≡◌, ◌<◌, ◌≤◌, ◌↔◌, ℕ, List, length, Option, Some, None, Contains};
 ghost use Rattle.gix_chunk_core.specs.Entry.{end_id};
 ghost use Rattle.gix_chunk_core.specs.Fault.{table_fault};
-ghost use Rattle.gix_chunk_core.specs.First.{first_below, IsLeastGiving};
 ghost use Rattle.gix_chunk_core.specs.Table.{Table, Chunks, range_of};
 
 /// Bytes have a table of so many chunks at an offset exactly where no condition refuses it, and they then have one such
@@ -29,12 +28,4 @@ pub fn chunks_are_found_by_id()
     ensures within { (bytes : List ℕ) (at count : ℕ) (table : Table) (id : List ℕ) (start end : ℕ)
         → Chunks bytes at count table → range_of table id ≡ Some (start, end)
         → (start ≤ end) × (end ≤ table.end) × (table.end ≤ length bytes) }
-{}
-
-/// What a function first gives below a number is what it gives at the least number below it where it gives anything.
-#[tactic(auto, using(crate::proofs::FirstLemmas::least_laws))]
-pub fn first_is_at_the_least_number<T>()
-    ensures some { (f : ℕ → Option T) (n : ℕ) (x : T)
-        → (first_below f n ≡ Some x) ↔ ((i : ℕ) × IsLeastGiving f n i x) }
-    ensures none { (f : ℕ → Option T) (n : ℕ) → (first_below f n ≡ None) ↔ ((i : ℕ) → i < n → f i ≡ None) }
 {}

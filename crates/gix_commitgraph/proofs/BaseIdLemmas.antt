@@ -2,7 +2,7 @@
 use Rattle.std.proofs.Common.{◌≡◌, ℕ, List, [], Bool, true, not, ◌==◌, length, Option, Some, option_map, unwrap_or, bytes_eq, slice_get, refl, sym, ap, ◌∙◌}
 use Rattle.std.proofs.lemmas.Bool.{eq-eqb}
 use Rattle.std.proofs.lemmas.Option.{slice_get-map}
-use Rattle.gix_chunk_core.specs.First.{◌when◌, first_below}
+use Rattle.first_faults.specs.First.{◌when◌, first_below}
 use Rattle.graph_format.specs.Layer.{Layer}
 use Rattle.gix_commitgraph.specs.Verify.{base_at, checksum_at, base_refusal, base_ids_refusal}
 use Rattle.gix_commitgraph.specs.declared.verify.VerifyError.{VerifyError}

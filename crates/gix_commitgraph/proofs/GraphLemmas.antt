@@ -7,9 +7,9 @@ use Rattle.std.proofs.lemmas.List.Concat.{length-flat_map}
 use Rattle.std.proofs.lemmas.List.Quantifiers.{position-Some}
 use Rattle.std.proofs.lemmas.List.Sums.{sum_by-cons, sum_by-take-le, fails_before_first}
 use Rattle.std.proofs.lemmas.Option.{slice_get_within, get_or_from_slice_get, slice_get-get_or, same_Some}
-use Rattle.gix_chunk_core.specs.First.{first_below}
-use Rattle.gix_chunk_core.proofs.FirstLemmas.{first_below-none_at}
-use Rattle.gix_chunk_core.specs.First.{◌when◌, ◌otherwise◌}
+use Rattle.first_faults.specs.First.{first_below}
+use Rattle.first_faults.proofs.FirstLemmas.{first_below-none_at}
+use Rattle.first_faults.specs.First.{◌when◌, ◌otherwise◌}
 use Rattle.gix_hash_core.specs.declared.kind.Kind.{Kind}
 use Rattle.gix_hash_core.specs.declared.kind.Kind.TheVariants.{Sha1, Sha256}
 use Rattle.graph_format.specs.Layer.{Layer}
@@ -17,7 +17,7 @@ use Rattle.graph_format.specs.Lookup.{Found, scan}
 use Rattle.graph_format.specs.LookupLaw.{IsFirst}
 use Rattle.gix_commitgraph.specs.Graph.{graph_ids, graph_commits, total, start, MakesGraph}
 use Rattle.gix_commitgraph.specs.GraphLookup.{answer_at, first_answer}
-use Rattle.gix_commitgraph.specs.GraphLaw.{LiesIn, LiesInOne, IsPlaceIn, AreCounted, IsOrdered, AreScanned, IsRefusal, IsJudged}
+use Rattle.gix_commitgraph.specs.GraphLaw.{LiesIn, LiesInOne, ComesFromLayer, AreCounted, IsOrdered, AreScanned, IsRefusal, IsJudged}
 use Rattle.gix_commitgraph.specs.GraphRefusal.{same_kind, kind_at, mismatch_after, mismatch_refusal, graph_refusal}
 use Rattle.graph_format.specs.declared.TheConstants.{MAX_COMMITS}
 use Rattle.graph_format.specs.declared.error.GraphError.{GraphError}
@@ -85,7 +85,7 @@ lies-in_one layers pos h =
 lies-within : (layers : List Layer) (pos i : ℕ) (layer : Layer) → LiesIn layers pos i layer → pos - start layers i < size layer
 lies-within layers pos i layer lies = omega (arith, lies.from, lies.below, start-more layers i layer lies.there)
 
-pub place-in : (layers : List Layer) (pos i : ℕ) (layer : Layer) → LiesIn layers pos i layer → IsPlaceIn layers pos i layer
+pub place-in : (layers : List Layer) (pos i : ℕ) (layer : Layer) → LiesIn layers pos i layer → ComesFromLayer layers pos i layer
 place-in layers pos i layer lies =
     let whole : pos ≡ start layers i + (pos - start layers i) = omega (arith, lies.from) in
     record {

@@ -4,7 +4,7 @@ use Rattle.std.specs.Prelude.{◌↔◌}
 use Rattle.std.proofs.lemmas.Bool.{ltb-false, le-ltb}
 use Rattle.std.proofs.lemmas.List.Elements.{All-weaker}
 use Rattle.std.proofs.lemmas.Option.{none-some, slice_get_within, slice_get-get_or, get_or_from_slice_get}
-use Rattle.gix_chunk_core.proofs.FirstLemmas.{then_some-false}
+use Rattle.first_faults.proofs.FirstLemmas.{then_some-false}
 use Rattle.graph_format.specs.Layer.{Layer}
 use Rattle.gix_commitgraph.specs.Graph.{graph_ids, start}
 use Rattle.graph_format.specs.Layer.{IsOpened}
@@ -13,7 +13,7 @@ use Rattle.gix_commitgraph.specs.GraphLookup.{FoundIn}
 use Rattle.graph_format.specs.Lookup.{scan}
 use Rattle.graph_walks.specs.History.{generations}
 use Rattle.graph_format.specs.StoredHistory.{history_of}
-use Rattle.graph_walks.specs.Walks.{TellsLongest}
+use Rattle.graph_walks.specs.Walks.{MatchesLongestWalk}
 use Rattle.graph_format.specs.Faults.{layer_fault, commit_fault}
 use Rattle.graph_format.specs.Points.{first_fault, Passes, IsRefused}
 use Rattle.graph_walks.specs.Generations.{longest_path}
@@ -158,8 +158,8 @@ pub sound-scanned : (layers : List Layer) (id : List ℕ) (answer : Option ℕ) 
 sound-scanned layers id answer sound found = scanned layers (All-weaker IsRightLayer IsOrdered ordered-right layers sound.rules.each) id answer found
 
 -- and what its generation numbers tell of the longest walk is so
-pub sound-longest : (layers : List Layer) → Sound layers → TellsLongest (history_of layers) (longest_path (generations (history_of layers)))
+pub sound-longest : (layers : List Layer) → Sound layers → MatchesLongestWalk (history_of layers) (longest_path (generations (history_of layers)))
 sound-longest layers sound = longest_is_told (history_of layers) sound.generations
 
-pub summarized-longest : (layers : List Layer) (outcome : Outcome) → Sound layers → Summarizes (history_of layers) outcome → TellsLongest (history_of layers) outcome.longest_path_length
-summarized-longest layers outcome sound sums = subst (TellsLongest (history_of layers)) (sym sums.longest_path_length) (sound-longest layers sound)
+pub summarized-longest : (layers : List Layer) (outcome : Outcome) → Sound layers → Summarizes (history_of layers) outcome → MatchesLongestWalk (history_of layers) outcome.longest_path_length
+summarized-longest layers outcome sound sums = subst (MatchesLongestWalk (history_of layers)) (sym sums.longest_path_length) (sound-longest layers sound)

@@ -24,7 +24,7 @@ pub record LiesInOne (layers : List Layer) (pos : ℕ) : Type 0 where
   pub only : (i : ℕ) (other : Layer) → LiesIn layers pos i other → i ≡ index
 
 -- The id and the commit at a position are those of its layer, at the position less the start of the layer.
-pub record IsPlaceIn (layers : List Layer) (pos i : ℕ) (layer : Layer) : Type 0 where
+pub record ComesFromLayer (layers : List Layer) (pos i : ℕ) (layer : Layer) : Type 0 where
   pub id : slice_get (graph_ids layers) pos ≡ slice_get layer.ids (pos - start layers i)
   pub commit : slice_get (graph_commits layers) pos ≡ Some (layer, pos - start layers i)
 

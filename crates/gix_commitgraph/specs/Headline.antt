@@ -9,7 +9,7 @@ use Rattle.graph_format.specs.Lookup.{scan}
 use Rattle.graph_walks.specs.Counts.{count_of}
 use Rattle.graph_walks.specs.History.{parent_numbers}
 use Rattle.graph_format.specs.StoredHistory.{history_of}
-use Rattle.graph_walks.specs.Walks.{TellsLongest}
+use Rattle.graph_walks.specs.Walks.{MatchesLongestWalk}
 use Rattle.gix_commitgraph.specs.Sound.{Sound}
 use Rattle.gix_commitgraph.specs.declared.verify.Outcome.{Outcome}
 use Rattle.gix_commitgraph.specs.declared.verify.VerifyError.{VerifyError}
@@ -21,7 +21,7 @@ pub record Stats (layers : List Layer) (outcome : Outcome) : Type 0 where
   -- for each number of parents, repeats counted, how many commits have so many; no entry where none has
   pub parent_counts : (k : ℕ) → get nat_cmp outcome.parent_counts k ≡ count_of (parent_numbers (history_of layers)) k
   -- the most edges on a walk along parents, and nothing where a generation number is at the cap
-  pub longest_path_length : TellsLongest (history_of layers) outcome.longest_path_length
+  pub longest_path_length : MatchesLongestWalk (history_of layers) outcome.longest_path_length
 
 -- each answer that a lookup may give is that of a plain scan of all ids
 abbrev pub LookupsAreScans : List Layer → Type 0

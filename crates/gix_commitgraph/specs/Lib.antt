@@ -1,3 +1,4 @@
+pub use Rattle.first_faults.specs.First
 pub use Rattle.graph_walks.specs.Counts
 pub use Rattle.graph_walks.specs.History
 pub use Rattle.graph_walks.specs.Generations
@@ -5,18 +6,14 @@ pub use Rattle.graph_walks.specs.Walks
 pub use Rattle.graph_format.specs.Reports
 pub use Rattle.graph_format.specs.Format
 pub use Rattle.graph_format.specs.Layer
-pub use Rattle.graph_layer.specs.ChunkRanges
 pub use Rattle.graph_format.specs.Refusal
-pub use Rattle.graph_format.specs.RefusalSteps
 pub use Rattle.graph_format.specs.Opened
-pub use Rattle.graph_layer.specs.Layout
 pub use Rattle.graph_layer.specs.Commit
 pub use Rattle.graph_format.specs.Parents
 pub use Rattle.graph_format.specs.Law
 pub use Rattle.graph_format.specs.EdgeLaw
 pub use Rattle.graph_layer.specs.RemainingParents
 pub use Rattle.graph_layer.specs.Remaining
-pub use Rattle.graph_layer.specs.FileState
 pub use Rattle.graph_format.specs.Order
 pub use Rattle.graph_format.specs.Lookup
 pub use Rattle.graph_format.specs.LookupLaw

@@ -16,7 +16,7 @@ pub record IsBefore (first second : List ℕ) : Type 0 where
   pub goes_on : place < length second
   pub comes_first : (place ≡ length first) ⊎ ((place < length first) × (slice_index first place < slice_index second place))
 
--- the comparisons of ids tell of two lists whether they are the same, and else which comes first
+-- the comparisons of ids say whether two lists are the same, and if not, which comes first
 pub record AreOrdered (first second : List ℕ) : Type 0 where
   pub equal : IsTrue (pointwise nat_eq first second) ↔ (first ≡ second)
   pub same : (slice_cmp nat_cmp first second ≡ Equal) ↔ (first ≡ second)

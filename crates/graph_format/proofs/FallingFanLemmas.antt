@@ -2,8 +2,8 @@
 use Rattle.std.proofs.Common.{◌≡◌, ◌<◌, ◌≤◌, ℕ, ◌+◌, ◌-◌, Bool, true, false, List, slice_index, Some, None, nat_lt, ap, subst, sym, ◌∙◌, ⊎_elim, arith}
 use Rattle.std.specs.Bool.{then_some}
 use Rattle.std.proofs.lemmas.Bool.{ltb-false, ltb-true, lt-ltb, le-ltb, cases_eq}
-use Rattle.gix_chunk_core.specs.First.{IsLeastGiving}
-use Rattle.gix_chunk_core.proofs.FirstLemmas.{then_some-none, then_some-false, first_below-none_at, first_below-none_from, first_below-some_iff}
+use Rattle.first_faults.specs.First.{IsLeastGiving}
+use Rattle.first_faults.proofs.FirstLemmas.{then_some-none, then_some-false, first_below-none_at, first_below-none_from, first_below-some_iff}
 use Rattle.graph_format.specs.Law.{FallsFirstAt, NamesFirstFall}
 use Rattle.graph_format.specs.Refusal.{fall_after, falling_refusal}
 use Rattle.graph_format.specs.declared.error.FileError.{FileError}

@@ -6,7 +6,7 @@ use Rattle.std.proofs.lemmas.List.Elements.{All-nil, All-cons, All-head, All-tai
 use Rattle.std.proofs.lemmas.List.FromFn.{length-range_with_len, get_or-range_with_len, length-enumerate_from, get_or-enumerate_from}
 use Rattle.std.proofs.lemmas.Option.{slice_get_within, slice_get-get_or, get_or_from_slice_get}
 use Rattle.std.specs.Option.{option_map}
-use Rattle.gix_chunk_core.specs.First.{◌when◌}
+use Rattle.first_faults.specs.First.{◌when◌}
 use Rattle.graph_format.specs.Points.{Point, check, call, first_some, first_fault}
 
 -- a condition that names no fault does not hold

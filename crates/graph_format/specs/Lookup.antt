@@ -17,8 +17,8 @@ pub record Found (layer : Layer) (id : List ℕ) (answer : Option ℕ) : Type 0 
   pub scanned : AreAscending layer.ids → IsExactFan layer.fan layer.ids → answer ≡ scan layer.ids id
 
 -- a position of a layer as a number
-abbrev pub position_number : Option Position → Option ℕ
-position_number pos = option_map (λ p. p.0) pos
+abbrev pub file_position_number : Option Position → Option ℕ
+file_position_number pos = option_map (λ p. p.0) pos
 
 -- the bucket of a byte: the positions from this one up to, without, the number that the fan has at the byte
 abbrev pub bucket_start : List ℕ → ℕ → ℕ

@@ -1,7 +1,7 @@
 -- Why bytes are no layer: the first condition that holds; their order is this crate's own. (Git's commit-graph format,
 -- "HEADER", "CHUNK LOOKUP", "CHUNK DATA" and "TRAILER".)
 use Rattle.std.specs.Prelude.{ℕ, ◌+◌, ◌-◌, ◌/◌, ◌%◌, Bool, false, not, ◌&&◌, List, length, take, slice_index, Option, Some, None, option_map, is_none, nat_lt, ◌==◌, bytes_eq}
-use Rattle.gix_chunk_core.specs.First.{◌when◌, ◌otherwise◌, first_below}
+use Rattle.first_faults.specs.First.{◌when◌, ◌otherwise◌, first_below}
 use Rattle.gix_chunk_core.specs.Fault.{table_fault}
 use Rattle.gix_hash_core.specs.Kind.{id_len, kind_of}
 use Rattle.graph_format.specs.Format.{record_len, signature, least_size, table_of, chunk_of, fan_of, commits_of, kind_in, fan_id, ids_id, records_id, edges_id, bases_id}

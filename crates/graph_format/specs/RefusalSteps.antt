@@ -1,7 +1,7 @@
 -- The conditions that refuse bytes, in the groups in which they are checked. For private contracts alone: `proofs/Grouped`
 -- proves that together they are `refusal`.
 use Rattle.std.specs.Prelude.{ℕ, ◌-◌, not, ◌&&◌, List, length, take, slice_index, Option, option_map, is_none, nat_lt, ◌==◌, bytes_eq}
-use Rattle.gix_chunk_core.specs.First.{◌when◌, ◌otherwise◌}
+use Rattle.first_faults.specs.First.{◌when◌, ◌otherwise◌}
 use Rattle.gix_chunk_core.specs.Fault.{table_fault}
 use Rattle.gix_hash_core.specs.declared.kind.Kind.{Kind}
 use Rattle.gix_hash_core.specs.Kind.{id_len, kind_of}

@@ -10,7 +10,7 @@ use Rattle.graph_format.specs.Format.{Record}
 use Rattle.graph_layer.specs.Commit.{commit_layer, commit_pos, layer_and_position, commit_record, commit_parents}
 use Rattle.gix_commitgraph.specs.Graph.{graph_commits, total, start, stop, IsGraph}
 use Rattle.graph_format.specs.Layer.{IsOpened}
-use Rattle.gix_commitgraph.specs.GraphLaw.{LiesInOne, IsPlaceIn, AreCounted}
+use Rattle.gix_commitgraph.specs.GraphLaw.{LiesInOne, ComesFromLayer, AreCounted}
 use Rattle.graph_walks.specs.History.{Node, generation_at, parents_at}
 use Rattle.graph_format.specs.StoredHistory.{node_of, layer_history, history_of}
 use Rattle.graph_format.specs.Parents.{parents_of, items_of, fault_items}
@@ -41,7 +41,7 @@ opened_at layers i layer opened there =
     subst IsOpened (get_or_from_slice_get layers i layer layer there) (opened i layer (slice_get_within layers i layer there))
 
 -- the commit that is read at a position
-pub is_at : Counted → (layers : List Layer) (p : ℕ) (commit : Commit) → IsGraph layers → AreCounted layers → (lies : LiesInOne layers p) → IsPlaceIn layers p lies.index lies.layer
+pub is_at : Counted → (layers : List Layer) (p : ℕ) (commit : Commit) → IsGraph layers → AreCounted layers → (lies : LiesInOne layers p) → ComesFromLayer layers p lies.index lies.layer
     → slice_get (history_of layers) p ≡ Some (node_of lies.layer (record_at lies.layer (p - start layers lies.index))) → slice_get (graph_commits layers) p ≡ Some (layer_and_position commit) → IsAt layers p commit
 unfolding node_at
 is_at counted layers p commit graph sizes lies place told read =

@@ -5,7 +5,7 @@ use Rattle.std.proofs.lemmas.Bool.{cases_lt, lt-ltb, le-ltb}
 use Rattle.std.specs.Option.{option_map_or}
 use Rattle.graph_walks.specs.declared.TheConstants.{GENERATION_NUMBER_MAX}
 use Rattle.graph_walks.specs.History.{Node, IsParent, generation_at, parents_at, generations}
-use Rattle.graph_walks.specs.Walks.{HasWalk, CountWalks, Reaches, IsProperAncestor, IsLongestWalk, TellsLongest}
+use Rattle.graph_walks.specs.Walks.{HasWalk, CountWalks, Reaches, IsProperAncestor, IsLongestWalk, MatchesLongestWalk}
 use Rattle.graph_walks.specs.Counts.{greatest}
 use Rattle.graph_walks.specs.Generations.{expected_generation, AreLocal}
 use Rattle.graph_walks.specs.Generations.{longest_path}
@@ -237,19 +237,19 @@ longest_from_greatest h counts low = record {
   no_commits (c ∷ cs) empty = absurd (omega arith)
 
 -- what the generation numbers tell of the longest walk
-pub longest_is_told : (h : List Node) → CountWalks h → TellsLongest h (longest_path (generations h))
+pub longest_is_told : (h : List Node) → CountWalks h → MatchesLongestWalk h (longest_path (generations h))
 longest_is_told h counts =
     let most = greatest (generations h) in
     ⊎_elim
     (λ (low : most < GENERATION_NUMBER_MAX).
     let some : longest_path (generations h) ≡ Some (most - 1) = ap (λ b. if b then Some (most - 1) else None) (lt-ltb most GENERATION_NUMBER_MAX low) in
     let below : (p : ℕ) → generation_at h p < GENERATION_NUMBER_MAX = λ p. omega (arith, generation_bound h p) in
-    subst (TellsLongest h) (sym some) (λ capped. omega (arith, below capped.0, capped.2), longest_from_greatest h counts (λ p within. below p)))
+    subst (MatchesLongestWalk h) (sym some) (λ capped. omega (arith, below capped.0, capped.2), longest_from_greatest h counts (λ p within. below p)))
     (λ (high : GENERATION_NUMBER_MAX ≤ most).
     let none : longest_path (generations h) ≡ None = ap (λ b. if b then Some (most - 1) else None) (le-ltb most GENERATION_NUMBER_MAX high) in
     let found = greatest_reached (λ (c : Node). c.generation) h (omega arith) in
     let within : found.0 < length h = slice_get_within h found.0 found.1 found.2 in
     let same : generation_at h found.0 ≡ found.1.generation = generation_is h found.0 found.1 found.2 in
     let capped : generation_at h found.0 ≤ GENERATION_NUMBER_MAX = (counts found.0 within).capped in
-    subst (TellsLongest h) (sym none) (found.0, within, omega (arith, found.3)))
+    subst (MatchesLongestWalk h) (sym none) (found.0, within, omega (arith, found.3)))
     (cases_lt most GENERATION_NUMBER_MAX)

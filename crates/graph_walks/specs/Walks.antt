@@ -47,7 +47,7 @@ pub record IsLongestWalk (history : List Node) (k : ℕ) : Type 0 where
 abbrev pub IsCapped : List Node → Type 0
 IsCapped history = (p : ℕ) × (p < length history) × (generation_at history p ≡ GENERATION_NUMBER_MAX)
 
--- what is told of the longest walk: how many edges it has, and nothing where a commit's generation number is at the cap
-abbrev pub TellsLongest : List Node → Option ℕ → Type 0
-TellsLongest history None = IsCapped history
-TellsLongest history (Some k) = (¬ IsCapped history) × IsLongestWalk history k
+-- the answer is the number of edges of the longest walk, and there is none where a commit's generation number is at the cap
+abbrev pub MatchesLongestWalk : List Node → Option ℕ → Type 0
+MatchesLongestWalk history None = IsCapped history
+MatchesLongestWalk history (Some k) = (¬ IsCapped history) × IsLongestWalk history k

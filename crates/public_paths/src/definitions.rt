@@ -14,7 +14,7 @@ ghost use Rattle.gix_commitgraph.specs.Format.{commits_of, fan_id, fan_of, kind_
 ghost use Rattle.gix_commitgraph.specs.Generations.{AreLocal, longest_path};
 ghost use Rattle.gix_commitgraph.specs.Graph.{IsGraph, graph_commits, graph_ids, start, stop, total};
 ghost use Rattle.gix_commitgraph.specs.GraphError.{GraphError};
-ghost use Rattle.gix_commitgraph.specs.GraphLaw.{AreCounted, AreScanned, IsJudged, IsPlaceIn, LiesIn, LiesInOne};
+ghost use Rattle.gix_commitgraph.specs.GraphLaw.{AreCounted, AreScanned, IsJudged, ComesFromLayer, LiesIn, LiesInOne};
 ghost use Rattle.gix_commitgraph.specs.GraphRemaining.{graph_commits_left, graph_ids_left};
 ghost use Rattle.gix_commitgraph.specs.GraphLookup.{CommitFoundIn, FoundIn, position_number};
 ghost use Rattle.gix_commitgraph.specs.GraphRefusal.{graph_refusal};
@@ -27,7 +27,7 @@ ghost use Rattle.gix_commitgraph.specs.Layer.{IsLayer, IsOpened, Layer, bytes_of
 ghost use Rattle.gix_commitgraph.specs.LayerFault.{LayerFault};
 ghost use Rattle.gix_commitgraph.specs.LayerOpening.{IsLayerError, IsReadError, bytes_at, layer_at};
 ghost use Rattle.gix_commitgraph.specs.Remaining.{base_ids_left, commits_left, ids_left};
-ghost use Rattle.gix_commitgraph.specs.Lookup.{Found, bucket_size, digits, position_number as layer_position_number, scan};
+ghost use Rattle.gix_commitgraph.specs.Lookup.{Found, bucket_size, digits, file_position_number, scan};
 ghost use Rattle.gix_commitgraph.specs.LookupLaw.{IsDigitCount, IsFirst};
 ghost use Rattle.gix_commitgraph.specs.NameRule.{KeepsNameRule, is_named_right};
 ghost use Rattle.gix_commitgraph.specs.Oid.{oid_bytes};
@@ -51,7 +51,7 @@ ghost use Rattle.gix_commitgraph.specs.StoredHistory.{history_of, node_of};
 ghost use Rattle.gix_commitgraph.specs.Traverse.{FileStats, IsCopy, Summarizes, layer_points, cause_of};
 ghost use Rattle.gix_commitgraph.specs.TraverseError.{TraverseError};
 ghost use Rattle.gix_commitgraph.specs.Verify.{graph_points};
-ghost use Rattle.gix_commitgraph.specs.Walks.{CountWalks, IsLongestWalk, Reaches, IsProperAncestor, TellsLongest};
+ghost use Rattle.gix_commitgraph.specs.Walks.{CountWalks, IsLongestWalk, Reaches, IsProperAncestor, MatchesLongestWalk};
 ghost use Rattle.gix_commitgraph.specs.Faults.{commit_fault, layer_fault};
 
 use gix_commitgraph::Graph;

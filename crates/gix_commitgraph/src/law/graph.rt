@@ -5,7 +5,7 @@ ghost use Rattle.graph_format.specs.Layer.{Layer, record_at};
 ghost use Rattle.gix_commitgraph.specs.Graph.{total, start};
 ghost use Rattle.graph_format.specs.Layer.{IsOpened};
 ghost use Rattle.graph_format.specs.StoredHistory.{node_of, history_of};
-ghost use Rattle.gix_commitgraph.specs.GraphLaw.{LiesIn, LiesInOne, IsPlaceIn, AreCounted, AreScanned, IsJudged};
+ghost use Rattle.gix_commitgraph.specs.GraphLaw.{LiesIn, LiesInOne, ComesFromLayer, AreCounted, AreScanned, IsJudged};
 
 /// Each position of a graph lies in one layer, and in no other.
 pub fn a_position_lies_in_one_layer()
@@ -15,7 +15,7 @@ pub fn a_position_lies_in_one_layer()
 /// The id and the commit at a position are those of its layer, at the position less the number of
 /// commits before the layer.
 pub fn a_position_is_a_place_in_its_layer()
-    ensures { (layers : List Layer) (pos i : ℕ) (layer : Layer) → LiesIn layers pos i layer → IsPlaceIn layers pos i layer }
+    ensures { (layers : List Layer) (pos i : ℕ) (layer : Layer) → LiesIn layers pos i layer → ComesFromLayer layers pos i layer }
 {}
 
 /// A graph has as many ids and commits as its layers have together.

@@ -14,7 +14,7 @@ ghost use Rattle.graph_format.specs.Points.{first_fault};
 ghost use Rattle.gix_commitgraph.specs.Sound.{Sound};
 ghost use Rattle.graph_walks.specs.Generations.{longest_path};
 ghost use Rattle.gix_commitgraph.specs.Verify.{graph_points};
-ghost use Rattle.graph_walks.specs.Walks.{TellsLongest};
+ghost use Rattle.graph_walks.specs.Walks.{MatchesLongestWalk};
 
 /// Where no condition of its check fails, a graph of opened layers is right.
 pub fn a_graph_without_fault_is_right<E>()
@@ -33,8 +33,8 @@ pub fn a_lookup_in_a_right_graph_is_a_scan()
 {}
 
 /// In a graph that is right, the greatest generation number less one is the number of edges of the
-/// longest walk along parents, and nothing is told of it where a generation number is at the cap.
+/// longest walk along parents; where a generation number is at the cap, there is no such number.
 pub fn the_longest_path_of_a_right_graph_is_its_longest_walk()
     ensures { (layers : List Layer) → Sound layers
-        → TellsLongest (history_of layers) (longest_path (generations (history_of layers))) }
+        → MatchesLongestWalk (history_of layers) (longest_path (generations (history_of layers))) }
 {}

@@ -5,7 +5,7 @@ ghost use Rattle.std.specs.Ordering.{nat_cmp};
 ghost use Rattle.std.specs.Cmp.Lexicographic.{slice_cmp};
 ghost use Rattle.gix_hash_core.specs.Kind.{id_len};
 ghost use Rattle.gix_hash_core.specs.Oid.{oid_bytes};
-ghost use Rattle.graph_format.specs.Lookup.{Found, position_number, bucket_start, bucket_size, digits};
+ghost use Rattle.graph_format.specs.Lookup.{Found, file_position_number, bucket_start, bucket_size, digits};
 
 use crate::file::init::fan_at;
 use crate::file::{File, Position};
@@ -44,16 +44,16 @@ impl File {
     /// neither, so in a damaged file an id may be missed that is there, and which of several equal
     /// ids is found is open. See "OID Fanout" and "OID Lookup" of Git's commit-graph format.
     pub fn lookup(&self, id: oid<'_>) -> Option<Position>
-        ensures { Found self.now (oid_bytes id.entry) (position_number result) }
+        ensures { Found self.now (oid_bytes id.entry) (file_position_number result) }
     {
         self.lookup_counted(id).0
     }
 
     /// An answer under the rule of `lookup`, and how many times the id was compared with an id of
-    /// the file. One comparison tells less, equal and greater apart. An id of another kind is
+    /// the file. One comparison has one of three outcomes: less, equal or greater. An id of another kind is
     /// compared with none.
     pub fn lookup_counted(&self, id: oid<'_>) -> (Option<Position>, u32)
-        ensures found { Found self.now (oid_bytes id.entry) (position_number result.0) }
+        ensures found { Found self.now (oid_bytes id.entry) (file_position_number result.0) }
 
         // At most as many comparisons as the size of the id's bucket has binary digits.
         ensures most { result.1 ≤ digits (bucket_size self.now.fan (slice_index (oid_bytes id.entry) 0)) }

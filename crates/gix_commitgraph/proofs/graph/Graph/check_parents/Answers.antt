@@ -1,6 +1,6 @@
 use Rattle.std.proofs.Common.{◌≡◌, ℕ, ◌<◌, Bool, not, List, [], ◌∷◌, Result, Ok, length, map, fold, max, sym, ap, ◌∙◌, arith}
 use Rattle.std.proofs.lemmas.Bool.{lt-ltb}
-use Rattle.gix_chunk_core.specs.First.{◌when◌}
+use Rattle.first_faults.specs.First.{◌when◌}
 use Rattle.graph_format.specs.Parents.{position_of}
 use Rattle.graph_format.specs.Points.{first_some}
 use Rattle.graph_format.specs.declared.Position.{Position}

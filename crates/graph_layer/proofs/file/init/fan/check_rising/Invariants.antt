@@ -1,5 +1,5 @@
 use Rattle.std.proofs.Common.{◌≡◌, None}
-use Rattle.gix_chunk_core.specs.First.{first_below}
+use Rattle.first_faults.specs.First.{first_below}
 use Rattle.graph_format.specs.Format.{fan_of}
 use Rattle.graph_format.specs.Refusal.{fall_after}
 use Rattle.graph_layer.proofs.file.init.fan.check_rising.Given as goal
