@@ -7,7 +7,7 @@ use graph_folder::folder::{Folder, Memory};
 use std::alloc::Global;
 use std::test::Fail;
 
-// The status of `ancestor` for the ids of these bytes, and what it writes.
+/// The status of `ancestor` for the ids of these bytes, and what it writes.
 fn ancestor<T: Folder>(
     alloc: Global,
     folder: &mut T,
@@ -19,7 +19,7 @@ fn ancestor<T: Folder>(
     of_texts(alloc, folder, first.as_str(), second.as_str())
 }
 
-// The status of `ancestor` for these texts of ids, and what it writes.
+/// The status of `ancestor` for these texts of ids, and what it writes.
 fn of_texts<T: Folder>(
     alloc: Global,
     folder: &mut T,
@@ -31,7 +31,7 @@ fn of_texts<T: Folder>(
     Ok((status, String::from_utf8(out.bytes)?))
 }
 
-// Whether a text is one of these lines, and then a number of visits within these bounds.
+/// Whether a text is one of these lines, and then a number of visits within these bounds.
 fn tells(alloc: Global, text: &str, lines: &[&str], least: u32, most: u32) -> Result<bool, Fail> {
     for line in lines {
         for visits in least..most.saturating_add(1) {

@@ -8,7 +8,7 @@ ghost use Rattle.std.specs.Prelude.{◌<◌};
 use gix_chunk_core::ChunkError;
 use gix_commitgraph::FileError;
 
-// The number in some bytes of a file, from a place on.
+/// The number in some bytes of a file, from a place on.
 fn number(bytes: &[u8], at: usize, count: usize) -> u64 {
     let mut number = 0;
     for byte in bytes.get(at..).unwrap_or(&[]).iter().take(count) {
@@ -25,46 +25,46 @@ fn size(bytes: &[u8]) -> u64 {
     bytes.len() as u64
 }
 
-// The length of an id, which byte 5 decides.
+/// The length of an id, which byte 5 decides.
 fn id_len(bytes: &[u8]) -> u64
     ensures { 0 < result }
 {
     if byte(bytes, 5) == 1 { 20 } else { 32 }
 }
 
-// The length of a commit's record.
+/// The length of a commit's record.
 fn record_len(bytes: &[u8]) -> u64
     ensures { 0 < result }
 {
     if byte(bytes, 5) == 1 { 36 } else { 48 }
 }
 
-// The number of base layers.
+/// The number of base layers.
 fn bases(bytes: &[u8]) -> u64 {
     u64::from(byte(bytes, 7))
 }
 
-// The number of chunks.
+/// The number of chunks.
 fn chunks(bytes: &[u8]) -> usize {
     usize::from(byte(bytes, 6))
 }
 
-// Where an entry of the table of chunks begins.
+/// Where an entry of the table of chunks begins.
 fn entry(number: usize) -> usize {
     number.saturating_mul(12).saturating_add(8)
 }
 
-// The id in an entry of the table.
+/// The id in an entry of the table.
 fn id(bytes: &[u8], entry_number: usize) -> u32 {
     (number(bytes, entry(entry_number), 4) & 0xffff_ffff) as u32
 }
 
-// The offset in an entry of the table.
+/// The offset in an entry of the table.
 fn offset(bytes: &[u8], entry_number: usize) -> u64 {
     number(bytes, entry(entry_number).saturating_add(4), 8)
 }
 
-// What is wrong with the offset in an entry.
+/// What is wrong with the offset in an entry.
 fn offset_fault(bytes: &[u8], entry: usize) -> Option<ChunkError> {
     let offset_before = offset(bytes, entry.saturating_sub(1));
     if offset(bytes, entry) > size(bytes) {
@@ -76,7 +76,7 @@ fn offset_fault(bytes: &[u8], entry: usize) -> Option<ChunkError> {
     }
 }
 
-// What is wrong with an entry before the last.
+/// What is wrong with an entry before the last.
 fn entry_fault(bytes: &[u8], entry: usize) -> Option<ChunkError> {
     let own = id(bytes, entry);
     if own == 0 {
@@ -115,7 +115,7 @@ fn table_fault(bytes: &[u8]) -> Option<ChunkError> {
     fault
 }
 
-// The number of the entry with an id, if there is one.
+/// The number of the entry with an id, if there is one.
 fn place(bytes: &[u8], wanted: &[u8; 4]) -> Option<usize> {
     let wanted = u32::from_be_bytes(*wanted);
     for entry in 0..chunks(bytes) {
@@ -126,25 +126,25 @@ fn place(bytes: &[u8], wanted: &[u8; 4]) -> Option<usize> {
     None
 }
 
-// The length of the chunk with an id, if there is one.
+/// The length of the chunk with an id, if there is one.
 fn len(bytes: &[u8], wanted: &[u8; 4]) -> Option<u64> {
     let entry = place(bytes, wanted)?;
     let start = offset(bytes, entry);
     Some(offset(bytes, entry.saturating_add(1)).saturating_sub(start))
 }
 
-// The fan: where its numbers begin.
+/// The fan: where its numbers begin.
 fn fan_start(bytes: &[u8]) -> usize {
     let entry = place(bytes, b"OIDF").unwrap_or(0);
     offset(bytes, entry) as usize
 }
 
-// The number that a fan, which begins at a place, has for a first byte.
+/// The number that a fan, which begins at a place, has for a first byte.
 fn count(bytes: &[u8], start: usize, first: u8) -> u64 {
     number(bytes, start.saturating_add(4 * usize::from(first)), 4)
 }
 
-// The least first byte at which the fan falls.
+/// The least first byte at which the fan falls.
 fn fall(bytes: &[u8]) -> Option<u8> {
     let start = fan_start(bytes);
     let mut before = 0;
@@ -228,7 +228,7 @@ fn count_fault(bytes: &[u8]) -> Option<FileError> {
     }
 }
 
-// The first condition that refuses the bytes, if one does.
+/// The first condition that refuses the bytes, if one does.
 pub(super) fn refusal(bytes: &[u8]) -> Option<FileError> {
     header_fault(bytes)
         .or_else(|| base_fault(bytes))

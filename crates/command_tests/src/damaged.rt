@@ -11,7 +11,7 @@ use std::convert::Infallible;
 use std::process::Abort;
 use std::test::Fail;
 
-// Three commits in a line, and a merge of the first, the first again and the third.
+/// Three commits in a line, and a merge of the first, the first again and the third.
 const OCTOPUS: &[Row<'static>] = &[
     (0x11, &[], 1),
     (0x22, &[0], 2),
@@ -19,7 +19,7 @@ const OCTOPUS: &[Row<'static>] = &[
     (0x44, &[0, 0, 2], 4),
 ];
 
-// A SHA-256 file of one commit without parents, over one base layer.
+/// A SHA-256 file of one commit without parents, over one base layer.
 fn root_on_a_base(rt: &impl Abort, alloc: Global) -> Result<Vec<u8>, Fail> {
     let commit = PlanCommit {
         id: ObjectId::from([0x11; 32]),
@@ -37,7 +37,7 @@ fn root_on_a_base(rt: &impl Abort, alloc: Global) -> Result<Vec<u8>, Fail> {
     Ok(build(alloc, &plan)?)
 }
 
-// What opening answers to bytes of a file.
+/// What opening answers to bytes of a file.
 fn open(alloc: Global, bytes: &[u8]) -> Result<Result<File, FileError>, Fail> {
     let bytes = Vec::from_slice(alloc, bytes)?;
     Ok(File::new(alloc, bytes, String::new(alloc)))
@@ -49,7 +49,7 @@ const OUT_OF_FILE_3: FileError = FileError::Chunks(ChunkError::OutOfFile { entry
 
 const OUT_OF_FILE_4: FileError = FileError::Chunks(ChunkError::OutOfFile { entry: 4 });
 
-// Each refusal, with the number of bytes from which on it no longer comes.
+/// Each refusal, with the number of bytes from which on it no longer comes.
 const FRONTS: [&[(usize, FileError)]; 3] = [
     &[
         (1100, FileError::TooSmall),
@@ -97,7 +97,7 @@ fn each_proper_prefix_of_a_file_is_refused(rt: HostRuntime) -> Result<(), Fail> 
     Ok(())
 }
 
-// Lists the layer of these bytes, looks up each of its ids, and checks it: its checksum is wrong.
+/// Lists the layer of these bytes, looks up each of its ids, and checks it: its checksum is wrong.
 fn use_layer(rt: &impl Abort, alloc: Global, bytes: &[u8], file: File) -> Result<(), Fail> {
     let mut out = writer(alloc, usize::MAX, None);
     assert_eq!(rt; run_list(alloc, &mut &*bytes, &mut out), Ok(0));
@@ -112,7 +112,7 @@ fn use_layer(rt: &impl Abort, alloc: Global, bytes: &[u8], file: File) -> Result
     Ok(())
 }
 
-// Opens the bytes of a damaged file, and uses the layer where they are one.
+/// Opens the bytes of a damaged file, and uses the layer where they are one.
 fn try_damaged(rt: &impl Abort, alloc: Global, bytes: &[u8]) -> Result<(), Fail> {
     let want = refusal(bytes);
     match open(alloc, bytes)? {
@@ -127,14 +127,14 @@ fn try_damaged(rt: &impl Abort, alloc: Global, bytes: &[u8]) -> Result<(), Fail>
     }
 }
 
-// Adds 1 to a byte, where 0 comes after 255.
+/// Adds 1 to a byte, where 0 comes after 255.
 fn raise(bytes: &mut [u8], at: usize) {
     if let Some(byte) = bytes.get_mut(at) {
         *byte = byte.wrapping_add(1);
     }
 }
 
-// Tries each other value of some bytes of a file, from one place up to another.
+/// Tries each other value of some bytes of a file, from one place up to another.
 fn try_each_byte(
     rt: &impl Abort,
     alloc: Global,
@@ -158,8 +158,8 @@ fn each_byte_of_a_header_and_table(rt: HostRuntime) -> Result<(), Fail> {
     try_each_byte(&rt, rt.alloc(), file, 0, 56)
 }
 
-// Where the id of the extra edge list is changed, the chunk is unknown, and the layer opens. It is
-// listed, which takes a while, so half of its changes stand in the test below.
+/// Where the id of the extra edge list is changed, the chunk is unknown, and the layer opens. It is
+/// listed, which takes a while, so half of its changes stand in the test below.
 #[test]
 fn each_byte_of_a_table_with_extra_edges(rt: HostRuntime) -> Result<(), Fail> {
     let file = built(&rt, rt.alloc(), &[], OCTOPUS)?;

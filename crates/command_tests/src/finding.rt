@@ -6,7 +6,7 @@ use graph_folder::folder::{Folder, Memory};
 use std::alloc::Global;
 use std::test::Fail;
 
-// The status of `find` and what it writes.
+/// The status of `find` and what it writes.
 pub fn find<T: Folder>(
     alloc: Global,
     folder: &mut T,
@@ -18,14 +18,14 @@ pub fn find<T: Folder>(
     Ok((status, String::from_utf8(out.bytes)?))
 }
 
-// Forty times a digit.
+/// Forty times a digit.
 const FOURS: &str = "4444444444444444444444444444444444444444";
 
 const FIVES: &str = "5555555555555555555555555555555555555555";
 
 const ZS: &str = "zzzzzzzzzzzzzzzzzzzzzzzzzzzzzzzzzzzzzzzz";
 
-// Sixty-four times a digit.
+/// Sixty-four times a digit.
 const LONG_FOURS: &str = "4444444444444444444444444444444444444444444444444444444444444444";
 
 #[test]

@@ -11,7 +11,7 @@ use std::io::{ErrorKind, Read, Write};
 use std::process::Abort;
 use std::test::Fail;
 
-// A reader that gives at most so many bytes a read, and whose read of this number fails.
+/// A reader that gives at most so many bytes a read, and whose read of this number fails.
 #[derive(Drop)]
 pub(super) struct Source<'a> {
     rest: &'a [u8],
@@ -34,7 +34,7 @@ impl Read for Source<'_> {
     }
 }
 
-// A writer that takes at most so many bytes a write, and whose write of this number fails.
+/// A writer that takes at most so many bytes a write, and whose write of this number fails.
 #[derive(Drop)]
 pub(super) struct Sink {
     pub(super) bytes: Vec<u8>,
@@ -78,10 +78,10 @@ pub(super) fn writer(alloc: Global, most: usize, fails_at: Option<usize>) -> Sin
     }
 }
 
-// A commit that is planned: the byte that its id repeats, its parents and its generation number.
+/// A commit that is planned: the byte that its id repeats, its parents and its generation number.
 pub(super) type Row<'a> = (u8, &'a [u32], u32);
 
-// A diamond: a root, two commits on it, and their merge.
+/// A diamond: a root, two commits on it, and their merge.
 pub(super) const DIAMOND: &[Row<'static>] = &[
     (0x11, &[], 1),
     (0x22, &[0], 2),
@@ -89,7 +89,7 @@ pub(super) const DIAMOND: &[Row<'static>] = &[
     (0x44, &[1, 2], 3),
 ];
 
-// The bytes of a SHA-1 file of these commits over these base layers. Each commit has the time 7.
+/// The bytes of a SHA-1 file of these commits over these base layers. Each commit has the time 7.
 pub(super) fn built(
     rt: &impl Abort,
     alloc: Global,
@@ -115,7 +115,7 @@ pub(super) fn built(
     build(alloc, &plan)
 }
 
-// Compares the text of each value with the one beside it.
+/// Compares the text of each value with the one beside it.
 pub(super) fn compare_texts<T: Display>(
     rt: &impl Abort,
     alloc: Global,
@@ -128,21 +128,21 @@ pub(super) fn compare_texts<T: Display>(
     Ok(())
 }
 
-// The checksum of a SHA-1 file.
+/// The checksum of a SHA-1 file.
 pub(super) fn checksum_of(bytes: &[u8]) -> ObjectId {
     let end = bytes.len().saturating_sub(20);
     digest(Kind::Sha1, &bytes[..end])
 }
 
-// A folder in memory with one file.
+/// A folder in memory with one file.
 pub(super) fn with_file(alloc: Global, path: &str, bytes: Vec<u8>) -> Result<Memory, Fail> {
     let mut memory = Memory::new(alloc);
     memory.put_file(String::from_str(alloc, path)?, bytes)?;
     Ok(memory)
 }
 
-// Adds the files of a chain in a folder: each layer as the file that is named after its checksum,
-// and the chain file with the lines of these layers.
+/// Adds the files of a chain in a folder: each layer as the file that is named after its checksum,
+/// and the chain file with the lines of these layers.
 pub(super) fn put_chain(
     alloc: Global,
     memory: &mut Memory,

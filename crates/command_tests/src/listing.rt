@@ -3,7 +3,7 @@ use graph_commands::run::{WriteFailed, run_list};
 use std::alloc::{AllocError, Global};
 use std::test::Fail;
 
-// What a file is to say. An id is one byte, as often as the kind has bytes.
+/// What a file is to say. An id is one byte, as often as the kind has bytes.
 #[derive(Clone, Copy)]
 struct Plan<'a> {
     hash: u8,
@@ -13,7 +13,7 @@ struct Plan<'a> {
     edges: Option<&'a [u32]>,
 }
 
-// The bytes of a file whose commits have the ids 11.., 12.., and so on, and the tree 22...
+/// The bytes of a file whose commits have the ids 11.., 12.., and so on, and the tree 22...
 fn file(alloc: Global, plan: &Plan<'_>) -> Result<Vec<u8>, AllocError> {
     let len = if plan.hash == 1 { 20 } else { 32 };
     let mut ids = Vec::new(alloc);
@@ -82,10 +82,10 @@ fn words(alloc: Global, words: &[u32]) -> Result<Vec<u8>, AllocError> {
 
 const NONE: u32 = 0x7000_0000;
 
-// Generation 1 at time 0.
+/// Generation 1 at time 0.
 const FIRST: u64 = 0x4_0000_0000;
 
-// One commit, without parents.
+/// One commit, without parents.
 const ONE: Plan<'static> = Plan {
     hash: 1,
     bases: &[],
@@ -242,7 +242,7 @@ fn reports_each_write_that_fails(rt: HostRuntime) -> Result<(), Fail> {
     Ok(())
 }
 
-// A listing that is longer than a block is written in two parts, either of which may fail.
+/// A listing that is longer than a block is written in two parts, either of which may fail.
 #[test]
 fn lists_in_blocks(rt: HostRuntime) -> Result<(), Fail> {
     let alloc = rt.alloc();

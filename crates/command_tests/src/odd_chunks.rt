@@ -7,7 +7,7 @@ use std::alloc::Global;
 use std::process::Abort;
 use std::test::Fail;
 
-// A file of a header, four entries of its table, their end, and the rest of it.
+/// A file of a header, four entries of its table, their end, and the rest of it.
 fn file(alloc: Global, entries: &[(&[u8; 4], u64); 5], parts: &[&[u8]]) -> Result<Vec<u8>, Fail> {
     let mut bytes = Vec::from_slice(alloc, b"CGPH\x01\x01\x04\x00")?;
     for (id, offset) in entries {
@@ -20,7 +20,7 @@ fn file(alloc: Global, entries: &[(&[u8; 4], u64); 5], parts: &[&[u8]]) -> Resul
     Ok(bytes)
 }
 
-// A fan whose counts are 0 up to the byte 0x10, and 1 from the byte 0x11 on.
+/// A fan whose counts are 0 up to the byte 0x10, and 1 from the byte 0x11 on.
 fn fan_of_one(alloc: Global) -> Result<Vec<u8>, Fail> {
     let mut fan = Vec::new(alloc);
     for byte in 0..=255u8 {
@@ -29,7 +29,7 @@ fn fan_of_one(alloc: Global) -> Result<Vec<u8>, Fail> {
     Ok(fan)
 }
 
-// What `list` writes of a layer that opens.
+/// What `list` writes of a layer that opens.
 fn listed(rt: &impl Abort, alloc: Global, bytes: &[u8]) -> Result<String, Fail> {
     let mut out = writer(alloc, usize::MAX, None);
     assert_eq!(rt; run_list(alloc, &mut &*bytes, &mut out), Ok(0));
@@ -74,7 +74,7 @@ fn chunks_may_lie_in_the_header_and_in_the_table(rt: HostRuntime) -> Result<(), 
     Ok(())
 }
 
-// The error of a processor that refuses.
+/// The error of a processor that refuses.
 #[derive(Debug, Drop, PartialEq, Eq)]
 struct Refused;
 

@@ -44,7 +44,7 @@ const INFO: &str = "graphtool_test_info";
 
 const GRAPHS: &str = "graphtool_test_info/commit-graphs";
 
-// Writes a layer of the chain, and answers the line that names it.
+/// Writes a layer of the chain, and answers the line that names it.
 fn write_layer<R: Files>(rt: &R, alloc: Global, layer: &[u8]) -> Result<String, Fail> {
     let checksum = checksum_of(layer);
     let path = format!(in alloc; "{GRAPHS}/graph-{checksum}.graph")?;
@@ -52,7 +52,7 @@ fn write_layer<R: Files>(rt: &R, alloc: Global, layer: &[u8]) -> Result<String, 
     Ok(format!(in alloc; "{checksum}\n")?)
 }
 
-// Writes an info folder with a chain of these two layers.
+/// Writes an info folder with a chain of these two layers.
 fn write_chain<R: Files>(rt: &R, alloc: Global, lower: &[u8], upper: &[u8]) -> Result<(), Fail> {
     fs::create_dir(rt, INFO)?;
     fs::create_dir(rt, GRAPHS)?;
@@ -91,5 +91,5 @@ fn opens_a_chain_on_disk(rt: HostRuntime) -> Result<(), Fail> {
 
 const LINES: &str = "ok commits 5 longest 2\nparents 0 commits 2\nparents 1 commits 3\n";
 
-// Forty times a digit.
+/// Forty times a digit.
 const FIVES: &str = "5555555555555555555555555555555555555555";

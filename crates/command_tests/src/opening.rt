@@ -8,7 +8,7 @@ use std::alloc::{AllocError, Global};
 use std::process::Abort;
 use std::test::Fail;
 
-// Some id.
+/// Some id.
 const HEX: &str = "1111111111111111111111111111111111111111";
 
 const DIAMOND_OK: &str = "ok commits 4 longest 2\n\
@@ -16,7 +16,7 @@ const DIAMOND_OK: &str = "ok commits 4 longest 2\n\
     parents 1 commits 2\n\
     parents 2 commits 1\n";
 
-// An info folder `i` with a chain of the diamond alone.
+/// An info folder `i` with a chain of the diamond alone.
 fn info_folder(rt: &impl Abort, alloc: Global) -> Result<Memory, Fail> {
     let mut memory = Memory::new(alloc);
     let layer = built(rt, alloc, &[], DIAMOND)?;
@@ -132,7 +132,7 @@ fn reports_each_read_of_a_graph_that_fails(rt: HostRuntime) -> Result<(), Fail> 
     Ok(())
 }
 
-// A folder whose reads run out of memory from one of them on.
+/// A folder whose reads run out of memory from one of them on.
 #[derive(Drop)]
 struct Refuses {
     memory: Memory,

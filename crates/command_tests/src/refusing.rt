@@ -9,7 +9,7 @@ use std::alloc::{AllocError, Global};
 use std::process::Abort;
 use std::test::Fail;
 
-// A folder in memory. One of its calls, by its number from 0, finds no memory left.
+/// A folder in memory. One of its calls, by its number from 0, finds no memory left.
 #[derive(Drop)]
 struct RefusesOne {
     memory: Memory,
@@ -17,7 +17,7 @@ struct RefusesOne {
     refused: u32,
 }
 
-// Counts a call, and answers its number.
+/// Counts a call, and answers its number.
 fn next_number(calls: &mut u32) -> u32 {
     let number = *calls;
     *calls = number.saturating_add(1);
@@ -55,8 +55,8 @@ impl Folder for RefusesOne {
     }
 }
 
-// An info folder `info` with a chain of three layers in it, and another, `damaged`, with a damaged
-// file beside the same chain.
+/// An info folder `info` with a chain of three layers in it, and another, `damaged`, with a damaged
+/// file beside the same chain.
 fn folders(rt: &impl Abort, alloc: Global) -> Result<Memory, Fail> {
     let lowest = built(rt, alloc, &[], &[(0x11, &[], 1)])?;
     let mut bases = vec![in alloc; checksum_of(&lowest)]?;

@@ -6,7 +6,7 @@ use std::alloc::Global;
 use std::process::Abort;
 use std::test::Fail;
 
-// The status of `verify` and what it writes.
+/// The status of `verify` and what it writes.
 pub fn verify<T: Folder>(alloc: Global, folder: &mut T, path: &str) -> Result<(u8, String), Fail> {
     let mut out = writer(alloc, usize::MAX, None);
     let status = run_verify(alloc, folder, path, &mut out)?;
@@ -113,7 +113,7 @@ fn refuses_a_file(rt: HostRuntime) -> Result<(), Fail> {
     Ok(())
 }
 
-// What `verify` writes for a chain of two layers.
+/// What `verify` writes for a chain of two layers.
 fn verify_chain(alloc: Global, lower: &[u8], upper: &[u8]) -> Result<String, Fail> {
     let mut folder = Memory::new(alloc);
     put_chain(alloc, &mut folder, "graphs", &[lower, upper])?;
@@ -140,8 +140,8 @@ fn checks_a_chain(rt: HostRuntime) -> Result<(), Fail> {
     Ok(())
 }
 
-// The files of so many layers of one commit each. It has the commit of the layer before as its
-// parent, and its layer has those before it as bases, the first 255 of them where they are more.
+/// The files of so many layers of one commit each. It has the commit of the layer before as its
+/// parent, and its layer has those before it as bases, the first 255 of them where they are more.
 fn long_chain(rt: &impl Abort, alloc: Global, layers: u32) -> Result<Vec<Vec<u8>>, Fail> {
     let mut files = Vec::new(alloc);
     let mut checksums = Vec::new(alloc);

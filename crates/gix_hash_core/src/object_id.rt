@@ -102,7 +102,7 @@ impl ObjectId {
     }
 }
 
-// The bytes that a text of two digits for each spells.
+/// The bytes that a text of two digits for each spells.
 fn decoded<const N: usize>(text: &[u8]) -> Result<[u8; N], IdError>
     requires { length text.now ≡ 2 * N }
     ensures ok { IfOk result (λ bytes. decode_of text.now ≡ Ok bytes) }

@@ -21,10 +21,10 @@ use graph_history::{Checked, Reached};
 use std::alloc::Global;
 use std::io::Write;
 
-// The exit status of a query that found a walk.
+/// The exit status of a query that found a walk.
 const REACHED: u8 = 0;
 
-// The exit status of a query that found none, or one of whose ids is not there.
+/// The exit status of a query that found none, or one of whose ids is not there.
 const NOT_REACHED: u8 = 1;
 
 /// Looks for a shortest walk along parents from the commit with the first id to the one with the
@@ -57,8 +57,8 @@ pub fn run_ancestor<T: Folder, W: Write>(
     }
 }
 
-// The answer to the query between the commits whose ids the digits spell, in the graph that the path
-// opens.
+/// The answer to the query between the commits whose ids the digits spell, in the graph that the path
+/// opens.
 fn ancestor<T: Folder>(
     alloc: Global,
     folder: &mut T,
@@ -76,7 +76,7 @@ fn ancestor<T: Folder>(
     ancestry_in(alloc, &graph, first.as_oid(), second.as_oid())
 }
 
-// The answer to the query between the commits with these ids in the graph, which is checked first.
+/// The answer to the query between the commits with these ids in the graph, which is checked first.
 fn ancestry_in(
     alloc: Global,
     graph: &Graph,
@@ -121,7 +121,7 @@ impl Ancestry {
     }
 }
 
-// Writes what a query found.
+/// Writes what a query found.
 fn write_ancestry<W: Write>(writer: &mut W, ancestry: &Ancestry) -> Result<(), WriteFailed>
     ensures { OnOk result (Appends (W.contents writer.old) (W.contents writer.new)
         (ancestry_text ancestry.now)) }
@@ -133,7 +133,7 @@ fn write_ancestry<W: Write>(writer: &mut W, ancestry: &Ancestry) -> Result<(), W
     }
 }
 
-// Writes the line of the walk, and how many commits were visited.
+/// Writes the line of the walk, and how many commits were visited.
 fn write_reached<W: Write>(writer: &mut W, reached: &Reached) -> Result<(), WriteFailed>
     ensures { OnOk result (Appends (W.contents writer.old) (W.contents writer.new)
         (walk_line reached.now.walk ++ visits_line reached.now.visits)) }
@@ -146,7 +146,7 @@ fn write_reached<W: Write>(writer: &mut W, reached: &Reached) -> Result<(), Writ
     write_line(writer, format_args!("visits {visits}"))
 }
 
-// Writes the positions of a walk.
+/// Writes the positions of a walk.
 fn write_walk<W: Write>(writer: &mut W, walk: &[Position]) -> Result<(), WriteFailed>
     ensures { OnOk result (Appends (W.contents writer.old) (W.contents writer.new)
         (codes "walk" ++ flat_map step_text walk.now ++ newline)) }

@@ -13,10 +13,10 @@ use std::alloc::{AllocError, Global};
 use std::io::Write;
 use std::marker::Model;
 
-// How many bytes a block has room for.
+/// How many bytes a block has room for.
 const ROOM: usize = 64 * 1024;
 
-// The most digits of a number.
+/// The most digits of a number.
 const MOST_DIGITS: usize = 20;
 
 /// Bytes that a writer has not been given yet. Where they would not fit, those before are written
@@ -104,7 +104,7 @@ impl Block {
         Ok(())
     }
 
-    // Writes what the block has if there is no room for so many more bytes.
+    /// Writes what the block has if there is no room for so many more bytes.
     fn make_room<W: Write>(&mut self, writer: &mut W, count: usize) -> Result<(), WriteFailed>
         requires { count ≤ 65536 }
         ensures kept { OnOk result (Keeps (with_block (W.contents writer.old) self.old)

@@ -5,7 +5,7 @@ ghost use Rattle.hex.specs.Hex.{encode_lower};
 
 use itoa::write_digits;
 
-// Writes a text from a place on, and answers where it ends.
+/// Writes a text from a place on, and answers where it ends.
 pub fn put_text(bytes: &mut [u8], at: usize, text: &[u8]) -> usize
     requires { at + length text.now ≤ length bytes.old }
     ensures text { take result bytes.new ≡ take at bytes.old ++ text.now }
@@ -17,7 +17,7 @@ pub fn put_text(bytes: &mut [u8], at: usize, text: &[u8]) -> usize
     end
 }
 
-// Writes a number in decimal digits from a place on, and answers where they end.
+/// Writes a number in decimal digits from a place on, and answers where they end.
 pub fn put_decimal(bytes: &mut [u8], at: usize, number: u64) -> usize
     requires { at + 20 ≤ length bytes.old }
     ensures digits { take result bytes.new ≡ take at bytes.old ++ decimal number }
@@ -29,7 +29,7 @@ pub fn put_decimal(bytes: &mut [u8], at: usize, number: u64) -> usize
     end
 }
 
-// How many decimal digits a number has.
+/// How many decimal digits a number has.
 fn digit_count(number: u64) -> usize
     ensures count { result ≡ length (decimal number) }
     ensures most { result ≤ 20 }
@@ -43,7 +43,7 @@ fn digit_count(number: u64) -> usize
     count + short_digit_count(left)
 }
 
-// How many decimal digits a number below 10000 has.
+/// How many decimal digits a number below 10000 has.
 fn short_digit_count(number: u64) -> usize
     requires { number < 10000 }
     ensures { result ≡ length (decimal number) }
@@ -56,7 +56,7 @@ fn short_digit_count(number: u64) -> usize
     }
 }
 
-// Writes two hexadecimal digits a byte from a place on, and answers where they end.
+/// Writes two hexadecimal digits a byte from a place on, and answers where they end.
 pub fn put_hex(bytes: &mut [u8], at: usize, id: &[u8]) -> usize
     requires { at + 2 * length id.now ≤ length bytes.old }
     ensures digits { take result bytes.new ≡ take at bytes.old ++ encode_lower id.now }

@@ -10,7 +10,7 @@ use std::fmt;
 use std::fmt::Display;
 use std::io::Write;
 
-// The most bytes of a line that is made before it is written. Each line of the program fits.
+/// The most bytes of a line that is made before it is written. Each line of the program fits.
 const ROOM: usize = 128;
 
 /// Writes a text and the end of its line. A line of at most 128 bytes is made first and handed to

@@ -38,7 +38,7 @@ pub fn write_listing<W: Write>(
     block.write_out(writer)
 }
 
-// Adds the line of the layer.
+/// Adds the line of the layer.
 fn push_head<W: Write>(block: &mut Block, writer: &mut W, layer: &File) -> Result<(), WriteFailed>
     ensures line { OnOk result (Appends (with_block (W.contents writer.old) block.old)
         (with_block (W.contents writer.new) block.new) (layer_line layer.now)) }
@@ -53,7 +53,7 @@ fn push_head<W: Write>(block: &mut Block, writer: &mut W, layer: &File) -> Resul
     block.push_byte(writer, b'\n')
 }
 
-// Adds what is counted, and how many there are.
+/// Adds what is counted, and how many there are.
 fn push_count<W: Write>(
     block: &mut Block,
     writer: &mut W,
@@ -76,7 +76,7 @@ fn kind_name(kind: Kind) -> &'static str
     }
 }
 
-// Adds the line of a base id.
+/// Adds the line of a base id.
 fn push_base<W: Write>(block: &mut Block, writer: &mut W, base: oid<'_>) -> Result<(), WriteFailed>
     ensures { OnOk result (Appends (with_block (W.contents writer.old) block.old)
         (with_block (W.contents writer.new) block.new) (base_line (oid_bytes base.entry))) }
@@ -86,7 +86,7 @@ fn push_base<W: Write>(block: &mut Block, writer: &mut W, base: oid<'_>) -> Resu
     block.push_byte(writer, b'\n')
 }
 
-// Adds the line of a commit.
+/// Adds the line of a commit.
 fn push_commit<W: Write>(
     block: &mut Block,
     writer: &mut W,
@@ -104,7 +104,7 @@ fn push_commit<W: Write>(
     block.push_byte(writer, b'\n')
 }
 
-// Adds a number and a space.
+/// Adds a number and a space.
 fn push_number<W: Write>(block: &mut Block, writer: &mut W, number: u64) -> Result<(), WriteFailed>
     ensures { OnOk result (Appends (with_block (W.contents writer.old) block.old)
         (with_block (W.contents writer.new) block.new) (decimal number ++ codes " ")) }
@@ -113,7 +113,7 @@ fn push_number<W: Write>(block: &mut Block, writer: &mut W, number: u64) -> Resu
     block.push_byte(writer, b' ')
 }
 
-// Adds an id and a space.
+/// Adds an id and a space.
 fn push_id<W: Write>(block: &mut Block, writer: &mut W, id: oid<'_>) -> Result<(), WriteFailed>
     ensures { OnOk result (Appends (with_block (W.contents writer.old) block.old)
         (with_block (W.contents writer.new) block.new) (encode_lower (oid_bytes id.entry) ++ codes " ")) }
@@ -122,7 +122,7 @@ fn push_id<W: Write>(block: &mut Block, writer: &mut W, id: oid<'_>) -> Result<(
     block.push_byte(writer, b' ')
 }
 
-// Adds the items of a commit's parents, or a dash where there is none.
+/// Adds the items of a commit's parents, or a dash where there is none.
 fn push_parents<W: Write>(
     block: &mut Block,
     writer: &mut W,
@@ -143,7 +143,7 @@ fn push_parents<W: Write>(
     Ok(())
 }
 
-// Adds a comma, where an item comes before.
+/// Adds a comma, where an item comes before.
 fn push_separator<W: Write>(block: &mut Block, writer: &mut W, any: bool) -> Result<(), WriteFailed>
     ensures { OnOk result (Appends (with_block (W.contents writer.old) block.old)
         (with_block (W.contents writer.new) block.new) (if any then codes "," else [])) }
@@ -154,7 +154,7 @@ fn push_separator<W: Write>(block: &mut Block, writer: &mut W, any: bool) -> Res
     Ok(())
 }
 
-// Adds a parent, or the number of a fault.
+/// Adds a parent, or the number of a fault.
 fn push_item<W: Write>(
     block: &mut Block,
     writer: &mut W,

@@ -93,10 +93,10 @@ impl From<VerifyError<NoFault>> for Refusal {
     }
 }
 
-// The exit status of a command that was refused for its words.
+/// The exit status of a command that was refused for its words.
 const WRONG_WORDS: u8 = 2;
 
-// The exit status of a command that was refused for what it read.
+/// The exit status of a command that was refused for what it read.
 const REFUSED: u8 = 1;
 
 impl Refusal {
@@ -131,7 +131,7 @@ impl fmt::Display for Refusal {
     }
 }
 
-// A file that is no layer: what stands after `refused`, and after the number of a layer.
+/// A file that is no layer: what stands after `refused`, and after the number of a layer.
 #[derive(Clone, Copy)]
 struct FileText<'a>(&'a FileError);
 
@@ -148,7 +148,7 @@ impl fmt::Display for FileText<'_> {
     }
 }
 
-// A path that opens no graph: what stands after `refused open`.
+/// A path that opens no graph: what stands after `refused open`.
 #[derive(Clone, Copy)]
 struct OpenText<'a>(&'a OpenError);
 
@@ -172,7 +172,7 @@ impl fmt::Display for OpenText<'_> {
     }
 }
 
-// A graph that fails its check: what stands after `refused verify`.
+/// A graph that fails its check: what stands after `refused verify`.
 #[derive(Clone, Copy)]
 struct VerifyText<'a, E>(&'a VerifyError<E>);
 
@@ -209,7 +209,7 @@ impl<E> fmt::Display for VerifyText<'_, E> {
     }
 }
 
-// What is wrong with a layer as a whole: its number, and the byte of the fan.
+/// What is wrong with a layer as a whole: its number, and the byte of the fan.
 #[derive(Clone, Copy)]
 struct FaultText(LayerFault);
 

@@ -33,7 +33,7 @@ pub fn write_outcome<W: Write>(writer: &mut W, outcome: &Outcome) -> Result<(), 
     Ok(())
 }
 
-// A length, or that there is none.
+/// A length, or that there is none.
 #[derive(Clone, Copy)]
 struct LongestText(Option<u32>);
 

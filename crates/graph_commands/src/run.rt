@@ -24,10 +24,10 @@ use std::convert::Infallible;
 use std::io;
 use std::io::{Read, Write};
 
-// The exit status of a command that did what was asked.
+/// The exit status of a command that did what was asked.
 const DONE: u8 = 0;
 
-// The exit status of a search that found nothing.
+/// The exit status of a search that found nothing.
 const NOT_FOUND: u8 = 1;
 
 /// A write failed. How much went out before is not known.
@@ -60,8 +60,8 @@ pub fn run_list<R: Read, W: Write>(
     }
 }
 
-// The layer that the reader gives, and a block to write its listing with. All that a listing needs
-// memory for is there before the first write.
+/// The layer that the reader gives, and a block to write its listing with. All that a listing needs
+/// memory for is there before the first write.
 fn prepare<R: Read>(alloc: Global, reader: &mut R) -> Result<(File, Block), Refusal>
     ensures layer { IfOk result (λ prepared. IfSome (R.remaining reader.old) (λ input.
         MayList input (Ok prepared.0))) }
@@ -99,7 +99,7 @@ pub fn run_verify<T: Folder, W: Write>(
     }
 }
 
-// The statistics of the graph that the path opens, once it is checked.
+/// The statistics of the graph that the path opens, once it is checked.
 fn verify<T: Folder>(alloc: Global, folder: &mut T, path: &str) -> Result<Outcome, Refusal>
     ensures passed { IfOk result
         (MayPass (MayOpen (T.tree folder.old) path.now (T.failure_count folder.old) (T.failure_count folder.new))) }
@@ -112,7 +112,7 @@ fn verify<T: Folder>(alloc: Global, folder: &mut T, path: &str) -> Result<Outcom
     Ok(outcome)
 }
 
-// Checks the graph, accepting each commit.
+/// Checks the graph, accepting each commit.
 fn check(alloc: Global, graph: &Graph) -> Result<Outcome, VerifyError<Infallible>>
     ensures passed { IfOk result (Passes graph.now) }
     ensures refused { IfErr result (Fails graph.now) }
@@ -150,7 +150,7 @@ pub fn run_find<T: Folder, W: Write>(
     }
 }
 
-// The commit whose id the digits spell, in the graph that the path opens.
+/// The commit whose id the digits spell, in the graph that the path opens.
 fn find<T: Folder>(
     alloc: Global,
     folder: &mut T,
@@ -166,7 +166,7 @@ fn find<T: Folder>(
     Ok(found_in(&graph, id.as_oid()))
 }
 
-// The commit with an id in the graph.
+/// The commit with an id in the graph.
 fn found_in(graph: &Graph, id: oid<'_>) -> Option<Found>
     ensures { MayBeFound graph.now (oid_bytes id.entry) result }
 {
@@ -179,7 +179,7 @@ fn found_in(graph: &Graph, id: oid<'_>) -> Option<Found>
     })
 }
 
-// Writes the line of a refusal, and answers its exit status.
+/// Writes the line of a refusal, and answers its exit status.
 pub(crate) fn refuse<W: Write>(writer: &mut W, refusal: &Refusal) -> Result<u8, WriteFailed>
     ensures { IfOk result (WritesRefusal refusal.now (W.contents writer.old) (W.contents writer.new)) }
 {

@@ -49,7 +49,7 @@ impl<'a> Iterator for Lines<'a> {
     }
 }
 
-// A line without the one carriage return at its end, if it has one.
+/// A line without the one carriage return at its end, if it has one.
 fn without_carriage_return(line: &[u8]) -> &[u8]
     ensures { result.now ≡ strip_carriage_return line.now }
 {
@@ -59,7 +59,7 @@ fn without_carriage_return(line: &[u8]) -> &[u8]
     }
 }
 
-// The first line of a text that is not empty, and what follows its newline.
+/// The first line of a text that is not empty, and what follows its newline.
 fn split_first_line(text: &[u8]) -> (&[u8], &[u8])
     requires { 0 < length text.now }
     ensures { lines text.now ≡ result.0.now ∷ lines result.1.now }
@@ -70,7 +70,7 @@ fn split_first_line(text: &[u8]) -> (&[u8], &[u8])
     }
 }
 
-// Where the first newline stands.
+/// Where the first newline stands.
 fn first_newline(text: &[u8]) -> Option<usize>
     ensures value { result ≡ position (λ byte. byte == 10) text.now }
     ensures inside { IfSome result (λ end. end < length text.now) }

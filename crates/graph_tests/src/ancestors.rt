@@ -9,7 +9,7 @@ use std::test::Fail;
 
 const MAX: u32 = GENERATION_NUMBER_MAX;
 
-// What a right graph answers to a query for a walk between two of its positions.
+/// What a right graph answers to a query for a walk between two of its positions.
 fn reached(
     rt: &impl Abort,
     alloc: Global,
@@ -23,7 +23,7 @@ fn reached(
     Ok(checked.ancestor_walk(alloc, Position(from), Position(to))?)
 }
 
-// Two roots, and two commits on one of them.
+/// Two roots, and two commits on one of them.
 const APART: &[Row<'static>] = &[
     (0x11, &[], 1),
     (0x22, &[], 1),
@@ -31,13 +31,13 @@ const APART: &[Row<'static>] = &[
     (0x44, &[2], 3),
 ];
 
-// Two ways to the root, one of them shorter.
+/// Two ways to the root, one of them shorter.
 const SHORTCUT: &[Row<'static>] = &[(0x11, &[], 1), (0x22, &[0], 2), (0x33, &[1, 0], 3)];
 
 const CYCLE: &[Row<'static>] = &[(0x11, &[2], MAX), (0x22, &[0], MAX), (0x33, &[1], MAX)];
 
-// The commits of a graph of one layer, two positions, the only shortest walk between them, and the
-// least and the greatest number of visits.
+/// The commits of a graph of one layer, two positions, the only shortest walk between them, and the
+/// least and the greatest number of visits.
 #[test]
 fn the_only_shortest_walk_is_answered(rt: HostRuntime) -> Result<(), Fail> {
     let alloc = rt.alloc();

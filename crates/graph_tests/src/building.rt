@@ -3,7 +3,7 @@ use gix_commitgraph::file;
 use gix_hash_core::{Kind, ObjectId};
 use std::test::Fail;
 
-// Whether these bytes stand there.
+/// Whether these bytes stand there.
 fn has_at(file: &[u8], at: usize, bytes: &[u8]) -> bool {
     file.get(at..).is_some_and(|rest| rest.starts_with(bytes))
 }

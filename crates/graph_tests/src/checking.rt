@@ -5,7 +5,7 @@ use graph_vectors::reseal;
 use std::alloc::Global;
 use std::test::Fail;
 
-// Whether the checksum of a file is right. Where it is, it is answered.
+/// Whether the checksum of a file is right. Where it is, it is answered.
 fn has_right_checksum(alloc: Global, bytes: &[u8]) -> Result<bool, Fail> {
     let file = opened(alloc, Vec::from_slice(alloc, bytes)?, "")?;
     Ok(file.verify_checksum() == Ok(file.checksum().to_owned()))

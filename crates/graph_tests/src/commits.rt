@@ -42,7 +42,7 @@ fn shows_why_parents_cannot_be_decoded(rt: HostRuntime) -> Result<(), Fail> {
     Ok(compare_texts(&rt, alloc, &rows)?)
 }
 
-// The fields of a commit without parents, whose generation number is 1 and whose time is 0.
+/// The fields of a commit without parents, whose generation number is 1 and whose time is 0.
 const ROOT: &[u8; 16] = b"\x70\0\0\0\x70\0\0\0\0\0\0\x04\0\0\0\0";
 
 #[test]

@@ -15,7 +15,7 @@ fn write<R: Files>(rt: &R, alloc: Global, name: &str, bytes: &[u8]) -> Result<()
     Ok(())
 }
 
-// Writes the chain of these layers, whose files are named after their checksums.
+/// Writes the chain of these layers, whose files are named after their checksums.
 fn write_chain<R: Files + Abort>(rt: &R, alloc: Global, layers: &[&[Row<'_>]]) -> Result<(), Fail> {
     let mut checksums = Vec::new(alloc);
     let mut lines = String::new(alloc);
@@ -33,8 +33,8 @@ fn write_chain<R: Files + Abort>(rt: &R, alloc: Global, layers: &[&[Row<'_>]]) -
     write(rt, alloc, name, lines.as_bytes())
 }
 
-// Writes the diamond, two damaged files, and an info folder with a file of one commit and a chain
-// of five.
+/// Writes the diamond, two damaged files, and an info folder with a file of one commit and a chain
+/// of five.
 fn write_all<R: Files + Abort>(rt: &R, alloc: Global) -> Result<(), Fail> {
     for name in ["", "info", "info/commit-graphs"] {
         let path = format!(in alloc; "{TOP}/{name}")?;
@@ -53,8 +53,8 @@ fn write_all<R: Files + Abort>(rt: &R, alloc: Global) -> Result<(), Fail> {
     write_chain(rt, alloc, &[lower, upper])
 }
 
-// The number of commits that each opener finds at a path, or its refusal: both that take any path,
-// that of a file, of an info folder and of a chain folder, and that of a layer alone.
+/// The number of commits that each opener finds at a path, or its refusal: both that take any path,
+/// that of a file, of an info folder and of a chain folder, and that of a layer alone.
 fn answers<R: Files>(rt: &R, alloc: Global, name: &str) -> Result<String, Fail> {
     let path = format!(in alloc; "{TOP}/{name}")?;
     let path = path.as_str();

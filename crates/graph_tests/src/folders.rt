@@ -20,7 +20,7 @@ fn put_text(memory: &mut Memory, alloc: Global, path: &str, text: &[u8]) -> Resu
     put(memory, alloc, path, Vec::from_slice(alloc, text)?)
 }
 
-// Puts a chain of three layers there. Each has one commit, whose id consists of the byte 3, 2 or 1.
+/// Puts a chain of three layers there. Each has one commit, whose id consists of the byte 3, 2 or 1.
 fn put_chain(
     rt: &impl Abort,
     memory: &mut Memory,
@@ -37,7 +37,7 @@ fn put_chain(
     Ok(())
 }
 
-// An info folder with a damaged file and a good chain.
+/// An info folder with a damaged file and a good chain.
 fn info_folder(rt: &impl Abort, alloc: Global) -> Result<Memory, AllocError> {
     let mut memory = Memory::new(alloc);
     memory.put_dir(String::from_str(alloc, "i")?)?;
@@ -46,7 +46,7 @@ fn info_folder(rt: &impl Abort, alloc: Global) -> Result<Memory, AllocError> {
     Ok(memory)
 }
 
-// Asserts that an opener answers a graph of so many commits, or this refusal.
+/// Asserts that an opener answers a graph of so many commits, or this refusal.
 fn assert_answer(rt: &impl Abort, answer: Result<Graph, OpenError>, want: Result<u32, OpenError>) {
     let commits = match answer {
         Ok(graph) => Ok(graph.num_commits()),
@@ -55,7 +55,7 @@ fn assert_answer(rt: &impl Abort, answer: Result<Graph, OpenError>, want: Result
     assert_eq!(rt; commits, want);
 }
 
-// The first bytes of the graph's ids, in order.
+/// The first bytes of the graph's ids, in order.
 fn first_bytes(alloc: Global, graph: &Graph) -> Result<Vec<u8>, AllocError> {
     let mut bytes = Vec::new(alloc);
     for id in graph.iter_ids() {

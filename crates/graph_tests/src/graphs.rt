@@ -5,14 +5,14 @@ use std::alloc::Global;
 use std::process::Abort;
 use std::test::Fail;
 
-// An id that begins with this byte and ends with that one.
+/// An id that begins with this byte and ends with that one.
 fn id(first: u8, last: u8) -> ObjectId {
     let mut id = [first; 20];
     id[19] = last;
     ObjectId::from(id)
 }
 
-// The SHA-1 layer of commits with these ids and no parents.
+/// The SHA-1 layer of commits with these ids and no parents.
 fn layer_of(rt: &impl Abort, alloc: Global, ids: &[ObjectId]) -> Result<File, Fail> {
     let mut plan = bare(alloc, Kind::Sha1, &[])?;
     for id in ids {
@@ -75,7 +75,7 @@ fn a_wrong_fan_hides_an_id(rt: HostRuntime) -> Result<(), Fail> {
     Ok(())
 }
 
-// The graph of such layers.
+/// The graph of such layers.
 fn graph_of(rt: &impl Abort, alloc: Global, layers: &[&[ObjectId]]) -> Result<Graph, Fail> {
     let mut files = Vec::new(alloc);
     for ids in layers {

@@ -5,8 +5,8 @@ use gix_hash_core::Kind;
 use std::alloc::Global;
 use std::test::Fail;
 
-// The refusal of a SHA-1 file without commits but for what is given: the header's last two bytes,
-// the table's entries, and what follows it.
+/// The refusal of a SHA-1 file without commits but for what is given: the header's last two bytes,
+/// the table's entries, and what follows it.
 fn refusal_of(
     alloc: Global,
     chunks: u8,
@@ -23,7 +23,7 @@ const FAN: &[u8] = &[0; 1024];
 
 const TRAILER: &[u8] = &[0; 20];
 
-// The table of a file without commits.
+/// The table of a file without commits.
 const ENTRIES: [(&[u8; 4], u64); 4] = [
     (b"OIDF", 56),
     (b"OIDL", 1080),

@@ -6,8 +6,8 @@ use gix_commitgraph::{Position, file};
 use std::alloc::Global;
 use std::test::Fail;
 
-// The hint before each item, and the items. It calls the trait's `next`, where a call on a
-// `Parents` would be one of its own `next`.
+/// The hint before each item, and the items. It calls the trait's `next`, where a call on a
+/// `Parents` would be one of its own `next`.
 fn walked<I>(alloc: Global, parents: &mut I) -> Result<String, Fail>
 where
     I: Iterator<Item = Result<Position, ParentError>>,
@@ -52,7 +52,7 @@ fn generations_and_times(rt: HostRuntime) -> Result<(), Fail> {
     Ok(())
 }
 
-// The hints and the items of a commit's parents, as `walked` writes them.
+/// The hints and the items of a commit's parents, as `walked` writes them.
 fn parents_of(alloc: Global, fields: &[u8; 16], edges: Option<&[u8]>) -> Result<String, Fail> {
     let file = opened(alloc, one_commit(alloc, fields, edges)?, "")?;
     if file.num_commits() != 1 {
@@ -89,13 +89,13 @@ fn parents_of_one_commit(rt: HostRuntime) -> Result<(), Fail> {
     Ok(())
 }
 
-// The fields of a commit with the parent 5, whose other parents begin at the list's first word.
+/// The fields of a commit with the parent 5, whose other parents begin at the list's first word.
 const FROM_FIRST_WORD: &[u8; 16] = b"\0\0\0\x05\x80\0\0\0\0\0\0\x04\0\0\0\0";
 
-// The fields of a commit with the parent 5, whose other parents begin at the list's third word.
+/// The fields of a commit with the parent 5, whose other parents begin at the list's third word.
 const FROM_THIRD_WORD: &[u8; 16] = b"\0\0\0\x05\x80\0\0\x02\0\0\0\x04\0\0\0\0";
 
-// An extra edge list of two words: the parent 3, and the last parent 2.
+/// An extra edge list of two words: the parent 3, and the last parent 2.
 const TWO_WORDS: &[u8] = b"\0\0\0\x03\x80\0\0\x02";
 
 #[test]

@@ -59,7 +59,7 @@ fn a_file_shows_its_path(rt: HostRuntime) -> Result<(), Fail> {
     Ok(())
 }
 
-// The values in order, each once. A set by order and a set by hash have each of them once too.
+/// The values in order, each once. A set by order and a set by hash have each of them once too.
 fn sorted_set<T: Ord + Hash + Copy>(alloc: Global, values: &[T]) -> Result<Vec<T>, Fail> {
     let (mut by_order, mut by_hash) = (BTreeSet::new(alloc), HashSet::new(alloc));
     let mut sorted = Vec::new(alloc);

@@ -7,12 +7,12 @@ use std::alloc::{AllocError, Global};
 use std::process::Abort;
 use std::test::Fail;
 
-// The error of a processor that refuses.
+/// The error of a processor that refuses.
 #[derive(Clone, Copy, Debug, PartialEq, Eq)]
 struct Refused;
 
-// What the check of a layer answers where the processor always answers the same, how often the
-// processor was called, and whether that was at the positions 0, 1, 2 and so on.
+/// What the check of a layer answers where the processor always answers the same, how often the
+/// processor was called, and whether that was at the positions 0, 1, 2 and so on.
 fn checked(
     alloc: Global,
     file: &File,
@@ -31,10 +31,10 @@ fn checked(
     (outcome, calls, in_order)
 }
 
-// Why the check refuses a layer, and how often the processor was called.
+/// Why the check refuses a layer, and how often the processor was called.
 type Refusal = (Option<TraverseError<Refused>>, u32);
 
-// The refusal of the layer of these bytes, at a path and with a processor that always answers this.
+/// The refusal of the layer of these bytes, at a path and with a processor that always answers this.
 fn refusal_of(
     alloc: Global,
     bytes: &[u8],
@@ -46,7 +46,7 @@ fn refusal_of(
     Ok((outcome.err(), calls))
 }
 
-// Compares the refusal of the layer of these bytes at a path, whose commits the processor accepts.
+/// Compares the refusal of the layer of these bytes at a path, whose commits the processor accepts.
 fn compare_at(
     rt: &impl Abort,
     alloc: Global,
@@ -58,7 +58,7 @@ fn compare_at(
     Ok(())
 }
 
-// The same at a path that names no checksum.
+/// The same at a path that names no checksum.
 fn compare(rt: &impl Abort, alloc: Global, bytes: &[u8], want: Refusal) -> Result<(), Fail> {
     compare_at(rt, alloc, bytes, "commit-graph", want)
 }
@@ -73,7 +73,7 @@ fn faults_of_the_commits(rt: HostRuntime) -> Result<(), Fail> {
     compare(&rt, alloc, &bytes, (Some(TraverseError::Order { pos }), 1))
 }
 
-// The diamond's file with the last bit of its checksum turned.
+/// The diamond's file with the last bit of its checksum turned.
 fn with_wrong_checksum(rt: &impl Abort, alloc: Global) -> Result<Vec<u8>, Fail> {
     let mut bytes = layer(rt, alloc, &[], DIAMOND)?;
     assert_eq!(rt; bytes.len(), 1324);
@@ -122,8 +122,8 @@ fn the_processor_comes_before_the_parents(rt: HostRuntime) -> Result<(), Fail> {
     Ok(())
 }
 
-// Compares an outcome: the greatest and the least generation number, the most parents and the number
-// of commits; and how many commits have each number of parents.
+/// Compares an outcome: the greatest and the least generation number, the most parents and the number
+/// of commits; and how many commits have each number of parents.
 fn compare_outcome(
     rt: &impl Abort,
     outcome: &Outcome,
@@ -157,7 +157,7 @@ fn right_layers_pass(rt: HostRuntime) -> Result<(), Fail> {
     Ok(())
 }
 
-// A path that ends with the name of a layer of this checksum, and what follows the name.
+/// A path that ends with the name of a layer of this checksum, and what follows the name.
 fn path_of(alloc: Global, folder: &str, checksum: &str, end: &str) -> Result<String, AllocError> {
     format!(in alloc; "{folder}graph-{checksum}.graph{end}")
 }

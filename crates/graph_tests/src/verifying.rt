@@ -11,7 +11,7 @@ use std::test::Fail;
 
 const MAX: u32 = GENERATION_NUMBER_MAX;
 
-// The SHA-1 layer of these commits on these bases, under a name that no chain gives.
+/// The SHA-1 layer of these commits on these bases, under a name that no chain gives.
 fn file(
     rt: &impl Abort,
     alloc: Global,
@@ -21,7 +21,7 @@ fn file(
     Ok(opened(alloc, layer(rt, alloc, bases, rows)?, "commit-graph")?)
 }
 
-// The graph of one such layer for each of these lists of commits, with the right bases.
+/// The graph of one such layer for each of these lists of commits, with the right bases.
 pub fn graph(rt: &impl Abort, alloc: Global, layers: &[&[Row<'_>]]) -> Result<Graph, Fail> {
     let mut files = Vec::new(alloc);
     let mut checksums = Vec::new(alloc);
@@ -33,15 +33,15 @@ pub fn graph(rt: &impl Abort, alloc: Global, layers: &[&[Row<'_>]]) -> Result<Gr
     Ok(Graph::new(alloc, files)?)
 }
 
-// The graph of this one layer.
+/// The graph of this one layer.
 fn graph_of_one(alloc: Global, file: File) -> Result<Graph, Fail> {
     let mut files = Vec::new(alloc);
     files.push(file)?;
     Ok(Graph::new(alloc, files)?)
 }
 
-// The outcome with this longest path and these counts: numbers of parents, each with the number of
-// commits that have it.
+/// The outcome with this longest path and these counts: numbers of parents, each with the number of
+/// commits that have it.
 fn outcome(
     alloc: Global,
     longest_path_length: Option<u32>,
@@ -60,15 +60,15 @@ fn outcome(
     })
 }
 
-// The error of the processor below.
+/// The error of the processor below.
 #[derive(Debug, Drop, PartialEq, Eq)]
 enum Refused {
     Commit,
     OutOfMemory,
 }
 
-// What the check answers where the processor refuses just the commits whose ids begin with this
-// byte, and the first bytes of the ids of the commits that it was called on, in order.
+/// What the check answers where the processor refuses just the commits whose ids begin with this
+/// byte, and the first bytes of the ids of the commits that it was called on, in order.
 fn checked(
     alloc: Global,
     graph: &Graph,
@@ -89,7 +89,7 @@ fn checked(
     (answer, seen)
 }
 
-// Compares the refusal of a graph whose commits the processor accepts, and the number of its calls.
+/// Compares the refusal of a graph whose commits the processor accepts, and the number of its calls.
 fn compare_refusal(
     rt: &impl Abort,
     alloc: Global,
@@ -102,8 +102,8 @@ fn compare_refusal(
     assert_eq!(rt; seen.len(), calls);
 }
 
-// Compares the outcome of a right graph: its longest path and the counts of the numbers of parents.
-// The first bytes of the ids of the commits that the processor was called on are answered, in order.
+/// Compares the outcome of a right graph: its longest path and the counts of the numbers of parents.
+/// The first bytes of the ids of the commits that the processor was called on are answered, in order.
 fn compare_outcome(
     rt: &impl Abort,
     alloc: Global,

@@ -40,7 +40,7 @@ pub fn build(alloc: Global, plan: &LayerPlan) -> Result<Vec<u8>, AllocError>
     Ok(file)
 }
 
-// Adds everything but the trailer.
+/// Adds everything but the trailer.
 fn push_body(file: &mut Vec<u8>, plan: &LayerPlan, sizes: Sizes) -> Result<(), AllocError>
     requires plan { IsPlan plan.now }
     requires sizes { AreSizes plan.now sizes }

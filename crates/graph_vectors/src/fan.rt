@@ -7,7 +7,7 @@ use crate::plan::PlanCommit;
 use crate::push::push_word;
 use std::alloc::AllocError;
 
-// How many ids have each first byte.
+/// How many ids have each first byte.
 fn first_bytes(commits: &[PlanCommit]) -> [u32; 256]
     requires { length commits.now < 2 ^ 32 }
     ensures counted { (byte : ℕ) → byte < 256 → slice_index result byte ≡ ids_with byte (ids_of commits.now) }
@@ -20,7 +20,7 @@ fn first_bytes(commits: &[PlanCommit]) -> [u32; 256]
     counts
 }
 
-// The fan of the commits' ids.
+/// The fan of the commits' ids.
 fn fan_of(commits: &[PlanCommit]) -> [u32; 256]
     requires { length commits.now < 2 ^ 32 }
     ensures fan { result ≡ exact_fan (ids_of commits.now) }

@@ -68,7 +68,7 @@ impl LayerPlan {
 impl PlanCommit {
     ghost use Rattle.graph_vectors.specs.Plan.{IsPlannedCommit};
 
-    // Whether a record can hold it.
+    /// Whether a record can hold it.
     fn fits(&self, kind: Kind) -> bool
         ensures { IsTrue result ↔ IsPlannedCommit kind self.now }
     {

@@ -22,7 +22,7 @@ const USAGE: &str = "usage: graphtool list | verify PATH | find PATH HEX | ances
 
 const WRITE_FAILED: &str = "graphtool: the answer could not be written";
 
-// The exit status of words that are no command, and of a failed write.
+/// The exit status of words that are no command, and of a failed write.
 const FAILED: u8 = 2;
 
 fn main(rt: HostRuntime) -> ExitCode {
@@ -34,12 +34,12 @@ fn main(rt: HostRuntime) -> ExitCode {
     ExitCode::from(status)
 }
 
-// The words of the command line, unless they are no text or memory runs out.
+/// The words of the command line, unless they are no text or memory runs out.
 fn words(rt: &HostRuntime) -> Option<Vec<String>> {
     env::args(rt).ok()?.collect(rt.alloc()).ok()
 }
 
-// Runs the command that the words are, and answers the exit status.
+/// Runs the command that the words are, and answers the exit status.
 fn respond<W: Write>(rt: &HostRuntime, words: &[String], errors: &mut W) -> u8 {
     match Command::from_words(words) {
         Some(command) => status_of(command.run(rt), errors),
@@ -47,7 +47,7 @@ fn respond<W: Write>(rt: &HostRuntime, words: &[String], errors: &mut W) -> u8 {
     }
 }
 
-// The exit status of a command that was run. A failed write is reported.
+/// The exit status of a command that was run. A failed write is reported.
 fn status_of<W: Write>(answer: Result<u8, WriteFailed>, errors: &mut W) -> u8
     ensures { MatchResult answer (λ status. result ≡ status) (λ _. result ≡ 2) }
 {
@@ -57,8 +57,8 @@ fn status_of<W: Write>(answer: Result<u8, WriteFailed>, errors: &mut W) -> u8
     }
 }
 
-// Writes why no command was run, or what became of it, in one line. Where that fails too, nothing
-// more can be said.
+/// Writes why no command was run, or what became of it, in one line. Where that fails too, nothing
+/// more can be said.
 fn fail<W: Write>(errors: &mut W, why: &str) -> u8
     ensures { result ≡ 2 }
 {
@@ -66,7 +66,7 @@ fn fail<W: Write>(errors: &mut W, why: &str) -> u8
     FAILED
 }
 
-// What the program is asked to do.
+/// What the program is asked to do.
 #[derive(Clone, Copy, Debug, PartialEq, Eq)]
 enum Command<'a> {
     // The layer on standard input is to be listed.
@@ -90,7 +90,7 @@ enum Command<'a> {
 }
 
 impl<'a> Command<'a> {
-    // The first word is the program's own name.
+    /// The first word is the program's own name.
     fn from_words(words: &'a [String]) -> Option<Command<'a>> {
         match words {
             [_, name] if name.as_str() == "list" => Some(Command::List),

@@ -45,7 +45,7 @@ fn told_build(rt: &HostRuntime, alloc: Global, stage: &Stage) -> io::Result<()> 
     println!(rt; "{answer:?}")
 }
 
-// Checks a layer, then copies what the check counted. Each has a line.
+/// Checks a layer, then copies what the check counted. Each has a line.
 fn traverse(rt: &HostRuntime, alloc: Global, stage: &Stage) -> io::Result<()> {
     let mut calls = 0u32;
     let answer = stage.layer.traverse(
@@ -68,7 +68,7 @@ fn traverse(rt: &HostRuntime, alloc: Global, stage: &Stage) -> io::Result<()> {
     println!(rt; "{copied:?}")
 }
 
-// Checks a graph, then copies what the check counted. Each has a line.
+/// Checks a graph, then copies what the check counted. Each has a line.
 fn verify_integrity(rt: &HostRuntime, alloc: Global, stage: &Stage) -> io::Result<()> {
     let mut calls = 0u32;
     let answer = stage.graph.verify_integrity(
@@ -91,7 +91,7 @@ fn verify_integrity(rt: &HostRuntime, alloc: Global, stage: &Stage) -> io::Resul
     println!(rt; "{copied:?}")
 }
 
-// Puts a file or a folder into a folder, and tells whether it stands there.
+/// Puts a file or a folder into a folder, and tells whether it stands there.
 fn put(rt: &HostRuntime, alloc: Global, name: &[u8], stage: &mut Stage) -> io::Result<()> {
     let path = mem::replace(&mut stage.path, String::new(alloc));
     let bytes = mem::replace(&mut stage.bytes, Vec::new(alloc));
@@ -117,10 +117,10 @@ fn run(rt: &HostRuntime, alloc: Global, name: &[u8], stage: &mut Stage) -> io::R
     io::writer(rt).write_all(out)
 }
 
-// The id of the chain's second commit.
+/// The id of the chain's second commit.
 const HEX: &str = "0202020202020202020202020202020202020202";
 
-// Opens by a path in memory, or on disk.
+/// Opens by a path in memory, or on disk.
 fn open(rt: &HostRuntime, alloc: Global, name: &[u8], stage: &mut Stage) -> io::Result<()> {
     let memory = &mut stage.memory;
     let answer = match name {

@@ -14,7 +14,7 @@ use stage::Stage;
 use std::alloc::{AllocError, Global};
 use std::io::Read;
 
-// The most bytes of an input.
+/// The most bytes of an input.
 const LONGEST_INPUT: usize = 4096;
 
 fn main(rt: HostRuntime) -> std::io::Result<()> {
@@ -31,7 +31,7 @@ fn main(rt: HostRuntime) -> std::io::Result<()> {
     call(&rt, rt.alloc(), name, &mut stage)
 }
 
-// The bytes before the first newline, and those after it.
+/// The bytes before the first newline, and those after it.
 fn first_line(input: &[u8]) -> (&[u8], &[u8]) {
     match input.iter().position(|byte| *byte == b'\n') {
         Some(at) => (&input[..at], &input[at..]),
@@ -39,7 +39,7 @@ fn first_line(input: &[u8]) -> (&[u8], &[u8]) {
     }
 }
 
-// Makes so many allocations, and answers how many there were before one failed.
+/// Makes so many allocations, and answers how many there were before one failed.
 fn allocations_made(alloc: Global, count: usize) -> usize {
     for made in 0..count {
         if one_allocation(alloc).is_err() {

@@ -55,7 +55,7 @@ impl Stage {
     }
 }
 
-// A commit: the byte that its id consists of, its parents and its generation number.
+/// A commit: the byte that its id consists of, its parents and its generation number.
 type Row<'a> = (u8, &'a [u32], u32);
 
 fn plan(alloc: Global, bases: &[ObjectId], rows: &[Row<'_>]) -> Result<LayerPlan, AllocError> {
@@ -86,7 +86,7 @@ fn opened(alloc: Global, bytes: &[u8]) -> Result<File> {
     Ok(File::new(alloc, Vec::from_slice(alloc, bytes)?, path)?)
 }
 
-// The files of a chain of three layers of one commit, each on the one before.
+/// The files of a chain of three layers of one commit, each on the one before.
 fn chain(alloc: Global) -> Result<Vec<Vec<u8>>> {
     let mut files = Vec::new(alloc);
     let mut checksums = Vec::new(alloc);
@@ -107,7 +107,7 @@ fn layers(alloc: Global, chain: &[Vec<u8>]) -> Result<Vec<File>> {
     Ok(layers)
 }
 
-// The name of a layer's file in its folder, and the line of the chain file.
+/// The name of a layer's file in its folder, and the line of the chain file.
 fn name_and_line(alloc: Global, bytes: &[u8]) -> Result<(String, String)> {
     let layer = opened(alloc, bytes)?;
     let checksum = layer.checksum();

@@ -13,10 +13,10 @@ use std::fs;
 use std::process::Abort;
 use std::test::Fail;
 
-// A commit: the byte that its id repeats, its parents and its generation number.
+/// A commit: the byte that its id repeats, its parents and its generation number.
 type Row<'a> = (u8, &'a [u32], u32);
 
-// A root, two commits on it, and their merge.
+/// A root, two commits on it, and their merge.
 const DIAMOND: &[Row<'static>] = &[
     (0x11, &[], 1),
     (0x22, &[0], 2),
@@ -24,7 +24,7 @@ const DIAMOND: &[Row<'static>] = &[
     (0x44, &[1, 2], 3),
 ];
 
-// The same, with the third commit's id twice.
+/// The same, with the third commit's id twice.
 const TWICE: &[Row<'static>] = &[
     (0x11, &[], 1),
     (0x33, &[0], 2),
@@ -38,7 +38,7 @@ const FOURS: &str = "4444444444444444444444444444444444444444";
 
 const FIVES: &str = "5555555555555555555555555555555555555555";
 
-// The bytes of a file of these commits, each of which was made at 1700000000.
+/// The bytes of a file of these commits, each of which was made at 1700000000.
 fn file_of(rt: &impl Abort, alloc: Global, rows: &[Row<'_>]) -> Result<Vec<u8>, Fail> {
     let mut commits = Vec::new(alloc);
     for (id, parents, generation) in rows {

@@ -5,7 +5,7 @@ use std::io::{ErrorKind, Read};
 use std::test::Fail;
 use std::{fs, io};
 
-// A reader that gives at most so many bytes a read, and whose read of this number fails.
+/// A reader that gives at most so many bytes a read, and whose read of this number fails.
 #[derive(Drop)]
 struct Source<'a> {
     rest: &'a [u8],

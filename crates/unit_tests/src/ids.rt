@@ -2,7 +2,7 @@ use gix_hash_core::{IdError, Kind, ObjectId, digest, oid};
 use std::hash::{DefaultHasher, Hash, Hasher};
 use std::test::Fail;
 
-// The examples of FIPS 180-4.
+/// The examples of FIPS 180-4.
 #[test]
 fn digests_are_the_published_ones(rt: HostRuntime) -> Result<(), Fail> {
     let rows: [(Kind, &[u8], &str); 4] = [

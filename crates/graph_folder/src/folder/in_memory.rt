@@ -12,7 +12,7 @@ use std::alloc::{AllocError, Global};
 use std::collections::BTreeMap;
 use std::marker::Model;
 
-// What stands at a path.
+/// What stands at a path.
 #[derive(Drop)]
 enum Node {
     File(Vec<u8>),
@@ -83,14 +83,14 @@ impl Memory {
         self.reads_before_failure = Some(n);
     }
 
-    // What stands at a path.
+    /// What stands at a path.
     fn node(&self, path: &str) -> Option<&Node>
         ensures { option_map entry_of (option_copied result) ≡ map.get self.now.tree path.now }
     {
         self.nodes.get(path)
     }
 
-    // Counts a read, and answers whether it is the one that is to fail.
+    /// Counts a read, and answers whether it is the one that is to fail.
     fn count_read(&mut self) -> bool
         ensures answer { result ≡ will_fail self.old }
         ensures after { self.new ≡ after_read self.old }

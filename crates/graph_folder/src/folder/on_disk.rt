@@ -24,7 +24,7 @@ impl<'r, R: Files> Disk<'r, R> {
         Disk { rt, failures: 0 }
     }
 
-    // All bytes of the file at the path. A host may open a folder as it opens a file.
+    /// All bytes of the file at the path. A host may open a folder as it opens a file.
     fn read_file(&self, alloc: Global, path: &str) -> Result<Vec<u8>, ReadError> {
         let mut file = fs::open(self.rt, path).map_err(|_| ReadError::NotOpened)?;
         if file.metadata().is_ok_and(|metadata| metadata.is_dir()) {

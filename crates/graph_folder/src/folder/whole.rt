@@ -7,7 +7,7 @@ use super::ReadError;
 use std::alloc::Global;
 use std::io::Read;
 
-// How many bytes one read asks for.
+/// How many bytes one read asks for.
 const PIECE: usize = 64 * 1024;
 
 /// All bytes of the reader to its end, however it cuts them. Any error of the reader is `Device`,
@@ -21,7 +21,7 @@ pub fn read_all<R: Read>(alloc: Global, reader: &mut R) -> Result<Vec<u8>, ReadE
     read_by(alloc, reader, &mut piece)
 }
 
-// All bytes of the reader to its end, as `read_all` answers them, each read into this piece.
+/// All bytes of the reader to its end, as `read_all` answers them, each read into this piece.
 fn read_by<R: Read>(alloc: Global, reader: &mut R, piece: &mut [u8]) -> Result<Vec<u8>, ReadError>
     requires { 0 < length piece.old }
     ensures bytes { IfOk result (λ bytes. IfSome (R.remaining reader.old) (λ all. bytes.items ≡ all)) }

@@ -5,7 +5,7 @@ use std::io;
 use std::io::{ErrorKind, Write};
 use std::test::Fail;
 
-// A standard error that keeps what is written, unless it is closed.
+/// A standard error that keeps what is written, unless it is closed.
 #[derive(Drop)]
 struct StandardError {
     bytes: Vec<u8>,
@@ -36,7 +36,7 @@ fn standard_error(alloc: Global, is_closed: bool) -> StandardError {
     }
 }
 
-// The program's own name, and then these words.
+/// The program's own name, and then these words.
 fn command_line(alloc: Global, words: &[&str]) -> Result<Vec<String>, AllocError> {
     let mut line = Vec::new(alloc);
     line.push(String::from_str(alloc, "graphtool")?)?;
