@@ -1,7 +1,7 @@
 //! Tests of the commands of `graphtool`, on layers, chains and folders that are built for them.
 //!
-//! [`fixtures`] has what several tests share: readers and writers that fail, layers built from rows,
-//! and folders that hold them.
+//! [`fixtures`] has what several tests share: readers and writers that fail, layers built from
+//! rows, and folders that hold them.
 #![tactic(auto)]
 
 #[cfg(test)]

@@ -1,5 +1,6 @@
 -- laws of `first_below`
-use Rattle.std.proofs.Common.{◌≡◌, ℕ, zero, suc, ◌+◌, ◌<◌, Bool, true, false, cond, Option, Some, None, [], ◌∷◌, map, refl, sym, ap, ◌∙◌, subst, ⊎_elim, arith, add-one}
+use Rattle.std.proofs.Common.{◌≡◌, ℕ, zero, suc, ◌+◌, ◌<◌, Bool, true, false, cond, Option, Some, None, [], ◌∷◌, map, refl, sym}
+use Rattle.std.proofs.Common.{ap, ◌∙◌, subst, ⊎_elim, arith, add-one}
 use Rattle.std.specs.Prelude.{◌↔◌}
 use Rattle.std.specs.Bool.{then_some}
 use Rattle.std.specs.Option.{option_or}
@@ -32,7 +33,8 @@ pub first_below-next : {X : Type 0} (f : ℕ → Option X) (i : ℕ) → first_b
 unfolding first_below
 first_below-next f i h = rw (add-one, h) refl
 
-pub first_below-none_more : {X : Type 0} (f : ℕ → Option X) (i : ℕ) → first_below f i ≡ None → f i ≡ None → first_below f (i + 1) ≡ None
+pub first_below-none_more : {X : Type 0} (f : ℕ → Option X) (i : ℕ) → first_below f i ≡ None → f i ≡ None
+    → first_below f (i + 1) ≡ None
 first_below-none_more f i h e = first_below-next f i h ∙ e
 
 pub first_below-none : {X : Type 0} (f : ℕ → Option X) → first_below f 0 ≡ None
@@ -40,7 +42,8 @@ unfolding first_below
 first_below-none f = refl
 
 -- what f gives first at i is what it gives first
-pub first_below-found : {X : Type 0} (f : ℕ → Option X) (i n : ℕ) (x : X) → first_below f i ≡ None → f i ≡ Some x → i < n → first_below f n ≡ Some x
+pub first_below-found : {X : Type 0} (f : ℕ → Option X) (i n : ℕ) (x : X) → first_below f i ≡ None → f i ≡ Some x → i < n
+    → first_below f n ≡ Some x
 unfolding first_below
 first_below-found f i zero x h e k = absurd (omega (arith, k))
 first_below-found f i (suc n) x h e k = ⊎_elim
@@ -66,7 +69,8 @@ some_injective : {X : Type 0} {x y : X} → Some x ≡ Some y → x ≡ y
 some_injective h = cc
 
 -- what is given first is given at the least number
-pub first_below-least : {X : Type 0} (f : ℕ → Option X) (n : ℕ) (x : X) → first_below f n ≡ Some x → (i : ℕ) × IsLeastGiving f n i x
+pub first_below-least : {X : Type 0} (f : ℕ → Option X) (n : ℕ) (x : X) → first_below f n ≡ Some x → (i : ℕ)
+    × IsLeastGiving f n i x
 unfolding first_below
 first_below-least f zero x h = cc
 first_below-least f (suc n) x h = elim (first_below f n) as (λ o. first_below f n ≡ o → (i : ℕ) × IsLeastGiving f (suc n) i x) [
@@ -80,14 +84,16 @@ first_below-is : {X : Type 0} (f : ℕ → Option X) (n i : ℕ) (x : X) → IsL
 first_below-is f n i x at_i = first_below-found f i n x (first_below-none_from f i at_i.least) at_i.gives at_i.below
 
 -- what is given first, and where nothing is
-pub first_below-some_iff : {X : Type 0} (f : ℕ → Option X) (n : ℕ) (x : X) → (first_below f n ≡ Some x) ↔ ((i : ℕ) × IsLeastGiving f n i x)
+pub first_below-some_iff : {X : Type 0} (f : ℕ → Option X) (n : ℕ) (x : X) → (first_below f n ≡ Some x)
+    ↔ ((i : ℕ) × IsLeastGiving f n i x)
 first_below-some_iff f n x = (first_below-least f n x, λ found. first_below-is f n found.0 x found.1)
 
 pub first_below-none_iff : {X : Type 0} (f : ℕ → Option X) (n : ℕ) → (first_below f n ≡ None) ↔ ((i : ℕ) → i < n → f i ≡ None)
 first_below-none_iff f n = (λ h i k. first_below-none_at f i n h k, first_below-none_from f n)
 
 -- the first of a list made from a function of the index
-pub find-first_below : {X : Type 0} (p : X → Bool) (f : ℕ → X) (n : ℕ) → find p (map f (range_with_len 0 n)) ≡ first_below (λ i. cond (p (f i)) (Some (f i)) None) n
+pub find-first_below : {X : Type 0} (p : X → Bool) (f : ℕ → X) (n : ℕ)
+    → find p (map f (range_with_len 0 n)) ≡ first_below (λ i. cond (p (f i)) (Some (f i)) None) n
 unfolding first_below
 find-first_below p f zero = refl
 find-first_below p f (suc n) =

@@ -1,5 +1,6 @@
 -- laws of the conditions that refuse a table of chunks
-use Rattle.std.proofs.Common.{add-sub_cancel, ◌≡◌, ◌≢◌, ℕ, ◌+◌, ◌-◌, ◌<◌, ◌≤◌, Bool, true, false, ◌&&◌, List, bytes_eq, get_or, None, refl, ◌∙◌, ⊎_elim, arith, zero-add}
+use Rattle.std.proofs.Common.{add-sub_cancel, ◌≡◌, ◌≢◌, ℕ, ◌+◌, ◌-◌, ◌<◌, ◌≤◌, Bool, true, false, ◌&&◌, List, bytes_eq, get_or}
+use Rattle.std.proofs.Common.{None, refl, ◌∙◌, ⊎_elim, arith, zero-add}
 use Rattle.std.specs.Prelude.{length, nat_lt}
 use Rattle.std.specs.Bool.{then_some}
 use Rattle.std.specs.List.{range_with_len}
@@ -11,7 +12,8 @@ use Rattle.std.proofs.lemmas.Slice.Eq.{bytes_eq-Decides}
 use Rattle.gix_chunk_core.specs.Entry.{entry_at, end_id}
 use Rattle.gix_chunk_core.specs.Fault.{has_earlier, passes, falls, offset_fault, entry_fault, end_fault}
 use Rattle.gix_chunk_core.specs.declared.error.ChunkError.TheVariants.{EarlyEnd, Duplicate, OutOfFile}
-use Rattle.first_faults.proofs.FirstLemmas.{option_or-none, option_or-none_left, option_or-none_right, then_some-none, then_some-false}
+use Rattle.first_faults.proofs.FirstLemmas.{option_or-none, option_or-none_left, option_or-none_right, then_some-none}
+use Rattle.first_faults.proofs.FirstLemmas.{then_some-false}
 
 pub same-bytes : (xs ys : List ℕ) → bytes_eq xs ys ≡ true → xs ≡ ys
 same-bytes xs ys h = (bytes_eq-Decides xs ys).0 h
@@ -27,7 +29,8 @@ abbrev same_id : List ℕ → ℕ → ℕ → ℕ → Bool
 same_id bytes at i j = bytes_eq (entry_at bytes at j).id (entry_at bytes at i).id
 
 -- an entry before entry i has the same id
-pub has_earlier-at : (bytes : List ℕ) (at i j : ℕ) → j < i → (entry_at bytes at j).id ≡ (entry_at bytes at i).id → has_earlier bytes at i ≡ true
+pub has_earlier-at : (bytes : List ℕ) (at i j : ℕ) → j < i → (entry_at bytes at j).id ≡ (entry_at bytes at i).id
+    → has_earlier bytes at i ≡ true
 unfolding has_earlier
 has_earlier-at bytes at i j k same =
     let within : j < length (range_with_len 0 i) = rw (length-range_with_len 0 i) k in
@@ -35,26 +38,31 @@ has_earlier-at bytes at i j k same =
     list_any_at (same_id bytes at i) (range_with_len 0 i) j j within (rw is ((bytes_eq-Decides _ _).1 same))
 
 -- no entry before entry i has the same id
-pub has_earlier-none : (bytes : List ℕ) (at i : ℕ) → ((j : ℕ) → j < i → (entry_at bytes at j).id ≢ (entry_at bytes at i).id) → has_earlier bytes at i ≡ false
+pub has_earlier-none : (bytes : List ℕ) (at i : ℕ) → ((j : ℕ) → j < i → (entry_at bytes at j).id ≢ (entry_at bytes at i).id)
+    → has_earlier bytes at i ≡ false
 unfolding has_earlier
 has_earlier-none bytes at i apart =
-    list_any_none (same_id bytes at i) (range_with_len 0 i) (All-from_get_or (λ j. same_id bytes at i j ≡ false) (range_with_len 0 i) 0 (λ j within.
+    list_any_none (same_id bytes at i) (range_with_len 0 i)
+    (All-from_get_or (λ j. same_id bytes at i j ≡ false) (range_with_len 0 i) 0 (λ j within.
     let k : j < i = rw (length-range_with_len 0 i) at within in
     let is : get_or (range_with_len 0 i) j 0 ≡ j = get_or-range_with_len 0 i j 0 k ∙ zero-add j in
     rw is (other-bytes _ _ (apart j k))))
 
-pub distinct-from : (bytes : List ℕ) (at i j : ℕ) → i < j → has_earlier bytes at j ≡ false → (entry_at bytes at i).id ≢ (entry_at bytes at j).id
+pub distinct-from : (bytes : List ℕ) (at i j : ℕ) → i < j → has_earlier bytes at j ≡ false
+    → (entry_at bytes at i).id ≢ (entry_at bytes at j).id
 distinct-from bytes at i j k h same = both_ways _ h (has_earlier-at bytes at j i k same)
 
 -- an offset that does not fall
-pub rises-from : (bytes : List ℕ) (at i : ℕ) → falls bytes at (i + 1) ≡ false → (entry_at bytes at i).offset ≤ (entry_at bytes at (i + 1)).offset
+pub rises-from : (bytes : List ℕ) (at i : ℕ) → falls bytes at (i + 1) ≡ false
+    → (entry_at bytes at i).offset ≤ (entry_at bytes at (i + 1)).offset
 rises-from bytes at i h = ltb-false _ _ (rw (lt-ltb 0 (i + 1) (omega arith), add-sub_cancel i 1) at h)
 
 both-false : (b : Bool) → (b && false) ≡ false
 both-false true = refl
 both-false false = refl
 
-pub falls-false : (bytes : List ℕ) (at i : ℕ) → (0 < i → (entry_at bytes at (i - 1)).offset ≤ (entry_at bytes at i).offset) → falls bytes at i ≡ false
+pub falls-false : (bytes : List ℕ) (at i : ℕ) → (0 < i → (entry_at bytes at (i - 1)).offset ≤ (entry_at bytes at i).offset)
+    → falls bytes at i ≡ false
 falls-false bytes at i h = ⊎_elim
     (λ (first : i ≡ 0). rw first refl)
     (λ (later : i ≡ 0 → ⊥). rw (le-ltb _ _ (h (omega (arith, later)))) (both-false (nat_lt 0 i)))
@@ -89,7 +97,8 @@ entry_fault-none bytes at i h =
       placed = offset_fault-none bytes at i rest2;
     }
 
-pub end_fault-none : (bytes : List ℕ) (at i : ℕ) → end_fault bytes at i ≡ None → IsPlaced bytes at i × ((entry_at bytes at i).id ≡ end_id)
+pub end_fault-none : (bytes : List ℕ) (at i : ℕ) → end_fault bytes at i ≡ None → IsPlaced bytes at i
+    × ((entry_at bytes at i).id ≡ end_id)
 unfolding end_fault
 end_fault-none bytes at i h = (
   offset_fault-none bytes at i (option_or-none_left _ _ h),
@@ -106,7 +115,8 @@ entry_fault-free bytes at i right =
     option_or-none _ _ (then_some-false _ _ right.named)
     (option_or-none _ _ (then_some-false _ _ right.first) (offset_fault-free bytes at i right.placed))
 
-pub end_fault-free : (bytes : List ℕ) (at i : ℕ) → IsPlaced bytes at i → (entry_at bytes at i).id ≡ end_id → end_fault bytes at i ≡ None
+pub end_fault-free : (bytes : List ℕ) (at i : ℕ) → IsPlaced bytes at i → (entry_at bytes at i).id ≡ end_id
+    → end_fault bytes at i ≡ None
 unfolding end_fault
 end_fault-free bytes at i placed ended =
     option_or-none _ _ (offset_fault-free bytes at i placed)

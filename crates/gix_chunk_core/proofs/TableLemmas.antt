@@ -1,5 +1,6 @@
 -- laws of the table of chunks
-use Rattle.std.proofs.Common.{◌≡◌, ℕ, zero, suc, ◌+◌, ◌-◌, ◌*◌, ◌<◌, ◌≤◌, false, List, map, Some, None, ap, sym, refl, ◌∙◌, subst, ⊎_elim, arith}
+use Rattle.std.proofs.Common.{◌≡◌, ℕ, zero, suc, ◌+◌, ◌-◌, ◌*◌, ◌<◌, ◌≤◌, false, List, map, Some, None, ap, sym, refl, ◌∙◌, subst}
+use Rattle.std.proofs.Common.{⊎_elim, arith}
 use Rattle.std.specs.Prelude.{length, nat_lt, ◌==◌, slice_get, ◌↔◌}
 use Rattle.std.specs.Bool.{then_some}
 use Rattle.std.specs.List.{Contains, range_with_len}
@@ -13,15 +14,19 @@ use Rattle.first_faults.specs.First.{first_below}
 use Rattle.gix_chunk_core.specs.Table.{Chunk, Table, Chunks, chunk_at, table_at, range_of}
 use Rattle.gix_chunk_core.specs.declared.error.ChunkError.{ChunkError}
 use Rattle.gix_chunk_core.specs.declared.error.ChunkError.TheVariants.{NoChunks, TableTooSmall}
-use Rattle.gix_chunk_core.proofs.FaultLemmas.{other-bytes, apart-bytes, has_earlier-none, distinct-from, rises-from, falls-false, IsPlaced, IsRight, entry_fault-none, end_fault-none, entry_fault-free, end_fault-free}
-use Rattle.first_faults.proofs.FirstLemmas.{option_or-none, option_or-none_left, option_or-none_right, then_some-none, then_some-false, first_below-none_at, first_below-none_from}
+use Rattle.gix_chunk_core.proofs.FaultLemmas.{other-bytes, apart-bytes, has_earlier-none, distinct-from, rises-from, falls-false}
+use Rattle.gix_chunk_core.proofs.FaultLemmas.{IsPlaced, IsRight, entry_fault-none, end_fault-none, entry_fault-free}
+use Rattle.gix_chunk_core.proofs.FaultLemmas.{end_fault-free}
+use Rattle.first_faults.proofs.FirstLemmas.{option_or-none, option_or-none_left, option_or-none_right, then_some-none}
+use Rattle.first_faults.proofs.FirstLemmas.{then_some-false, first_below-none_at, first_below-none_from}
 use Rattle.gix_chunk_core.proofs.RangeLemmas.{IsFoundAt, range_of-at, range_of-none, range_of-found}
 
 pub table_at-counted : (bytes : List ℕ) (at count : ℕ) → length (table_at bytes at count).chunks ≡ count
 unfolding table_at
 table_at-counted bytes at count = length-map-range_with_len (chunk_at bytes at) 0 count
 
-pub table_at-each : (bytes : List ℕ) (at count i : ℕ) → i < count → slice_get (table_at bytes at count).chunks i ≡ Some (chunk_at bytes at i)
+pub table_at-each : (bytes : List ℕ) (at count i : ℕ) → i < count
+    → slice_get (table_at bytes at count).chunks i ≡ Some (chunk_at bytes at i)
 unfolding table_at
 table_at-each bytes at count i k =
     slice_get_read _ count i _ (sym (length-map-range_with_len (chunk_at bytes at) 0 count)) k
@@ -48,20 +53,23 @@ pub end_in_file : (bytes : List ℕ) (at n : ℕ) (table : Table) → Chunks byt
 end_in_file bytes at n table right = rw (right.end) (right.in_file n (omega arith))
 
 -- bytes without a fault have the table that their entries spell
-pub table_fault-none : (bytes : List ℕ) (at count : ℕ) → table_fault bytes at count ≡ None → Chunks bytes at count (table_at bytes at count)
+pub table_fault-none : (bytes : List ℕ) (at count : ℕ) → table_fault bytes at count ≡ None
+    → Chunks bytes at count (table_at bytes at count)
 unfolding table_fault
 table_fault-none bytes at count h =
     let rest1 = option_or-none_right (then_some (count == 0) NoChunks) _ h in
     let rest2 = option_or-none_right (then_some (nat_lt (length bytes) (at + 12 * (count + 1))) TableTooSmall) _ rest1 in
     let none : first_below (entry_fault bytes at) count ≡ None = option_or-none_left _ _ rest2 in
-    let each : (i : ℕ) → i < count → IsRight bytes at i = λ i k. entry_fault-none bytes at i (first_below-none_at (entry_fault bytes at) i count none k) in
+    let each : (i : ℕ) → i < count → IsRight bytes at i = λ i k.
+    entry_fault-none bytes at i (first_below-none_at (entry_fault bytes at) i count none k) in
     let last = end_fault-none bytes at count (option_or-none_right (first_below (entry_fault bytes at) count) _ rest2) in
     let placed : (i : ℕ) → i ≤ count → IsPlaced bytes at i = λ i k. ⊎_elim
     (λ (below : i < count). (each i below).placed)
     (λ (above : count ≤ i). let same : count ≡ i = omega arith in subst (λ (n : ℕ). IsPlaced bytes at n) same last.0)
     (cases_lt i count) in
     record {
-      some = let positive : count ≡ 0 → ⊥ = eqb-false _ _ (then_some-none _ _ (option_or-none_left _ _ h)) in omega (arith, positive);
+      some = let positive : count ≡ 0 → ⊥ = eqb-false _ _ (then_some-none _ _ (option_or-none_left _ _ h)) in
+          omega (arith, positive);
       room = ltb-false _ _ (then_some-none _ _ (option_or-none_left _ _ rest1));
       named = λ i k. apart-bytes _ _ (each i k).named;
       distinct = λ i j k l. distinct-from bytes at i j k (each j l).first;
@@ -73,7 +81,8 @@ table_fault-none bytes at count h =
       end = table_at-end bytes at count;
     }
 
-falls-not : (bytes : List ℕ) (at count : ℕ) (table : Table) → Chunks bytes at count table → (i : ℕ) → i ≤ count → falls bytes at i ≡ false
+falls-not : (bytes : List ℕ) (at count : ℕ) (table : Table) → Chunks bytes at count table → (i : ℕ) → i ≤ count
+    → falls bytes at i ≡ false
 falls-not bytes at count table right i k = falls-false bytes at i (λ positive.
     let before : (i - 1) + 1 ≡ i = omega (arith, positive) in
     subst (λ (n : ℕ). (entry_at bytes at (i - 1)).offset ≤ (entry_at bytes at n).offset) before
@@ -83,7 +92,8 @@ placed : (bytes : List ℕ) (at count : ℕ) (table : Table) → Chunks bytes at
 placed bytes at count table right i k =
     record { in_file = le-ltb _ _ (right.in_file i k); rises = falls-not bytes at count table right i k }
 
-chunk_right : (bytes : List ℕ) (at count : ℕ) (table : Table) → Chunks bytes at count table → (i : ℕ) → i < count → IsRight bytes at i
+chunk_right : (bytes : List ℕ) (at count : ℕ) (table : Table) → Chunks bytes at count table → (i : ℕ) → i < count
+    → IsRight bytes at i
 chunk_right bytes at count table right i k = record {
   named = other-bytes _ _ (right.named i k);
   first = has_earlier-none bytes at i (λ j l. right.distinct j i l k);
@@ -97,21 +107,25 @@ fault_free bytes at count table right =
     let some : count ≡ 0 → ⊥ = omega (arith, right.some) in
     option_or-none _ _ (then_some-false _ _ (ne_eqb count 0 some))
     (option_or-none _ _ (then_some-false _ _ (le-ltb _ _ right.room))
-    (option_or-none _ _ (first_below-none_from (entry_fault bytes at) count (λ i k. entry_fault-free bytes at i (chunk_right bytes at count table right i k)))
+    (option_or-none _ _ (first_below-none_from (entry_fault bytes at) count (λ i k.
+    entry_fault-free bytes at i (chunk_right bytes at count table right i k)))
     (end_fault-free bytes at count (placed bytes at count table right count (omega arith)) right.ended)))
 
 -- bytes with a fault have no table
-pub fault_refuses : (bytes : List ℕ) (at count : ℕ) (fault : ChunkError) (table : Table) → table_fault bytes at count ≡ Some fault → Chunks bytes at count table → ⊥
+pub fault_refuses : (bytes : List ℕ) (at count : ℕ) (fault : ChunkError) (table : Table) → table_fault bytes at count ≡ Some fault
+    → Chunks bytes at count table → ⊥
 fault_refuses bytes at count fault table h right = let none = fault_free bytes at count table right in cc
 
 -- bytes have a table exactly where they have no fault
-pub fault_decides : (bytes : List ℕ) (at count : ℕ) → (table_fault bytes at count ≡ None) ↔ ((table : Table) × Chunks bytes at count table)
+pub fault_decides : (bytes : List ℕ) (at count : ℕ) → (table_fault bytes at count ≡ None)
+    ↔ ((table : Table) × Chunks bytes at count table)
 fault_decides bytes at count = (
   λ h. (table_at bytes at count, table_fault-none bytes at count h),
   λ found. fault_free bytes at count found.0 found.1,
 )
 
-pub one_table : (bytes : List ℕ) (at count : ℕ) (one other : Table) → Chunks bytes at count one → Chunks bytes at count other → one ≡ other
+pub one_table : (bytes : List ℕ) (at count : ℕ) (one other : Table) → Chunks bytes at count one → Chunks bytes at count other
+    → one ≡ other
 one_table bytes at count one other h e = Chunks-is bytes at count one h ∙ sym (Chunks-is bytes at count other e)
 
 chunk-eq : (one other : Chunk) → one.id ≡ other.id → one.start ≡ other.start → one.end ≡ other.end → one ≡ other
@@ -121,20 +135,27 @@ chunk-eq one other id start end =
     ∙ ap (λ (end : ℕ). record { id = other.id; start = other.start; end = end }) end
 
 -- offsets do not fall up to the last
-rising_to : (bytes : List ℕ) (at count : ℕ) (table : Table) → Chunks bytes at count table → (i more : ℕ) → i + more ≤ count → (entry_at bytes at i).offset ≤ (entry_at bytes at (i + more)).offset
-rising_to bytes at count table right i zero k = let same : i ≡ i + 0 = omega arith in subst (λ (n : ℕ). (entry_at bytes at i).offset ≤ (entry_at bytes at n).offset) same (omega arith)
+rising_to : (bytes : List ℕ) (at count : ℕ) (table : Table) → Chunks bytes at count table → (i more : ℕ) → i + more ≤ count
+    → (entry_at bytes at i).offset ≤ (entry_at bytes at (i + more)).offset
+rising_to bytes at count table right i zero k = let same : i ≡ i + 0 = omega arith in
+    subst (λ (n : ℕ). (entry_at bytes at i).offset ≤ (entry_at bytes at n).offset) same (omega arith)
 rising_to bytes at count table right i (suc more) k =
-    let before : (entry_at bytes at i).offset ≤ (entry_at bytes at (i + more)).offset = rising_to bytes at count table right i more (omega (arith, k)) in
-    let last : (entry_at bytes at (i + more)).offset ≤ (entry_at bytes at (i + more + 1)).offset = right.rising (i + more) (omega (arith, k)) in
+    let before : (entry_at bytes at i).offset ≤ (entry_at bytes at (i + more)).offset =
+    rising_to bytes at count table right i more (omega (arith, k)) in
+    let last : (entry_at bytes at (i + more)).offset ≤ (entry_at bytes at (i + more + 1)).offset =
+    right.rising (i + more) (omega (arith, k)) in
     let same : i + more + 1 ≡ i + suc more = omega arith in
     subst (λ (n : ℕ). (entry_at bytes at i).offset ≤ (entry_at bytes at n).offset) same (omega (arith, before, last))
 
 -- where a chunk is found
-found_in : (bytes : List ℕ) (at n : ℕ) (table : Table) (id : List ℕ) (place : ℕ × ℕ) → Chunks bytes at n table → range_of table id ≡ Some place → (i : ℕ) × IsFoundAt bytes at n id place i
-found_in bytes at n table id place right h = range_of-found bytes at n id place (ap (λ t. range_of t id) (sym (Chunks-is bytes at n table right)) ∙ h)
+found_in : (bytes : List ℕ) (at n : ℕ) (table : Table) (id : List ℕ) (place : ℕ × ℕ) → Chunks bytes at n table
+    → range_of table id ≡ Some place → (i : ℕ) × IsFoundAt bytes at n id place i
+found_in bytes at n table id place right h =
+    range_of-found bytes at n id place (ap (λ t. range_of t id) (sym (Chunks-is bytes at n table right)) ∙ h)
 
 -- a chunk ends no earlier than it starts, and no later than the last
-pub range_of-in_order : (bytes : List ℕ) (at n : ℕ) (table : Table) (id : List ℕ) (start end : ℕ) → Chunks bytes at n table → range_of table id ≡ Some (start, end) → (start ≤ end) × (end ≤ table.end)
+pub range_of-in_order : (bytes : List ℕ) (at n : ℕ) (table : Table) (id : List ℕ) (start end : ℕ) → Chunks bytes at n table
+    → range_of table id ≡ Some (start, end) → (start ≤ end) × (end ≤ table.end)
 range_of-in_order bytes at n table id start end right h =
     let found = found_in bytes at n table id (start, end) right h in
     let starts : start ≡ (chunk_at bytes at found.0).start = ap (λ p. p.0) found.1.is in
@@ -146,34 +167,40 @@ range_of-in_order bytes at n table id start end right h =
     (omega (arith, starts, ends, right.rising found.0 found.1.within), omega (arith, ends, last, right.end))
 
 -- a chunk lies in the bytes
-pub range_of-in_file : (bytes : List ℕ) (at n : ℕ) (table : Table) (id : List ℕ) (place : ℕ × ℕ) → Chunks bytes at n table → range_of table id ≡ Some place → (place.0 ≤ place.1) × (place.1 ≤ length bytes)
+pub range_of-in_file : (bytes : List ℕ) (at n : ℕ) (table : Table) (id : List ℕ) (place : ℕ × ℕ) → Chunks bytes at n table
+    → range_of table id ≡ Some place → (place.0 ≤ place.1) × (place.1 ≤ length bytes)
 range_of-in_file bytes at n table id place right h =
     let order = range_of-in_order bytes at n table id place.0 place.1 right h in
     (order.0, omega (arith, order.1, end_in_file bytes at n table right))
 
 -- the id 0 is never found
 pub range_of-end_id : (bytes : List ℕ) (at n : ℕ) (table : Table) → Chunks bytes at n table → range_of table end_id ≡ None
-range_of-end_id bytes at n table right = ap (λ t. range_of t end_id) (Chunks-is bytes at n table right) ∙ range_of-none bytes at n end_id right.named
+range_of-end_id bytes at n table right = ap (λ t. range_of t end_id) (Chunks-is bytes at n table right)
+    ∙ range_of-none bytes at n end_id right.named
 
 -- the chunk with an id is found, and what is found is the chunk with the id
-pub range_of-contains : (bytes : List ℕ) (at n : ℕ) (table : Table) (id : List ℕ) (start end : ℕ) → Chunks bytes at n table → (range_of table id ≡ Some (start, end)) ↔ Contains table.chunks (record { id = id; start = start; end = end })
+pub range_of-contains : (bytes : List ℕ) (at n : ℕ) (table : Table) (id : List ℕ) (start end : ℕ) → Chunks bytes at n table
+    → (range_of table id ≡ Some (start, end)) ↔ Contains table.chunks (record { id = id; start = start; end = end })
 range_of-contains bytes at n table id start end right =
     let chunk : Chunk = record { id = id; start = start; end = end } in (
       λ h.
           let found = found_in bytes at n table id (start, end) right h in
           let within : found.0 < length table.chunks = omega (arith, found.1.within, right.counted) in
-          let is : chunk_at bytes at found.0 ≡ chunk = chunk-eq _ chunk found.1.same (sym (ap (λ p. p.0) found.1.is)) (sym (ap (λ p. p.1) found.1.is)) in
+          let is : chunk_at bytes at found.0 ≡ chunk =
+          chunk-eq _ chunk found.1.same (sym (ap (λ p. p.0) found.1.is)) (sym (ap (λ p. p.1) found.1.is)) in
           (found.0, within, get_or_from_slice_get table.chunks found.0 _ chunk (right.each found.0 found.1.within) ∙ is),
       λ found.
           let within : found.0 < n = omega (arith, found.1, right.counted) in
-          let is : chunk_at bytes at found.0 ≡ chunk = sym (get_or_from_slice_get table.chunks found.0 _ chunk (right.each found.0 within)) ∙ found.2 in
+          let is : chunk_at bytes at found.0 ≡ chunk =
+          sym (get_or_from_slice_get table.chunks found.0 _ chunk (right.each found.0 within)) ∙ found.2 in
           let same : (entry_at bytes at found.0).id ≡ id = ap (λ (c : Chunk). c.id) is in
           ap (λ t. range_of t id) (Chunks-is bytes at n table right)
           ∙ range_of-at bytes at n found.0 id (λ j k e. right.distinct j found.0 k within (e ∙ sym same)) same within
           ∙ ap (λ (c : Chunk). Some (c.start, c.end)) is,
     )
 
-pub within : (bytes : List ℕ) (at n : ℕ) (table : Table) (id : List ℕ) (start end : ℕ) → Chunks bytes at n table → range_of table id ≡ Some (start, end) → (start ≤ end) × (end ≤ table.end) × (table.end ≤ length bytes)
+pub within : (bytes : List ℕ) (at n : ℕ) (table : Table) (id : List ℕ) (start end : ℕ) → Chunks bytes at n table
+    → range_of table id ≡ Some (start, end) → (start ≤ end) × (end ≤ table.end) × (table.end ≤ length bytes)
 within bytes at n table id start end right h =
     let order = range_of-in_order bytes at n table id start end right h in
     (order.0, order.1, end_in_file bytes at n table right)

@@ -5,7 +5,8 @@ use Rattle.std.specs.List.{list_any, range_with_len}
 use Rattle.gix_chunk_core.specs.Entry.{entry_at, end_id}
 use Rattle.first_faults.specs.First.{◌when◌, ◌otherwise◌, first_below}
 use Rattle.gix_chunk_core.specs.declared.error.ChunkError.{ChunkError}
-use Rattle.gix_chunk_core.specs.declared.error.ChunkError.TheVariants.{NoChunks, TableTooSmall, EarlyEnd, Duplicate, OutOfFile, Falling, NoEnd}
+use Rattle.gix_chunk_core.specs.declared.error.ChunkError.TheVariants.{NoChunks, TableTooSmall, EarlyEnd, Duplicate, OutOfFile}
+use Rattle.gix_chunk_core.specs.declared.error.ChunkError.TheVariants.{Falling, NoEnd}
 
 -- an entry before entry i has the same id
 unfoldable pub has_earlier : List ℕ → ℕ → ℕ → Bool

@@ -1,5 +1,6 @@
 -- The table of chunks (gitformat-chunk, "DESCRIPTION"; gitformat-commit-graph, "CHUNK LOOKUP").
-use Rattle.std.specs.Prelude.{◌≡◌, ◌≢◌, ◌<◌, ◌≤◌, ℕ, ◌+◌, ◌*◌, List, map, length, slice_get, Option, Some, option_map, bytes_eq, find}
+use Rattle.std.specs.Prelude.{◌≡◌, ◌≢◌, ◌<◌, ◌≤◌, ℕ, ◌+◌, ◌*◌, List, map, length, slice_get, Option, Some, option_map, bytes_eq}
+use Rattle.std.specs.Prelude.{find}
 use Rattle.std.specs.List.{range_with_len}
 use Rattle.gix_chunk_core.specs.Entry.{entry_at, end_id}
 

@@ -2,8 +2,8 @@
 
 use thiserror::Error;
 
-/// The first condition that refuses a table of chunks, as [`Index::from_bytes`] lists them. Entries count from 0, and
-/// the last one, which ends the table, has the number of chunks as its number.
+/// The first condition that refuses a table of chunks, as [`Index::from_bytes`] lists them. Entries
+/// count from 0, and the last one, which ends the table, has the number of chunks as its number.
 ///
 /// It is displayed as the name of the variant.
 ///

@@ -1,8 +1,10 @@
 //! Reading the table of chunks.
 
-ghost use Rattle.std.specs.Prelude.{◌≡◌, ◌+◌, ◌*◌, ◌^◌, ◌≤◌, ◌<◌, length, Some, None, IsNone, IfSome, IfOk, OnOk, OnErr, IfErr, option_map};
+ghost use Rattle.std.specs.Prelude.{◌≡◌, ◌+◌, ◌*◌, ◌^◌, ◌≤◌, ◌<◌, length, Some, None, IsNone};
+ghost use Rattle.std.specs.Prelude.{IfSome, IfOk, OnOk, OnErr, IfErr, option_map};
 ghost use Rattle.gix_chunk_core.specs.Entry.{entry_at, end_id};
-ghost use Rattle.gix_chunk_core.specs.Fault.{has_earlier, offset_fault, entry_fault, end_fault, table_fault};
+ghost use Rattle.gix_chunk_core.specs.Fault.{has_earlier, offset_fault, entry_fault, end_fault};
+ghost use Rattle.gix_chunk_core.specs.Fault.{table_fault};
 ghost use Rattle.gix_chunk_core.specs.Table.{Table, Chunks, range_of};
 
 use crate::ChunkError;
@@ -141,9 +143,9 @@ impl<'a> Model for Index<'a> {
 }
 
 impl<'a> Index<'a> {
-    /// Reads the table of `count` chunks that begins `at` bytes after the start of a file's bytes. It has `count + 1`
-    /// entries of twelve bytes: a chunk's id, and the offset at which the chunk begins and the one before it ends. The
-    /// last entry has the id 0, and ends the last chunk.
+    /// Reads the table of `count` chunks that begins `at` bytes after the start of a file's bytes.
+    /// It has `count + 1` entries of twelve bytes: a chunk's id, and the offset at which the chunk
+    /// begins and the one before it ends. The last entry has the id 0, and ends the last chunk.
     ///
     /// # Errors
     ///
@@ -151,9 +153,9 @@ impl<'a> Index<'a> {
     ///
     /// 1. `NoChunks`: `count` is 0.
     /// 2. `TableTooSmall`: the table does not end within the bytes.
-    /// 3. Of the entries of chunks in turn, `EarlyEnd`: the id is 0; `Duplicate`: an entry before it has its id;
-    ///    `OutOfFile`: the offset is greater than the number of bytes; `Falling`: the offset is less than that of the
-    ///    entry before it.
+    /// 3. Of the entries of chunks in turn, `EarlyEnd`: the id is 0; `Duplicate`: an entry before
+    ///    it has its id; `OutOfFile`: the offset is greater than the number of bytes; `Falling`:
+    ///    the offset is less than that of the entry before it.
     /// 4. Of the last entry, `OutOfFile` or `Falling` likewise; `NoEnd`: the id is not 0.
     #[tactic(auto, using(crate::proofs::TableLemmas::fault_laws))]
     pub fn from_bytes(data: &'a [u8], at: usize, count: u32) -> Result<Index<'a>, ChunkError>
@@ -173,13 +175,15 @@ impl<'a> Index<'a> {
         }
     }
 
-    /// Where the chunk with this id stands in the file, from its first byte up to, without, its end. `None` where no
-    /// chunk has the id, as with the id 0, which ends the table.
+    /// Where the chunk with this id stands in the file, from its first byte up to, without, its
+    /// end. `None` where no chunk has the id, as with the id 0, which ends the table.
     #[tactic(auto, using(crate::proofs::RangeLemmas::range_laws, crate::proofs::TableLemmas::place_laws))]
     pub fn range_by_id(&self, id: [u8; 4]) -> Option<Range<usize>>
-        ensures place { option_map (λ range. (range.start, range.end)) result ≡ range_of self.now id }
+        ensures place { option_map (λ range. (range.start, range.end)) result
+            ≡ range_of self.now id }
         ensures end_id { id ≡ end_id → IsNone result }
-        ensures in_order { IfSome result (λ range. (range.start ≤ range.end) × (range.end ≤ self.now.end)) }
+        ensures in_order { IfSome result (λ range.
+            (range.start ≤ range.end) × (range.end ≤ self.now.end)) }
     {
         for i in 0..self.count {
             let entry = entry_at(self.bytes, self.at, i);

@@ -1,12 +1,13 @@
 //! What holds of all bytes.
 
-ghost use Rattle.std.specs.Prelude.{◌≡◌, ◌<◌, ◌≤◌, ◌↔◌, ℕ, List, length, Option, Some, None, Contains};
+ghost use Rattle.std.specs.Prelude.{◌≡◌, ◌<◌, ◌≤◌, ◌↔◌, ℕ, List, length, Option, Some, None};
+ghost use Rattle.std.specs.Prelude.{Contains};
 ghost use Rattle.gix_chunk_core.specs.Entry.{end_id};
 ghost use Rattle.gix_chunk_core.specs.Fault.{table_fault};
 ghost use Rattle.gix_chunk_core.specs.Table.{Table, Chunks, range_of};
 
-/// Bytes have a table of so many chunks at an offset exactly where no condition refuses it, and they then have one such
-/// table alone.
+/// Bytes have a table of so many chunks at an offset exactly where no condition refuses it, and
+/// they then have one such table alone.
 #[tactic(auto, using(crate::proofs::TableLemmas::decided_laws))]
 pub fn tables_are_read_or_refused()
     ensures decided { (bytes : List ℕ) (at count : ℕ)
@@ -15,8 +16,8 @@ pub fn tables_are_read_or_refused()
         → Chunks bytes at count table → Chunks bytes at count other → table ≡ other }
 {}
 
-/// In a table that bytes have, an id is found where exactly the chunk with that id lies, which is within the bytes, and
-/// the id 0 is never found.
+/// In a table that bytes have, an id is found where exactly the chunk with that id lies, which is
+/// within the bytes, and the id 0 is never found.
 #[tactic(auto, using(crate::proofs::TableLemmas::found_laws))]
 pub fn chunks_are_found_by_id()
     ensures found { (bytes : List ℕ) (at count : ℕ) (table : Table) (id : List ℕ) (start end : ℕ)

@@ -1,5 +1,6 @@
 -- How the check of a graph goes over the points of one commit.
-use Rattle.std.proofs.Common.{◌≡◌, ℕ, ◌+◌, Bool, true, false, not, ◌==◌, List, [], ◌∷◌, map, min, Option, Some, None, option_map, Result, Ok, Err, nat_lt, eq-eqb, ne_eqb, refl, sym, ap, subst, ◌∙◌, arith}
+use Rattle.std.proofs.Common.{◌≡◌, ℕ, ◌+◌, Bool, true, false, not, ◌==◌, List, [], ◌∷◌, map, min, Option, Some, None, option_map}
+use Rattle.std.proofs.Common.{Result, Ok, Err, nat_lt, eq-eqb, ne_eqb, refl, sym, ap, subst, ◌∙◌, arith}
 use Rattle.first_faults.specs.First.{◌when◌}
 use Rattle.graph_format.specs.Layer.{Layer, record_at}
 use Rattle.graph_layer.specs.Commit.{commit_layer, commit_pos}
@@ -19,7 +20,8 @@ use Rattle.graph_format.specs.declared.parents.ParentError.{ParentError}
 use Rattle.gix_commitgraph.specs.declared.verify.VerifyError.{VerifyError}
 use Rattle.gix_commitgraph.specs.declared.verify.VerifyError.TheVariants as error
 use Rattle.gix_commitgraph.specs.declared.verify.layer.LayerSpan.{LayerSpan}
-use Rattle.graph_format.proofs.PointLemmas.{Reaches, reached_start, reached_past_check, refused_at_check, reached_past_call, stopped_at_call, passed}
+use Rattle.graph_format.proofs.PointLemmas.{Reaches, reached_start, reached_past_check, refused_at_check, reached_past_call}
+use Rattle.graph_format.proofs.PointLemmas.{stopped_at_call, passed}
 
 -- what holds of each refusal that may be found holds of the first one
 pub first_some-holds : {A X : Type 0} (P : X → Type 0) (h : A → Option X) → ((a : A) (x : X) → h a ≡ Some x → P x)
@@ -32,7 +34,8 @@ first_some-holds {A} {X} P h each (a ∷ items) x found = by_head (h a) refl (fi
     by_head (Some y) is others found = each a x (is ∙ sym found)
 
 -- a refusal that is no answer of the processor, where a test finds it
-pub cause_of-when : {E : Type 0} (b : Bool) (y x : VerifyError E) → cause_of y ≡ refused y → (y when b) ≡ Some x → cause_of x ≡ refused x
+pub cause_of-when : {E : Type 0} (b : Bool) (y x : VerifyError E) → cause_of y ≡ refused y → (y when b) ≡ Some x
+    → cause_of x ≡ refused x
 cause_of-when true y x is found = let same : x ≡ y = cc in rw same is
 cause_of-when false y x is found = cc
 
@@ -45,26 +48,32 @@ cause_of-parents {E} p stop = first_some-holds (λ x. cause_of x ≡ refused x) 
     each (Ok q) x found = cause_of-when (not (nat_lt q.0 stop)) _ x refl found
     each (Err e) x found = let same : x ≡ error.Parent (position_of p) e = cc in rw same refl
 
-pub wrong_generation : {E : Type 0} (history : List Node) (p stored expected : ℕ) → stored ≡ generation_at history p → expected ≡ expected_generation history p
+pub wrong_generation : {E : Type 0} (history : List Node) (p stored expected : ℕ) → stored ≡ generation_at history p
+    → expected ≡ expected_generation history p
     → (stored ≡ expected → ⊥) → generation_refusal {E = E} history p ≡ Some (error.Generation (position_of p) expected)
 wrong_generation {E} history p stored expected is_stored is_expected differs =
-    let test : (generation_at history p == expected_generation history p) ≡ false = ne_eqb _ _ (λ same. differs (is_stored ∙ same ∙ sym is_expected)) in
+    let test : (generation_at history p == expected_generation history p) ≡ false = ne_eqb _ _ (λ same.
+    differs (is_stored ∙ same ∙ sym is_expected)) in
     rw (is_expected, test) refl
 
-pub right_generation : {E : Type 0} (history : List Node) (p stored expected : ℕ) → stored ≡ generation_at history p → expected ≡ expected_generation history p
+pub right_generation : {E : Type 0} (history : List Node) (p stored expected : ℕ) → stored ≡ generation_at history p
+    → expected ≡ expected_generation history p
     → stored ≡ expected → generation_refusal {E = E} history p ≡ None
 right_generation {E} history p stored expected is_stored is_expected same =
-    let test : (generation_at history p == expected_generation history p) ≡ true = eq-eqb _ _ (sym is_stored ∙ same ∙ is_expected) in
+    let test : (generation_at history p == expected_generation history p) ≡ true =
+    eq-eqb _ _ (sym is_stored ∙ same ∙ is_expected) in
     rw test refl
 
 -- the number that the code comes to
-pub expected-is : (history : List Node) (p most more expected : ℕ) → most ≡ greatest (map (generation_at history) (parents_at history p))
+pub expected-is : (history : List Node) (p most more expected : ℕ)
+    → most ≡ greatest (map (generation_at history) (parents_at history p))
     → more ≡ min (most + 1) 4294967295 → expected ≡ min more 1073741823 → expected ≡ expected_generation history p
 unfolding expected_generation
 expected-is history p most more expected is_most is_more is = omega arith
 
 -- The commit at p of a layer, point by point.
-module _ {F E : Type 0} (step : F → ℕ → Result (Unit {0}) E → F → Type 0) (f : F) (layers : List Layer) (span : LayerSpan) (commit : Commit) (p : ℕ) (is : IsSpan layers span) (at : IsInSpan span commit p) where
+module _ {F E : Type 0} (step : F → ℕ → Result (Unit {0}) E → F → Type 0) (f : F) (layers : List Layer) (span : LayerSpan)
+    (commit : Commit) (p : ℕ) (is : IsSpan layers span) (at : IsInSpan span commit p) where
   abbrev points : List (Point (VerifyError E))
   points = commit_points layers span.layer span.file.now (commit_pos commit)
 
@@ -86,19 +95,24 @@ module _ {F E : Type 0} (step : F → ℕ → Result (Unit {0}) E → F → Type
       subst P (ap (λ (q : ℕ). from q span.file.now) here ∙ ap (from p) (sym at.layer)) (reached_start step points f)
 
   module _ (ids : None ≡ commit_fault (commit_layer commit) (commit_pos commit)) where
-    at_parents : Reaches step points f (check (parents_refusal layers span.layer span.file.now (commit_pos commit)) ∷ check (generation_refusal (history_of layers) p) ∷ call p ∷ []) f
+    at_parents : Reaches step points f
+        (check (parents_refusal layers span.layer span.file.now (commit_pos commit)) ∷ check
+        (generation_refusal (history_of layers) p) ∷ call p ∷ []) f
     at_parents = reached_past_check step points f _ _ f (ap (option_map (error.Commit (position_of p))) (sym ids)) at_ids
 
-    pub refused_by_parents : (x : VerifyError E) → Some x ≡ parents_refusal layers span.layer span.file.now (commit_pos commit) → StopsBy step points f f (cause_of x)
+    pub refused_by_parents : (x : VerifyError E) → Some x ≡ parents_refusal layers span.layer span.file.now (commit_pos commit)
+        → StopsBy step points f f (cause_of x)
     refused_by_parents x some =
-        rw (cause_of-parents (start layers span.layer + commit_pos commit) (stop layers span.layer) (items_of (parents_of (record_at span.file.now (commit_pos commit)) span.file.now.edges)) x some)
+        rw (cause_of-parents (start layers span.layer + commit_pos commit) (stop layers span.layer)
+        (items_of (parents_of (record_at span.file.now (commit_pos commit)) span.file.now.edges)) x some)
         (refused_at_check step points f _ _ f x (sym some) at_parents)
 
     module _ (parents : None ≡ parents_refusal {E = E} layers span.layer span.file.now (commit_pos commit)) where
       at_generation : Reaches step points f (check (generation_refusal (history_of layers) p) ∷ call p ∷ []) f
       at_generation = reached_past_check step points f _ _ f (sym parents) at_parents
 
-      pub refused_by_generation : (x : VerifyError E) → generation_refusal (history_of layers) p ≡ Some x → IsRefused step points f f x
+      pub refused_by_generation : (x : VerifyError E) → generation_refusal (history_of layers) p ≡ Some x
+          → IsRefused step points f f x
       refused_by_generation x some = refused_at_check step points f _ _ f x some at_generation
 
       module _ (generation : generation_refusal {E = E} (history_of layers) p ≡ None) (g : F) where

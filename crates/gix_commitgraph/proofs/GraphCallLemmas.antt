@@ -12,19 +12,23 @@ use Rattle.graph_format.proofs.PointLemmas.{calls-append}
 use Rattle.graph_format.proofs.CallRangeLemmas.{range-append, calls-range}
 
 module _ (E : Type 0) where
-  calls-layer_at : (layers : List Layer) (i : ℕ) (layer : Layer) → calls (layer_points {E = E} layers i layer) ≡ range_with_len (start layers i) (size layer)
+  calls-layer_at : (layers : List Layer) (i : ℕ) (layer : Layer)
+      → calls (layer_points {E = E} layers i layer) ≡ range_with_len (start layers i) (size layer)
   calls-layer_at layers i layer =
       calls-range (commit_points layers i layer) (start layers i) (λ pos. refl) 0 (size layer)
       ∙ ap (λ (p : ℕ). range_with_len p (size layer)) (omega arith)
 
   -- the layers from layer i on, which are the last of all
   calls-layers : (layers rest : List Layer) (i : ℕ) → ((j : ℕ) → start layers (i + j) ≡ start layers i + start rest j)
-      → calls (flat_map (λ e. layer_points {E = E} layers e.0 e.1) (enumerate_from i rest)) ≡ range_with_len (start layers i) (total rest)
+      → calls (flat_map (λ e. layer_points {E = E} layers e.0 e.1) (enumerate_from i rest))
+      ≡ range_with_len (start layers i) (total rest)
   calls-layers layers [] i follow = refl
   calls-layers layers (layer ∷ rest) i follow =
-      let later : List (Point (VerifyError E)) = flat_map (λ e. layer_points {E = E} layers e.0 e.1) (enumerate_from (i + 1) rest) in
+      let later : List (Point (VerifyError E)) =
+      flat_map (λ e. layer_points {E = E} layers e.0 e.1) (enumerate_from (i + 1) rest) in
       let next : start layers (i + 1) ≡ start layers i + size layer =
-      follow 1 ∙ ap (λ (n : ℕ). start layers i + n) (start-cons layer rest 0 ∙ ap (λ (n : ℕ). size layer + n) (start-none rest) ∙ omega arith) in
+      follow 1 ∙ ap (λ (n : ℕ). start layers i + n) (start-cons layer rest 0 ∙ ap (λ (n : ℕ). size layer + n) (start-none rest)
+      ∙ omega arith) in
       let follow_next : (j : ℕ) → start layers (i + 1 + j) ≡ start layers (i + 1) + start rest j =
       λ j. ap (start layers) (omega arith) ∙ follow (suc j) ∙ omega (arith, next, start-cons layer rest j) in
       calls-append (layer_points layers i layer) later

@@ -1,5 +1,6 @@
 -- How the check of a graph goes over the points of its layers.
-use Rattle.std.proofs.Common.{◌≡◌, ℕ, ◌+◌, ◌≤◌, false, List, [], ◌++◌, length, drop, Some, Result, nat_lt, slice_get, refl, ap, subst}
+use Rattle.std.proofs.Common.{◌≡◌, ℕ, ◌+◌, ◌≤◌, false, List, [], ◌++◌, length, drop, Some, Result, nat_lt, slice_get, refl, ap}
+use Rattle.std.proofs.Common.{subst}
 use Rattle.std.specs.List.{flat_map, enumerate_from}
 use Rattle.std.specs.Fn.{Mut}
 use Rattle.std.proofs.lemmas.Bool.{le-ltb}
@@ -21,14 +22,17 @@ use Rattle.graph_layer.proofs.ElementLemmas.{drop-next}
 abbrev pub layers_from : {E : Type 0} → List Layer → ℕ → List (Point (VerifyError E))
 layers_from layers i = flat_map (λ e. layer_points layers e.0 e.1) (enumerate_from i (drop i layers))
 
-layers_from-next : {E : Type 0} (layers : List Layer) (i : ℕ) (layer : Layer) → slice_get layers i ≡ Some layer → layers_from {E = E} layers i ≡ layer_points layers i layer ++ layers_from layers (i + 1)
+layers_from-next : {E : Type 0} (layers : List Layer) (i : ℕ) (layer : Layer) → slice_get layers i ≡ Some layer
+    → layers_from {E = E} layers i ≡ layer_points layers i layer ++ layers_from layers (i + 1)
 layers_from-next {E} layers i layer there =
-    let from : List Layer → List (Point (VerifyError E)) = λ rest. flat_map (λ e. layer_points layers e.0 e.1) (enumerate_from i rest) in
+    let from : List Layer → List (Point (VerifyError E)) = λ rest.
+    flat_map (λ e. layer_points layers e.0 e.1) (enumerate_from i rest) in
     ap from (drop-next layers i layer there)
 
 layers_from-end : {E : Type 0} (layers : List Layer) (i : ℕ) → length layers ≤ i → layers_from {E = E} layers i ≡ []
 layers_from-end {E} layers i past =
-    let from : List Layer → List (Point (VerifyError E)) = λ rest. flat_map (λ e. layer_points layers e.0 e.1) (enumerate_from i rest) in
+    let from : List Layer → List (Point (VerifyError E)) = λ rest.
+    flat_map (λ e. layer_points layers e.0 e.1) (enumerate_from i rest) in
     ap from (drop_all i layers past)
 
 -- A graph, layer by layer.
@@ -40,22 +44,29 @@ module _ {F E : Type 0} (processor : Mut F (Bor Commit × Unit {0}) (Result (Uni
   pub reached_layers : length layers ≤ 256 → ReachesLayer 0 f
   reached_layers few =
       let test : nat_lt 256 (length layers) ≡ false = le-ltb _ _ few in
-      reached_past_check (CalledOn processor (InGraph layers)) (graph_points {E = E} layers) f (error.TooManyFiles when nat_lt 256 (length layers)) (layers_from layers 0) f (rw test refl)
+      reached_past_check (CalledOn processor (InGraph layers)) (graph_points {E = E} layers) f
+      (error.TooManyFiles when nat_lt 256 (length layers)) (layers_from layers 0) f (rw test refl)
       (reached_start _ _ f)
 
   module _ (i : ℕ) (layer : Layer) (there : slice_get layers i ≡ Some layer) (g h : F) (reached : ReachesLayer i g) where
-    at_layer : Reaches (CalledOn processor (InGraph layers)) (graph_points {E = E} layers) f (layer_points layers i layer ++ layers_from layers (i + 1)) g
+    at_layer : Reaches (CalledOn processor (InGraph layers)) (graph_points {E = E} layers) f
+        (layer_points layers i layer ++ layers_from layers (i + 1)) g
     at_layer = rw (layers_from-next layers i layer there) at reached
 
-    pub stops_in_layer : (s : Cause (VerifyError E) E) → StopsBy (CalledOn processor (InGraph layers)) (layer_points layers i layer) g h s
+    pub stops_in_layer : (s : Cause (VerifyError E) E)
+        → StopsBy (CalledOn processor (InGraph layers)) (layer_points layers i layer) g h s
         → StopsBy (CalledOn processor (InGraph layers)) (graph_points {E = E} layers) f h s
     stops_in_layer s r = stops_in_part _ _ f (layer_points layers i layer) (layers_from layers (i + 1)) g h at_layer s r
 
-    pub reached_next_layer : Passes (CalledOn processor (InGraph layers)) (layer_points {E = E} layers i layer) g h → ReachesLayer (i + 1) h
-    reached_next_layer passes = reached_past_part _ _ f (layer_points layers i layer) (layers_from layers (i + 1)) g h at_layer passes
+    pub reached_next_layer : Passes (CalledOn processor (InGraph layers)) (layer_points {E = E} layers i layer) g h
+        → ReachesLayer (i + 1) h
+    reached_next_layer passes =
+        reached_past_part _ _ f (layer_points layers i layer) (layers_from layers (i + 1)) g h at_layer passes
 
   -- behind the last layer the graph is passed
-  pub graph_passed : (i : ℕ) (g : F) → length layers ≤ i → ReachesLayer i g → Passes (CalledOn processor (InGraph layers)) (graph_points {E = E} layers) f g
+  pub graph_passed : (i : ℕ) (g : F) → length layers ≤ i → ReachesLayer i g
+      → Passes (CalledOn processor (InGraph layers)) (graph_points {E = E} layers) f g
   graph_passed i g past reached =
-      let P : List (Point (VerifyError E)) → Type 0 = λ rest. Reaches (CalledOn processor (InGraph layers)) (graph_points {E = E} layers) f rest g in
+      let P : List (Point (VerifyError E)) → Type 0 = λ rest.
+      Reaches (CalledOn processor (InGraph layers)) (graph_points {E = E} layers) f rest g in
       passed _ _ f g (subst P (layers_from-end layers i past) reached)

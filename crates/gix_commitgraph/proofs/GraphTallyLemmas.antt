@@ -15,10 +15,12 @@ use Rattle.gix_commitgraph.specs.declared.verify.Outcome as verify
 use Rattle.gix_commitgraph.proofs.HistoryLemmas.{history-counted}
 
 -- the numbers of parents of a graph's commits, counted in a map whose keys ascend
-pub graph_tallied : (layers : List Layer) (outcome : verify.Outcome) → tree.IsOrdered nat_cmp outcome.parent_counts → All IsOpened layers → Stats layers outcome → sum (tree.values outcome.parent_counts) ≡ outcome.num_commits
+pub graph_tallied : (layers : List Layer) (outcome : verify.Outcome) → tree.IsOrdered nat_cmp outcome.parent_counts
+    → All IsOpened layers → Stats layers outcome → sum (tree.values outcome.parent_counts) ≡ outcome.num_commits
 graph_tallied layers outcome ordered opened stats =
     let history = history_of layers in
-    tallied (eq_by_cmp nat_cmp) unsigned_tied outcome.parent_counts.entries (parent_numbers history) (IsDistinct-from_sorted nat_cmp (tree.keys outcome.parent_counts) ordered) stats.parent_counts
+    tallied (eq_by_cmp nat_cmp) unsigned_tied outcome.parent_counts.entries (parent_numbers history)
+    (IsDistinct-from_sorted nat_cmp (tree.keys outcome.parent_counts) ordered) stats.parent_counts
     ∙ length-map history (λ node. length node.parents)
     ∙ history-counted layers opened
     ∙ sym stats.num_commits

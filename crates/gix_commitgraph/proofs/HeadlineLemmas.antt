@@ -14,7 +14,8 @@ use Rattle.gix_commitgraph.specs.declared.verify.VerifyError.TheVariants as erro
 use Rattle.gix_commitgraph.proofs.HistoryLemmas.{length-history_of, all-paired}
 use Rattle.gix_commitgraph.proofs.SoundLemmas.{sound-from_passes, sound-not_refused, sound-scanned, summarized-longest}
 
-module _ {F E : Type 0} (step : F → ℕ → Result (Unit {0}) E → F → Type 0) (layers : List Layer) (f g : F) (opened : All IsOpened layers) where
+module _ {F E : Type 0} (step : F → ℕ → Result (Unit {0}) E → F → Type 0) (layers : List Layer) (f g : F)
+    (opened : All IsOpened layers) where
   deserved : (x : VerifyError E) → Agrees step (graph_points layers) f g {T = Outcome} cause_of (Err x) → IsDeserved layers x
   deserved (error.Processor pos e) agrees = tt
   deserved error.OutOfMemory agrees = tt
@@ -28,7 +29,8 @@ module _ {F E : Type 0} (step : F → ℕ → Result (Unit {0}) E → F → Type
   deserved (error.Generation pos expected) agrees = λ sound. sound-not_refused step layers f g opened sound _ agrees
 
   -- an Ok is that of a right graph, and a refusal by name that of another
-  pub judged : (r : Result Outcome (VerifyError E)) → Agrees step (graph_points layers) f g cause_of r → MatchResult r (λ _. Sound layers) (IsDeserved layers)
+  pub judged : (r : Result Outcome (VerifyError E)) → Agrees step (graph_points layers) f g cause_of r
+      → MatchResult r (λ _. Sound layers) (IsDeserved layers)
   judged (Ok outcome) agrees = sound-from_passes step layers f g opened agrees
   judged (Err x) agrees = deserved x agrees
 
@@ -39,10 +41,13 @@ module _ {F E : Type 0} (step : F → ℕ → Result (Unit {0}) E → F → Type
     longest_path_length = summarized-longest layers outcome sound sums;
   }
 
-  pub right_stats : (r : Result Outcome (VerifyError E)) → Agrees step (graph_points layers) f g cause_of r → IfOk r (Summarizes (history_of layers)) → IfOk r (Stats layers)
+  pub right_stats : (r : Result Outcome (VerifyError E)) → Agrees step (graph_points layers) f g cause_of r
+      → IfOk r (Summarizes (history_of layers)) → IfOk r (Stats layers)
   right_stats (Ok outcome) agrees sums = counted outcome (sound-from_passes step layers f g opened agrees) sums
   right_stats (Err x) agrees sums = tt
 
-  pub right_lookups : (r : Result Outcome (VerifyError E)) → Agrees step (graph_points layers) f g cause_of r → IfOk r (λ _. LookupsAreScans layers)
-  right_lookups (Ok outcome) agrees = λ id answer found. sound-scanned layers id answer (sound-from_passes step layers f g opened agrees) found
+  pub right_lookups : (r : Result Outcome (VerifyError E)) → Agrees step (graph_points layers) f g cause_of r → IfOk r (λ _.
+      LookupsAreScans layers)
+  right_lookups (Ok outcome) agrees = λ id answer found.
+      sound-scanned layers id answer (sound-from_passes step layers f g opened agrees) found
   right_lookups (Err x) agrees = tt

@@ -1,5 +1,7 @@
 -- laws of the layers of a graph
-use Rattle.std.proofs.Common.{◌≡◌, ℕ, zero, suc, ◌+◌, ◌-◌, ◌^◌, ◌<◌, ◌≤◌, List, [], ◌∷◌, ◌++◌, length, take, Bool, true, not, Option, Some, None, unwrap_or, option_map, get_or, slice_get, All, AllPairs, refl, sym, ap, ◌∙◌, arith, ⊎_elim}
+use Rattle.std.proofs.Common.{◌≡◌, ℕ, zero, suc, ◌+◌, ◌-◌, ◌^◌, ◌<◌, ◌≤◌, List, [], ◌∷◌, ◌++◌, length, take, Bool, true, not}
+use Rattle.std.proofs.Common.{Option, Some, None, unwrap_or, option_map, get_or, slice_get, All, AllPairs, refl, sym, ap, ◌∙◌}
+use Rattle.std.proofs.Common.{arith, ⊎_elim}
 use Rattle.std.specs.List.{flat_map}
 use Rattle.std.proofs.lemmas.Bool.{not-false, ltb-false, eqb-false, cases_lt}
 use Rattle.std.proofs.lemmas.List.{take_all}
@@ -28,10 +30,12 @@ abbrev pub size : Layer → ℕ
 size layer = length layer.ids
 
 -- the commits before the next layer
-pub start-more : (layers : List Layer) (i : ℕ) (layer : Layer) → slice_get layers i ≡ Some layer → start layers (i + 1) ≡ start layers i + size layer
+pub start-more : (layers : List Layer) (i : ℕ) (layer : Layer) → slice_get layers i ≡ Some layer
+    → start layers (i + 1) ≡ start layers i + size layer
 unfolding start
 start-more layers i layer here =
-    sum_by_more size layers i layer (slice_get_within layers i layer here) ∙ ap (λ (l : Layer). total (take i layers) + size l) (get_or_from_slice_get layers i layer layer here)
+    sum_by_more size layers i layer (slice_get_within layers i layer here)
+    ∙ ap (λ (l : Layer). total (take i layers) + size l) (get_or_from_slice_get layers i layer layer here)
 
 pub start-none : (layers : List Layer) → start layers 0 ≡ 0
 unfolding start
@@ -64,7 +68,9 @@ get-back (x ∷ xs) ys i = ap (slice_get (x ∷ (xs ++ ys))) (more (length xs) i
     more n i = omega arith
 
 -- what stands at a place of the parts one after another, where each part has as many as its layer has commits
-flat_map-at : {X : Type 0} (f : Layer → List X) → ((layer : Layer) → length (f layer) ≡ size layer) → (layers : List Layer) (i j : ℕ) (layer : Layer) → slice_get layers i ≡ Some layer → j < size layer → slice_get (flat_map f layers) (start layers i + j) ≡ slice_get (f layer) j
+flat_map-at : {X : Type 0} (f : Layer → List X) → ((layer : Layer) → length (f layer) ≡ size layer)
+    → (layers : List Layer) (i j : ℕ) (layer : Layer) → slice_get layers i ≡ Some layer → j < size layer
+    → slice_get (flat_map f layers) (start layers i + j) ≡ slice_get (f layer) j
 flat_map-at f long [] i j layer here h = cc
 flat_map-at f long (x ∷ xs) zero j layer here h =
     let same : x ≡ layer = same_Some x layer here in
@@ -84,10 +90,12 @@ pub length-places : (layer : Layer) → length (positions_from layer 0) ≡ size
 length-places layer = length-map-range_with_len (λ (pos : ℕ). (layer, pos)) 0 (length layer.ids - 0) ∙ omega arith
 
 -- the id and the commit at a position of a layer
-pub graph_ids-at : (layers : List Layer) (i j : ℕ) (layer : Layer) → slice_get layers i ≡ Some layer → j < size layer → slice_get (graph_ids layers) (start layers i + j) ≡ slice_get layer.ids j
+pub graph_ids-at : (layers : List Layer) (i j : ℕ) (layer : Layer) → slice_get layers i ≡ Some layer → j < size layer
+    → slice_get (graph_ids layers) (start layers i + j) ≡ slice_get layer.ids j
 graph_ids-at layers i j layer here h = flat_map-at (λ l. l.ids) (λ l. refl) layers i j layer here h
 
-pub graph_commits-at : (layers : List Layer) (i j : ℕ) (layer : Layer) → slice_get layers i ≡ Some layer → j < size layer → slice_get (graph_commits layers) (start layers i + j) ≡ Some (layer, j)
+pub graph_commits-at : (layers : List Layer) (i j : ℕ) (layer : Layer) → slice_get layers i ≡ Some layer → j < size layer
+    → slice_get (graph_commits layers) (start layers i + j) ≡ Some (layer, j)
 graph_commits-at layers i j layer here h =
     flat_map-at (λ l. positions_from l 0) length-places layers i j layer here h
     ∙ get-map-range (λ (pos : ℕ). (layer, pos)) 0 (length layer.ids - 0) j (omega (arith, h))
@@ -112,7 +120,9 @@ same_kind-alike Sha256 Sha1 e = cc
 same_kind-alike Sha256 Sha256 e = refl
 
 -- whether a layer and the one after it are of two kinds
-pub mismatch-is : (layers : List Layer) (i : ℕ) (layer next : Layer) (a b : Kind) (differ : Bool) → slice_get layers i ≡ Some layer → slice_get layers (i + 1) ≡ Some next → a ≡ layer.kind → b ≡ next.kind → differ ≡ not (sameb the_type a b) → mismatch_after layers i ≡ (HashMismatch (i + 1) when differ)
+pub mismatch-is : (layers : List Layer) (i : ℕ) (layer next : Layer) (a b : Kind) (differ : Bool)
+    → slice_get layers i ≡ Some layer → slice_get layers (i + 1) ≡ Some next → a ≡ layer.kind → b ≡ next.kind
+    → differ ≡ not (sameb the_type a b) → mismatch_after layers i ≡ (HashMismatch (i + 1) when differ)
 mismatch-is layers i layer next a b differ here there first second e =
     let same : same_kind (kind_at layers i) (kind_at layers (i + 1)) ≡ sameb the_type a b =
     ap (λ (k : Kind). same_kind k (kind_at layers (i + 1))) (kind_at-is layers i layer here ∙ sym first)
@@ -121,15 +131,18 @@ mismatch-is layers i layer next a b differ here there first second e =
     ap (λ (x : Bool). HashMismatch (i + 1) when x) (ap not same ∙ sym e)
 
 -- where no layer is of another kind than the one before it, all are of one kind
-kinds-by : (layers : List Layer) → first_below (mismatch_after layers) (length layers - 1) ≡ None → (i k : ℕ) → i + k < length layers → kind_at layers i ≡ kind_at layers (i + k)
+kinds-by : (layers : List Layer) → first_below (mismatch_after layers) (length layers - 1) ≡ None → (i k : ℕ)
+    → i + k < length layers → kind_at layers i ≡ kind_at layers (i + k)
 kinds-by layers none i zero h = ap (kind_at layers) (omega arith)
 kinds-by layers none i (suc k) h =
-    let agree : mismatch_after layers (i + k) ≡ None = first_below-none_at (mismatch_after layers) (i + k) (length layers - 1) none (omega arith) in
+    let agree : mismatch_after layers (i + k) ≡ None =
+    first_below-none_at (mismatch_after layers) (i + k) (length layers - 1) none (omega arith) in
     kinds-by layers none i k (omega arith)
     ∙ same_kind-alike _ _ (not-false _ (when-none (HashMismatch (i + k + 1)) _ agree))
     ∙ ap (kind_at layers) (omega arith)
 
-pub kinds-alike : (layers : List Layer) → mismatch_refusal layers ≡ None → AllPairs (λ layer later. layer.kind ≡ later.kind) layers
+pub kinds-alike : (layers : List Layer) → mismatch_refusal layers ≡ None
+    → AllPairs (λ layer later. layer.kind ≡ later.kind) layers
 unfolding mismatch_refusal
 kinds-alike layers none = λ i j d before within.
     let first : kind_at layers i ≡ (get_or layers i d).kind = kind_at-is layers i _ (slice_get-get_or layers i d (omega arith)) in
@@ -155,7 +168,8 @@ pub graph-accepted : (layers : List Layer) → graph_refusal layers ≡ None →
 graph-accepted layers none opened = record { makes = graph-made layers none; opened = opened }
 
 -- the kind of the first layer is that of all
-pub kind-first : (layers : List Layer) (first d : Layer) (k : ℕ) → IsGraph layers → first ≡ get_or layers 0 first → k < length layers → (get_or layers k d).kind ≡ first.kind
+pub kind-first : (layers : List Layer) (first d : Layer) (k : ℕ) → IsGraph layers → first ≡ get_or layers 0 first
+    → k < length layers → (get_or layers k d).kind ≡ first.kind
 kind-first layers first d k graph is within = ⊎_elim
     (λ (after : 0 < k). sym (graph.makes.alike 0 k d after within) ∙ head)
     (λ (none : k ≤ 0). ap (λ (n : ℕ). (get_or layers n d).kind) (omega arith) ∙ head)
@@ -169,15 +183,18 @@ kind-first layers first d k graph is within = ⊎_elim
 pub ruleset kind_laws = (kind-first)
 
 -- the commits of a graph up to the end of a layer are few
-pub counted-fits : (layers : List Layer) (i before : ℕ) (layer : Layer) → IsGraph layers → before ≡ start layers i → slice_get layers i ≡ Some layer → before + size layer < 2 ^ 32
+pub counted-fits : (layers : List Layer) (i before : ℕ) (layer : Layer) → IsGraph layers → before ≡ start layers i
+    → slice_get layers i ≡ Some layer → before + size layer < 2 ^ 32
 counted-fits layers i before layer graph counted here =
     omega (arith, graph.makes.few, counted, start-more layers i layer here, start-fits layers (i + 1))
 
-pub graph_commits-counted : (layers : List Layer) (i before j : ℕ) (layer : Layer) → before ≡ start layers i → slice_get layers i ≡ Some layer → j < size layer → slice_get (graph_commits layers) (before + j) ≡ Some (layer, j)
+pub graph_commits-counted : (layers : List Layer) (i before j : ℕ) (layer : Layer) → before ≡ start layers i
+    → slice_get layers i ≡ Some layer → j < size layer → slice_get (graph_commits layers) (before + j) ≡ Some (layer, j)
 graph_commits-counted layers i before j layer counted here h =
     ap (λ (n : ℕ). slice_get (graph_commits layers) (n + j)) counted ∙ graph_commits-at layers i j layer here h
 
-pub graph_ids-counted : (layers : List Layer) (i before j : ℕ) (layer : Layer) (id : List ℕ) → before ≡ start layers i → slice_get layers i ≡ Some layer → slice_get layer.ids j ≡ Some id → slice_get (graph_ids layers) (before + j) ≡ Some id
+pub graph_ids-counted : (layers : List Layer) (i before j : ℕ) (layer : Layer) (id : List ℕ) → before ≡ start layers i
+    → slice_get layers i ≡ Some layer → slice_get layer.ids j ≡ Some id → slice_get (graph_ids layers) (before + j) ≡ Some id
 graph_ids-counted layers i before j layer id counted here holds =
     ap (λ (n : ℕ). slice_get (graph_ids layers) (n + j)) counted
     ∙ graph_ids-at layers i j layer here (slice_get_within layer.ids j id holds)

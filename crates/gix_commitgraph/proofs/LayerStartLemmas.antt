@@ -1,5 +1,6 @@
 -- laws of the starts of the layers of a graph, and of a search that halves them
-use Rattle.std.proofs.Common.{◌≡◌, ℕ, ◌+◌, ◌-◌, ◌/◌, ◌<◌, ◌≤◌, List, [], ◌∷◌, ◌++◌, length, slice_get, slice_index, get_or, Some, refl, sym, ap, ◌∙◌, arith, ⊎_elim}
+use Rattle.std.proofs.Common.{◌≡◌, ℕ, ◌+◌, ◌-◌, ◌/◌, ◌<◌, ◌≤◌, List, [], ◌∷◌, ◌++◌, length, slice_get, slice_index, get_or, Some}
+use Rattle.std.proofs.Common.{refl, sym, ap, ◌∙◌, arith, ⊎_elim}
 use Rattle.std.proofs.lemmas.Bool.{cases_lt}
 use Rattle.std.proofs.lemmas.List.{get_or_read, get_or_append_left, get_or_push, length_push}
 use Rattle.std.proofs.lemmas.Option.{slice_get_read}
@@ -25,7 +26,8 @@ unfolding digits
 digits-one = refl
 
 -- the start that a graph keeps of a layer
-pub start-kept : (layers files : List Layer) (starts : List ℕ) (i found : ℕ) → files ≡ layers → IsGraphWithStarts files starts → i < length layers
+pub start-kept : (layers files : List Layer) (starts : List ℕ) (i found : ℕ) → files ≡ layers → IsGraphWithStarts files starts
+    → i < length layers
     → found ≡ get_or starts i found → found ≡ start layers i
 start-kept layers files starts i found view kept within read =
     let inside : i < length starts = omega (arith, kept.counted.one_each, ap length view) in
@@ -39,7 +41,8 @@ pub record StartsUpTo (layers : List Layer) (count : ℕ) (found : List ℕ) : T
 pub starts-none : (layers : List Layer) → StartsUpTo layers 0 []
 starts-none layers = record { counted = refl; each = λ i h. absurd (omega (arith, h)) }
 
-pub starts-more : (layers : List Layer) (count next : ℕ) (found more : List ℕ) → StartsUpTo layers count found → next ≡ start layers count → more ≡ found ++ next ∷ [] → StartsUpTo layers (count + 1) more
+pub starts-more : (layers : List Layer) (count next : ℕ) (found more : List ℕ) → StartsUpTo layers count found
+    → next ≡ start layers count → more ≡ found ++ next ∷ [] → StartsUpTo layers (count + 1) more
 starts-more layers count next found more starts is pushed = record {
   counted = ap length pushed ∙ length_push found next ∙ omega (arith, starts.counted);
   each = λ i h. ap (λ (ns : List ℕ). slice_index ns i) pushed ∙ ⊎_elim
@@ -48,19 +51,23 @@ starts-more layers count next found more starts is pushed = record {
       (cases_lt i count);
 }
 
-pub starts-all : (layers : List Layer) (count : ℕ) (found : List ℕ) → StartsUpTo layers count found → count ≡ length layers → AreStarts layers found
+pub starts-all : (layers : List Layer) (count : ℕ) (found : List ℕ) → StartsUpTo layers count found → count ≡ length layers
+    → AreStarts layers found
 starts-all layers count found starts all = record {
   one_each = starts.counted ∙ all;
   each = λ i h. starts.each i (omega (arith, h, starts.counted));
 }
 
 -- the layer that a graph keeps at an index
-pub layer-kept : (layers files : List Layer) (i : ℕ) (layer : Layer) → files ≡ layers → i < length layers → layer ≡ get_or files i layer → slice_get layers i ≡ Some layer
+pub layer-kept : (layers files : List Layer) (i : ℕ) (layer : Layer) → files ≡ layers → i < length layers
+    → layer ≡ get_or files i layer → slice_get layers i ≡ Some layer
 layer-kept layers files i layer view within read =
-    ap (λ (ls : List Layer). slice_get ls i) (sym view) ∙ slice_get_read files (length files) i layer refl (omega (arith, ap length view)) read
+    ap (λ (ls : List Layer). slice_get ls i) (sym view)
+    ∙ slice_get_read files (length files) i layer refl (omega (arith, ap length view)) read
 
 -- the last layer ends where the graph does
-pub last-stop : (layers : List Layer) (last first : ℕ) (layer : Layer) → last + 1 ≡ length layers → first ≡ start layers last → slice_get layers last ≡ Some layer → first + size layer ≡ total layers
+pub last-stop : (layers : List Layer) (last first : ℕ) (layer : Layer) → last + 1 ≡ length layers → first ≡ start layers last
+    → slice_get layers last ≡ Some layer → first + size layer ≡ total layers
 last-stop layers last first layer is_last is_first here =
     omega (arith, start-more layers last layer here, start-all layers (last + 1) (omega arith))
 
@@ -70,8 +77,10 @@ pub record IsKeptPlace (layers : List Layer) (pos first : ℕ) (layer : Layer) :
   pub id : slice_get (graph_ids layers) pos ≡ slice_get layer.ids (pos - first)
   pub within : pos - first < size layer
 
-pub place-kept : (layers files : List Layer) (starts : List ℕ) (pos i first : ℕ) (layer : Layer) → files ≡ layers → IsGraphWithStarts files starts → i < length layers
-    → first ≡ get_or starts i first → layer ≡ get_or files i layer → start layers i ≤ pos → pos < stop layers i → IsKeptPlace layers pos first layer
+pub place-kept : (layers files : List Layer) (starts : List ℕ) (pos i first : ℕ) (layer : Layer) → files ≡ layers
+    → IsGraphWithStarts files starts → i < length layers
+    → first ≡ get_or starts i first → layer ≡ get_or files i layer → start layers i ≤ pos → pos < stop layers i
+    → IsKeptPlace layers pos first layer
 place-kept layers files starts pos i first layer view kept within read_start read_layer from below =
     let is_first = start-kept layers files starts i first view kept within read_start in
     let here = layer-kept layers files i layer view within read_layer in

@@ -7,7 +7,8 @@ use Rattle.gix_commitgraph.specs.OpenAlways.{IsFromChain, IsFileError, IsFolderE
 use Rattle.gix_commitgraph.specs.Paths.{layer_path}
 use Rattle.graph_layer.specs.declared.opening.error.OpenError.{OpenError}
 use Rattle.graph_layer.specs.declared.opening.error.OpenError.TheVariants.{NothingFound, NotOpened, Device, ChainNotText}
-use Rattle.graph_layer.specs.declared.opening.error.OpenError.TheVariants.{Layer as layer_error, Graph as graph_error, OutOfMemory}
+use Rattle.graph_layer.specs.declared.opening.error.OpenError.TheVariants.{Layer as layer_error, Graph as graph_error}
+use Rattle.graph_layer.specs.declared.opening.error.OpenError.TheVariants.{OutOfMemory}
 
 -- an error of a file's opener is one of a folder's
 folder_error : (error : OpenError) → IsFileError error → IsFolderError error

@@ -12,7 +12,8 @@ pub join_path-more : (a b c : List ℕ) → join_path a b ++ c ≡ join_path a (
 join_path-more a b c = joined-more _ a b c
 
 -- as the path of a layer is made
-pub layer_path-joined : (folder line : List ℕ) → (join_path folder (codes "graph-") ++ line) ++ codes ".graph" ≡ layer_path folder line
+pub layer_path-joined : (folder line : List ℕ)
+    → (join_path folder (codes "graph-") ++ line) ++ codes ".graph" ≡ layer_path folder line
 layer_path-joined folder line =
     ap (λ (path : List ℕ). path ++ codes ".graph") (join_path-more folder (codes "graph-") line)
     ∙ join_path-more folder (codes "graph-" ++ line) (codes ".graph")

@@ -1,5 +1,6 @@
 -- The check of a graph names no fault exactly where the graph is right.
-use Rattle.std.proofs.Common.{◌≡◌, ℕ, ◌+◌, ◌<◌, ◌≤◌, List, length, get_or, slice_get, All, Option, Some, None, Result, refl, sym, ◌∙◌, subst}
+use Rattle.std.proofs.Common.{◌≡◌, ℕ, ◌+◌, ◌<◌, ◌≤◌, List, length, get_or, slice_get, All, Option, Some, None, Result, refl, sym}
+use Rattle.std.proofs.Common.{◌∙◌, subst}
 use Rattle.std.specs.Prelude.{◌↔◌}
 use Rattle.std.proofs.lemmas.Bool.{ltb-false, le-ltb}
 use Rattle.std.proofs.lemmas.List.Elements.{All-weaker}
@@ -17,7 +18,8 @@ use Rattle.graph_walks.specs.Walks.{MatchesLongestWalk}
 use Rattle.graph_format.specs.Faults.{layer_fault, commit_fault}
 use Rattle.graph_format.specs.Points.{first_fault, Passes, IsRefused}
 use Rattle.graph_walks.specs.Generations.{longest_path}
-use Rattle.gix_commitgraph.specs.Verify.{base_ids_refusal, parents_refusal, generation_refusal, commit_points, layer_points, graph_points, Summarizes}
+use Rattle.gix_commitgraph.specs.Verify.{base_ids_refusal, parents_refusal, generation_refusal, commit_points, layer_points}
+use Rattle.gix_commitgraph.specs.Verify.{graph_points, Summarizes}
 use Rattle.graph_format.specs.RightLayer.{IsRightLayer}
 use Rattle.gix_commitgraph.specs.Sound.{Sound}
 use Rattle.gix_commitgraph.specs.declared.verify.Outcome.{Outcome}
@@ -34,7 +36,8 @@ use Rattle.gix_commitgraph.proofs.ParentFaultFreeLemmas.{parents-iff, generation
 use Rattle.graph_walks.proofs.WalkLemmas.{counts_from_local, local_from_counts, longest_is_told}
 
 paired-at : (layers : List Layer) (i : ℕ) (layer : Layer) → All IsPaired layers → slice_get layers i ≡ Some layer → IsPaired layer
-paired-at layers i layer paired here = subst IsPaired (get_or_from_slice_get layers i layer layer here) (paired i layer (slice_get_within layers i layer here))
+paired-at layers i layer paired here =
+    subst IsPaired (get_or_from_slice_get layers i layer layer here) (paired i layer (slice_get_within layers i layer here))
 
 -- No condition on a commit fails.
 record IsPassedCommit (E : Type 0) (layers : List Layer) (i : ℕ) (layer : Layer) (pos : ℕ) : Type 0 where
@@ -53,7 +56,8 @@ abbrev ArePassed : Type 0 → List Layer → Type 0
 ArePassed E layers = (i : ℕ) (layer : Layer) → slice_get layers i ≡ Some layer → IsPassedLayer E layers i layer
 
 module _ {E : Type 0} where
-  commit_points-iff : (layers : List Layer) (i : ℕ) (layer : Layer) (pos : ℕ) → (first_fault (commit_points {E = E} layers i layer pos) ≡ None) ↔ IsPassedCommit E layers i layer pos
+  commit_points-iff : (layers : List Layer) (i : ℕ) (layer : Layer) (pos : ℕ)
+      → (first_fault (commit_points {E = E} layers i layer pos) ≡ None) ↔ IsPassedCommit E layers i layer pos
   commit_points-iff layers i layer pos = (
     λ h.
         let ids = (check-none _ _).0 h in
@@ -61,10 +65,14 @@ module _ {E : Type 0} where
         let generation = (check-none _ _).0 parents.1 in
         record { ids = (option_map-none _ (commit_fault layer pos)).0 ids.0; parents = parents.0; generation = generation.0 },
     λ passed.
-        (check-none _ _).1 ((option_map-none _ (commit_fault layer pos)).1 passed.ids, (check-none _ _).1 (passed.parents, (check-none _ _).1 (passed.generation, refl))),
+        (check-none _ _).1 (
+          (option_map-none _ (commit_fault layer pos)).1 passed.ids,
+          (check-none _ _).1 (passed.parents, (check-none _ _).1 (passed.generation, refl)),
+        ),
   )
 
-  layer_points-iff : (layers : List Layer) (i : ℕ) (layer : Layer) → (first_fault (layer_points {E = E} layers i layer) ≡ None) ↔ IsPassedLayer E layers i layer
+  layer_points-iff : (layers : List Layer) (i : ℕ) (layer : Layer) → (first_fault (layer_points {E = E} layers i layer) ≡ None)
+      ↔ IsPassedLayer E layers i layer
   layer_points-iff layers i layer =
       let each = range-none (commit_points {E = E} layers i layer) (length layer.ids) in (
         λ h.
@@ -85,21 +93,36 @@ module _ {E : Type 0} where
             ),
       )
 
-  graph_points-iff : (layers : List Layer) → (first_fault (graph_points {E = E} layers) ≡ None) ↔ ((length layers ≤ 256) × ArePassed E layers)
+  graph_points-iff : (layers : List Layer) → (first_fault (graph_points {E = E} layers) ≡ None)
+      ↔ ((length layers ≤ 256) × ArePassed E layers)
   graph_points-iff layers =
       let each = enumerate-none (layer_points {E = E} layers) layers in (
         λ h.
-            let few = (check-none _ _).0 h in
-            (ltb-false 256 (length layers) (when-none _ _ few.0), λ i layer here. (layer_points-iff layers i layer).0 (each.0 few.1 i layer here)),
+            let few = (check-none _ _).0 h in (
+              ltb-false 256 (length layers) (when-none _ _ few.0),
+              λ i layer here. (layer_points-iff layers i layer).0 (each.0 few.1 i layer here),
+            ),
         λ h.
-            (check-none _ _).1 (then_some-false _ _ (le-ltb 256 (length layers) h.0), each.1 (λ i layer here. (layer_points-iff layers i layer).1 (h.1 i layer here))),
+            (check-none _ _).1 (
+              then_some-false _ _ (le-ltb 256 (length layers) h.0),
+              each.1 (λ i layer here. (layer_points-iff layers i layer).1 (h.1 i layer here)),
+            ),
       )
 
-  right-from_passed : (layers : List Layer) (i : ℕ) (layer : Layer) → IsPaired layer → IsPassedLayer E layers i layer → IsRightLayer layer
+  right-from_passed : (layers : List Layer) (i : ℕ) (layer : Layer) → IsPaired layer → IsPassedLayer E layers i layer
+      → IsRightLayer layer
   right-from_passed layers i layer paired passed =
       let whole = (layer_fault-iff layer).0 passed.whole in
       let ids = (commit_faults-iff layer paired).0 (λ pos within. (passed.commits pos within).ids) in
-      record { checksum = whole.checksum; name = whole.name; ascending = ids.ascending; ids = ids.ids; trees = ids.trees; fan = whole.fan }
+      record {
+        checksum = whole.checksum;
+        name = whole.name;
+        ascending = ids.ascending;
+        ids = ids.ids;
+        trees = ids.trees;
+        fan =
+            whole.fan;
+      }
 
   sound-from_passed : (layers : List Layer) → All IsPaired layers → length layers ≤ 256 → ArePassed E layers → Sound layers
   sound-from_passed layers paired few passed = record {
@@ -111,31 +134,39 @@ module _ {E : Type 0} where
           let here = slice_get-get_or layers k d within in
           right-from_passed layers k layer (paired k d within) (passed k layer here);
     };
-    parents = λ i layer here. (parents-iff {E = E} layers i layer (paired-at layers i layer paired here)).0 (λ pos within. ((passed i layer here).commits pos within).parents);
-    generations = counts_from_local (history_of layers) ((generations-iff {E = E} layers paired).0 (λ i layer here pos within. ((passed i layer here).commits pos within).generation));
+    parents = λ i layer here. (parents-iff {E = E} layers i layer (paired-at layers i layer paired here)).0 (λ pos within.
+        ((passed i layer here).commits pos within).parents);
+    generations =
+        counts_from_local (history_of layers) ((generations-iff {E = E} layers paired).0 (λ i layer here pos within.
+        ((passed i layer here).commits pos within).generation));
   }
 
   passed-from_sound : (layers : List Layer) → All IsPaired layers → Sound layers → ArePassed E layers
   passed-from_sound layers paired sound i layer here =
       let even = paired-at layers i layer paired here in
-      let right : IsRightLayer layer = subst IsRightLayer (get_or_from_slice_get layers i layer layer here) (sound.rules.each i layer (slice_get_within layers i layer here)) in
+      let right : IsRightLayer layer =
+      subst IsRightLayer (get_or_from_slice_get layers i layer layer here)
+      (sound.rules.each i layer (slice_get_within layers i layer here)) in
       let ids = (commit_faults-iff layer even).1 (record { ascending = right.ascending; ids = right.ids; trees = right.trees }) in
       let parents = (parents-iff {E = E} layers i layer even).1 (sound.parents i layer here) in
       let generations = (generations-iff {E = E} layers paired).1 (local_from_counts (history_of layers) sound.generations) in
       record {
         bases = (bases-iff layers i layer here).1 (sound.rules.bases i layer here);
         whole = (layer_fault-iff layer).1 (record { checksum = right.checksum; name = right.name; fan = right.fan });
-        commits = λ pos within. record { ids = ids pos within; parents = parents pos within; generation = generations i layer here pos within };
+        commits = λ pos within.
+            record { ids = ids pos within; parents = parents pos within; generation = generations i layer here pos within };
       }
 
   -- where the check finds no fault, the graph is right
-  pub sound-from_none : (layers : List Layer) → All IsOpened layers → first_fault (graph_points {E = E} layers) ≡ None → Sound layers
+  pub sound-from_none : (layers : List Layer) → All IsOpened layers → first_fault (graph_points {E = E} layers) ≡ None
+      → Sound layers
   sound-from_none layers opened h =
       let parts = (graph_points-iff layers).0 h in
       sound-from_passed layers (all-paired layers opened) parts.0 parts.1
 
   -- and where it is right, the check finds none
-  pub none-from_sound : (layers : List Layer) → All IsOpened layers → Sound layers → first_fault (graph_points {E = E} layers) ≡ None
+  pub none-from_sound : (layers : List Layer) → All IsOpened layers → Sound layers
+      → first_fault (graph_points {E = E} layers) ≡ None
   none-from_sound layers opened sound =
       (graph_points-iff layers).1 (sound.rules.few, passed-from_sound layers (all-paired layers opened) sound)
 
@@ -146,7 +177,8 @@ module _ {F E : Type 0} (step : F → ℕ → Result (Unit {0}) E → F → Type
   sound-from_passes opened passes = sound-from_none layers opened passes.no_fault
 
   -- and a right graph is never refused
-  pub sound-not_refused : All IsOpened layers → Sound layers → (x : VerifyError E) → IsRefused step (graph_points {E = E} layers) f g x → ⊥
+  pub sound-not_refused : All IsOpened layers → Sound layers → (x : VerifyError E)
+      → IsRefused step (graph_points {E = E} layers) f g x → ⊥
   sound-not_refused opened sound x refused = none-some x (sym (none-from_sound layers opened sound) ∙ refused.fault)
 
 -- the layers of a right graph are ordered
@@ -154,12 +186,17 @@ ordered-right : (layer : Layer) → IsRightLayer layer → IsOrdered layer
 ordered-right layer right = (right.ascending, right.fan)
 
 -- so that a lookup in it is a plain scan
-pub sound-scanned : (layers : List Layer) (id : List ℕ) (answer : Option ℕ) → Sound layers → FoundIn layers id answer → answer ≡ scan (graph_ids layers) id
-sound-scanned layers id answer sound found = scanned layers (All-weaker IsRightLayer IsOrdered ordered-right layers sound.rules.each) id answer found
+pub sound-scanned : (layers : List Layer) (id : List ℕ) (answer : Option ℕ) → Sound layers → FoundIn layers id answer
+    → answer ≡ scan (graph_ids layers) id
+sound-scanned layers id answer sound found =
+    scanned layers (All-weaker IsRightLayer IsOrdered ordered-right layers sound.rules.each) id answer found
 
 -- and what its generation numbers tell of the longest walk is so
-pub sound-longest : (layers : List Layer) → Sound layers → MatchesLongestWalk (history_of layers) (longest_path (generations (history_of layers)))
+pub sound-longest : (layers : List Layer) → Sound layers
+    → MatchesLongestWalk (history_of layers) (longest_path (generations (history_of layers)))
 sound-longest layers sound = longest_is_told (history_of layers) sound.generations
 
-pub summarized-longest : (layers : List Layer) (outcome : Outcome) → Sound layers → Summarizes (history_of layers) outcome → MatchesLongestWalk (history_of layers) outcome.longest_path_length
-summarized-longest layers outcome sound sums = subst (MatchesLongestWalk (history_of layers)) (sym sums.longest_path_length) (sound-longest layers sound)
+pub summarized-longest : (layers : List Layer) (outcome : Outcome) → Sound layers → Summarizes (history_of layers) outcome
+    → MatchesLongestWalk (history_of layers) outcome.longest_path_length
+summarized-longest layers outcome sound sums =
+    subst (MatchesLongestWalk (history_of layers)) (sym sums.longest_path_length) (sound-longest layers sound)

@@ -1,5 +1,6 @@
 -- what the lookup of an id in a graph answers
-use Rattle.std.specs.Prelude.{◌≡◌, ℕ, ◌+◌, List, length, position, slice_get, Option, Some, None, unwrap_or, option_map, option_and_then, is_some}
+use Rattle.std.specs.Prelude.{◌≡◌, ℕ, ◌+◌, List, length, position, slice_get, Option, Some, None, unwrap_or, option_map}
+use Rattle.std.specs.Prelude.{option_and_then, is_some}
 use Rattle.graph_format.specs.Layer.{Layer}
 use Rattle.graph_layer.specs.Commit.{layer_and_position}
 use Rattle.gix_commitgraph.specs.Graph.{graph_commits, start}

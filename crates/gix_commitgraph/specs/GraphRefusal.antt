@@ -1,5 +1,6 @@
 -- why layers are no graph: the first of these conditions that holds; their order is this crate's own
-use Rattle.std.specs.Prelude.{ℕ, ◌+◌, ◌-◌, ◌==◌, Bool, true, false, not, List, length, slice_get, nat_lt, Option, option_map, unwrap_or}
+use Rattle.std.specs.Prelude.{ℕ, ◌+◌, ◌-◌, ◌==◌, Bool, true, false, not, List, length, slice_get, nat_lt, Option, option_map}
+use Rattle.std.specs.Prelude.{unwrap_or}
 use Rattle.first_faults.specs.First.{first_below}
 use Rattle.gix_hash_core.specs.declared.kind.Kind.{Kind}
 use Rattle.gix_hash_core.specs.declared.kind.Kind.TheVariants.{Sha1, Sha256}

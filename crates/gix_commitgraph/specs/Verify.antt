@@ -1,5 +1,6 @@
 -- what the check of a graph looks for, in its order, and what it answers
-use Rattle.std.specs.Prelude.{◌≡◌, ◌==◌, ◌+◌, ◌∷◌, [], ℕ, List, not, nat_lt, bytes_eq, slice_get, unwrap_or, length, map, Option, Some, option_map, Result, Ok, Err}
+use Rattle.std.specs.Prelude.{◌≡◌, ◌==◌, ◌+◌, ◌∷◌, [], ℕ, List, not, nat_lt, bytes_eq, slice_get, unwrap_or, length, map, Option}
+use Rattle.std.specs.Prelude.{Some, option_map, Result, Ok, Err}
 use Rattle.std.specs.BTreeMap.{get, IsUnchanged}
 use Rattle.std.specs.List.{flat_map, range_with_len, enumerate_from}
 use Rattle.std.specs.Ordering.{nat_cmp}

@@ -1,9 +1,11 @@
 //! Accessors of a graph.
 
-ghost use Rattle.std.specs.Prelude.{◌≡◌, ◌+◌, ◌^◌, ◌<◌, ◌≤◌, All, length, slice_get, option_map, Some, IfSome};
+ghost use Rattle.std.specs.Prelude.{◌≡◌, ◌+◌, ◌^◌, ◌<◌, ◌≤◌, All, length, slice_get, option_map};
+ghost use Rattle.std.specs.Prelude.{Some, IfSome};
 ghost use Rattle.gix_hash_core.specs.Oid.{oid_bytes};
 ghost use Rattle.graph_layer.specs.Commit.{commit_layer, commit_pos, layer_and_position};
-ghost use Rattle.gix_commitgraph.specs.Graph.{IsGraph, graph_ids, graph_commits, start, stop, total};
+ghost use Rattle.gix_commitgraph.specs.Graph.{IsGraph, graph_ids, graph_commits, start, stop};
+ghost use Rattle.gix_commitgraph.specs.Graph.{total};
 ghost use Rattle.graph_format.specs.Lookup.{digits};
 ghost use Rattle.gix_commitgraph.specs.GraphLookup.{FoundIn, CommitFoundIn, position_number};
 ghost use Rattle.gix_commitgraph.specs.GraphRemaining.{graph_ids_left, graph_commits_left};
@@ -84,7 +86,8 @@ impl Graph {
     /// where none does. In a damaged file an id may be missed that is there.
     pub fn lookup(&self, id: oid<'_>) -> Option<Position>
         ensures found { FoundIn self.now (oid_bytes id.entry) (position_number result) }
-        ensures holds { IfSome result (λ pos. slice_get (graph_ids self.now) pos.0 ≡ Some (oid_bytes id.entry)) }
+        ensures holds { IfSome result (λ pos.
+            slice_get (graph_ids self.now) pos.0 ≡ Some (oid_bytes id.entry)) }
     {
         let found = self.find(id)?;
         Some(Position(found.start + found.pos.0))
@@ -93,15 +96,16 @@ impl Graph {
     /// The commit with an id: the one at a position that `lookup` may answer, or `None`.
     pub fn commit_by_id(&self, id: oid<'_>) -> Option<Commit<'_>>
         ensures found { CommitFoundIn self.now (oid_bytes id.entry) result }
-        ensures holds { IfSome result (λ commit. slice_get (commit_layer commit).ids (commit_pos commit) ≡ Some (oid_bytes id.entry)) }
+        ensures holds { IfSome result (λ commit.
+            slice_get (commit_layer commit).ids (commit_pos commit) ≡ Some (oid_bytes id.entry)) }
     {
         let found = self.find(id)?;
         Some(found.file.commit_at(found.pos))
     }
 
     /// The layer in which a position lies, which is below `num_commits()`, and how many starts were
-    /// compared with the position. Layers count from 0, and the start of one is the number of commits
-    /// before it. A layer without commits has no position.
+    /// compared with the position. Layers count from 0, and the start of one is the number of
+    /// commits before it. A layer without commits has no position.
     pub fn layer_of_counted(&self, pos: Position) -> (usize, u32)
         requires { pos.0 < total self.now }
         ensures layer { result.0 < length self.now }
@@ -129,7 +133,8 @@ impl Graph {
     /// The layer of a position, and the position there.
     fn layer_at(&self, pos: Position) -> (&File, file::Position)
         requires { pos.0 < total self.now }
-        ensures commit { slice_get (graph_commits self.now) pos.0 ≡ Some (result.0.now, result.1.0) }
+        ensures commit { slice_get (graph_commits self.now) pos.0
+            ≡ Some (result.0.now, result.1.0) }
         ensures id { slice_get (graph_ids self.now) pos.0 ≡ slice_get result.0.now.ids result.1.0 }
         ensures within { result.1.0 < length result.0.now.ids }
     {
@@ -140,10 +145,14 @@ impl Graph {
 
     /// The first layer that finds an id, and where.
     fn find(&self, id: oid<'_>) -> Option<LookupByIdResult<'_>>
-        ensures found { FoundIn self.now (oid_bytes id.entry) (option_map (λ f. f.start + f.pos.0) result) }
-        ensures commit { IfSome result (λ f. slice_get (graph_commits self.now) (f.start + f.pos.0) ≡ Some (f.file.now, f.pos.0)) }
-        ensures id { IfSome result (λ f. slice_get (graph_ids self.now) (f.start + f.pos.0) ≡ Some (oid_bytes id.entry)) }
-        ensures holds { IfSome result (λ f. slice_get f.file.now.ids f.pos.0 ≡ Some (oid_bytes id.entry)) }
+        ensures found { FoundIn self.now (oid_bytes id.entry)
+            (option_map (λ f. f.start + f.pos.0) result) }
+        ensures commit { IfSome result (λ f.
+            slice_get (graph_commits self.now) (f.start + f.pos.0) ≡ Some (f.file.now, f.pos.0)) }
+        ensures id { IfSome result (λ f.
+            slice_get (graph_ids self.now) (f.start + f.pos.0) ≡ Some (oid_bytes id.entry)) }
+        ensures holds { IfSome result (λ f.
+            slice_get f.file.now.ids f.pos.0 ≡ Some (oid_bytes id.entry)) }
         ensures within { IfSome result (λ f. f.pos.0 < length f.file.now.ids) }
         ensures few { IfSome result (λ f. f.start + f.pos.0 < 2 ^ 32) }
     {

@@ -1,6 +1,7 @@
 //! Building a graph from its layers.
 
-ghost use Rattle.std.specs.Prelude.{◌≡◌, ◌+◌, ◌-◌, ◌<◌, ◌≤◌, ◌⊎◌, All, length, Some, None, IfOk, MatchResult};
+ghost use Rattle.std.specs.Prelude.{◌≡◌, ◌+◌, ◌-◌, ◌<◌, ◌≤◌, ◌⊎◌, All, length, Some, None, IfOk};
+ghost use Rattle.std.specs.Prelude.{MatchResult};
 ghost use Rattle.graph_format.specs.Reports.{Reports};
 ghost use Rattle.graph_format.specs.Layer.{IsOpened};
 ghost use Rattle.gix_commitgraph.specs.Graph.{total};
@@ -30,7 +31,8 @@ impl Graph {
     pub fn new(alloc: Global, files: Vec<File>) -> Result<Graph, GraphError>
         ensures layers { IfOk result (λ graph. graph ≡ files.items) }
         ensures refusal { MatchResult result (λ _. graph_refusal files.items ≡ None)
-            (λ e. (graph_refusal files.items ≡ Some e) ⊎ ((e ≡ GraphError.OutOfMemory) × (graph_refusal files.items ≡ None))) }
+            (λ e. (graph_refusal files.items ≡ Some e)
+            ⊎ ((e ≡ GraphError.OutOfMemory) × (graph_refusal files.items ≡ None))) }
     {
         check(&files)?;
         let Ok(starts) = starts_of(alloc, &files) else {

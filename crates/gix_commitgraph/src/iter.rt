@@ -1,6 +1,7 @@
 //! Iterators over the commits of a graph, in order.
 
-ghost use Rattle.std.specs.Prelude.{◌≡◌, ◌∷◌, [], ◌++◌, ◌<◌, ◌≤◌, length, MatchOption, IfSome, Some};
+ghost use Rattle.std.specs.Prelude.{◌≡◌, ◌∷◌, [], ◌++◌, ◌<◌, ◌≤◌, length, MatchOption, IfSome};
+ghost use Rattle.std.specs.Prelude.{Some};
 ghost use Rattle.gix_commitgraph.specs.Graph.{graph_ids, graph_commits};
 ghost use Rattle.graph_format.specs.Layer.{positions_from};
 
@@ -45,7 +46,8 @@ impl<'a> LayerCursor<'a> {
 
     /// The next layer that has a position left, and that position.
     fn next(&mut self) -> Option<(&'a File, file::Position)>
-        ensures next { MatchOption result ((cursor_left self.old ≡ []) × (cursor_left self.new ≡ []))
+        ensures next { MatchOption result ((cursor_left self.old ≡ [])
+            × (cursor_left self.new ≡ []))
             (λ place. cursor_left self.old ≡ (place.0.now, place.1.0) ∷ cursor_left self.new) }
         ensures within { IfSome result (λ place. place.1.0 < length place.0.now.ids) }
     {
@@ -106,7 +108,8 @@ impl<'a> Iterator for GraphIds<'a> {
     }
 
     fn size_hint(&self) -> (usize, Option<usize>)
-        ensures exact { result ≡ (length (graph_ids_left self.now), Some (length (graph_ids_left self.now))) }
+        ensures exact { result
+            ≡ (length (graph_ids_left self.now), Some (length (graph_ids_left self.now))) }
         ensures lower { IsWithinCount result.0 (item_count graph_ids_left self.now) }
         ensures upper { IfSome result.1 (UpTo (item_count graph_ids_left self.now)) }
     {
@@ -152,7 +155,8 @@ impl<'a> Iterator for GraphCommits<'a> {
     }
 
     fn size_hint(&self) -> (usize, Option<usize>)
-        ensures exact { result ≡ (length (graph_commits_left self.now), Some (length (graph_commits_left self.now))) }
+        ensures exact { result
+            ≡ (length (graph_commits_left self.now), Some (length (graph_commits_left self.now))) }
         ensures lower { IsWithinCount result.0 (item_count graph_commits_left self.now) }
         ensures upper { IfSome result.1 (UpTo (item_count graph_commits_left self.now)) }
     {

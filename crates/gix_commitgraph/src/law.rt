@@ -1,5 +1,5 @@
-//! Laws: what the definitions that contracts cite say of all bytes, layers and graphs. Each function
-//! does nothing, and its contract is the law.
+//! Laws: what the definitions that contracts cite say of all bytes, layers and graphs. Each
+//! function does nothing, and its contract is the law.
 
 pub mod check;
 pub mod graph;

@@ -30,7 +30,8 @@ pub enum VerifyError<E> {
     /// The layer does not have one base id for each layer before it ("Base Graphs List").
     #[error("BaseCount")]
     BaseCount { layer: usize },
-    /// The base id of this index is not the checksum of the layer of that index ("Base Graphs List").
+    /// The base id of this index is not the checksum of the layer of that index ("Base Graphs
+    /// List").
     #[error("BaseId")]
     BaseId { layer: usize, index: usize },
     /// Something is wrong with the layer as a whole.
@@ -47,8 +48,8 @@ pub enum VerifyError<E> {
     /// earlier one ("Commit Data").
     #[error("ParentOutOfRange")]
     ParentOutOfRange { pos: Position, parent: Position },
-    /// The generation number of the commit at this position is not the one that those of its parents
-    /// make ("Commit Data").
+    /// The generation number of the commit at this position is not the one that those of its
+    /// parents make ("Commit Data").
     #[error("Generation")]
     Generation { pos: Position, expected: u32 },
     /// The processor answered this error on the commit at this position.
@@ -73,8 +74,9 @@ impl<E> From<AllocError> for VerifyError<E> {
 /// The statistics of a graph, gathered by [`Graph::verify_integrity`].
 #[derive(Debug, Drop, PartialEq, Eq)]
 pub struct Outcome {
-    /// The number of edges of the longest walk along parents, 0 where there is no commit, and `None`
-    /// where some generation number is [`GENERATION_NUMBER_MAX`](crate::GENERATION_NUMBER_MAX).
+    /// The number of edges of the longest walk along parents, 0 where there is no commit, and
+    /// `None` where some generation number is
+    /// [`GENERATION_NUMBER_MAX`](crate::GENERATION_NUMBER_MAX).
     pub longest_path_length: Option<u32>,
     /// The number of commits.
     pub num_commits: u32,
@@ -119,7 +121,8 @@ impl Graph {
     ///
     /// 1. `TooManyFiles`: there are more than 256 layers.
     /// 2. For each layer:
-    ///    1. `BaseCount`: it does not have one base id for each layer below it ("Base Graphs List").
+    ///    1. `BaseCount`: it does not have one base id for each layer below it ("Base Graphs
+    ///       List").
     ///    2. `BaseId`: a base id is not the checksum of its layer; the first such one.
     ///    3. `Layer`: its checksum, its file's name or its fan is wrong, in this order.
     ///    4. For each commit of it:
@@ -128,8 +131,9 @@ impl Graph {
     ///       2. `Parent`, `ParentOutOfRange`: for each parent in turn, it cannot be decoded
     ///          ("Commit Data", "Extra Edge List"), or stands neither in this layer nor in one
     ///          below it.
-    ///       3. `Generation`: its generation number is not 1 more than the greatest of its parents',
-    ///          1 where it has none, at most [`GENERATION_NUMBER_MAX`](crate::GENERATION_NUMBER_MAX).
+    ///       3. `Generation`: its generation number is not 1 more than the greatest of its
+    ///          parents', 1 where it has none, at most
+    ///          [`GENERATION_NUMBER_MAX`](crate::GENERATION_NUMBER_MAX).
     ///       4. `Processor`: the processor was called on it, and answered this error. No commit
     ///          after it was looked at.
     ///
@@ -144,8 +148,8 @@ impl Graph {
         F: FnMut(&Commit<'a>) -> Result<(), E>,
         requires { MayBeCalled F.FnMut (InGraph self.now) }
 
-        // It is `Ok` exactly where no check fails and the processor accepts each commit, once and in
-        // order; else it names the first check that fails, or hands back the processor's error.
+        // It is `Ok` exactly where no check fails and the processor accepts each commit, once and
+        // in order; else it names the first check that fails, or hands back the processor's error.
         ensures agrees { Agrees (CalledOn F.FnMut (InGraph self.now)) (graph_points self.now)
             processor.old processor.new cause_of result }
         ensures outcome { IfOk result (Summarizes (history_of self.now)) }
@@ -161,8 +165,8 @@ impl Graph {
         self.verify_layers(alloc, processor)
     }
 
-    /// Checks the layers, from the lowest on. What its answer says of the graph as a whole is left to
-    /// `verify_integrity`.
+    /// Checks the layers, from the lowest on. What its answer says of the graph as a whole is left
+    /// to `verify_integrity`.
     fn verify_layers<'a, F, E>(
         &'a self,
         alloc: Global,

@@ -1,5 +1,6 @@
 -- The order of lists of bytes.
-use Rattle.std.proofs.Common.{◌≡◌, ◌<◌, ◌⊎◌, inl, inr, ℕ, zero, suc, List, [], ◌∷◌, Ordering, arith, ap, refl, sym, ◌∙◌, length, slice_index, take}
+use Rattle.std.proofs.Common.{◌≡◌, ◌<◌, ◌⊎◌, inl, inr, ℕ, zero, suc, List, [], ◌∷◌, Ordering, arith, ap, refl, sym, ◌∙◌, length}
+use Rattle.std.proofs.Common.{slice_index, take}
 use Rattle.std.proofs.lemmas.Bool.Decides.{nat_tests}
 use Rattle.std.proofs.lemmas.Cmp.{by_ranked, nat_list_cmp_total, ranked, tied_itself}
 use Rattle.std.specs.Cmp.Lexicographic.{bytes_decides, slice_cmp}

@@ -1,5 +1,6 @@
 //! Ids that own their bytes.
-ghost use Rattle.std.specs.Prelude.{◌≡◌, ◌*◌, ◌↔◌, length, IsOk, IfOk, IfErr, replicate, Ok, Some, nat_eq, refl};
+ghost use Rattle.std.specs.Prelude.{◌≡◌, ◌*◌, ◌↔◌, length, IsOk, IfOk, IfErr, replicate, Ok, Some};
+ghost use Rattle.std.specs.Prelude.{nat_eq, refl};
 ghost use Rattle.std.specs.List.{AllPass};
 ghost use Rattle.std.specs.Hash as fed;
 ghost use Rattle.std.specs.Ordering.{nat_cmp, as_partial_cmp};

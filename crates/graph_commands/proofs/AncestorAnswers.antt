@@ -9,8 +9,10 @@ use Rattle.graph_commands.specs.declared.refusal.Refusal.{Refusal}
 use Rattle.graph_commands.specs.declared.refusal.Refusal.TheVariants.{Id, Read, File, Open, Verify, Check, Walk}
 use Rattle.graph_commands.specs.Ancestor.{MayAnswerIn, MayRelate}
 
-pub relates : (first second a b : List ℕ) (IsLeftAlone : Type 0) (MayOpen : Result (List Layer) OpenError → Type 0) (layers : List Layer) (answer : Result Ancestry Refusal)
-    → SpellsId first a → SpellsId second b → MayOpen (Ok layers) → MayAnswerIn layers a b answer → MayRelate first second IsLeftAlone MayOpen answer
+pub relates : (first second a b : List ℕ) (IsLeftAlone : Type 0) (MayOpen : Result (List Layer) OpenError → Type 0)
+    (layers : List Layer) (answer : Result Ancestry Refusal)
+    → SpellsId first a → SpellsId second b → MayOpen (Ok layers) → MayAnswerIn layers a b answer
+    → MayRelate first second IsLeftAlone MayOpen answer
 relates first second a b IsLeftAlone MayOpen layers (Ok ancestry) x y opens answers = (a, b, x, y, (layers, opens, answers))
 relates first second a b IsLeftAlone MayOpen layers (Err (Check error)) x y opens answers = (a, b, x, y, (layers, opens, answers))
 relates first second a b IsLeftAlone MayOpen layers (Err Walk) x y opens answers = (a, b, x, y, (layers, opens, answers))

@@ -1,5 +1,6 @@
 -- Digits in bytes, and bytes in a block.
-use Rattle.std.proofs.Common.{◌≡◌, ℕ, ◌+◌, Bool, true, false, List, [], ◌∷◌, ◌++◌, length, take, drop, Result, Ok, Err, refl, ap, sym, subst, ◌∙◌, append_assoc, append-nil}
+use Rattle.std.proofs.Common.{◌≡◌, ℕ, ◌+◌, Bool, true, false, List, [], ◌∷◌, ◌++◌, length, take, drop, Result, Ok, Err, refl, ap}
+use Rattle.std.proofs.Common.{sym, subst, ◌∙◌, append_assoc, append-nil}
 use Rattle.graph_commands.specs.Block.{with_block}
 use Rattle.std.specs.Prelude.{Option, Some, None, OnOk, if◌then◌else◌}
 use Rattle.std.specs.List.{join_by}
@@ -44,17 +45,21 @@ join_by-push text comma (first ∷ items) item =
     rw (flat_map-append (λ y. comma ++ text y) items (item ∷ [])) (simp (append_assoc, append-nil))
 
 -- one more item was added to those before, after a comma
-pub appends_item : {X : Type 0} (text : X → List ℕ) (comma : List ℕ) (items : List X) (item : X) (any : Bool) (a b c d : Option (List ℕ))
-    → any ≡ has_some items → Appends a b (join_by text comma items) → Appends b c (comma_after comma any) → Appends c d (text item)
+pub appends_item : {X : Type 0} (text : X → List ℕ) (comma : List ℕ) (items : List X) (item : X) (any : Bool)
+    (a b c d : Option (List ℕ))
+    → any ≡ has_some items → Appends a b (join_by text comma items) → Appends b c (comma_after comma any)
+    → Appends c d (text item)
     → Appends a d (join_by text comma (items ++ item ∷ []))
 appends_item text comma items item any a b c d same before separator added =
     let joined : join_by text comma items ++ (comma_after comma any ++ text item) ≡ join_by text comma (items ++ item ∷ []) =
-    ap (λ (some : Bool). join_by text comma items ++ (comma_after comma some ++ text item)) same ∙ join_by-push text comma items item in
+    ap (λ (some : Bool). join_by text comma items ++ (comma_after comma some ++ text item)) same
+    ∙ join_by-push text comma items item in
     subst (Appends a d) joined (Appends-trans a b d _ _ before (Appends-trans b c d _ _ separator added))
 
 -- what was added to a block with no bytes is written with the block
 pub appends_written : {T E : Type 0} (result : Result T E) (a b c : Option (List ℕ)) (first last all : List ℕ)
-    → first ≡ [] → Appends (with_block a first) (with_block b last) all → OnOk result (Appends b c last) → OnOk result (Appends a c all)
+    → first ≡ [] → Appends (with_block a first) (with_block b last) all → OnOk result (Appends b c last)
+    → OnOk result (Appends a c all)
 appends_written (Ok value) None b c first last all empty added written = tt
 appends_written (Ok value) (Some old) None c first last all empty added written = absurd added
 appends_written (Ok value) (Some old) (Some middle) None first last all empty added written = absurd written

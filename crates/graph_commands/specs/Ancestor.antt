@@ -20,13 +20,15 @@ use Rattle.graph_commands.specs.declared.refusal.Refusal.TheVariants.{Id, Read, 
 use Rattle.graph_commands.specs.Refusal.{refusal_text, refusal_status}
 use Rattle.graph_commands.specs.Text.{◌⧺◌, newline}
 
--- what a query between the commits with two ids may find in a right graph: the first of the ids that is not there, by an answer to
+-- what a query between the commits with two ids may find in a right graph: the first of the ids that is not there, by an answer
+-- to
 -- its lookup; else an answer to the query between the positions where the ids are
 abbrev pub MayFindBetween : List Layer → List ℕ → List ℕ → Ancestry → Type 0
 MayFindBetween layers first second FirstUnknown = FoundIn layers first None
 MayFindBetween layers first second SecondUnknown = (from : ℕ) × FoundIn layers first (Some from) × FoundIn layers second None
 MayFindBetween layers first second (Known reached) =
-    (from to : ℕ) × FoundIn layers first (Some from) × FoundIn layers second (Some to) × IsAnswer (history_of layers) from to reached
+    (from to : ℕ) × FoundIn layers first (Some from) × FoundIn layers second (Some to)
+    × IsAnswer (history_of layers) from to reached
 
 -- what may be answered of a graph: in one that is right, what the query finds, or that memory ran out during the search; else why
 -- the check refuses it
@@ -43,13 +45,15 @@ MayAnswerIn layers first second (Err (Verify error)) = ⊥
 -- the texts are two ids, and this may be answered of a graph that the opener may answer
 abbrev pub MayAnswerOpened : List ℕ → List ℕ → (Result (List Layer) OpenError → Type 0) → Result Ancestry Refusal → Type 0
 MayAnswerOpened first second MayOpen answer =
-    (a b : List ℕ) × SpellsId first a × SpellsId second b × ((layers : List Layer) × MayOpen (Ok layers) × MayAnswerIn layers a b answer)
+    (a b : List ℕ) × SpellsId first a × SpellsId second b
+    × ((layers : List Layer) × MayOpen (Ok layers) × MayAnswerIn layers a b answer)
 
 -- the first of the texts that is no id, and why
 abbrev pub SpellNoIds : List ℕ → List ℕ → IdError → Type 0
 SpellNoIds first second error = SpellsNone first error ⊎ ((a : List ℕ) × SpellsId first a × SpellsNone second error)
 
--- what `ancestor` may answer for the texts of two ids, where the opener may answer so. For a text that is no id the folder is left
+-- what `ancestor` may answer for the texts of two ids, where the opener may answer so. For a text that is no id the folder is
+-- left
 -- as it was: nothing is opened
 abbrev pub MayRelate : List ℕ → List ℕ → Type 0 → (Result (List Layer) OpenError → Type 0) → Result Ancestry Refusal → Type 0
 MayRelate first second IsLeftAlone MayOpen (Err (Id error)) = SpellNoIds first second error × IsLeftAlone

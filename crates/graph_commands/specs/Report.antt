@@ -26,7 +26,8 @@ outcome_text outcome = ok_line outcome ⧺ flat_map count_line outcome.parent_co
 -- the text for a commit
 abbrev pub commit_text : Found → List ℕ
 commit_text found =
-    codes "position " ⧺ decimal found.pos.0 ⧺ codes " generation " ⧺ decimal found.generation ⧺ codes " time " ⧺ decimal found.time
+    codes "position " ⧺ decimal found.pos.0 ⧺ codes " generation " ⧺ decimal found.generation ⧺ codes " time " ⧺ decimal
+    found.time
 
 -- what a search found
 abbrev pub found_line : Option Found → List ℕ

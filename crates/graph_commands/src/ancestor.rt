@@ -4,7 +4,8 @@ ghost use Rattle.std.specs.Prelude.{◌≡◌, ◌++◌, IfOk, OnOk, codes};
 ghost use Rattle.std.specs.Io.KnownBytes.{Appends};
 ghost use Rattle.std.specs.List.{flat_map};
 ghost use Rattle.gix_hash_core.specs.Oid.{oid_bytes};
-ghost use Rattle.graph_commands.specs.Ancestor.{MayAnswerIn, MayRelate, ancestor_text, ancestor_status, ancestry_text, ancestry_status};
+ghost use Rattle.graph_commands.specs.Ancestor.{MayAnswerIn, MayRelate, ancestor_text};
+ghost use Rattle.graph_commands.specs.Ancestor.{ancestor_status, ancestry_text, ancestry_status};
 ghost use Rattle.graph_commands.specs.Ancestor.{step_text, walk_line, visits_line};
 ghost use Rattle.graph_commands.specs.Answer.{WritesAnswer};
 ghost use Rattle.graph_commands.specs.Opening.{MayOpen};
@@ -31,9 +32,10 @@ const NOT_REACHED: u8 = 1;
 /// second, both given in hexadecimal digits of either case, in the graph that the path opens. The
 /// graph is checked first.
 ///
-/// It writes the walk by its positions, or that there is none, and in a second line how many commits
-/// were visited; or which id is not in the graph; or why the query is refused. A text that is no id
-/// opens nothing. The answer is the exit status. `WriteFailed` comes where the writer fails.
+/// It writes the walk by its positions, or that there is none, and in a second line how many
+/// commits were visited; or which id is not in the graph; or why the query is refused. A text that
+/// is no id opens nothing. The answer is the exit status. `WriteFailed` comes where the writer
+/// fails.
 pub fn run_ancestor<T: Folder, W: Write>(
     alloc: Global,
     folder: &mut T,
@@ -44,7 +46,8 @@ pub fn run_ancestor<T: Folder, W: Write>(
 ) -> Result<u8, WriteFailed>
     ensures written { IfOk result (WritesAnswer ancestor_text ancestor_status
         (MayRelate first.now second.now (folder.new ≡ folder.old)
-        (MayOpen (T.tree folder.old) path.now (T.failure_count folder.old) (T.failure_count folder.new)))
+        (MayOpen (T.tree folder.old) path.now (T.failure_count folder.old)
+        (T.failure_count folder.new)))
         (W.contents writer.old) (W.contents writer.new)) }
     ensures tree { T.tree folder.new ≡ T.tree folder.old }
 {
@@ -57,8 +60,8 @@ pub fn run_ancestor<T: Folder, W: Write>(
     }
 }
 
-/// The answer to the query between the commits whose ids the digits spell, in the graph that the path
-/// opens.
+/// The answer to the query between the commits whose ids the digits spell, in the graph that the
+/// path opens.
 fn ancestor<T: Folder>(
     alloc: Global,
     folder: &mut T,
@@ -67,7 +70,8 @@ fn ancestor<T: Folder>(
     second: &str,
 ) -> Result<Ancestry, Refusal>
     ensures may { MayRelate first.now second.now (folder.new ≡ folder.old)
-        (MayOpen (T.tree folder.old) path.now (T.failure_count folder.old) (T.failure_count folder.new)) result }
+        (MayOpen (T.tree folder.old) path.now (T.failure_count folder.old)
+        (T.failure_count folder.new)) result }
     ensures tree { T.tree folder.new ≡ T.tree folder.old }
 {
     let first = ObjectId::from_hex(first.as_bytes())?;

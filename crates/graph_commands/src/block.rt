@@ -1,6 +1,7 @@
 //! Bytes on their way to a writer, in blocks.
 
-ghost use Rattle.std.specs.Prelude.{◌≡◌, ◌+◌, ◌≤◌, List, ℕ, [], ◌∷◌, ◌++◌, length, take, decimal, IfOk, OnOk};
+ghost use Rattle.std.specs.Prelude.{◌≡◌, ◌+◌, ◌≤◌, List, ℕ, [], ◌∷◌, ◌++◌, length, take, decimal};
+ghost use Rattle.std.specs.Prelude.{IfOk, OnOk};
 ghost use Rattle.std.specs.Io.KnownBytes.{Appends, Keeps};
 ghost use Rattle.hex.specs.Hex.{encode_lower};
 ghost use Rattle.gix_hash_core.specs.Oid.{oid_bytes};
@@ -96,7 +97,8 @@ impl Block {
 
     /// Writes what the block has, and empties it. `WriteFailed` comes where the writer fails.
     pub fn write_out<W: Write>(&mut self, writer: &mut W) -> Result<(), WriteFailed>
-        ensures written { OnOk result (Appends (W.contents writer.old) (W.contents writer.new) self.old) }
+        ensures written { OnOk result
+            (Appends (W.contents writer.old) (W.contents writer.new) self.old) }
         ensures empty { OnOk result (self.new ≡ []) }
     {
         writer.write_all(&self.bytes[..self.len])?;

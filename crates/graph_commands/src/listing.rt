@@ -7,7 +7,8 @@ ghost use Rattle.gix_hash_core.specs.Oid.{oid_bytes};
 ghost use Rattle.graph_layer.specs.Commit.{layer_and_position};
 ghost use Rattle.graph_layer.specs.RemainingParents.{parents_left};
 ghost use Rattle.graph_commands.specs.Block.{with_block};
-ghost use Rattle.graph_commands.specs.Listing.{kind_text, item_text, parents_text, layer_line, base_line, listing_text};
+ghost use Rattle.graph_commands.specs.Listing.{kind_text, item_text, parents_text, layer_line};
+ghost use Rattle.graph_commands.specs.Listing.{base_line, listing_text};
 ghost use Rattle.graph_commands.specs.PositionLines.{position_line};
 
 use crate::block::Block;
@@ -26,7 +27,8 @@ pub fn write_listing<W: Write>(
     layer: &File,
 ) -> Result<(), WriteFailed>
     requires { block.old ≡ [] }
-    ensures { OnOk result (Appends (W.contents writer.old) (W.contents writer.new) (listing_text layer.now)) }
+    ensures { OnOk result
+        (Appends (W.contents writer.old) (W.contents writer.new) (listing_text layer.now)) }
 {
     push_head(block, writer, layer)?;
     for base in layer.iter_base_graph_ids() {
@@ -93,7 +95,8 @@ fn push_commit<W: Write>(
     commit: file::Commit<'_>,
 ) -> Result<(), WriteFailed>
     ensures { OnOk result (Appends (with_block (W.contents writer.old) block.old)
-        (with_block (W.contents writer.new) block.new) (position_line (layer_and_position commit.entry))) }
+        (with_block (W.contents writer.new) block.new)
+        (position_line (layer_and_position commit.entry))) }
 {
     push_number(block, writer, commit.position().0 as u64)?;
     push_id(block, writer, commit.id())?;
@@ -129,7 +132,8 @@ fn push_parents<W: Write>(
     parents: Parents<'_>,
 ) -> Result<(), WriteFailed>
     ensures { OnOk result (Appends (with_block (W.contents writer.old) block.old)
-        (with_block (W.contents writer.new) block.new) (parents_text (parents_left parents.entry))) }
+        (with_block (W.contents writer.new) block.new)
+        (parents_text (parents_left parents.entry))) }
 {
     let mut any = false;
     for item in parents {

@@ -1,7 +1,8 @@
 //! The numbers that stand for errors in the program's lines.
 
 ghost use Rattle.std.specs.Prelude.{◌≡◌};
-ghost use Rattle.graph_commands.specs.Numbers.{id_number, read_number, chunk_number, file_number, graph_number, commit_number, parent_number};
+ghost use Rattle.graph_commands.specs.Numbers.{id_number, read_number, chunk_number, file_number};
+ghost use Rattle.graph_commands.specs.Numbers.{graph_number, commit_number, parent_number};
 
 use gix_chunk_core::ChunkError;
 use gix_commitgraph::file::commit::ParentError;

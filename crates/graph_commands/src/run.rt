@@ -6,7 +6,8 @@ ghost use Rattle.graph_commands.specs.Answer.{WritesAnswer, WritesRefusal};
 ghost use Rattle.graph_commands.specs.Opening.{MayOpen};
 ghost use Rattle.graph_commands.specs.List.{MayList, list_text, list_status};
 ghost use Rattle.graph_commands.specs.Find.{MayBeFound, MayFind, find_text, find_status};
-ghost use Rattle.graph_commands.specs.Verify.{Passes, Fails, MayPass, MayVerify, verify_text, verify_status};
+ghost use Rattle.graph_commands.specs.Verify.{Passes, Fails, MayPass, MayVerify, verify_text};
+ghost use Rattle.graph_commands.specs.Verify.{verify_status};
 
 pub use crate::ancestor::{Ancestry, run_ancestor};
 use crate::block::Block;
@@ -77,8 +78,8 @@ fn prepare<R: Read>(alloc: Global, reader: &mut R) -> Result<(File, Block), Refu
 }
 
 /// Checks the graph that the path opens, and writes the statistics of its commits, or one line that
-/// says why the graph is refused. The answer is the exit status. `WriteFailed` comes where the writer
-/// fails.
+/// says why the graph is refused. The answer is the exit status. `WriteFailed` comes where the
+/// writer fails.
 pub fn run_verify<T: Folder, W: Write>(
     alloc: Global,
     folder: &mut T,
@@ -86,7 +87,9 @@ pub fn run_verify<T: Folder, W: Write>(
     writer: &mut W,
 ) -> Result<u8, WriteFailed>
     ensures written { IfOk result (WritesAnswer verify_text verify_status
-        (MayVerify (MayOpen (T.tree folder.old) path.now (T.failure_count folder.old) (T.failure_count folder.new)))
+        (MayVerify
+        (MayOpen (T.tree folder.old) path.now (T.failure_count folder.old)
+        (T.failure_count folder.new)))
         (W.contents writer.old) (W.contents writer.new)) }
     ensures tree { T.tree folder.new ≡ T.tree folder.old }
 {
@@ -102,9 +105,12 @@ pub fn run_verify<T: Folder, W: Write>(
 /// The statistics of the graph that the path opens, once it is checked.
 fn verify<T: Folder>(alloc: Global, folder: &mut T, path: &str) -> Result<Outcome, Refusal>
     ensures passed { IfOk result
-        (MayPass (MayOpen (T.tree folder.old) path.now (T.failure_count folder.old) (T.failure_count folder.new))) }
+        (MayPass (MayOpen (T.tree folder.old) path.now (T.failure_count folder.old)
+        (T.failure_count folder.new))) }
     ensures refused { IfErr result (λ refusal.
-        MayVerify (MayOpen (T.tree folder.old) path.now (T.failure_count folder.old) (T.failure_count folder.new)) (Err refusal)) }
+        MayVerify
+        (MayOpen (T.tree folder.old) path.now (T.failure_count folder.old)
+        (T.failure_count folder.new)) (Err refusal)) }
     ensures tree { T.tree folder.new ≡ T.tree folder.old }
 {
     let graph = open_in(alloc, folder, path)?;
@@ -120,10 +126,10 @@ fn check(alloc: Global, graph: &Graph) -> Result<Outcome, VerifyError<Infallible
     graph.verify_integrity(alloc, &mut |_: &file::Commit<'_>| Ok(()))
 }
 
-/// Looks up the commit with an id, given in hexadecimal digits of either case, in the graph that the
-/// path opens. It writes one line: the commit's position, its generation number and its time; or that
-/// it is not there; or why the search is refused. A text that is no id opens nothing. The graph is not
-/// checked. The answer is the exit status. `WriteFailed` comes where the writer fails.
+/// Looks up the commit with an id, given in hexadecimal digits of either case, in the graph that
+/// the path opens. It writes one line: the commit's position, its generation number and its time;
+/// or that it is not there; or why the search is refused. A text that is no id opens nothing. The
+/// graph is not checked. The answer is the exit status. `WriteFailed` comes where the writer fails.
 pub fn run_find<T: Folder, W: Write>(
     alloc: Global,
     folder: &mut T,
@@ -133,7 +139,8 @@ pub fn run_find<T: Folder, W: Write>(
 ) -> Result<u8, WriteFailed>
     ensures written { IfOk result (WritesAnswer find_text find_status
         (MayFind hex.now (folder.new ≡ folder.old)
-        (MayOpen (T.tree folder.old) path.now (T.failure_count folder.old) (T.failure_count folder.new)))
+        (MayOpen (T.tree folder.old) path.now (T.failure_count folder.old)
+        (T.failure_count folder.new)))
         (W.contents writer.old) (W.contents writer.new)) }
     ensures tree { T.tree folder.new ≡ T.tree folder.old }
 {
@@ -158,7 +165,8 @@ fn find<T: Folder>(
     hex: &str,
 ) -> Result<Option<Found>, Refusal>
     ensures may { MayFind hex.now (folder.new ≡ folder.old)
-        (MayOpen (T.tree folder.old) path.now (T.failure_count folder.old) (T.failure_count folder.new)) result }
+        (MayOpen (T.tree folder.old) path.now (T.failure_count folder.old)
+        (T.failure_count folder.new)) result }
     ensures tree { T.tree folder.new ≡ T.tree folder.old }
 {
     let id = ObjectId::from_hex(hex.as_bytes())?;
@@ -181,7 +189,8 @@ fn found_in(graph: &Graph, id: oid<'_>) -> Option<Found>
 
 /// Writes the line of a refusal, and answers its exit status.
 pub(crate) fn refuse<W: Write>(writer: &mut W, refusal: &Refusal) -> Result<u8, WriteFailed>
-    ensures { IfOk result (WritesRefusal refusal.now (W.contents writer.old) (W.contents writer.new)) }
+    ensures { IfOk result
+        (WritesRefusal refusal.now (W.contents writer.old) (W.contents writer.new)) }
 {
     write_line(writer, refusal)?;
     Ok(refusal.status())

@@ -1,5 +1,6 @@
 -- The first line of a text, by where its first newline stands.
-use Rattle.std.proofs.Common.{◌≡◌, ◌≢◌, ℕ, ◌+◌, ◌-◌, ◌<◌, ◌≤◌, Bool, true, false, eqb, ltb, List, [], ◌∷◌, ◌++◌, length, take, drop, Some, None, refl, ap, ◌∙◌, arith}
+use Rattle.std.proofs.Common.{◌≡◌, ◌≢◌, ℕ, ◌+◌, ◌-◌, ◌<◌, ◌≤◌, Bool, true, false, eqb, ltb, List, [], ◌∷◌, ◌++◌, length, take}
+use Rattle.std.proofs.Common.{drop, Some, None, refl, ap, ◌∙◌, arith}
 use Rattle.std.proofs.lemmas.List.Splits.{slice_split_first, slice_split_at, slice_split_none, length-slice_split}
 use Rattle.std.proofs.lemmas.Bool.{ne_eqb}
 use Rattle.std.proofs.lemmas.List.{length-append}
@@ -16,21 +17,26 @@ one_part : (text : List ℕ) → length text ≤ position_or_len is_newline text
 one_part [] h = refl
 one_part (b ∷ bs) h = by (is_newline b) refl (one_part bs)
   where
-    by : (v : Bool) → is_newline b ≡ v → (length bs ≤ position_or_len is_newline bs → slice_split is_newline bs ≡ bs ∷ []) → slice_split is_newline (b ∷ bs) ≡ (b ∷ bs) ∷ []
+    by : (v : Bool) → is_newline b ≡ v → (length bs ≤ position_or_len is_newline bs → slice_split is_newline bs ≡ bs ∷ [])
+        → slice_split is_newline (b ∷ bs) ≡ (b ∷ bs) ∷ []
     by true e rest = absurd (grind (arith, e, h))
     by false e rest = rw e (ap (onto_first b) (rest (grind (arith, e, h))))
 
 -- a part before others loses its carriage return
-lines_of_parts-cons : (part : List ℕ) (parts : List (List ℕ)) → 0 < length parts → lines_of_parts (part ∷ parts) ≡ strip_carriage_return part ∷ lines_of_parts parts
+lines_of_parts-cons : (part : List ℕ) (parts : List (List ℕ)) → 0 < length parts
+    → lines_of_parts (part ∷ parts) ≡ strip_carriage_return part ∷ lines_of_parts parts
 lines_of_parts-cons part [] h = absurd (omega arith)
 lines_of_parts-cons part (x ∷ xs) h = refl
 
 -- what `position` says of the number of elements before the first newline
-before_newline : (text : List ℕ) (end : ℕ) → position is_newline text ≡ Some end → (position_or_len is_newline text ≡ end) × (end < length text)
+before_newline : (text : List ℕ) (end : ℕ) → position is_newline text ≡ Some end → (position_or_len is_newline text ≡ end)
+    × (end < length text)
 before_newline text end is = by (ltb (position_or_len is_newline text) (length text)) refl
   where
-    by : (v : Bool) → ltb (position_or_len is_newline text) (length text) ≡ v → (position_or_len is_newline text ≡ end) × (end < length text)
-    by true e = let same : position_or_len is_newline text ≡ end = grind (arith, e, is) in (same, grind (arith, nat_tests, e, same))
+    by : (v : Bool) → ltb (position_or_len is_newline text) (length text) ≡ v → (position_or_len is_newline text ≡ end)
+        × (end < length text)
+    by true e = let same : position_or_len is_newline text ≡ end = grind (arith, e, is) in
+        (same, grind (arith, nat_tests, e, same))
     by false e = absurd (grind (arith, e, is))
 
 no_newline : (text : List ℕ) → position is_newline text ≡ None → length text ≤ position_or_len is_newline text
@@ -45,13 +51,15 @@ pub lines_last : (text : List ℕ) → 0 < length text → position is_newline t
 lines_last text some none = ap lines_of_parts (one_part text (no_newline text none)) ∙ grind (arith, nat_tests, some)
 
 -- the first line ends at the first newline
-pub lines_first : (text : List ℕ) (end : ℕ) → position is_newline text ≡ Some end → lines text ≡ strip_carriage_return (take end text) ∷ lines (drop (end + 1) text)
+pub lines_first : (text : List ℕ) (end : ℕ) → position is_newline text ≡ Some end
+    → lines text ≡ strip_carriage_return (take end text) ∷ lines (drop (end + 1) text)
 lines_first text end is =
     let before = before_newline text end is in
     let inside : position_or_len is_newline text < length text = omega (arith, before.0, before.1) in
     ap lines_of_parts (slice_split_first is_newline text 0 inside)
     ∙ ap (λ n. lines_of_parts (take n text ∷ slice_split is_newline (drop (n + 1) text))) before.0
-    ∙ lines_of_parts-cons (take end text) (slice_split is_newline (drop (end + 1) text)) (omega (arith, length-slice_split is_newline (drop (end + 1) text)))
+    ∙ lines_of_parts-cons (take end text) (slice_split is_newline (drop (end + 1) text))
+    (omega (arith, length-slice_split is_newline (drop (end + 1) text)))
 
 -- no byte of the text is a newline
 no_newlines : (text : List ℕ) → All (λ byte. byte ≢ 10) text → All (λ byte. is_newline byte ≡ false) text
@@ -61,9 +69,11 @@ pub lines_none : lines [] ≡ []
 lines_none = refl
 
 pub lines_alone : (line : List ℕ) → 0 < length line → All (λ byte. byte ≢ 10) line → lines line ≡ line ∷ []
-lines_alone line some none = ap lines_of_parts (slice_split_none is_newline line (no_newlines line none)) ∙ grind (arith, nat_tests, some)
+lines_alone line some none = ap lines_of_parts (slice_split_none is_newline line (no_newlines line none))
+    ∙ grind (arith, nat_tests, some)
 
-pub lines_cut : (line rest : List ℕ) → All (λ byte. byte ≢ 10) line → lines (line ++ 10 ∷ rest) ≡ strip_carriage_return line ∷ lines rest
+pub lines_cut : (line rest : List ℕ) → All (λ byte. byte ≢ 10) line
+    → lines (line ++ 10 ∷ rest) ≡ strip_carriage_return line ∷ lines rest
 lines_cut line rest none =
     ap lines_of_parts (slice_split_at is_newline line 10 rest (no_newlines line none) refl)
     ∙ lines_of_parts-cons line (slice_split is_newline rest) (omega (arith, length-slice_split is_newline rest))

@@ -1,5 +1,5 @@
-//! The lines of a chain file, which names the layers of a commit-graph from the lowest to the highest
-//! ("Commit-Graphs Chains" in Git's design notes on commit-graphs).
+//! The lines of a chain file, which names the layers of a commit-graph from the lowest to the
+//! highest ("Commit-Graphs Chains" in Git's design notes on commit-graphs).
 
 ghost use Rattle.std.specs.Prelude.{◌≡◌, ◌<◌, ◌==◌, ℕ, List, ◌∷◌, length, position, IfSome};
 ghost use Rattle.std.specs.Iterator.{YieldsFirstRef, item_count};

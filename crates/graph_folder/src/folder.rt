@@ -47,13 +47,15 @@ pub trait Folder {
 
     /// Whether a file stands at the path. `AllocError` comes only where an allocation failed.
     fn is_file(&mut self, alloc: Global, path: &str) -> Result<bool, AllocError>
-        ensures answer { ForSome (tree self.old) (λ t. IfOk result (λ found. found ≡ is_file t path.now)) }
+        ensures answer { ForSome (tree self.old) (λ t.
+            IfOk result (λ found. found ≡ is_file t path.now)) }
         ensures tree { tree self.new ≡ tree self.old }
         ensures failures { failure_count self.new ≡ failure_count self.old };
 
     /// Whether a folder stands at the path. `AllocError` comes only where an allocation failed.
     fn is_dir(&mut self, alloc: Global, path: &str) -> Result<bool, AllocError>
-        ensures answer { ForSome (tree self.old) (λ t. IfOk result (λ found. found ≡ is_folder t path.now)) }
+        ensures answer { ForSome (tree self.old) (λ t.
+            IfOk result (λ found. found ≡ is_folder t path.now)) }
         ensures tree { tree self.new ≡ tree self.old }
         ensures failures { failure_count self.new ≡ failure_count self.old };
 
@@ -61,8 +63,11 @@ pub trait Folder {
     /// not be read, `Device` where a read of it failed, and `OutOfMemory` where there is no memory
     /// for the bytes. The count of failures rises by one with each `Device`, and with nothing else.
     fn read(&mut self, alloc: Global, path: &str) -> Result<Vec<u8>, ReadError>
-        ensures bytes { ForSome (tree self.old) (λ t. IfOk result (λ bytes. file_at t path.now ≡ Some bytes.items)) }
-        ensures not_opened { ForSome (tree self.old) (λ t. IsErrOf result ReadError.NotOpened → file_at t path.now ≡ None) }
+        ensures bytes { ForSome (tree self.old) (λ t.
+            IfOk result (λ bytes. file_at t path.now ≡ Some bytes.items)) }
+        ensures not_opened { ForSome (tree self.old) (λ t.
+            IsErrOf result ReadError.NotOpened → file_at t path.now ≡ None) }
         ensures tree { tree self.new ≡ tree self.old }
-        ensures failures { failure_count self.new ≡ failures_after result (failure_count self.old) };
+        ensures failures { failure_count self.new
+            ≡ failures_after result (failure_count self.old) };
 }

@@ -1,5 +1,7 @@
 -- bytes that no condition refuses are a file of their layer
-use Rattle.std.proofs.Common.{◌≡◌, ℕ, ◌+◌, ◌-◌, ◌*◌, ◌/◌, ◌%◌, ◌<◌, ◌≤◌, true, false, ◌&&◌, List, [], map, length, take, Option, Some, None, unwrap_or, option_map, is_none, IfSome, IsSomeAnd, MatchOption, slice_index, nat_lt, refl, ⊎_elim, ◌∙◌, arith, length-drop}
+use Rattle.std.proofs.Common.{◌≡◌, ℕ, ◌+◌, ◌-◌, ◌*◌, ◌/◌, ◌%◌, ◌<◌, ◌≤◌, true, false, ◌&&◌, List, [], map, length, take, Option}
+use Rattle.std.proofs.Common.{Some, None, unwrap_or, option_map, is_none, IfSome, IsSomeAnd, MatchOption, slice_index, nat_lt}
+use Rattle.std.proofs.Common.{refl, ⊎_elim, ◌∙◌, arith, length-drop}
 use Rattle.std.proofs.lemmas.Bool.{not-false, ltb-false, eqb-true, and_cases}
 use Rattle.std.proofs.lemmas.Slice.Eq.{bytes_eq-Decides}
 use Rattle.gix_hash_core.specs.declared.kind.Kind.{Kind}
@@ -9,9 +11,11 @@ use Rattle.gix_chunk_core.specs.Table.{Chunks}
 use Rattle.gix_chunk_core.proofs.TableLemmas.{table_fault-none}
 use Rattle.first_faults.proofs.FirstLemmas.{option_or-none_left, option_or-none_right, then_some-none, first_below-none_at}
 use Rattle.first_faults.specs.First.{◌otherwise◌}
-use Rattle.graph_format.specs.Format.{record_of, record_len, commits_of, kind_in, fan_of, signature, least_size, table_of, chunk_of, pieces, words, fan_id, ids_id, records_id, edges_id, bases_id}
+use Rattle.graph_format.specs.Format.{record_of, record_len, commits_of, kind_in, fan_of, signature, least_size, table_of}
+use Rattle.graph_format.specs.Format.{chunk_of, pieces, words, fan_id, ids_id, records_id, edges_id, bases_id}
 use Rattle.graph_format.specs.Layer.{IsLayer, decoded_layer}
-use Rattle.graph_format.specs.RefusalSteps.{header_refusal, bases_refusal, records_refusal, fan_refusal, ids_refusal, edges_refusal, sizes_refusal, trailer_refusal, counts_refusal, checked}
+use Rattle.graph_format.specs.RefusalSteps.{header_refusal, bases_refusal, records_refusal, fan_refusal, ids_refusal}
+use Rattle.graph_format.specs.RefusalSteps.{edges_refusal, sizes_refusal, trailer_refusal, counts_refusal, checked}
 use Rattle.graph_format.specs.Refusal.{falling_refusal, fall_after, has_other_count, refusal, size_of}
 use Rattle.graph_format.proofs.RefusalStepLemmas.{checked-is, refusal-none, MayRefuse-checked}
 
@@ -98,30 +102,47 @@ unfolding pieces
 pieces-nil Sha1 = refl
 pieces-nil Sha256 = refl
 
-fan-accepted : (o : Option (List ℕ)) → fan_refusal (option_map length o) ≡ None → IsSomeAnd o (λ chunk. (length chunk ≡ 1024) × (words (unwrap_or o []) ≡ words chunk))
+fan-accepted : (o : Option (List ℕ)) → fan_refusal (option_map length o) ≡ None → IsSomeAnd o (λ chunk.
+    (length chunk ≡ 1024) × (words (unwrap_or o []) ≡ words chunk))
 unfolding fan_refusal
 fan-accepted None h = cc
 fan-accepted (Some chunk) h = (eqb-true _ _ (not-false _ (then_some-none _ _ h)), refl)
 
-ids-accepted : (kind : Kind) (o : Option (List ℕ)) (commits : ℕ) → ids_refusal kind (option_map length o) ≡ None → has_other_count commits (id_len kind) (option_map length o) ≡ false → IsSomeAnd o (λ chunk. (length chunk ≡ id_len kind * commits) × (pieces (id_len kind) (unwrap_or o []) ≡ pieces (id_len kind) chunk))
+ids-accepted : (kind : Kind) (o : Option (List ℕ)) (commits : ℕ) → ids_refusal kind (option_map length o) ≡ None
+    → has_other_count commits (id_len kind) (option_map length o) ≡ false → IsSomeAnd o (λ chunk.
+    (length chunk ≡ id_len kind * commits) × (pieces (id_len kind) (unwrap_or o []) ≡ pieces (id_len kind) chunk))
 unfolding ids_refusal
 ids-accepted kind None commits h e = cc
-ids-accepted kind (Some chunk) commits h e = (whole_ids kind _ _ (eqb-true _ _ (not-false _ (then_some-none _ _ h))) (eqb-true _ _ (not-false _ e)), refl)
+ids-accepted kind (Some chunk) commits h e =
+    (whole_ids kind _ _ (eqb-true _ _ (not-false _ (then_some-none _ _ h))) (eqb-true _ _ (not-false _ e)), refl)
 
-records-accepted : (kind : Kind) (o : Option (List ℕ)) (commits : ℕ) → records_refusal kind (option_map length o) ≡ None → has_other_count commits (record_len kind) (option_map length o) ≡ false → IsSomeAnd o (λ chunk. (length chunk ≡ record_len kind * commits) × (map (record_of kind) (pieces (record_len kind) (unwrap_or o [])) ≡ map (record_of kind) (pieces (record_len kind) chunk)))
+records-accepted : (kind : Kind) (o : Option (List ℕ)) (commits : ℕ) → records_refusal kind (option_map length o) ≡ None
+    → has_other_count commits (record_len kind) (option_map length o) ≡ false → IsSomeAnd o (λ chunk.
+    (length chunk ≡ record_len kind * commits)
+    × (map (record_of kind) (pieces (record_len kind) (unwrap_or o [])) ≡ map (record_of kind) (pieces (record_len kind) chunk)))
 unfolding records_refusal
 records-accepted kind None commits h e = cc
-records-accepted kind (Some chunk) commits h e = (whole_records kind _ _ (eqb-true _ _ (not-false _ (then_some-none _ _ h))) (eqb-true _ _ (not-false _ e)), refl)
+records-accepted kind (Some chunk) commits h e =
+    (whole_records kind _ _ (eqb-true _ _ (not-false _ (then_some-none _ _ h))) (eqb-true _ _ (not-false _ e)), refl)
 
-bases-accepted : (kind : Kind) (count : ℕ) (o : Option (List ℕ)) → bases_refusal kind count (option_map length o) ≡ None → (nat_lt 0 count && is_none (option_map length o)) ≡ false → MatchOption o ((count ≡ 0) × (pieces (id_len kind) (unwrap_or o []) ≡ [])) (λ chunk. (length chunk ≡ id_len kind * count) × (pieces (id_len kind) (unwrap_or o []) ≡ pieces (id_len kind) chunk))
+bases-accepted : (kind : Kind) (count : ℕ) (o : Option (List ℕ)) → bases_refusal kind count (option_map length o) ≡ None
+    → (nat_lt 0 count && is_none (option_map length o)) ≡ false
+    → MatchOption o ((count ≡ 0) × (pieces (id_len kind) (unwrap_or o []) ≡ [])) (λ chunk.
+    (length chunk ≡ id_len kind * count) × (pieces (id_len kind) (unwrap_or o []) ≡ pieces (id_len kind) chunk))
 unfolding bases_refusal
-bases-accepted kind count None h e =
-    (⊎_elim (λ (p : nat_lt 0 count ≡ false). omega (arith, ltb-false _ _ p)) (λ (p : true ≡ false). cc) (and_cases _ _ e), pieces-nil kind)
+bases-accepted kind count None h e = (
+  ⊎_elim (λ (p : nat_lt 0 count ≡ false). omega (arith, ltb-false _ _ p)) (λ (p : true ≡ false). cc) (and_cases _ _ e),
+  pieces-nil kind,
+)
 bases-accepted kind count (Some chunk) h e =
-    let both = otherwise-none _ _ h in
-    (whole_ids kind _ _ (eqb-true _ _ (not-false _ (then_some-none _ _ both.0))) (eqb-true _ _ (not-false _ (then_some-none _ _ both.1))), refl)
+    let both = otherwise-none _ _ h in (
+      whole_ids kind _ _ (eqb-true _ _ (not-false _ (then_some-none _ _ both.0)))
+          (eqb-true _ _ (not-false _ (then_some-none _ _ both.1))),
+      refl,
+    )
 
-edges-accepted : (o : Option (List ℕ)) → edges_refusal (option_map length o) ≡ None → IfSome o (λ chunk. length chunk / 4 ≤ 4294967294)
+edges-accepted : (o : Option (List ℕ)) → edges_refusal (option_map length o) ≡ None → IfSome o (λ chunk.
+    length chunk / 4 ≤ 4294967294)
 unfolding edges_refusal
 edges-accepted None h = tt
 edges-accepted (Some chunk) h = ltb-false _ _ (then_some-none _ _ h)
@@ -133,7 +154,8 @@ pub record IsCounted (bytes : List ℕ) : Type 0 where
   pub ids : has_other_count (commits_of (fan_of bytes)) (id_len (kind_in bytes)) (size_of bytes ids_id) ≡ false
   pub records : has_other_count (commits_of (fan_of bytes)) (record_len (kind_in bytes)) (size_of bytes records_id) ≡ false
 
-counts-accepted : (bytes : List ℕ) → trailer_refusal (kind_in bytes) bytes ≡ None → counts_refusal (kind_in bytes) bytes ≡ None → IsCounted bytes
+counts-accepted : (bytes : List ℕ) → trailer_refusal (kind_in bytes) bytes ≡ None → counts_refusal (kind_in bytes) bytes ≡ None
+    → IsCounted bytes
 unfolding trailer_refusal counts_refusal
 counts-accepted bytes h e =
     let trailer = otherwise-none _ _ h in

@@ -1,19 +1,27 @@
 -- What the words of an extra edge list say, by the first of them that has its top bit set.
-use Rattle.std.proofs.Common.{◌≡◌, ℕ, zero, suc, ◌+◌, ◌-◌, ◌<◌, ◌≤◌, ◌⊎◌, List, [], ◌∷◌, ◌++◌, map, length, take, drop, get_or, Some, None, if◌then◌else◌, inl, inr, ⊎_elim, ap, ◌∙◌, refl, arith, length-drop}
+use Rattle.std.proofs.Common.{◌≡◌, ℕ, zero, suc, ◌+◌, ◌-◌, ◌<◌, ◌≤◌, ◌⊎◌, List, [], ◌∷◌, ◌++◌, map, length, take, drop, get_or}
+use Rattle.std.proofs.Common.{Some, None, if◌then◌else◌, inl, inr, ⊎_elim, ap, ◌∙◌, refl, arith, length-drop}
 use Rattle.std.proofs.lemmas.Bool.{lt-ltb, le-ltb, cases_lt}
 use Rattle.std.proofs.lemmas.List.{drop_all, get_or-drop}
 use Rattle.graph_format.specs.Format.{words}
-use Rattle.graph_format.specs.Parents.{DecodedParents, position_of, no_parents, faulty, followed_by, extra_parent, listed, extra_parents}
+use Rattle.graph_format.specs.Parents.{DecodedParents, position_of, no_parents, faulty, followed_by, extra_parent, listed}
+use Rattle.graph_format.specs.Parents.{extra_parents}
 use Rattle.graph_format.specs.EdgeLaw.{EndsAt, RunsOut, up_to_last, all_from}
 use Rattle.graph_format.specs.declared.parents.ExtraEdge.TheVariants.{Internal, Last}
 use Rattle.graph_format.specs.declared.parents.ParentError.TheVariants.{EdgeOverflow}
 
 -- a word without its top bit set, and one with it
-listed-internal : (word : ℕ) (rest : List ℕ) → word < 0x80000000 → listed (word ∷ rest) ≡ followed_by (position_of word) (listed rest)
-listed-internal word rest h = ap (λ b. extra_parent (if b then Internal (position_of word) else Last (position_of (word - 0x80000000))) (listed rest)) (lt-ltb word 0x80000000 h)
+listed-internal : (word : ℕ) (rest : List ℕ) → word < 0x80000000
+    → listed (word ∷ rest) ≡ followed_by (position_of word) (listed rest)
+listed-internal word rest h =
+    ap (λ b. extra_parent (if b then Internal (position_of word) else Last (position_of (word - 0x80000000))) (listed rest))
+    (lt-ltb word 0x80000000 h)
 
-listed-last : (word : ℕ) (rest : List ℕ) → 0x80000000 ≤ word → listed (word ∷ rest) ≡ followed_by (position_of (word - 0x80000000)) no_parents
-listed-last word rest h = ap (λ b. extra_parent (if b then Internal (position_of word) else Last (position_of (word - 0x80000000))) (listed rest)) (le-ltb word 0x80000000 h)
+listed-last : (word : ℕ) (rest : List ℕ) → 0x80000000 ≤ word
+    → listed (word ∷ rest) ≡ followed_by (position_of (word - 0x80000000)) no_parents
+listed-last word rest h =
+    ap (λ b. extra_parent (if b then Internal (position_of word) else Last (position_of (word - 0x80000000))) (listed rest))
+    (le-ltb word 0x80000000 h)
 
 -- The word of this index is the first that has its top bit set.
 record IsFirstLast (words : List ℕ) (n : ℕ) : Type 0 where
@@ -46,16 +54,23 @@ no_last : (word : ℕ) (rest : List ℕ) → word < 0x80000000 → HasNoLast res
 no_last word rest small h zero within = small
 no_last word rest small h (suc i) within = h i (omega (arith, within))
 
-listed-ends : (words : List ℕ) (n : ℕ) → IsFirstLast words n → listed words ≡ record { positions = map position_of (take n words) ++ position_of (get_or words n 0 - 0x80000000) ∷ []; fault = None }
+listed-ends : (words : List ℕ) (n : ℕ) → IsFirstLast words n
+    → listed words ≡ record {
+      positions = map position_of (take n words) ++ position_of (get_or words n 0 - 0x80000000) ∷ [];
+      fault = None;
+    }
 listed-ends [] n h = absurd (omega (arith, h.within))
 listed-ends (word ∷ rest) zero h = listed-last word rest h.last
 listed-ends (word ∷ rest) (suc n) h =
-    listed-internal word rest (h.first zero (omega arith)) ∙ ap (followed_by (position_of word)) (listed-ends rest n (after_first word rest n h))
+    listed-internal word rest (h.first zero (omega arith))
+    ∙ ap (followed_by (position_of word)) (listed-ends rest n (after_first word rest n h))
 
-listed-runs_out : (words : List ℕ) → HasNoLast words → listed words ≡ record { positions = map position_of words; fault = Some EdgeOverflow }
+listed-runs_out : (words : List ℕ) → HasNoLast words
+    → listed words ≡ record { positions = map position_of words; fault = Some EdgeOverflow }
 listed-runs_out [] h = refl
 listed-runs_out (word ∷ rest) h =
-    listed-internal word rest (h zero (omega arith)) ∙ ap (followed_by (position_of word)) (listed-runs_out rest (λ i within. h (suc i) (omega (arith, within))))
+    listed-internal word rest (h zero (omega arith))
+    ∙ ap (followed_by (position_of word)) (listed-runs_out rest (λ i within. h (suc i) (omega (arith, within))))
 
 listed-either : (words : List ℕ) → ((n : ℕ) × IsFirstLast words n) ⊎ HasNoLast words
 listed-either [] = inr (λ i within. absurd (omega (arith, within)))
@@ -65,7 +80,8 @@ listed-either (word ∷ rest) =
     (λ (found : (n : ℕ) × IsFirstLast rest n). inl (suc found.0, before_first word rest found.0 small found.1))
     (λ (none : HasNoLast rest). inr (no_last word rest small none))
     (listed-either rest))
-    (λ (large : 0x80000000 ≤ word). inl (zero, record { within = omega arith; last = large; first = λ i below. absurd (omega (arith, below)) }))
+    (λ (large : 0x80000000 ≤ word).
+    inl (zero, record { within = omega arith; last = large; first = λ i below. absurd (omega (arith, below)) }))
     (cases_lt word 0x80000000)
 
 -- the same of the words from one on
@@ -76,15 +92,22 @@ from_word words k j h = record {
   first = λ i below. rw get_or-drop (h.first (k + i) (omega arith) (omega (arith, below, h.from)));
 }
 
-pub extra_parents-ends : (bytes : List ℕ) (k j : ℕ) → EndsAt (words bytes) k j → extra_parents bytes k ≡ up_to_last (words bytes) k j
+pub extra_parents-ends : (bytes : List ℕ) (k j : ℕ) → EndsAt (words bytes) k j
+    → extra_parents bytes k ≡ up_to_last (words bytes) k j
 extra_parents-ends bytes k j h =
-    let at : get_or (drop k (words bytes)) (j - k) 0 ≡ get_or (words bytes) j 0 = get_or-drop k (words bytes) (j - k) 0 ∙ ap (λ (i : ℕ). get_or (words bytes) i 0) (omega (arith, h.from)) in
+    let at : get_or (drop k (words bytes)) (j - k) 0 ≡ get_or (words bytes) j 0 = get_or-drop k (words bytes) (j - k) 0
+    ∙ ap (λ (i : ℕ). get_or (words bytes) i 0) (omega (arith, h.from)) in
     listed-ends (drop k (words bytes)) (j - k) (from_word (words bytes) k j h)
-    ∙ ap (λ (word : ℕ). let p : DecodedParents = record { positions = map position_of (take (j - k) (drop k (words bytes))) ++ position_of (word - 0x80000000) ∷ []; fault = None } in p) at
+    ∙ ap (λ (word : ℕ). let p : DecodedParents =
+    record {
+      positions = map position_of (take (j - k) (drop k (words bytes))) ++ position_of (word - 0x80000000) ∷ [];
+      fault = None;
+    } in p) at
 
 pub extra_parents-runs_out : (bytes : List ℕ) (k : ℕ) → RunsOut (words bytes) k → extra_parents bytes k ≡ all_from (words bytes) k
 extra_parents-runs_out bytes k h =
-    listed-runs_out (drop k (words bytes)) (λ i within. rw get_or-drop (h (k + i) (omega arith) (omega (arith, within, length-drop k (words bytes)))))
+    listed-runs_out (drop k (words bytes)) (λ i within.
+    rw get_or-drop (h (k + i) (omega arith) (omega (arith, within, length-drop k (words bytes)))))
 
 pub extra_parents-past : (bytes : List ℕ) (k : ℕ) → length (words bytes) ≤ k → extra_parents bytes k ≡ faulty EdgeOverflow
 extra_parents-past bytes k h = ap listed (drop_all k (words bytes) h)

@@ -1,9 +1,11 @@
 -- the first entry at which a fan falls
-use Rattle.std.proofs.Common.{◌≡◌, ◌<◌, ◌≤◌, ℕ, ◌+◌, ◌-◌, Bool, true, false, List, slice_index, Some, None, nat_lt, ap, subst, sym, ◌∙◌, ⊎_elim, arith}
+use Rattle.std.proofs.Common.{◌≡◌, ◌<◌, ◌≤◌, ℕ, ◌+◌, ◌-◌, Bool, true, false, List, slice_index, Some, None, nat_lt, ap, subst}
+use Rattle.std.proofs.Common.{sym, ◌∙◌, ⊎_elim, arith}
 use Rattle.std.specs.Bool.{then_some}
 use Rattle.std.proofs.lemmas.Bool.{ltb-false, ltb-true, lt-ltb, le-ltb, cases_eq}
 use Rattle.first_faults.specs.First.{IsLeastGiving}
-use Rattle.first_faults.proofs.FirstLemmas.{then_some-none, then_some-false, first_below-none_at, first_below-none_from, first_below-some_iff}
+use Rattle.first_faults.proofs.FirstLemmas.{then_some-none, then_some-false, first_below-none_at, first_below-none_from}
+use Rattle.first_faults.proofs.FirstLemmas.{first_below-some_iff}
 use Rattle.graph_format.specs.Law.{FallsFirstAt, NamesFirstFall}
 use Rattle.graph_format.specs.Refusal.{fall_after, falling_refusal}
 use Rattle.graph_format.specs.declared.error.FileError.{FileError}
@@ -14,7 +16,8 @@ then_some-some true x y h = (cc, cc)
 then_some-some false x y h = cc
 
 -- no entry is less than the one before it, up to one
-rises-up : (fan : List ℕ) (i : ℕ) → ((j : ℕ) → j < i → fall_after fan j ≡ None) → (k : ℕ) → k < i + 1 → slice_index fan (k - 1) ≤ slice_index fan k
+rises-up : (fan : List ℕ) (i : ℕ) → ((j : ℕ) → j < i → fall_after fan j ≡ None) → (k : ℕ) → k < i + 1
+    → slice_index fan (k - 1) ≤ slice_index fan k
 rises-up fan i h k below = ⊎_elim
     (λ (zero : k ≡ 0). rw zero (omega arith))
     (λ (later : k ≡ 0 → ⊥).
@@ -23,9 +26,11 @@ rises-up fan i h k below = ⊎_elim
     subst P before (ltb-false _ _ (then_some-none _ _ (h (k - 1) (omega (arith, below, later))))))
     (cases_eq k 0)
 
-falls-at : (fan : List ℕ) (i : ℕ) (error : FileError) → IsLeastGiving (fall_after fan) 255 i error → (error ≡ FanFalls (i + 1)) × FallsFirstAt fan (i + 1)
+falls-at : (fan : List ℕ) (i : ℕ) (error : FileError) → IsLeastGiving (fall_after fan) 255 i error → (error ≡ FanFalls (i + 1))
+    × FallsFirstAt fan (i + 1)
 falls-at fan i error least =
-    let gives : (nat_lt (slice_index fan (i + 1)) (slice_index fan i) ≡ true) × (error ≡ FanFalls (i + 1)) = then_some-some _ _ _ least.gives in
+    let gives : (nat_lt (slice_index fan (i + 1)) (slice_index fan i) ≡ true) × (error ≡ FanFalls (i + 1)) =
+    then_some-some _ _ _ least.gives in
     let before : (i + 1) - 1 ≡ i = omega arith in
     let P : ℕ → Type 0 = λ n. slice_index fan (i + 1) < slice_index fan n in (
       gives.1,
@@ -36,9 +41,11 @@ falls-at fan i error least =
       },
     )
 
-least-from : (fan : List ℕ) (at : ℕ) (error : FileError) → error ≡ FanFalls at → FallsFirstAt fan at → (i : ℕ) × IsLeastGiving (fall_after fan) 255 i error
+least-from : (fan : List ℕ) (at : ℕ) (error : FileError) → error ≡ FanFalls at → FallsFirstAt fan at → (i : ℕ)
+    × IsLeastGiving (fall_after fan) 255 i error
 least-from fan at error names first =
-    let positive : at ≡ 0 → ⊥ = λ zero. let here : slice_index fan 0 < slice_index fan (0 - 1) = rw zero at first.falls in omega (arith, here) in
+    let positive : at ≡ 0 → ⊥ = λ zero. let here : slice_index fan 0 < slice_index fan (0 - 1) = rw zero at first.falls in
+    omega (arith, here) in
     let after : (at - 1) + 1 ≡ at = omega (arith, positive) in (
       at - 1,
       record {

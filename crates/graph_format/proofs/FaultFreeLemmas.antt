@@ -1,9 +1,11 @@
 -- Where a check has no fault: neither has any of its parts.
-use Rattle.std.proofs.Common.{◌≡◌, ℕ, ◌<◌, Bool, true, false, List, [], ◌∷◌, ◌++◌, length, get_or, slice_get, Option, Some, None, refl, sym, ◌∙◌, subst, arith}
+use Rattle.std.proofs.Common.{◌≡◌, ℕ, ◌<◌, Bool, true, false, List, [], ◌∷◌, ◌++◌, length, get_or, slice_get, Option, Some, None}
+use Rattle.std.proofs.Common.{refl, sym, ◌∙◌, subst, arith}
 use Rattle.std.specs.Prelude.{◌↔◌, All}
 use Rattle.std.specs.List.{flat_map, range_with_len, enumerate_from}
 use Rattle.std.proofs.lemmas.List.Elements.{All-nil, All-cons, All-head, All-tail}
-use Rattle.std.proofs.lemmas.List.FromFn.{length-range_with_len, get_or-range_with_len, length-enumerate_from, get_or-enumerate_from}
+use Rattle.std.proofs.lemmas.List.FromFn.{length-range_with_len, get_or-range_with_len, length-enumerate_from}
+use Rattle.std.proofs.lemmas.List.FromFn.{get_or-enumerate_from}
 use Rattle.std.proofs.lemmas.Option.{slice_get_within, slice_get-get_or, get_or_from_slice_get}
 use Rattle.std.specs.Option.{option_map}
 use Rattle.first_faults.specs.First.{◌when◌}
@@ -18,12 +20,14 @@ pub option_map-none : {X Y : Type 0} (f : X → Y) (o : Option X) → (option_ma
 option_map-none f None = (λ h. refl, λ h. refl)
 option_map-none f (Some x) = (λ h. cc, λ h. cc)
 
-pub first_some-none : {Y : Type 0} (o : Option Y) (os : List (Option Y)) → (first_some (o ∷ os) ≡ None) ↔ ((o ≡ None) × (first_some os ≡ None))
+pub first_some-none : {Y : Type 0} (o : Option Y) (os : List (Option Y)) → (first_some (o ∷ os) ≡ None)
+    ↔ ((o ≡ None) × (first_some os ≡ None))
 first_some-none None os = (λ h. (refl, h), λ h. h.1)
 first_some-none (Some y) os = (λ h. cc, λ h. cc)
 
 module _ {X : Type 0} where
-  pub check-none : (o : Option X) (points : List (Point X)) → (first_fault (check o ∷ points) ≡ None) ↔ ((o ≡ None) × (first_fault points ≡ None))
+  pub check-none : (o : Option X) (points : List (Point X)) → (first_fault (check o ∷ points) ≡ None)
+      ↔ ((o ≡ None) × (first_fault points ≡ None))
   check-none None points = (λ h. (refl, h), λ h. h.1)
   check-none (Some x) points = (λ h. cc, λ h. cc)
 
@@ -37,7 +41,8 @@ module _ {X : Type 0} where
   abbrev pub AreFaultFree : {A : Type 0} → (A → List (Point X)) → List A → Type 0
   AreFaultFree f xs = All (λ x. first_fault (f x) ≡ None) xs
 
-  pub flat_map-none : {A : Type 0} (f : A → List (Point X)) (xs : List A) → (first_fault (flat_map f xs) ≡ None) ↔ AreFaultFree f xs
+  pub flat_map-none : {A : Type 0} (f : A → List (Point X)) (xs : List A) → (first_fault (flat_map f xs) ≡ None)
+      ↔ AreFaultFree f xs
   flat_map-none f [] = (λ h. All-nil (λ x. first_fault (f x) ≡ None), λ h. refl)
   flat_map-none {A} f (x ∷ xs) =
       let P : A → Type 0 = λ a. first_fault (f a) ≡ None in
@@ -48,18 +53,22 @@ module _ {X : Type 0} where
       )
 
   -- parts by the places of a list
-  pub enumerate-none : {A : Type 0} (f : ℕ → A → List (Point X)) (xs : List A) → (first_fault (flat_map (λ e. f e.0 e.1) (enumerate_from 0 xs)) ≡ None) ↔ ((i : ℕ) (x : A) → slice_get xs i ≡ Some x → first_fault (f i x) ≡ None)
+  pub enumerate-none : {A : Type 0} (f : ℕ → A → List (Point X)) (xs : List A)
+      → (first_fault (flat_map (λ e. f e.0 e.1) (enumerate_from 0 xs)) ≡ None)
+      ↔ ((i : ℕ) (x : A) → slice_get xs i ≡ Some x → first_fault (f i x) ≡ None)
   enumerate-none {A} f xs =
       let parts = flat_map-none (λ (e : ℕ × A). f e.0 e.1) (enumerate_from 0 xs) in
       let P : ℕ × A → Type 0 = λ e. first_fault (f e.0 e.1) ≡ None in
       let counted : length (enumerate_from 0 xs) ≡ length xs = length-enumerate_from 0 xs in (
         λ h i x there.
             let inside : i < length xs = slice_get_within xs i x there in
-            let same : get_or (enumerate_from 0 xs) i (0, x) ≡ (i, x) = get_or-enumerate_from 0 xs i (0, x) inside ∙ pair (omega arith) (get_or_from_slice_get xs i x x there) in
+            let same : get_or (enumerate_from 0 xs) i (0, x) ≡ (i, x) = get_or-enumerate_from 0 xs i (0, x) inside
+            ∙ pair (omega arith) (get_or_from_slice_get xs i x x there) in
             subst P same (parts.0 h i (0, x) (omega arith)),
         λ h. parts.1 (λ k d within.
             let inside : k < length xs = omega arith in
-            let same : get_or (enumerate_from 0 xs) k d ≡ (k, get_or xs k d.1) = get_or-enumerate_from 0 xs k d inside ∙ pair (omega arith) refl in
+            let same : get_or (enumerate_from 0 xs) k d ≡ (k, get_or xs k d.1) = get_or-enumerate_from 0 xs k d inside
+            ∙ pair (omega arith) refl in
             subst P (sym same) (h k (get_or xs k d.1) (slice_get-get_or xs k d.1 inside))),
       )
     where
@@ -67,7 +76,8 @@ module _ {X : Type 0} where
       pair e g = cc
 
   -- parts by number
-  pub range-none : (f : ℕ → List (Point X)) (n : ℕ) → (first_fault (flat_map f (range_with_len 0 n)) ≡ None) ↔ ((k : ℕ) → k < n → first_fault (f k) ≡ None)
+  pub range-none : (f : ℕ → List (Point X)) (n : ℕ) → (first_fault (flat_map f (range_with_len 0 n)) ≡ None)
+      ↔ ((k : ℕ) → k < n → first_fault (f k) ≡ None)
   range-none f n =
       let parts = flat_map-none f (range_with_len 0 n) in
       let P : ℕ → Type 0 = λ k. first_fault (f k) ≡ None in

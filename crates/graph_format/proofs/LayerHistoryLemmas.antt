@@ -1,5 +1,6 @@
 -- The history of a layer by the records of its commits.
-use Rattle.std.proofs.Common.{◌≡◌, ℕ, ◌*◌, ◌/◌, ◌<◌, List, map, length, Option, Some, None, IsSomeAnd, slice_get, sym, ap, ◌∙◌, arith}
+use Rattle.std.proofs.Common.{◌≡◌, ℕ, ◌*◌, ◌/◌, ◌<◌, List, map, length, Option, Some, None, IsSomeAnd, slice_get, sym, ap, ◌∙◌}
+use Rattle.std.proofs.Common.{arith}
 use Rattle.std.specs.Option.{option_map}
 use Rattle.std.proofs.Math.Nat.{mul-div_cancel_left}
 use Rattle.std.proofs.lemmas.List.{length-map}
@@ -25,14 +26,18 @@ positive : (kind : Kind) → 0 < id_len kind
 positive Sha1 = omega arith
 positive Sha256 = omega arith
 
-many_ids : (kind : Kind) (c : ℕ) (o : Option (List ℕ)) (ids : List (List ℕ)) → IsSomeAnd o (λ chunk. (length chunk ≡ id_len kind * c) × (ids ≡ pieces (id_len kind) chunk)) → length ids ≡ c
+many_ids : (kind : Kind) (c : ℕ) (o : Option (List ℕ)) (ids : List (List ℕ))
+    → IsSomeAnd o (λ chunk. (length chunk ≡ id_len kind * c) × (ids ≡ pieces (id_len kind) chunk)) → length ids ≡ c
 many_ids kind c None ids h = absurd h
 many_ids kind c (Some chunk) ids h = ap length h.1 ∙ many (id_len kind) c chunk (positive kind) h.0
 
-many_records : (kind : Kind) (c : ℕ) (o : Option (List ℕ)) (records : List Record) → IsSomeAnd o (λ chunk. (length chunk ≡ record_len kind * c) × (records ≡ map (record_of kind) (pieces (record_len kind) chunk))) → length records ≡ c
+many_records : (kind : Kind) (c : ℕ) (o : Option (List ℕ)) (records : List Record)
+    → IsSomeAnd o (λ chunk. (length chunk ≡ record_len kind * c)
+    × (records ≡ map (record_of kind) (pieces (record_len kind) chunk))) → length records ≡ c
 many_records kind c None records h = absurd h
 many_records kind c (Some chunk) records h =
-    ap length h.1 ∙ length-map (pieces (record_len kind) chunk) (record_of kind) ∙ many (record_len kind) c chunk (omega (arith, positive kind)) h.0
+    ap length h.1 ∙ length-map (pieces (record_len kind) chunk) (record_of kind)
+    ∙ many (record_len kind) c chunk (omega (arith, positive kind)) h.0
 
 -- an opened layer is paired
 pub opened-paired : (layer : Layer) → IsOpened layer → IsPaired layer
@@ -44,12 +49,15 @@ pub length-layer_history : (layer : Layer) → length (layer_history layer) ≡ 
 unfolding layer_history
 length-layer_history layer = length-map layer.records (node_of layer)
 
-pub record_at-is : (layer : Layer) (pos : ℕ) → pos < length layer.records → slice_get layer.records pos ≡ Some (record_at layer pos)
+pub record_at-is : (layer : Layer) (pos : ℕ) → pos < length layer.records
+    → slice_get layer.records pos ≡ Some (record_at layer pos)
 unfolding record_at
 record_at-is layer pos within =
-    slice_get-get_or layer.records pos no_record within ∙ ap (λ (r : Record). Some r) (sym (unwrap_or-slice_get layer.records pos no_record))
+    slice_get-get_or layer.records pos no_record within
+    ∙ ap (λ (r : Record). Some r) (sym (unwrap_or-slice_get layer.records pos no_record))
 
-pub layer_history-at : (layer : Layer) (pos : ℕ) → pos < length layer.records → slice_get (layer_history layer) pos ≡ Some (node_of layer (record_at layer pos))
+pub layer_history-at : (layer : Layer) (pos : ℕ) → pos < length layer.records
+    → slice_get (layer_history layer) pos ≡ Some (node_of layer (record_at layer pos))
 unfolding layer_history
 layer_history-at layer pos within =
     slice_get-map (node_of layer) layer.records pos ∙ ap (option_map (node_of layer)) (record_at-is layer pos within)

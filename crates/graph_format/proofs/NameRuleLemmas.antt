@@ -1,8 +1,11 @@
 -- The test of a file's name passes exactly where the file name rule holds.
-use Rattle.std.proofs.Common.{◌≡◌, ℕ, ◌+◌, ◌-◌, ◌≤◌, inl, inr, Bool, true, false, not, ◌||◌, eqb, List, ◌++◌, length, take, drop, codes, Option, Some, None, Result, Ok, Err, refl, sym, ap, ◌∙◌, ⊎_elim, arith, append_assoc, length-append}
+use Rattle.std.proofs.Common.{◌≡◌, ℕ, ◌+◌, ◌-◌, ◌≤◌, inl, inr, Bool, true, false, not, ◌||◌, eqb, List, ◌++◌, length, take, drop}
+use Rattle.std.proofs.Common.{codes, Option, Some, None, Result, Ok, Err, refl, sym, ap, ◌∙◌, ⊎_elim, arith, append_assoc}
+use Rattle.std.proofs.Common.{length-append}
 use Rattle.std.specs.Prelude.{◌↔◌}
 use Rattle.std.specs.Option.{option_map_or}
-use Rattle.std.proofs.lemmas.Bool.{and_parts, and_from, or_cases, or_left, or_right, eqb-true, eq-eqb, leb-true, le-leb, cases_Bool}
+use Rattle.std.proofs.lemmas.Bool.{and_parts, and_from, or_cases, or_left, or_right, eqb-true, eq-eqb, leb-true, le-leb}
+use Rattle.std.proofs.lemmas.Bool.{cases_Bool}
 use Rattle.std.proofs.lemmas.List.{take_at, drop_at, take-append-drop, drop-drop, drop-take}
 use Rattle.std.proofs.lemmas.Option.{same_Some, none-some}
 use Rattle.std.proofs.lemmas.Slice.{between_is}
@@ -41,23 +44,29 @@ abbrev chain_name : List ℕ → List ℕ
 chain_name text = codes "graph-" ++ (text ++ codes ".graph")
 
 length-chain_name : (text : List ℕ) → length (chain_name text) ≡ 6 + length text + 6
-length-chain_name text = omega (arith, length-append (codes "graph-") (text ++ codes ".graph"), length-append text (codes ".graph"))
+length-chain_name text =
+    omega (arith, length-append (codes "graph-") (text ++ codes ".graph"), length-append text (codes ".graph"))
 
 end-of : (text : List ℕ) → drop (length (chain_name text) - 6) (chain_name text) ≡ codes ".graph"
 end-of text =
     ap (drop (length (chain_name text) - 6)) (sym (append_assoc (codes "graph-") text (codes ".graph")))
-    ∙ drop_at (codes "graph-" ++ text) (codes ".graph") (length (chain_name text) - 6) (omega (arith, length-chain_name text, length-append (codes "graph-") text))
+    ∙ drop_at (codes "graph-" ++ text) (codes ".graph") (length (chain_name text) - 6)
+    (omega (arith, length-chain_name text, length-append (codes "graph-") text))
 
 text-of : (text : List ℕ) → hash_text (chain_name text) ≡ text
 text-of text =
     between_is (chain_name text) 6 (length (chain_name text) - 6)
-    ∙ ap (λ (name : List ℕ). drop 6 (take (length (chain_name text) - 6) name)) (sym (append_assoc (codes "graph-") text (codes ".graph")))
-    ∙ ap (drop 6) (take_at (codes "graph-" ++ text) (codes ".graph") (length (chain_name text) - 6) (omega (arith, length-chain_name text, length-append (codes "graph-") text)))
+    ∙ ap (λ (name : List ℕ). drop 6 (take (length (chain_name text) - 6) name))
+    (sym (append_assoc (codes "graph-") text (codes ".graph")))
+    ∙ ap (drop 6)
+    (take_at (codes "graph-" ++ text) (codes ".graph") (length (chain_name text) - 6)
+    (omega (arith, length-chain_name text, length-append (codes "graph-") text)))
 
 is_chain_name-of : (text : List ℕ) → is_chain_name (chain_name text) ≡ true
 is_chain_name-of text =
     and_from _ _ (le-leb 12 (length (chain_name text)) (omega (arith, length-chain_name text)))
-    (and_from _ _ ((bytes_eq-Decides (take 6 (chain_name text)) (codes "graph-")).1 refl) ((bytes_eq-Decides _ _).1 (end-of text)))
+    (and_from _ _ ((bytes_eq-Decides (take 6 (chain_name text)) (codes "graph-")).1 refl)
+    ((bytes_eq-Decides _ _).1 (end-of text)))
 
 chain_name-is : (name : List ℕ) → is_chain_name name ≡ true → name ≡ chain_name (hash_text name)
 chain_name-is name h =
@@ -89,16 +98,19 @@ passes-spelled name checksum text h e =
     sym (ap (λ (b : Bool). not b || spells_id (hash_text (chain_name text)) checksum) (is_chain_name-of text)) ∙ here in
     spelled text checksum (rw (text-of text) at right)
 
-spelled-passes : (name checksum : List ℕ) → ((text : List ℕ) → name ≡ chain_name text → SpellsId text checksum) → passes checksum name ≡ true
+spelled-passes : (name checksum : List ℕ) → ((text : List ℕ) → name ≡ chain_name text → SpellsId text checksum)
+    → passes checksum name ≡ true
 spelled-passes name checksum h = ⊎_elim
-    (λ (is : is_chain_name name ≡ true). or_right (not (is_chain_name name)) _ (spells (hash_text name) checksum (h (hash_text name) (chain_name-is name is))))
+    (λ (is : is_chain_name name ≡ true).
+    or_right (not (is_chain_name name)) _ (spells (hash_text name) checksum (h (hash_text name) (chain_name-is name is))))
     (λ (other : is_chain_name name ≡ false). or_left (not (is_chain_name name)) _ (ap not other))
     (cases_Bool (is_chain_name name))
 
 abbrev RulesName : Option (List ℕ) → List ℕ → Type 0
 RulesName name checksum = (text : List ℕ) → name ≡ Some (chain_name text) → SpellsId text checksum
 
-by_name : (name : Option (List ℕ)) (checksum : List ℕ) → (option_map_or (passes checksum) name true ≡ true) ↔ RulesName name checksum
+by_name : (name : Option (List ℕ)) (checksum : List ℕ) → (option_map_or (passes checksum) name true ≡ true)
+    ↔ RulesName name checksum
 by_name None checksum = (λ h text e. absurd (none-some (chain_name text) e), λ h. refl)
 by_name (Some name) checksum = (
   λ h text e. passes-spelled name checksum text h (same_Some name (chain_name text) e),

@@ -18,7 +18,8 @@ use Rattle.graph_format.proofs.NameRuleLemmas.{is_named_right-iff}
 fan-iff : (layer : Layer) → (first_below (wrong_fan layer) 256 ≡ None) ↔ IsExactFan layer.fan layer.ids
 fan-iff layer = (
   λ h byte below. eqb-true _ _ (not-false _ (when-none _ _ (first_below-none_at (wrong_fan layer) byte 256 h below))),
-  λ exact. first_below-none_from (wrong_fan layer) 256 (λ byte below. then_some-false _ _ (ap not (eq-eqb _ _ (exact byte below)))),
+  λ exact. first_below-none_from (wrong_fan layer) 256
+      (λ byte below. then_some-false _ _ (ap not (eq-eqb _ _ (exact byte below)))),
 )
 
 -- What the check of a layer as a whole looks for.

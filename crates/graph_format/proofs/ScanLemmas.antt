@@ -1,5 +1,6 @@
 -- laws of plain scans
-use Rattle.std.proofs.Common.{◌≡◌, ℕ, ◌<◌, ◌≤◌, Bool, true, false, List, [], length, Option, Some, None, cond, get_or, ltb, slice_get, position, bytes_eq, refl, sym, ap, ◌∙◌, arith}
+use Rattle.std.proofs.Common.{◌≡◌, ℕ, ◌<◌, ◌≤◌, Bool, true, false, List, [], length, Option, Some, None, cond, get_or, ltb}
+use Rattle.std.proofs.Common.{slice_get, position, bytes_eq, refl, sym, ap, ◌∙◌, arith}
 use Rattle.std.specs.List.{position_or_len}
 use Rattle.std.proofs.lemmas.Bool.{lt-ltb, le-ltb, ltb-false}
 use Rattle.std.proofs.lemmas.List.Sums.{position_or_len_is, fails_before_first}
@@ -14,12 +15,15 @@ false-from true h = absurd (h refl)
 false-from false h = refl
 
 -- a position that does not hold the id does not pass the test
-passed-over : (ids : List (List ℕ)) (id : List ℕ) (i : ℕ) → i < length ids → (slice_get ids i ≡ Some id → ⊥) → bytes_eq id (get_or ids i []) ≡ false
+passed-over : (ids : List (List ℕ)) (id : List ℕ) (i : ℕ) → i < length ids → (slice_get ids i ≡ Some id → ⊥)
+    → bytes_eq id (get_or ids i []) ≡ false
 passed-over ids id i h not_here =
-    false-from _ (λ e. not_here (slice_get-get_or ids i [] h ∙ ap (λ (x : List ℕ). Some x) (sym ((bytes_eq-Decides id (get_or ids i [])).0 e))))
+    false-from _ (λ e.
+    not_here (slice_get-get_or ids i [] h ∙ ap (λ (x : List ℕ). Some x) (sym ((bytes_eq-Decides id (get_or ids i [])).0 e))))
 
 -- the first position that holds the id
-pub scan-found : (ids : List (List ℕ)) (id : List ℕ) (pos : ℕ) → slice_get ids pos ≡ Some id → ((i : ℕ) → i < pos → slice_get ids i ≡ Some id → ⊥) → scan ids id ≡ Some pos
+pub scan-found : (ids : List (List ℕ)) (id : List ℕ) (pos : ℕ) → slice_get ids pos ≡ Some id
+    → ((i : ℕ) → i < pos → slice_get ids i ≡ Some id → ⊥) → scan ids id ≡ Some pos
 unfolding scan
 scan-found ids id pos here before =
     let within : pos < length ids = slice_get_within ids pos id here in
@@ -27,7 +31,8 @@ scan-found ids id pos here before =
     position_or_len_is (bytes_eq id) ids pos [] (omega arith)
     (λ k h. passed-over ids id k (omega arith) (before k h))
     (λ _. (bytes_eq-Decides id (get_or ids pos [])).1 (sym (get_or_from_slice_get ids pos id [] here))) in
-    ap (λ (n : ℕ). cond (ltb n (length ids)) (Some n) None) first ∙ ap (λ (b : Bool). cond b (Some pos) None) (lt-ltb pos (length ids) within)
+    ap (λ (n : ℕ). cond (ltb n (length ids)) (Some n) None) first
+    ∙ ap (λ (b : Bool). cond b (Some pos) None) (lt-ltb pos (length ids) within)
 
 -- no position holds the id
 pub scan-none : (ids : List (List ℕ)) (id : List ℕ) → ((i : ℕ) → slice_get ids i ≡ Some id → ⊥) → scan ids id ≡ None
@@ -38,14 +43,16 @@ scan-none ids id nowhere =
     position_or_len_is (bytes_eq id) ids all [] (omega arith)
     (λ k h. passed-over ids id k h (nowhere k))
     (λ h. absurd (omega arith)) in
-    ap (λ (n : ℕ). cond (ltb n all) (Some n) None) first ∙ ap (λ (b : Bool). cond b (Some all) None) (le-ltb all all (omega arith))
+    ap (λ (n : ℕ). cond (ltb n all) (Some n) None) first
+    ∙ ap (λ (b : Bool). cond b (Some all) None) (le-ltb all all (omega arith))
 
 -- what a scan answers
 first-by : (ids : List (List ℕ)) (id : List ℕ) (answer : Option ℕ) → position (bytes_eq id) ids ≡ answer → IsFirst ids id answer
 first-by ids id None e = λ i here.
     let within : i < length ids = slice_get_within ids i id here in
     let past : length ids ≤ position_or_len (bytes_eq id) ids = ltb-false _ _ (none-from_cond _ _ e) in
-    let same : bytes_eq id (get_or ids i []) ≡ true = (bytes_eq-Decides id (get_or ids i [])).1 (sym (get_or_from_slice_get ids i id [] here)) in
+    let same : bytes_eq id (get_or ids i []) ≡ true =
+    (bytes_eq-Decides id (get_or ids i [])).1 (sym (get_or_from_slice_get ids i id [] here)) in
     let differs : bytes_eq id (get_or ids i []) ≡ false = fails_before_first (bytes_eq id) ids i [] (omega arith) in
     let clash : true ≡ false = sym same ∙ differs in cc
   where
@@ -56,7 +63,8 @@ first-by ids id (Some pos) e =
     let is = position-Some (bytes_eq id) ids pos [] e in (
       slice_get-get_or ids pos [] is.0 ∙ ap (λ (x : List ℕ). Some x) (sym ((bytes_eq-Decides id (get_or ids pos [])).0 is.1)),
       λ i before here.
-          let same : bytes_eq id (get_or ids i []) ≡ true = (bytes_eq-Decides id (get_or ids i [])).1 (sym (get_or_from_slice_get ids i id [] here)) in
+          let same : bytes_eq id (get_or ids i []) ≡ true =
+          (bytes_eq-Decides id (get_or ids i [])).1 (sym (get_or_from_slice_get ids i id [] here)) in
           let clash : true ≡ false = sym same ∙ is.2 i before in cc,
     )
 

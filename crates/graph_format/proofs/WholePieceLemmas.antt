@@ -1,5 +1,6 @@
 -- pieces are all of the bytes but for fewer than a piece has
-use Rattle.std.proofs.Common.{◌≡◌, ℕ, zero, suc, ◌+◌, ◌*◌, ◌/◌, ◌<◌, ◌≤◌, List, [], ◌∷◌, ◌++◌, length, take, drop, map, slice_range, All, sym, ap, subst, ◌∙◌, arith, add-one, mul-suc, mul-zero, take-append-drop}
+use Rattle.std.proofs.Common.{◌≡◌, ℕ, zero, suc, ◌+◌, ◌*◌, ◌/◌, ◌<◌, ◌≤◌, List, [], ◌∷◌, ◌++◌, length, take, drop, map}
+use Rattle.std.proofs.Common.{slice_range, All, sym, ap, subst, ◌∙◌, arith, add-one, mul-suc, mul-zero, take-append-drop}
 use Rattle.std.specs.List.{concat, range_with_len}
 use Rattle.std.proofs.lemmas.List.{take-take, append-nil}
 use Rattle.std.proofs.lemmas.List.Elements.{All-nil, All-push}
@@ -22,8 +23,10 @@ front-more bytes k n =
     ∙ ap (λ (xs : List ℕ). xs ++ drop k (take (k + n) bytes)) (sym (take-take k (k + n) bytes (omega arith)))
     ∙ take-append-drop k (take (k + n) bytes)
 
-more : (size : ℕ) (bytes : List ℕ) (n : ℕ) → map (piece size bytes) (range_with_len 0 (suc n)) ≡ map (piece size bytes) (range_with_len 0 n) ++ piece size bytes n ∷ []
-more size bytes n = ap (λ (m : ℕ). map (piece size bytes) (range_with_len 0 m)) (sym (add-one n)) ∙ map-range_with_len_more (piece size bytes) 0 n n (omega arith)
+more : (size : ℕ) (bytes : List ℕ) (n : ℕ) → map (piece size bytes) (range_with_len 0 (suc n))
+    ≡ map (piece size bytes) (range_with_len 0 n) ++ piece size bytes n ∷ []
+more size bytes n = ap (λ (m : ℕ). map (piece size bytes) (range_with_len 0 m)) (sym (add-one n))
+    ∙ map-range_with_len_more (piece size bytes) 0 n n (omega arith)
 
 joined : (size : ℕ) (bytes : List ℕ) (n : ℕ) → concat (map (piece size bytes) (range_with_len 0 n)) ≡ take (size * n) bytes
 joined size bytes zero = ap (λ (k : ℕ). take k bytes) (sym (mul-zero size))
@@ -35,13 +38,15 @@ joined size bytes (suc n) =
     ∙ front-more bytes (size * n) size
     ∙ ap (λ (k : ℕ). take k bytes) (sym (mul-suc size n))
 
-sized : (size : ℕ) (bytes : List ℕ) (n : ℕ) → size * n ≤ length bytes → All (λ part. length part ≡ size) (map (piece size bytes) (range_with_len 0 n))
+sized : (size : ℕ) (bytes : List ℕ) (n : ℕ) → size * n ≤ length bytes
+    → All (λ part. length part ≡ size) (map (piece size bytes) (range_with_len 0 n))
 sized size bytes zero h = All-nil (λ part. length part ≡ size)
 sized size bytes (suc n) h =
     let long : size * n + size ≤ length bytes = omega (arith, h, mul-suc size n) in
     let P : List ℕ → Type 0 = λ part. length part ≡ size in
     let all : All P (map (piece size bytes) (range_with_len 0 n) ++ piece size bytes n ∷ []) =
-    All-push P _ _ (sized size bytes n (omega (arith, long))) (length-slice_range bytes (size * n) (size * n + size) long ∙ omega arith) in
+    All-push P _ _ (sized size bytes n (omega (arith, long))) (length-slice_range bytes (size * n) (size * n + size) long
+    ∙ omega arith) in
     let Q : List (List ℕ) → Type 0 = λ parts. All P parts in
     subst Q (sym (more size bytes n)) all
 

@@ -1,10 +1,12 @@
 -- A layer of a commit-graph, and when bytes are a file of it (gitformat-commit-graph, version 1).
-use Rattle.std.specs.Prelude.{◌≡◌, ℕ, ◌+◌, ◌-◌, ◌*◌, ◌/◌, ◌<◌, ◌≤◌, List, [], map, length, take, drop, slice_get, slice_index, Option, Some, unwrap_or, IfSome, IsSomeAnd, MatchOption, ◌++◌}
+use Rattle.std.specs.Prelude.{◌≡◌, ℕ, ◌+◌, ◌-◌, ◌*◌, ◌/◌, ◌<◌, ◌≤◌, List, [], map, length, take, drop, slice_get, slice_index}
+use Rattle.std.specs.Prelude.{Option, Some, unwrap_or, IfSome, IsSomeAnd, MatchOption, ◌++◌}
 use Rattle.std.specs.List.{range_with_len}
 use Rattle.gix_chunk_core.specs.Table.{Chunks}
 use Rattle.gix_hash_core.specs.declared.kind.Kind.{Kind}
 use Rattle.gix_hash_core.specs.Kind.{id_len, kind_of}
-use Rattle.graph_format.specs.Format.{Record, record_of, record_len, commits_of, kind_in, fan_of, signature, least_size, table_of, chunk_of, pieces, words, fan_id, ids_id, records_id, edges_id, bases_id}
+use Rattle.graph_format.specs.Format.{Record, record_of, record_len, commits_of, kind_in, fan_of, signature, least_size, table_of}
+use Rattle.graph_format.specs.Format.{chunk_of, pieces, words, fan_id, ids_id, records_id, edges_id, bases_id}
 
 -- What a file says, and the path that came with it. The edges are bytes, none where the chunk is missing, and the body is
 -- all bytes before the checksum.

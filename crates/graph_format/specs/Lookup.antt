@@ -1,5 +1,6 @@
 -- what the lookup of an id answers: "OID Lookup" and "OID Fanout"
-use Rattle.std.specs.Prelude.{◌≡◌, ℕ, ◌-◌, ◌==◌, List, length, Option, Some, option_map, if◌then◌else◌, IfSome, position, bytes_eq, slice_get, slice_index}
+use Rattle.std.specs.Prelude.{◌≡◌, ℕ, ◌-◌, ◌==◌, List, length, Option, Some, option_map, if◌then◌else◌, IfSome, position}
+use Rattle.std.specs.Prelude.{bytes_eq, slice_get, slice_index}
 use Rattle.std.specs.Int.Digits.{digits_of}
 use Rattle.graph_format.specs.Layer.{Layer}
 use Rattle.graph_format.specs.Order.{AreAscending, IsExactFan}

@@ -1,6 +1,7 @@
 -- The file name rule: what the name of a layer's file may be, beside its checksum. A layer of a chain is the file
 -- `graph-{hash}.graph`, where {hash} is its checksum. (Git's commit-graph design, "Commit-Graphs Chains"; "TRAILER".)
-use Rattle.std.specs.Prelude.{◌≡◌, ◌==◌, ◌-◌, ◌&&◌, ◌||◌, ℕ, Bool, true, not, List, [], ◌++◌, filter, length, take, drop, codes, slice_get, slice_range, bytes_eq, nat_le, Option, Some}
+use Rattle.std.specs.Prelude.{◌≡◌, ◌==◌, ◌-◌, ◌&&◌, ◌||◌, ℕ, Bool, true, not, List, [], ◌++◌, filter, length, take, drop, codes}
+use Rattle.std.specs.Prelude.{slice_get, slice_range, bytes_eq, nat_le, Option, Some}
 use Rattle.std.specs.List.{slice_split}
 use Rattle.std.specs.Option.{option_map_or}
 use Rattle.gix_hash_core.specs.Hexadecimal.{SpellsId, spells_id}
@@ -19,7 +20,8 @@ name_of path = slice_get (names_in path) (length (names_in path) - 1)
 
 -- The rule: where the name is `graph-`, a text and `.graph`, the text spells the checksum, with digits of either case.
 abbrev pub KeepsNameRule : List ℕ → List ℕ → Type 0
-KeepsNameRule path checksum = (text : List ℕ) → name_of path ≡ Some (codes "graph-" ++ (text ++ codes ".graph")) → SpellsId text checksum
+KeepsNameRule path checksum = (text : List ℕ) → name_of path ≡ Some (codes "graph-" ++ (text ++ codes ".graph"))
+    → SpellsId text checksum
 
 -- the name is `graph-`, a text and `.graph`
 abbrev pub is_chain_name : List ℕ → Bool

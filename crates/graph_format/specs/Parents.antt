@@ -1,5 +1,6 @@
 -- The parents of a commit, in Git's commit-graph format: its sections "Commit Data" and "Extra Edge List".
-use Rattle.std.specs.Prelude.{ℕ, ◌-◌, ◌==◌, nat_lt, if◌then◌else◌, List, [], ◌∷◌, ◌++◌, map, drop, Option, Some, None, Result, Ok, Err}
+use Rattle.std.specs.Prelude.{ℕ, ◌-◌, ◌==◌, nat_lt, if◌then◌else◌, List, [], ◌∷◌, ◌++◌, map, drop, Option, Some, None, Result, Ok}
+use Rattle.std.specs.Prelude.{Err}
 use Rattle.graph_format.specs.Format.{Record, words}
 use Rattle.graph_format.specs.declared.Position.{Position}
 use Rattle.graph_format.specs.declared.parents.ParentEdge.{ParentEdge}
@@ -7,7 +8,8 @@ use Rattle.graph_format.specs.declared.parents.ParentEdge.TheVariants as edge
 use Rattle.graph_format.specs.declared.parents.ExtraEdge.{ExtraEdge}
 use Rattle.graph_format.specs.declared.parents.ExtraEdge.TheVariants as extra
 use Rattle.graph_format.specs.declared.parents.ParentError.{ParentError}
-use Rattle.graph_format.specs.declared.parents.ParentError.TheVariants.{SecondWithoutFirst, FirstIsEdgeIndex, NoEdgeList, EdgeOverflow}
+use Rattle.graph_format.specs.declared.parents.ParentError.TheVariants.{SecondWithoutFirst, FirstIsEdgeIndex, NoEdgeList}
+use Rattle.graph_format.specs.declared.parents.ParentError.TheVariants.{EdgeOverflow}
 
 -- the commit at this place of the graph
 abbrev pub position_of : ℕ → Position

@@ -1,12 +1,17 @@
 -- Why bytes are no layer: the first condition that holds; their order is this crate's own. (Git's commit-graph format,
 -- "HEADER", "CHUNK LOOKUP", "CHUNK DATA" and "TRAILER".)
-use Rattle.std.specs.Prelude.{ℕ, ◌+◌, ◌-◌, ◌/◌, ◌%◌, Bool, false, not, ◌&&◌, List, length, take, slice_index, Option, Some, None, option_map, is_none, nat_lt, ◌==◌, bytes_eq}
+use Rattle.std.specs.Prelude.{ℕ, ◌+◌, ◌-◌, ◌/◌, ◌%◌, Bool, false, not, ◌&&◌, List, length, take, slice_index, Option, Some, None}
+use Rattle.std.specs.Prelude.{option_map, is_none, nat_lt, ◌==◌, bytes_eq}
 use Rattle.first_faults.specs.First.{◌when◌, ◌otherwise◌, first_below}
 use Rattle.gix_chunk_core.specs.Fault.{table_fault}
 use Rattle.gix_hash_core.specs.Kind.{id_len, kind_of}
-use Rattle.graph_format.specs.Format.{record_len, signature, least_size, table_of, chunk_of, fan_of, commits_of, kind_in, fan_id, ids_id, records_id, edges_id, bases_id}
+use Rattle.graph_format.specs.Format.{record_len, signature, least_size, table_of, chunk_of, fan_of, commits_of, kind_in, fan_id}
+use Rattle.graph_format.specs.Format.{ids_id, records_id, edges_id, bases_id}
 use Rattle.graph_format.specs.declared.error.FileError.{FileError}
-use Rattle.graph_format.specs.declared.error.FileError.TheVariants.{TooSmall, Signature, Version, Hash, Chunks, BaseSize, BaseCount, NoCommitData, CommitDataSize, NoFan, FanSize, NoIds, IdsSize, TooManyEdges, Trailer, BaseMissing, FanFalls, IdCount, RecordCount}
+use Rattle.graph_format.specs.declared.error.FileError.TheVariants.{TooSmall, Signature, Version, Hash, Chunks, BaseSize}
+use Rattle.graph_format.specs.declared.error.FileError.TheVariants.{BaseCount, NoCommitData, CommitDataSize, NoFan, FanSize}
+use Rattle.graph_format.specs.declared.error.FileError.TheVariants.{NoIds, IdsSize, TooManyEdges, Trailer, BaseMissing, FanFalls}
+use Rattle.graph_format.specs.declared.error.FileError.TheVariants.{IdCount, RecordCount}
 
 -- the size of a chunk, none where the chunk is missing
 abbrev pub size_of : List ℕ → List ℕ → Option ℕ

@@ -1,14 +1,19 @@
 -- The conditions that refuse bytes, in the groups in which they are checked. For private contracts alone: `proofs/Grouped`
 -- proves that together they are `refusal`.
-use Rattle.std.specs.Prelude.{ℕ, ◌-◌, not, ◌&&◌, List, length, take, slice_index, Option, option_map, is_none, nat_lt, ◌==◌, bytes_eq}
+use Rattle.std.specs.Prelude.{ℕ, ◌-◌, not, ◌&&◌, List, length, take, slice_index, Option, option_map, is_none, nat_lt, ◌==◌}
+use Rattle.std.specs.Prelude.{bytes_eq}
 use Rattle.first_faults.specs.First.{◌when◌, ◌otherwise◌}
 use Rattle.gix_chunk_core.specs.Fault.{table_fault}
 use Rattle.gix_hash_core.specs.declared.kind.Kind.{Kind}
 use Rattle.gix_hash_core.specs.Kind.{id_len, kind_of}
-use Rattle.graph_format.specs.Format.{record_len, signature, least_size, table_of, fan_of, commits_of, kind_in, fan_id, ids_id, records_id, edges_id, bases_id}
+use Rattle.graph_format.specs.Format.{record_len, signature, least_size, table_of, fan_of, commits_of, kind_in, fan_id, ids_id}
+use Rattle.graph_format.specs.Format.{records_id, edges_id, bases_id}
 use Rattle.graph_format.specs.Refusal.{size_of, has_other_size, is_cut, has_other_count, has_more, falling_refusal}
 use Rattle.graph_format.specs.declared.error.FileError.{FileError}
-use Rattle.graph_format.specs.declared.error.FileError.TheVariants.{TooSmall, Signature, Version, Hash, Chunks, BaseSize, BaseCount, NoCommitData, CommitDataSize, NoFan, FanSize, NoIds, IdsSize, TooManyEdges, Trailer, BaseMissing, IdCount, RecordCount}
+use Rattle.graph_format.specs.declared.error.FileError.TheVariants.{TooSmall, Signature, Version, Hash, Chunks, BaseSize}
+use Rattle.graph_format.specs.declared.error.FileError.TheVariants.{BaseCount, NoCommitData, CommitDataSize, NoFan, FanSize}
+use Rattle.graph_format.specs.declared.error.FileError.TheVariants.{NoIds, IdsSize, TooManyEdges, Trailer, BaseMissing, IdCount}
+use Rattle.graph_format.specs.declared.error.FileError.TheVariants.{RecordCount}
 
 -- the header
 unfoldable pub header_refusal : List ℕ → Option FileError

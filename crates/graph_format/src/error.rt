@@ -12,7 +12,8 @@ use thiserror::Error;
 #[derive(Debug, PartialEq, Eq, Drop, Error)]
 pub enum FileError {
     /// The bytes are fewer than 1100. No file is smaller: 8 bytes of the section "HEADER", 48 of a
-    /// table of three chunks and its end ("CHUNK LOOKUP"), 1024 of "OID Fanout", and 20 of "TRAILER".
+    /// table of three chunks and its end ("CHUNK LOOKUP"), 1024 of "OID Fanout", and 20 of
+    /// "TRAILER".
     #[error("TooSmall")]
     TooSmall,
     /// The first four bytes are not `CGPH` ("HEADER").
@@ -24,8 +25,8 @@ pub enum FileError {
     /// The kind of hash, byte 5, is this number: neither 1 for SHA-1 nor 2 for SHA-256 ("HEADER").
     #[error("Hash")]
     Hash(u8),
-    /// The table of chunks, at byte 8, is refused for this fault. Byte 6 is the number of its chunks
-    /// ("CHUNK LOOKUP").
+    /// The table of chunks, at byte 8, is refused for this fault. Byte 6 is the number of its
+    /// chunks ("CHUNK LOOKUP").
     #[error("Chunks")]
     Chunks(ChunkError),
     /// The chunk `BASE` is there, and its length is no multiple of H ("Base Graphs List").
@@ -53,11 +54,12 @@ pub enum FileError {
     /// The length of the chunk `OIDL` is no multiple of H ("OID Lookup").
     #[error("IdsSize")]
     IdsSize,
-    /// The chunk `EDGE` has more than 4294967294 whole words of four bytes, so that a commit's number
-    /// of parents might not fit 32 bits ("Extra Edge List").
+    /// The chunk `EDGE` has more than 4294967294 whole words of four bytes, so that a commit's
+    /// number of parents might not fit 32 bits ("Extra Edge List").
     #[error("TooManyEdges")]
     TooManyEdges,
-    /// What follows the last chunk has another length than a checksum, which has H bytes ("TRAILER").
+    /// What follows the last chunk has another length than a checksum, which has H bytes
+    /// ("TRAILER").
     #[error("Trailer")]
     Trailer,
     /// Byte 7 says that there are base ids, and the chunk `BASE` is missing ("Base Graphs List").
@@ -85,7 +87,8 @@ pub enum GraphError {
     /// There is no file.
     #[error("NoFiles")]
     NoFiles,
-    /// The files have this many commits together, which is more than [`MAX_COMMITS`](crate::MAX_COMMITS).
+    /// The files have this many commits together, which is more than
+    /// [`MAX_COMMITS`](crate::MAX_COMMITS).
     #[error("TooManyCommits")]
     TooManyCommits(u128),
     /// The file of this layer, counted from 0, has ids of another kind than the file before it, and

@@ -42,7 +42,8 @@ between_from_path h p q rest w = record {
   last = rw (one_less (length rest)) (last_is p rest ∙ ap (λ x. Some x) (path_last h p q rest w));
 }
 
-pub path_from_between : (h : List Node) (p q : ℕ) (walk : List ℕ) → IsWalkBetween h p q walk → (rest : List ℕ) × (walk ≡ p ∷ rest) × Path h p q rest
+pub path_from_between : (h : List Node) (p q : ℕ) (walk : List ℕ) → IsWalkBetween h p q walk → (rest : List ℕ) × (walk ≡ p ∷ rest)
+    × Path h p q rest
 path_from_between h p q [] b = absurd (none-some p b.first)
 path_from_between h p q (x ∷ rest) b =
     let begins : x ≡ p = same_Some x p b.first in

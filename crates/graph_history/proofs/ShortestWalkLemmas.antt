@@ -1,5 +1,6 @@
 -- Why the first walk that the search queues is a shortest one.
-use Rattle.std.proofs.Common.{◌≡◌, ◌⊎◌, ℕ, suc, zero, ◌+◌, ◌<◌, ◌≤◌, List, Option, [], ◌∷◌, length, refl, sym, ap, ◌∙◌, subst, inl, inr, ⊎_elim, arith}
+use Rattle.std.proofs.Common.{◌≡◌, ◌⊎◌, ℕ, suc, zero, ◌+◌, ◌<◌, ◌≤◌, List, Option, [], ◌∷◌, length, refl, sym, ap, ◌∙◌, subst}
+use Rattle.std.proofs.Common.{inl, inr, ⊎_elim, arith}
 use Rattle.std.proofs.lemmas.Bool.{cases_lt}
 use Rattle.graph_walks.specs.History.{Node, IsParent, generation_at}
 use Rattle.graph_walks.specs.Walks.{IsWalkBetween, Reaches}
@@ -28,7 +29,8 @@ module _ (h : List Node) (least : ℕ) (queued : List Queued) (marks : List (Opt
   depth_in_order (suc a) zero i j le lt x y = let pos = x.0 in absurd (omega arith)
   depth_in_order (suc a) (suc b) i j le lt x y =
       let earlier = queue.earlier j y.0 lt in
-      let shallower = depth_in_order a b (child_in queued i) (child_in queued j) (queue.in_order i j le lt) (omega arith) x.1 y.1 in
+      let shallower =
+      depth_in_order a b (child_in queued i) (child_in queued j) (queue.in_order i j le lt) (omega arith) x.1 y.1 in
       omega arith
 
   pub depth_within : (d i : ℕ) → i < length queued → Depth queued i d → d ≤ i
@@ -39,7 +41,8 @@ module _ (h : List Node) (least : ℕ) (queued : List Queued) (marks : List (Opt
       omega arith
 
   -- a walk from a place begins with the first commit as well
-  back : (d i q : ℕ) (rest : List ℕ) → i < length queued → Depth queued i d → Path h (commit_in queued i) q rest → (front : List ℕ) × Path h (commit_in queued 0) q front
+  back : (d i q : ℕ) (rest : List ℕ) → i < length queued → Depth queued i d → Path h (commit_in queued i) q rest
+      → (front : List ℕ) × Path h (commit_in queued 0) q front
   back zero i q rest lt x path = (rest, subst (λ (k : ℕ). Path h (commit_in queued k) q rest) x path)
   back (suc d) i q rest lt x path =
       let earlier = queue.earlier i x.0 lt in
@@ -53,7 +56,8 @@ module _ (h : List Node) (least : ℕ) (queued : List Queued) (marks : List (Opt
 
   -- where the parents of all places before done were queued: a walk leads to a place that is no deeper than the walk is
   -- long, or is cut at a place from done on that is less deep
-  module _ (never_rises : (p q : ℕ) → Reaches h p q → generation_at h q ≤ generation_at h p) (done : ℕ) (closed : (i : ℕ) → i < done → QueuesParents h least queued i) where
+  module _ (never_rises : (p q : ℕ) → Reaches h p q → generation_at h q ≤ generation_at h p) (done : ℕ) (closed : (i : ℕ)
+      → i < done → QueuesParents h least queued i) where
     abbrev IsAt : ℕ → ℕ → Type 0
     IsAt q n = (j : ℕ) × (e : ℕ) × (j < length queued) × (commit_in queued j ≡ q) × Depth queued j e × (e ≤ n)
 
@@ -61,7 +65,8 @@ module _ (h : List Node) (least : ℕ) (queued : List Queued) (marks : List (Opt
     IsCut n = (j : ℕ) × (e : ℕ) × (done ≤ j) × (j < length queued) × Depth queued j e × (e < n)
 
     -- the parent of a place before done is at most one deeper
-    one_deeper : (i d q : ℕ) → i < length queued → i < done → Depth queued i d → IsParent h (commit_in queued i) q → least ≤ generation_at h q → IsAt q (d + 1)
+    one_deeper : (i d q : ℕ) → i < length queued → i < done → Depth queued i d → IsParent h (commit_in queued i) q
+        → least ≤ generation_at h q → IsAt q (d + 1)
     one_deeper i d q lt before depth parent high =
         let at = closed i before q parent high in
         let j = at.0 in
@@ -74,7 +79,8 @@ module _ (h : List Node) (least : ℕ) (queued : List Queued) (marks : List (Opt
         (λ (none : j ≤ 0). (j, 0, at.1, at.2, (omega arith), (omega arith)))
         (cases_lt 0 j)
 
-    leads : (p q : ℕ) (rest : List ℕ) → Path h p q rest → least ≤ generation_at h q → (i d : ℕ) → i < length queued → commit_in queued i ≡ p → Depth queued i d → IsAt q (d + length rest) ⊎ IsCut (d + length rest)
+    leads : (p q : ℕ) (rest : List ℕ) → Path h p q rest → least ≤ generation_at h q → (i d : ℕ) → i < length queued
+        → commit_in queued i ≡ p → Depth queued i d → IsAt q (d + length rest) ⊎ IsCut (d + length rest)
     leads p q [] path high i d lt at depth = inl (i, d, lt, at ∙ path.0, depth, omega arith)
     leads p q (y ∷ rest) path high i d lt at depth =
         ⊎_elim
@@ -90,7 +96,8 @@ module _ (h : List Node) (least : ℕ) (queued : List Queued) (marks : List (Opt
         (cases_lt i done)
 
     -- no walk to the commit at place done is shorter than the one by which it was queued
-    pub no_shorter : (d : ℕ) (walk : List ℕ) → done < length queued → least ≤ generation_at h (commit_in queued done) → Depth queued done d → IsWalkBetween h (commit_in queued 0) (commit_in queued done) walk → d + 1 ≤ length walk
+    pub no_shorter : (d : ℕ) (walk : List ℕ) → done < length queued → least ≤ generation_at h (commit_in queued done)
+        → Depth queued done d → IsWalkBetween h (commit_in queued 0) (commit_in queued done) walk → d + 1 ≤ length walk
     no_shorter d walk lt high depth between =
         let path = path_from_between h (commit_in queued 0) (commit_in queued done) walk between in
         let len : length walk ≡ length path.0 + 1 = omega (arith, ap length path.1) in
@@ -105,7 +112,8 @@ module _ (h : List Node) (least : ℕ) (queued : List Queued) (marks : List (Opt
         (leads (commit_in queued 0) (commit_in queued done) path.0 path.2 high 0 0 (omega arith) refl refl)
 
     -- where nothing is left to visit, each commit that is reached and high enough was queued
-    pub all_queued : (from q : ℕ) → BeginsWith h from least queued → length queued ≤ done → least ≤ generation_at h q → Reaches h from q → IsQueued queued q
+    pub all_queued : (from q : ℕ) → BeginsWith h from least queued → length queued ≤ done → least ≤ generation_at h q
+        → Reaches h from q → IsQueued queued q
     all_queued from q begins all high (walk, between) =
         let path = path_from_between h from q walk between in
         let lower = never_rises from q (walk, between) in

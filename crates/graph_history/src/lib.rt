@@ -2,8 +2,8 @@
 //! parents.
 //!
 //! [`Checked::new`] checks a graph once. [`Checked::ancestor_walk`] then goes over the ancestors of
-//! a commit breadth first. It relies on the generation numbers, which the check has found right, and
-//! leaves out each commit whose number is too low to lead to the one that is looked for
+//! a commit breadth first. It relies on the generation numbers, which the check has found right,
+//! and leaves out each commit whose number is too low to lead to the one that is looked for
 //! ("topological level" in Git's commit-graph design).
 #![tactic(auto)]
 

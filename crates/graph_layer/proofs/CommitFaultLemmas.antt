@@ -18,14 +18,18 @@ pub out_of_order-at : (layer : Layer) (pos : ℕ) (before id : List ℕ)
     → is_ge (slice_cmp nat_cmp before id) ≡ is_out_of_order layer pos
 out_of_order-at layer pos before id above at_before at =
     let first : nat_lt 0 pos ≡ true = grind (arith, nat_tests) in
-    rw (first, at_before, at) (elim (slice_cmp nat_cmp before id) as (λ o. is_ge o ≡ not (elim o as (λ x. Bool) [ Less ↦ true | Equal ↦ false | Greater ↦ false ])) [
+    rw (first, at_before, at)
+    (elim (slice_cmp nat_cmp before id) as (λ o. is_ge o
+    ≡ not (elim o as (λ x. Bool) [ Less ↦ true | Equal ↦ false | Greater ↦ false ])) [
       | Less ↦ refl
       | Equal ↦ refl
       | Greater ↦ refl
     ])
 
 is_null-decides : (id : List ℕ) → Decides (is_null id) (All (λ byte. byte ≡ 0) id)
-is_null-decides = Decides-by_and (λ byte. byte == 0) (λ byte. byte ≡ 0) (list_all (λ byte. byte == 0)) (λ byte. Decides-eqb byte 0) refl (λ _ _. refl)
+is_null-decides =
+    Decides-by_and (λ byte. byte == 0) (λ byte. byte ≡ 0) (list_all (λ byte. byte == 0)) (λ byte. Decides-eqb byte 0) refl (λ _ _.
+    refl)
 
 -- whether the id at a position is null
 pub null_id-at : (layer : Layer) (pos : ℕ) (id : List ℕ) (b : Bool)

@@ -20,9 +20,12 @@ use Rattle.graph_format.proofs.RightLayerLemmas.{layer_fault-iff}
 abbrev IsDecodedAt : Layer → Record → Type 0
 IsDecodedAt layer r = (parents_of r layer.edges).fault ≡ None
 
-decoded-iff : (layer : Layer) → IsPaired layer → ((pos : ℕ) → pos < length layer.ids → IsDecodedAt layer (record_at layer pos)) ↔ AreParentsDecoded layer
+decoded-iff : (layer : Layer) → IsPaired layer → ((pos : ℕ) → pos < length layer.ids → IsDecodedAt layer (record_at layer pos))
+    ↔ AreParentsDecoded layer
 decoded-iff layer paired = (
-  λ h k d within. subst (IsDecodedAt layer) (record_at-get_or layer k ∙ get_or_default layer.records k no_record d within) (h k (omega arith)),
+  λ h k d within.
+      subst (IsDecodedAt layer) (record_at-get_or layer k ∙ get_or_default layer.records k no_record d within)
+      (h k (omega arith)),
   λ decoded pos within. subst (IsDecodedAt layer) (sym (record_at-get_or layer pos)) (decoded pos no_record (omega arith)),
 )
 
@@ -31,14 +34,18 @@ abbrev IsPassedCommit : Layer → ℕ → Type 0
 IsPassedCommit layer pos = (commit_fault layer pos ≡ None) × IsDecodedAt layer (record_at layer pos)
 
 module _ {E : Type 0} where
-  commit_points-iff : (layer : Layer) (pos : ℕ) → (first_fault (commit_points {E = E} layer pos) ≡ None) ↔ IsPassedCommit layer pos
+  commit_points-iff : (layer : Layer) (pos : ℕ) → (first_fault (commit_points {E = E} layer pos) ≡ None)
+      ↔ IsPassedCommit layer pos
   commit_points-iff layer pos = (
     λ h.
         let ids = (check-none _ _).0 h in
         let parents = (check-none _ _).0 ids.1 in
         ((option_map-none _ (commit_fault layer pos)).0 ids.0, (option_map-none _ _).0 parents.0),
     λ passed.
-        (check-none _ _).1 ((option_map-none _ (commit_fault layer pos)).1 passed.0, (check-none _ _).1 ((option_map-none _ _).1 passed.1, refl)),
+        (check-none _ _).1 (
+          (option_map-none _ (commit_fault layer pos)).1 passed.0,
+          (check-none _ _).1 ((option_map-none _ _).1 passed.1, refl),
+        ),
   )
 
   pub layer_points-iff : (layer : Layer) → IsOpened layer → (first_fault (layer_points {E = E} layer) ≡ None) ↔ IsSoundLayer layer
@@ -48,16 +55,30 @@ module _ {E : Type 0} where
         λ h.
             let parts = (check-none _ _).0 h in
             let whole = (layer_fault-iff layer).0 ((option_map-none _ (layer_fault layer)).0 parts.0) in
-            let passed : (pos : ℕ) → pos < length layer.ids → IsPassedCommit layer pos = λ pos within. (commit_points-iff layer pos).0 (each.0 parts.1 pos within) in
+            let passed : (pos : ℕ) → pos < length layer.ids → IsPassedCommit layer pos = λ pos within.
+            (commit_points-iff layer pos).0 (each.0 parts.1 pos within) in
             let ids = (commit_faults-iff layer paired).0 (λ pos within. (passed pos within).0) in
             record {
-              right = record { checksum = whole.checksum; name = whole.name; ascending = ids.ascending; ids = ids.ids; trees = ids.trees; fan = whole.fan };
+              right = record {
+                checksum = whole.checksum;
+                name = whole.name;
+                ascending = ids.ascending;
+                ids = ids.ids;
+                trees =
+                    ids.trees;
+                fan = whole.fan;
+              };
               decoded = (decoded-iff layer paired).0 (λ pos within. (passed pos within).1);
             },
         λ sound.
             let right = sound.right in
             let whole = (layer_fault-iff layer).1 (record { checksum = right.checksum; name = right.name; fan = right.fan }) in
-            let ids = (commit_faults-iff layer paired).1 (record { ascending = right.ascending; ids = right.ids; trees = right.trees }) in
+            let ids =
+            (commit_faults-iff layer paired).1
+            (record { ascending = right.ascending; ids = right.ids; trees = right.trees }) in
             let decoded = (decoded-iff layer paired).1 sound.decoded in
-            (check-none _ _).1 ((option_map-none _ (layer_fault layer)).1 whole, each.1 (λ pos within. (commit_points-iff layer pos).1 (ids pos within, decoded pos within))),
+            (check-none _ _).1 (
+              (option_map-none _ (layer_fault layer)).1 whole,
+              each.1 (λ pos within. (commit_points-iff layer pos).1 (ids pos within, decoded pos within)),
+            ),
       )

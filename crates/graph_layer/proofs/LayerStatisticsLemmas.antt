@@ -1,5 +1,7 @@
 -- laws of the statistics of a layer
-use Rattle.std.proofs.Common.{◌≡◌, ◌==◌, ℕ, zero, suc, ◌+◌, ◌<◌, ◌≤◌, true, false, cond, if◌then◌else◌, List, [], ◌∷◌, ◌++◌, map, length, take, max, min, count_by, slice_get, unwrap_or, Some, refl, sym, ap, ◌∙◌, subst, ⊎_elim, arith}
+use Rattle.std.proofs.Common.{◌≡◌, ◌==◌, ℕ, zero, suc, ◌+◌, ◌<◌, ◌≤◌, true, false, cond, if◌then◌else◌, List, [], ◌∷◌, ◌++◌, map}
+use Rattle.std.proofs.Common.{length, take, max, min, count_by, slice_get, unwrap_or, Some, refl, sym, ap, ◌∙◌, subst, ⊎_elim}
+use Rattle.std.proofs.Common.{arith}
 use Rattle.std.proofs.lemmas.List.{map-append, length-map, length-take-le, take_all}
 use Rattle.std.proofs.lemmas.List.Sums.{fold-append}
 use Rattle.std.proofs.lemmas.Bool.Decides.{nat_tests}
@@ -52,7 +54,8 @@ above_zero-next zero = refl
 above_zero-next (suc n) = let next : suc n + 1 ≡ suc (suc n) = omega arith in rw next refl
 
 -- how often one more number stands among numbers
-count-more : (numbers : List ℕ) (n k : ℕ) → count_by (λ m. m == k) (numbers ++ n ∷ []) ≡ count_by (λ m. m == k) numbers + cond (n == k) 1 0
+count-more : (numbers : List ℕ) (n k : ℕ) → count_by (λ m. m == k) (numbers ++ n ∷ [])
+    ≡ count_by (λ m. m == k) numbers + cond (n == k) 1 0
 count-more numbers n k = fold-append (λ a m. a + cond (m == k) 1 0) 0 numbers (n ∷ [])
 
 count_of-same : (numbers : List ℕ) (n : ℕ) → count_of (numbers ++ n ∷ []) n ≡ Some (unwrap_or (count_of numbers n) 0 + 1)
@@ -76,15 +79,19 @@ pub record IsMore (generation parents : ℕ) (before tally : Tally) : Type 0 whe
       ≡ (if k == parents then Some (unwrap_or (counted before.parent_counts parents) 0 + 1) else counted before.parent_counts k)
 
 module _ (layer : Layer) (n : ℕ) (inside : n < length layer.records) where
-  generations-more : generations (take (n + 1) (layer_history layer)) ≡ generations (take n (layer_history layer)) ++ (record_at layer n).generation ∷ []
-  generations-more = ap generations (history-more layer n inside) ∙ map-append (λ node. node.generation) (take n (layer_history layer)) (node_of layer (record_at layer n) ∷ [])
+  generations-more : generations (take (n + 1) (layer_history layer))
+      ≡ generations (take n (layer_history layer)) ++ (record_at layer n).generation ∷ []
+  generations-more = ap generations (history-more layer n inside)
+      ∙ map-append (λ node. node.generation) (take n (layer_history layer)) (node_of layer (record_at layer n) ∷ [])
 
   -- how many parents the commit has
   abbrev parents : ℕ
   parents = length (node_of layer (record_at layer n)).parents
 
-  parent_numbers-more : parent_numbers (take (n + 1) (layer_history layer)) ≡ parent_numbers (take n (layer_history layer)) ++ parents ∷ []
-  parent_numbers-more = ap parent_numbers (history-more layer n inside) ∙ map-append (λ node. length node.parents) (take n (layer_history layer)) (node_of layer (record_at layer n) ∷ [])
+  parent_numbers-more : parent_numbers (take (n + 1) (layer_history layer))
+      ≡ parent_numbers (take n (layer_history layer)) ++ parents ∷ []
+  parent_numbers-more = ap parent_numbers (history-more layer n inside)
+      ∙ map-append (λ node. length node.parents) (take n (layer_history layer)) (node_of layer (record_at layer n) ∷ [])
 
   -- the numbers of the commits before it
   abbrev before_it : List Node
@@ -99,43 +106,56 @@ module _ (layer : Layer) (n : ℕ) (inside : n < length layer.records) where
   count_generations : length (generations before_it) ≡ n
   count_generations = length-map before_it (λ node. node.generation) ∙ counted_before
 
-  summarized : (before tally : Tally) → Tallies before_it before → IsMore (record_at layer n).generation parents before tally → Tallies (take (n + 1) (layer_history layer)) tally
+  summarized : (before tally : Tally) → Tallies before_it before → IsMore (record_at layer n).generation parents before tally
+      → Tallies (take (n + 1) (layer_history layer)) tally
   summarized before tally summary more =
       let generation = (record_at layer n).generation in
       record {
-        max_generation = more.max_generation ∙ ap (λ m. max m generation) summary.max_generation ∙ sym (ap greatest generations-more ∙ greatest-more (generations before_it) generation);
+        max_generation = more.max_generation ∙ ap (λ m. max m generation) summary.max_generation
+            ∙ sym (ap greatest generations-more ∙ greatest-more (generations before_it) generation);
         min_generation = ⊎_elim
-            (λ (none : n ≡ 0). more.first (summary.num_commits ∙ counted_before ∙ none) ∙ sym (ap least generations-more ∙ least-first (generations before_it) generation (count_generations ∙ none)))
-            (λ (some : n ≡ 0 → ⊥). more.later (omega (arith, some, summary.num_commits, counted_before)) ∙ ap (λ m. min m generation) summary.min_generation
-            ∙ sym (ap least generations-more ∙ least-more (generations before_it) generation (omega (arith, some, count_generations))))
+            (λ (none : n ≡ 0).
+            more.first (summary.num_commits ∙ counted_before ∙ none)
+            ∙ sym (ap least generations-more ∙ least-first (generations before_it) generation (count_generations ∙ none)))
+            (λ (some : n ≡ 0 → ⊥).
+            more.later (omega (arith, some, summary.num_commits, counted_before))
+            ∙ ap (λ m. min m generation) summary.min_generation
+            ∙ sym (ap least generations-more
+            ∙ least-more (generations before_it) generation (omega (arith, some, count_generations))))
             (cases_eq n 0);
-        max_parents = more.max_parents ∙ ap (λ m. max m parents) summary.max_parents ∙ sym (ap greatest parent_numbers-more ∙ greatest-more (parent_numbers before_it) parents);
+        max_parents = more.max_parents ∙ ap (λ m. max m parents) summary.max_parents
+            ∙ sym (ap greatest parent_numbers-more ∙ greatest-more (parent_numbers before_it) parents);
         num_commits = more.num_commits ∙ ap (λ m. m + 1) (summary.num_commits ∙ counted_before) ∙ sym counted_with;
         parent_counts = λ k. ⊎_elim
             (λ (same : k ≡ parents).
             let test : (k == parents) ≡ true = grind (arith, nat_tests) in
             rw test at (more.parent_counts k) ∙ ap (λ o. Some (unwrap_or o 0 + 1)) (summary.parent_counts parents)
-            ∙ sym (ap (λ numbers. count_of numbers k) parent_numbers-more ∙ rw same (count_of-same (parent_numbers before_it) parents)))
+            ∙ sym (ap (λ numbers. count_of numbers k) parent_numbers-more
+            ∙ rw same (count_of-same (parent_numbers before_it) parents)))
             (λ (apart : k ≡ parents → ⊥).
             let test : (k == parents) ≡ false = grind (arith, nat_tests) in
             rw test at (more.parent_counts k) ∙ summary.parent_counts k
-            ∙ sym (ap (λ numbers. count_of numbers k) parent_numbers-more ∙ count_of-other (parent_numbers before_it) parents k apart))
+            ∙ sym (ap (λ numbers. count_of numbers k) parent_numbers-more
+            ∙ count_of-other (parent_numbers before_it) parents k apart))
             (cases_eq k parents);
       }
 
   -- the statistics with one more commit
   pub Tallies-more : (before tally : Tally) (count : ℕ) → count ≡ length (parents_of (record_at layer n) layer.edges).positions
-      → Tallies before_it before → IsMore (record_at layer n).generation count before tally → Tallies (take (n + 1) (layer_history layer)) tally
+      → Tallies before_it before → IsMore (record_at layer n).generation count before tally
+      → Tallies (take (n + 1) (layer_history layer)) tally
   Tallies-more before tally count is summary more =
       let positions = (parents_of (record_at layer n) layer.edges).positions in
       let counted : count ≡ parents = is ∙ sym (length-map positions (λ pos. pos.0)) in
       summarized before tally summary (subst (λ (m : ℕ). IsMore (record_at layer n).generation m before tally) counted more)
 
 -- with each commit of an opened layer, the statistics are those of the layer
-pub stats_of_all : (layer : Layer) (n : ℕ) (outcome : Outcome) → IsOpened layer → n ≡ length layer.ids → Summarizes (take n (layer_history layer)) outcome → FileStats layer outcome
+pub stats_of_all : (layer : Layer) (n : ℕ) (outcome : Outcome) → IsOpened layer → n ≡ length layer.ids
+    → Summarizes (take n (layer_history layer)) outcome → FileStats layer outcome
 stats_of_all layer n outcome opened is summary =
     let paired = opened-paired layer opened in
-    let all : take n (layer_history layer) ≡ layer_history layer = take_all n (layer_history layer) (omega (arith, is, paired, length-layer_history layer)) in
+    let all : take n (layer_history layer) ≡ layer_history layer =
+    take_all n (layer_history layer) (omega (arith, is, paired, length-layer_history layer)) in
     record {
       num_commits = summary.num_commits ∙ length-history layer n (omega (arith, is, paired)) ∙ is;
       commits = subst (λ (history : List Node). Summarizes history outcome) all summary;

@@ -9,7 +9,8 @@ use Rattle.graph_walks.proofs.TallyLemmas.{tallied}
 use Rattle.graph_layer.specs.Traverse.{FileStats}
 use Rattle.graph_layer.specs.declared.file.verify.Outcome as file
 
-pub layer_tallied : (layer : Layer) (outcome : file.Outcome) → hash.IsUnique nat_eq outcome.parent_counts → FileStats layer outcome → sum (hash.values outcome.parent_counts) ≡ outcome.num_commits
+pub layer_tallied : (layer : Layer) (outcome : file.Outcome) → hash.IsUnique nat_eq outcome.parent_counts
+    → FileStats layer outcome → sum (hash.values outcome.parent_counts) ≡ outcome.num_commits
 layer_tallied layer outcome unique stats =
     let history = layer_history layer in
     tallied nat_eq (λ a b. refl) outcome.parent_counts.entries (parent_numbers history) unique stats.commits.parent_counts

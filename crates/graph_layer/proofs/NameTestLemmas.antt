@@ -1,5 +1,7 @@
 -- laws of the file name rule
-use Rattle.std.proofs.Common.{◌≡◌, ◌≢◌, ℕ, ◌+◌, ◌-◌, ◌≤◌, Bool, true, false, List, [], ◌∷◌, ◌++◌, length, take, drop, map, Option, Some, None, option_map, MatchOption, codes, slice_get, bytes_eq, nat_le, Bor, subst, refl, sym, ap, ◌∙◌, arith, length-append}
+use Rattle.std.proofs.Common.{◌≡◌, ◌≢◌, ℕ, ◌+◌, ◌-◌, ◌≤◌, Bool, true, false, List, [], ◌∷◌, ◌++◌, length, take, drop, map, Option}
+use Rattle.std.proofs.Common.{Some, None, option_map, MatchOption, codes, slice_get, bytes_eq, nat_le, Bor, subst, refl, sym, ap}
+use Rattle.std.proofs.Common.{◌∙◌, arith, length-append}
 use Rattle.std.specs.List.{last_or}
 use Rattle.std.specs.Option.{option_map_or}
 use Rattle.std.specs.Prelude.{◌||◌, ◌&&◌, if◌then◌else◌, not}
@@ -22,7 +24,8 @@ last_or-none [] = refl
 last_or-none (x ∷ xs) = last_or-some x xs ∙ ap (slice_get (x ∷ xs)) (omega arith)
 
 -- the last of what was yielded, seen as the items that it shows
-pub last-is : {A B : Type 0} (v : A → B) (xs : List A) (r : Option A) (all : List B) → r ≡ last_or None xs → map v xs ≡ all → option_map v r ≡ slice_get all (length all - 1)
+pub last-is : {A B : Type 0} (v : A → B) (xs : List A) (r : Option A) (all : List B) → r ≡ last_or None xs → map v xs ≡ all
+    → option_map v r ≡ slice_get all (length all - 1)
 last-is {A} {B} v xs r all is shown =
     ap (option_map v) (is ∙ last_or-none xs)
     ∙ sym (slice_get-map v xs (length xs - 1))
@@ -53,7 +56,8 @@ rest-parts text =
     ∙ drop-append_seam text end
 
 is_chain_name-parts : (text : List ℕ) → is_chain_name (front ++ (text ++ end)) ≡ true
-is_chain_name-parts text = rw (le-leb 12 (length (front ++ (text ++ end))) (omega (arith, length-parts text)), same_bytes _ _ (rest-parts text)) refl
+is_chain_name-parts text =
+    rw (le-leb 12 (length (front ++ (text ++ end))) (omega (arith, length-parts text)), same_bytes _ _ (rest-parts text)) refl
 
 hash_text-parts : (text : List ℕ) → hash_text (front ++ (text ++ end)) ≡ text
 hash_text-parts text =
@@ -73,14 +77,17 @@ chain_name-is name h =
     drop-drop (length name - 6 - 6) 6 name ∙ ap (λ (n : ℕ). drop n name) (omega (arith, long)) ∙ ends in
     sym (take-append-drop 6 name)
     ∙ ap (λ (xs : List ℕ). xs ++ drop 6 name) starts
-    ∙ ap (λ (xs : List ℕ). front ++ xs) (sym (take-append-drop (length name - 6 - 6) (drop 6 name)) ∙ ap (λ (xs : List ℕ). hash_text name ++ xs) rest)
+    ∙ ap (λ (xs : List ℕ). front ++ xs) (sym (take-append-drop (length name - 6 - 6) (drop 6 name))
+    ∙ ap (λ (xs : List ℕ). hash_text name ++ xs) rest)
 
 -- what stands after the front ends as such a name does
-chain-none : (name rest : List ℕ) (b : Bool) → is_chain_name name ≡ b → name ≡ front ++ rest → ((text : List ℕ) → rest ≢ text ++ end) → b ≡ false
+chain-none : (name rest : List ℕ) (b : Bool) → is_chain_name name ≡ b → name ≡ front ++ rest
+    → ((text : List ℕ) → rest ≢ text ++ end) → b ≡ false
 chain-none name rest true is e never = absurd (never (hash_text name) (ap (drop 6) (sym e ∙ chain_name-is name is)))
 chain-none name rest false is e never = refl
 
-pub stripped : (name rest : List ℕ) (r : Option (Bor (List ℕ))) → StripsPrefix (FindsTextPrefix front) name rest → MatchOption r (FindsTextSuffix end rest None) (λ x. StripsSuffix (FindsTextSuffix end) rest x.now)
+pub stripped : (name rest : List ℕ) (r : Option (Bor (List ℕ))) → StripsPrefix (FindsTextPrefix front) name rest
+    → MatchOption r (FindsTextSuffix end rest None) (λ x. StripsSuffix (FindsTextSuffix end) rest x.now)
     → option_map (λ text. text.now) r ≡ (if is_chain_name name then Some (hash_text name) else None)
 stripped name rest None before h =
     let starts : name ≡ front ++ rest = before.1.1 ∙ ap (λ (xs : List ℕ). front ++ xs) (sym before.2) in
@@ -92,7 +99,8 @@ stripped name rest (Some text) before h =
     let P : List ℕ → Type 0 = λ n. Some text.now ≡ (if is_chain_name n then Some (hash_text n) else None) in
     subst P (sym whole) (rw (is_chain_name-parts text.now, hash_text-parts text.now) refl)
 
-chain-test : (b : Bool) (text checksum : List ℕ) (r : Option (Bor (List ℕ))) → option_map (λ t. t.now) r ≡ (if b then Some text else None)
+chain-test : (b : Bool) (text checksum : List ℕ) (r : Option (Bor (List ℕ)))
+    → option_map (λ t. t.now) r ≡ (if b then Some text else None)
     → (not b || spells_id text checksum) ≡ option_map_or (λ t. spells_id t.now checksum) r true
 chain-test true text checksum (Some t) h = ap (λ (xs : List ℕ). spells_id xs checksum) (sym (same_Some _ _ h))
 chain-test true text checksum None h = cc
@@ -101,8 +109,10 @@ chain-test false text checksum None h = refl
 
 -- the rule, by what stands between the front and the end of a name
 pub named-right : (path checksum : List ℕ) (name r : Option (Bor (List ℕ))) → option_map (λ n. n.now) name ≡ name_of path
-    → MatchOption name (r ≡ None) (λ n. option_map (λ t. t.now) r ≡ (if is_chain_name n.now then Some (hash_text n.now) else None))
+    → MatchOption name (r ≡ None) (λ n.
+    option_map (λ t. t.now) r ≡ (if is_chain_name n.now then Some (hash_text n.now) else None))
     → is_named_right path checksum ≡ option_map_or (λ t. spells_id t.now checksum) r true
 unfolding is_named_right
 named-right path checksum None r found h = rw (← found, h) refl
-named-right path checksum (Some name) r found h = rw (← found) (chain-test (is_chain_name name.now) (hash_text name.now) checksum r h)
+named-right path checksum (Some name) r found h =
+    rw (← found) (chain-test (is_chain_name name.now) (hash_text name.now) checksum r h)

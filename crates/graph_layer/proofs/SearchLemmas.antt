@@ -1,5 +1,6 @@
 -- laws of a search that halves a bucket
-use Rattle.std.proofs.Common.{◌≡◌, ℕ, ◌+◌, ◌-◌, ◌<◌, ◌≤◌, List, length, Some, None, slice_get, slice_index, refl, sym, ap, ◌∙◌, arith, ⊎_elim}
+use Rattle.std.proofs.Common.{◌≡◌, ℕ, ◌+◌, ◌-◌, ◌<◌, ◌≤◌, List, length, Some, None, slice_get, slice_index, refl, sym, ap, ◌∙◌}
+use Rattle.std.proofs.Common.{arith, ⊎_elim}
 use Rattle.std.specs.Ordering.{ordering_reverse}
 use Rattle.std.specs.declared.cmp.Ordering.TheVariants.{Less, Equal, Greater}
 use Rattle.std.proofs.lemmas.Bool.{cases_lt, eq-eqb, ne_eqb}
@@ -14,14 +15,22 @@ use Rattle.graph_format.proofs.ScanLemmas.{scan-found, scan-none}
 
 -- Where the ids ascend under an exact fan, the id stands nowhere but from low up to, without, high.
 pub record StandsWithin (layer : Layer) (id : List ℕ) (low high : ℕ) : Type 0 where
-  pub each : AreAscending layer.ids → IsExactFan layer.fan layer.ids → (i : ℕ) → slice_get layer.ids i ≡ Some id → (low ≤ i) × (i < high)
+  pub each : AreAscending layer.ids → IsExactFan layer.fan layer.ids → (i : ℕ) → slice_get layer.ids i ≡ Some id → (low ≤ i)
+      × (i < high)
 
 -- in its bucket
-pub stands_within-bucket : (layer : Layer) (id : List ℕ) → slice_index id 0 < 256 → StandsWithin layer id (bucket_start layer.fan (slice_index id 0)) (slice_index layer.fan (slice_index id 0))
+pub stands_within-bucket : (layer : Layer) (id : List ℕ) → slice_index id 0 < 256
+    → StandsWithin layer id (bucket_start layer.fan (slice_index id 0)) (slice_index layer.fan (slice_index id 0))
 stands_within-bucket layer id byte = record {
   each = λ ascend exact i here. (
     ⊎_elim
-        (λ (some : 0 < slice_index id 0). rw (ne_eqb (slice_index id 0) 0 (λ e. omega arith)) (omega (arith, exact (slice_index id 0 - 1) (omega arith), counted-after (slice_index id 0 - 1) layer.ids i id ascend here (omega arith))))
+        (λ (some : 0 < slice_index id 0).
+        rw (ne_eqb (slice_index id 0) 0 (λ e. omega arith))
+        (omega (
+          arith,
+          exact (slice_index id 0 - 1) (omega arith),
+          counted-after (slice_index id 0 - 1) layer.ids i id ascend here (omega arith),
+        )))
         (λ (none : slice_index id 0 ≤ 0). rw (eq-eqb (slice_index id 0) 0 (omega arith)) (omega arith))
         (cases_lt 0 (slice_index id 0)),
     omega (arith, exact (slice_index id 0) byte, counted-before (slice_index id 0) layer.ids i id ascend here (omega arith)),
@@ -29,7 +38,8 @@ stands_within-bucket layer id byte = record {
 }
 
 -- below a greater id
-pub stands_within-lower : (layer : Layer) (id other : List ℕ) (low middle high : ℕ) → StandsWithin layer id low high → slice_get layer.ids middle ≡ Some other → id_cmp id other ≡ Less → StandsWithin layer id low middle
+pub stands_within-lower : (layer : Layer) (id other : List ℕ) (low middle high : ℕ) → StandsWithin layer id low high
+    → slice_get layer.ids middle ≡ Some other → id_cmp id other ≡ Less → StandsWithin layer id low middle
 stands_within-lower layer id other low middle high within there less = record {
   each = λ ascend exact i here. (
     (within.each ascend exact i here).0,
@@ -51,7 +61,8 @@ turned : (a b : List ℕ) → id_cmp a b ≡ Greater → id_cmp b a ≡ Less
 turned a b h = nat_list_cmp_total.antisymm b a ∙ ap ordering_reverse h
 
 -- above a lesser id
-pub stands_within-upper : (layer : Layer) (id other : List ℕ) (low middle high : ℕ) → StandsWithin layer id low high → slice_get layer.ids middle ≡ Some other → id_cmp id other ≡ Greater → StandsWithin layer id (middle + 1) high
+pub stands_within-upper : (layer : Layer) (id other : List ℕ) (low middle high : ℕ) → StandsWithin layer id low high
+    → slice_get layer.ids middle ≡ Some other → id_cmp id other ≡ Greater → StandsWithin layer id (middle + 1) high
 stands_within-upper layer id other low middle high within there greater = record {
   each = λ ascend exact i here. (
     ⊎_elim
@@ -73,24 +84,29 @@ stands_within-upper layer id other low middle high within there greater = record
     turned_itself a b e h = ap (λ (x : List ℕ). id_cmp x b) e ∙ ap (id_cmp b) (sym e) ∙ turned a b h
 
 -- the position of an equal id is an answer
-pub found-equal : (layer : Layer) (id other : List ℕ) (middle : ℕ) → slice_get layer.ids middle ≡ Some other → id_cmp id other ≡ Equal → Found layer id (Some middle)
+pub found-equal : (layer : Layer) (id other : List ℕ) (middle : ℕ) → slice_get layer.ids middle ≡ Some other
+    → id_cmp id other ≡ Equal → Found layer id (Some middle)
 found-equal layer id other middle there equal =
     let here : slice_get layer.ids middle ≡ Some id = there ∙ ap (λ (x : List ℕ). Some x) (sym (exact_bytes id other equal)) in
     record {
       holds = here;
       scanned = λ ascend exact.
-          sym (scan-found layer.ids id middle here (λ i before earlier. not-less_itself id (ascending-less layer.ids i middle id id ascend earlier here before)));
+          sym (scan-found layer.ids id middle here (λ i before earlier.
+          not-less_itself id (ascending-less layer.ids i middle id id ascend earlier here before)));
     }
 
 -- none is an answer where no position is left
 pub found-none : (layer : Layer) (id : List ℕ) (low high : ℕ) → StandsWithin layer id low high → high ≤ low → Found layer id None
 found-none layer id low high within empty = record {
   holds = tt;
-  scanned = λ ascend exact. sym (scan-none layer.ids id (λ i here. let place = within.each ascend exact i here in absurd (omega (arith, place.0, place.1))));
+  scanned = λ ascend exact.
+      sym (scan-none layer.ids id (λ i here.
+      let place = within.each ascend exact i here in absurd (omega (arith, place.0, place.1))));
 }
 
 -- an id of another length stands nowhere
-pub found-other_len : (layer : Layer) (id : List ℕ) → ((i : ℕ) (other : List ℕ) → slice_get layer.ids i ≡ Some other → length id ≡ length other → ⊥) → Found layer id None
+pub found-other_len : (layer : Layer) (id : List ℕ)
+    → ((i : ℕ) (other : List ℕ) → slice_get layer.ids i ≡ Some other → length id ≡ length other → ⊥) → Found layer id None
 found-other_len layer id differ = record {
   holds = tt;
   scanned = λ ascend exact. sym (scan-none layer.ids id (λ i here. differ i id here refl));

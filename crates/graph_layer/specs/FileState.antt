@@ -9,4 +9,5 @@ use Rattle.graph_layer.specs.declared.file.File.TheInside.{Inside}
 pub record IsFileState (a : Inside) : Type 0 where
   pub layout : IsLayout a.bytes.items a.layout
   pub records : AreDecoded (decoded_layer a.bytes.items (string_bytes a.path)).records a.records
-  pub extra_edges : option_map (λ edges. edges.items) a.extra_edges ≡ option_map words (decoded_layer a.bytes.items (string_bytes a.path)).edges
+  pub extra_edges : option_map (λ edges. edges.items) a.extra_edges
+      ≡ option_map words (decoded_layer a.bytes.items (string_bytes a.path)).edges

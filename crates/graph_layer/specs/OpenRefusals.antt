@@ -1,7 +1,8 @@
 -- What an opener answers for the refusals of the calls beneath it. Out of memory stays out of memory.
 use Rattle.std.specs.Prelude.{◌≡◌, ℕ, ⊤}
 use Rattle.graph_folder.specs.declared.folder.ReadError.{ReadError}
-use Rattle.graph_folder.specs.declared.folder.ReadError.TheVariants.{NotOpened as read_NotOpened, Device as read_Device, OutOfMemory as read_OutOfMemory}
+use Rattle.graph_folder.specs.declared.folder.ReadError.TheVariants.{NotOpened as read_NotOpened, Device as read_Device}
+use Rattle.graph_folder.specs.declared.folder.ReadError.TheVariants.{OutOfMemory as read_OutOfMemory}
 use Rattle.graph_format.specs.declared.error.FileError.{FileError}
 use Rattle.graph_format.specs.declared.error.FileError.TheVariants.{OutOfMemory as file_OutOfMemory}
 use Rattle.graph_format.specs.declared.error.GraphError.{GraphError}

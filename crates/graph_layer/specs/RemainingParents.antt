@@ -36,7 +36,8 @@ second_hint (edge.ExtraEdgeIndex index) = (1, None)
 
 -- the bounds that it gives: in the extra edge list one item comes at least, since the last word or a fault does
 abbrev pub parents_hint : Parents → ℕ × Option ℕ
-parents_hint parents = if parents.started then second_hint (edge_of parents.next) else first_hint (edge_of parents.next) (edge_of parents.after)
+parents_hint parents =
+    if parents.started then second_hint (edge_of parents.next) else first_hint (edge_of parents.next) (edge_of parents.after)
 
 -- The bounds once an item is taken, by those before it and the items then left: none, where none is left; else at least one,
 -- and one less at most, where the greatest number is known.

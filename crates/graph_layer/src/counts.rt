@@ -1,6 +1,7 @@
 //! How many commits have each number of parents.
 
-ghost use Rattle.std.specs.Prelude.{◌≡◌, ◌==◌, ℕ, ◌+◌, ◌<◌, ◌^◌, Some, None, OnOk, IfOk, unwrap_or, if◌then◌else◌};
+ghost use Rattle.std.specs.Prelude.{◌≡◌, ◌==◌, ℕ, ◌+◌, ◌<◌, ◌^◌, Some, None, OnOk, IfOk, unwrap_or};
+ghost use Rattle.std.specs.Prelude.{if◌then◌else◌};
 ghost use Rattle.std.specs.Ordering.{nat_cmp};
 ghost use Rattle.std.specs.BTreeMap.{get};
 
@@ -33,7 +34,8 @@ impl ParentCounts {
     pub fn add(&mut self, parents: u32) -> Result<(), AllocError>
         requires { unwrap_or (counted self.old parents) 0 + 1 < 2 ^ 32 }
         ensures { OnOk result ((k : ℕ) → counted self.new k
-            ≡ (if k == parents then Some (unwrap_or (counted self.old parents) 0 + 1) else counted self.old k)) }
+            ≡ (if k == parents then Some (unwrap_or (counted self.old parents) 0 + 1) else counted
+            self.old k)) }
     {
         if parents < 3 {
             self.few[parents as usize] += 1;

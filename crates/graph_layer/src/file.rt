@@ -15,8 +15,8 @@ use init::{Layout, Records};
 use std::fmt;
 use std::marker::Model;
 
-/// One layer of a commit-graph: the bytes of a file that has the written format, what its records and
-/// its extra edge list say, and the path that came with them. A contract sees it as the decoded
+/// One layer of a commit-graph: the bytes of a file that has the written format, what its records
+/// and its extra edge list say, and the path that came with them. A contract sees it as the decoded
 /// layer.
 #[derive(Drop)]
 pub struct File {

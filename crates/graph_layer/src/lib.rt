@@ -1,5 +1,5 @@
-//! One layer of a commit-graph: opening it, reading what it says, finding its commits, and checking it
-//! by itself.
+//! One layer of a commit-graph: opening it, reading what it says, finding its commits, and checking
+//! it by itself.
 #![tactic(auto)]
 
 pub mod check;

@@ -2,7 +2,8 @@
 
 ghost use Rattle.std.specs.Prelude.{◌≡◌, IfOk, IfErr, IsErrOf, string_bytes};
 ghost use Rattle.std.specs.Option.{ForSome};
-ghost use Rattle.graph_layer.specs.LayerOpening.{bytes_at, layer_of_bytes, layer_at, IsReadError, IsLayerError};
+ghost use Rattle.graph_layer.specs.LayerOpening.{bytes_at, layer_of_bytes, layer_at, IsReadError};
+ghost use Rattle.graph_layer.specs.LayerOpening.{IsLayerError};
 ghost use Rattle.graph_layer.specs.OpenAnswer.{IsAsExpected, failures_after_opening, result_map};
 ghost use Rattle.graph_layer.specs.OpenRefusals.{OutOfMemoryStandsAlone};
 
@@ -43,10 +44,12 @@ pub fn open_layer<T: Folder>(
     layer: usize,
     path: String,
 ) -> Result<File, OpenError>
-    ensures opens { ForSome (T.tree folder.old) (λ tree. IsAsExpected result (layer_at tree layer (string_bytes path))) }
+    ensures opens { ForSome (T.tree folder.old) (λ tree.
+        IsAsExpected result (layer_at tree layer (string_bytes path))) }
     ensures path { IfOk result (λ file. file.path ≡ string_bytes path) }
     ensures tree { T.tree folder.new ≡ T.tree folder.old }
-    ensures failures { T.failure_count folder.new ≡ failures_after_opening result (T.failure_count folder.old) }
+    ensures failures { T.failure_count folder.new
+        ≡ failures_after_opening result (T.failure_count folder.old) }
     ensures errors { IfErr result (IsLayerError layer) }
     ensures memory { IfErr result OutOfMemoryStandsAlone }
 {
@@ -59,7 +62,8 @@ pub fn read_file<T: Folder>(alloc: Global, folder: &mut T, path: &str) -> Result
     ensures opens { ForSome (T.tree folder.old)
         (λ tree. IsAsExpected (result_map (λ bytes. bytes.items) result) (bytes_at tree path.now)) }
     ensures tree { T.tree folder.new ≡ T.tree folder.old }
-    ensures failures { T.failure_count folder.new ≡ failures_after_opening result (T.failure_count folder.old) }
+    ensures failures { T.failure_count folder.new
+        ≡ failures_after_opening result (T.failure_count folder.old) }
     ensures errors { IfErr result IsReadError }
     ensures memory { IfErr result OutOfMemoryStandsAlone }
 {

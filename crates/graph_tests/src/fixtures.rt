@@ -190,8 +190,8 @@ pub fn layer(
 }
 
 /// The diamond's file with these bytes written over it from a place on, and with a right checksum.
-/// Its fan begins at byte 56, its ids at 1080, and its records, of 36 bytes each, at 1160. Where the
-/// bytes do not fit in its 1324 bytes, the process aborts.
+/// Its fan begins at byte 56, its ids at 1080, and its records, of 36 bytes each, at 1160. Where
+/// the bytes do not fit in its 1324 bytes, the process aborts.
 ///
 /// # Errors
 ///

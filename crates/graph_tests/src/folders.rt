@@ -20,7 +20,8 @@ fn put_text(memory: &mut Memory, alloc: Global, path: &str, text: &[u8]) -> Resu
     put(memory, alloc, path, Vec::from_slice(alloc, text)?)
 }
 
-/// Puts a chain of three layers there. Each has one commit, whose id consists of the byte 3, 2 or 1.
+/// Puts a chain of three layers there. Each has one commit, whose id consists of the byte 3, 2 or
+/// 1.
 fn put_chain(
     rt: &impl Abort,
     memory: &mut Memory,

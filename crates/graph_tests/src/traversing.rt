@@ -34,7 +34,8 @@ fn checked(
 /// Why the check refuses a layer, and how often the processor was called.
 type Refusal = (Option<TraverseError<Refused>>, u32);
 
-/// The refusal of the layer of these bytes, at a path and with a processor that always answers this.
+/// The refusal of the layer of these bytes, at a path and with a processor that always answers
+/// this.
 fn refusal_of(
     alloc: Global,
     bytes: &[u8],
@@ -122,8 +123,8 @@ fn the_processor_comes_before_the_parents(rt: HostRuntime) -> Result<(), Fail> {
     Ok(())
 }
 
-/// Compares an outcome: the greatest and the least generation number, the most parents and the number
-/// of commits; and how many commits have each number of parents.
+/// Compares an outcome: the greatest and the least generation number, the most parents and the
+/// number of commits; and how many commits have each number of parents.
 fn compare_outcome(
     rt: &impl Abort,
     outcome: &Outcome,

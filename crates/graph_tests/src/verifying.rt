@@ -89,7 +89,8 @@ fn checked(
     (answer, seen)
 }
 
-/// Compares the refusal of a graph whose commits the processor accepts, and the number of its calls.
+/// Compares the refusal of a graph whose commits the processor accepts, and the number of its
+/// calls.
 fn compare_refusal(
     rt: &impl Abort,
     alloc: Global,
@@ -102,8 +103,9 @@ fn compare_refusal(
     assert_eq!(rt; seen.len(), calls);
 }
 
-/// Compares the outcome of a right graph: its longest path and the counts of the numbers of parents.
-/// The first bytes of the ids of the commits that the processor was called on are answered, in order.
+/// Compares the outcome of a right graph: its longest path and the counts of the numbers of
+/// parents. The first bytes of the ids of the commits that the processor was called on are
+/// answered, in order.
 fn compare_outcome(
     rt: &impl Abort,
     alloc: Global,

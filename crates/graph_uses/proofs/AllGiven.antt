@@ -36,13 +36,15 @@ pub all-ok : (parents : DecodedParents) → parents.fault ≡ None → All IsOk 
 all-ok parents no_fault = subst (All IsOk) (sym (given parents no_fault)) (given-ok parents.positions)
 
 -- when nothing is left, those that were taken are all parents
-pub all-taken : (parents : DecodedParents) (taken : List Position) (left : Items) → parents.fault ≡ None → left ≡ [] → before taken left ≡ items_of parents → taken ≡ parents.positions
+pub all-taken : (parents : DecodedParents) (taken : List Position) (left : Items) → parents.fault ≡ None → left ≡ []
+    → before taken left ≡ items_of parents → taken ≡ parents.positions
 all-taken parents taken left no_fault none items =
     sym (positions-given taken)
     ∙ ap positions_of (ap (before taken) (sym none) ∙ items ∙ given parents no_fault)
     ∙ positions-given parents.positions
 
 -- one more is taken
-pub before-push : (taken : List Position) (pos : Position) (left : Items) → before (taken ++ pos ∷ []) left ≡ before taken (Ok pos ∷ left)
+pub before-push : (taken : List Position) (pos : Position) (left : Items)
+    → before (taken ++ pos ∷ []) left ≡ before taken (Ok pos ∷ left)
 before-push [] pos left = refl
 before-push (first ∷ taken) pos left = ap (λ (rest : Items). Ok first ∷ rest) (before-push taken pos left)

@@ -1,5 +1,6 @@
 -- a header, a table, chunks and a trailer
-use Rattle.std.proofs.Common.{◌≡◌, ℕ, List, ◌++◌, length, take, slice_index, slice_range, Some, option_map, refl, sym, ap, subst, ◌∙◌, append_assoc}
+use Rattle.std.proofs.Common.{◌≡◌, ℕ, List, ◌++◌, length, take, slice_index, slice_range, Some, option_map, refl, sym, ap, subst}
+use Rattle.std.proofs.Common.{◌∙◌, append_assoc}
 use Rattle.gix_hash_core.specs.declared.kind.Kind.{Kind}
 use Rattle.gix_hash_core.specs.declared.kind.Kind.TheVariants.{Sha1, Sha256}
 use Rattle.gix_hash_core.specs.Kind.{kind_of}
@@ -30,32 +31,49 @@ unfolding header
 headed-rest Sha1 chunks bases rest = record { starts = refl; version = refl; kind = refl; chunks = refl; bases = refl }
 headed-rest Sha256 chunks bases rest = record { starts = refl; version = refl; kind = refl; chunks = refl; bases = refl }
 
-pub headed : (kind : Kind) (bases : ℕ) (chunks : List NamedChunk) (back : List ℕ) → IsHeaded (laid_file kind bases chunks back) kind (length chunks) bases
+pub headed : (kind : Kind) (bases : ℕ) (chunks : List NamedChunk) (back : List ℕ)
+    → IsHeaded (laid_file kind bases chunks back) kind (length chunks) bases
 unfolding with_chunks
 headed kind bases chunks back =
     let P : List ℕ → Type 0 = λ bytes. IsHeaded bytes kind (length chunks) bases in
     subst P (sym (append_assoc (header kind (length chunks) bases) _ back)) (headed-rest kind (length chunks) bases _)
 
-table_of-laid : (kind : Kind) (bases : ℕ) (chunks : List NamedChunk) (back : List ℕ) → table_of (laid_file kind bases chunks back) ≡ table_at (laid_file kind bases chunks back) (length (header kind (length chunks) bases)) (length chunks)
+table_of-laid : (kind : Kind) (bases : ℕ) (chunks : List NamedChunk) (back : List ℕ)
+    → table_of (laid_file kind bases chunks back)
+    ≡ table_at (laid_file kind bases chunks back) (length (header kind (length chunks) bases)) (length chunks)
 unfolding table_of
 table_of-laid kind bases chunks back =
     ap (table_at (laid_file kind bases chunks back) 8) (headed kind bases chunks back).chunks
-    ∙ ap (λ (n : ℕ). table_at (laid_file kind bases chunks back) n (length chunks)) (sym (length-header kind (length chunks) bases))
+    ∙ ap (λ (n : ℕ). table_at (laid_file kind bases chunks back) n (length chunks))
+    (sym (length-header kind (length chunks) bases))
 
-pub table-laid : (kind : Kind) (bases : ℕ) (chunks : List NamedChunk) (back : List ℕ) → AreLaidOut (header kind (length chunks) bases) back chunks → Chunks (laid_file kind bases chunks back) 8 (slice_index (laid_file kind bases chunks back) 6) (table_of (laid_file kind bases chunks back))
+pub table-laid : (kind : Kind) (bases : ℕ) (chunks : List NamedChunk) (back : List ℕ)
+    → AreLaidOut (header kind (length chunks) bases) back chunks
+    → Chunks (laid_file kind bases chunks back) 8 (slice_index (laid_file kind bases chunks back) 6)
+    (table_of (laid_file kind bases chunks back))
 table-laid kind bases chunks back h =
     let P : ℕ → ℕ → Table → Type 0 = λ at count table. Chunks (laid_file kind bases chunks back) at count table in
     let right = chunks-laid (header kind (length chunks) bases) back chunks h in
-    let Q : ℕ → Type 0 = λ at. P at (length chunks) (table_at (laid_file kind bases chunks back) (length (header kind (length chunks) bases)) (length chunks)) in
-    let R : ℕ → Type 0 = λ count. P 8 count (table_at (laid_file kind bases chunks back) (length (header kind (length chunks) bases)) (length chunks)) in
+    let Q : ℕ → Type 0 = λ at.
+    P at (length chunks)
+    (table_at (laid_file kind bases chunks back) (length (header kind (length chunks) bases)) (length chunks)) in
+    let R : ℕ → Type 0 = λ count.
+    P 8 count (table_at (laid_file kind bases chunks back) (length (header kind (length chunks) bases)) (length chunks)) in
     let S : Table → Type 0 = λ table. P 8 (slice_index (laid_file kind bases chunks back) 6) table in
-    subst S (sym (table_of-laid kind bases chunks back)) (subst R (sym (headed kind bases chunks back).chunks) (subst Q (length-header kind (length chunks) bases) right))
+    subst S (sym (table_of-laid kind bases chunks back))
+    (subst R (sym (headed kind bases chunks back).chunks) (subst Q (length-header kind (length chunks) bases) right))
 
-pub end-laid : (kind : Kind) (bases : ℕ) (chunks : List NamedChunk) (back : List ℕ) → AreLaidOut (header kind (length chunks) bases) back chunks → (table_of (laid_file kind bases chunks back)).end ≡ length (with_chunks (header kind (length chunks) bases) chunks)
-end-laid kind bases chunks back h = ap (λ (table : Table). table.end) (table_of-laid kind bases chunks back) ∙ table_at-end (header kind (length chunks) bases) back chunks h
+pub end-laid : (kind : Kind) (bases : ℕ) (chunks : List NamedChunk) (back : List ℕ)
+    → AreLaidOut (header kind (length chunks) bases) back chunks
+    → (table_of (laid_file kind bases chunks back)).end ≡ length (with_chunks (header kind (length chunks) bases) chunks)
+end-laid kind bases chunks back h = ap (λ (table : Table). table.end) (table_of-laid kind bases chunks back)
+    ∙ table_at-end (header kind (length chunks) bases) back chunks h
 
-pub chunk_of-laid : (kind : Kind) (bases : ℕ) (chunks : List NamedChunk) (back id : List ℕ) → AreLaidOut (header kind (length chunks) bases) back chunks → chunk_of (laid_file kind bases chunks back) id ≡ bytes_named chunks id
+pub chunk_of-laid : (kind : Kind) (bases : ℕ) (chunks : List NamedChunk) (back id : List ℕ)
+    → AreLaidOut (header kind (length chunks) bases) back chunks
+    → chunk_of (laid_file kind bases chunks back) id ≡ bytes_named chunks id
 unfolding chunk_of chunk_range_of
 chunk_of-laid kind bases chunks back id h =
-    ap (λ (table : Table). option_map (λ (place : ℕ × ℕ). slice_range (laid_file kind bases chunks back) place.0 place.1) (range_of table id)) (table_of-laid kind bases chunks back)
+    ap (λ (table : Table). option_map (λ (place : ℕ × ℕ). slice_range (laid_file kind bases chunks back) place.0 place.1)
+    (range_of table id)) (table_of-laid kind bases chunks back)
     ∙ range_of-laid (header kind (length chunks) bases) back id chunks h

@@ -1,5 +1,6 @@
 -- pieces of one size that are put one after another, and are read again
-use Rattle.std.proofs.Common.{◌≡◌, ℕ, zero, suc, ◌+◌, ◌*◌, ◌/◌, ◌^◌, ◌<◌, List, [], ◌∷◌, ◌++◌, length, map, slice_range, All, refl, sym, ap, ◌∙◌, arith, append_assoc, length-append}
+use Rattle.std.proofs.Common.{◌≡◌, ℕ, zero, suc, ◌+◌, ◌*◌, ◌/◌, ◌^◌, ◌<◌, List, [], ◌∷◌, ◌++◌, length, map, slice_range, All}
+use Rattle.std.proofs.Common.{refl, sym, ap, ◌∙◌, arith, append_assoc, length-append}
 use Rattle.std.specs.Int.{w32, from_be_bytes}
 use Rattle.std.specs.List.{range_with_len, flat_map}
 use Rattle.std.proofs.Math.Nat.{mul-div_cancel_left}
@@ -29,28 +30,39 @@ All-append P (x ∷ xs) ys h e = All-cons P x (xs ++ ys) (All-first P x xs h) (A
 abbrev pub AllSized : {X : Type 0} → ℕ → (X → List ℕ) → List X → Type 0
 AllSized size f xs = All (λ x. length (f x) ≡ size) xs
 
-pub length-flat_map-sized : {X : Type 0} (size : ℕ) (f : X → List ℕ) (xs : List X) → AllSized size f xs → length (flat_map f xs) ≡ size * length xs
+pub length-flat_map-sized : {X : Type 0} (size : ℕ) (f : X → List ℕ) (xs : List X) → AllSized size f xs
+    → length (flat_map f xs) ≡ size * length xs
 length-flat_map-sized size f [] h = omega arith
 length-flat_map-sized size f (x ∷ xs) h =
     let first : length (f x) ≡ size = All-first (λ y. length (f y) ≡ size) x xs h in
-    let others : length (flat_map f xs) ≡ size * length xs = length-flat_map-sized size f xs (All-others (λ y. length (f y) ≡ size) x xs h) in
+    let others : length (flat_map f xs) ≡ size * length xs =
+    length-flat_map-sized size f xs (All-others (λ y. length (f y) ≡ size) x xs h) in
     omega (arith, first, others, length-append (f x) (flat_map f xs))
 
-cut : {X : Type 0} (size : ℕ) (f : X → List ℕ) (front : List ℕ) (k : ℕ) (xs : List X) → AllSized size f xs → length front ≡ size * k → map (λ i. slice_range (front ++ flat_map f xs) (size * i) (size * i + size)) (range_with_len k (length xs)) ≡ map f xs
+cut : {X : Type 0} (size : ℕ) (f : X → List ℕ) (front : List ℕ) (k : ℕ) (xs : List X) → AllSized size f xs
+    → length front ≡ size * k
+    → map (λ i. slice_range (front ++ flat_map f xs) (size * i) (size * i + size)) (range_with_len k (length xs)) ≡ map f xs
 cut size f front k [] h e = refl
 cut size f front k (x ∷ xs) h e =
     let first : length (f x) ≡ size = All-first (λ y. length (f y) ≡ size) x xs h in
-    let head : slice_range (front ++ (f x ++ flat_map f xs)) (size * k) (size * k + size) ≡ f x = slice_range-middle front (f x) (flat_map f xs) _ _ (sym e) (omega (arith, first, e)) in
-    let rest : map (λ i. slice_range ((front ++ f x) ++ flat_map f xs) (size * i) (size * i + size)) (range_with_len (k + 1) (length xs)) ≡ map f xs =
-    cut size f (front ++ f x) (k + 1) xs (All-others (λ y. length (f y) ≡ size) x xs h) (omega (arith, first, e, length-append front (f x))) in
-    ap (λ (y : List ℕ). y ∷ map (λ i. slice_range (front ++ (f x ++ flat_map f xs)) (size * i) (size * i + size)) (range_with_len (k + 1) (length xs))) head
-    ∙ ap (λ (bytes : List ℕ). f x ∷ map (λ i. slice_range bytes (size * i) (size * i + size)) (range_with_len (k + 1) (length xs))) (sym (append_assoc front (f x) (flat_map f xs)))
+    let head : slice_range (front ++ (f x ++ flat_map f xs)) (size * k) (size * k + size) ≡ f x =
+    slice_range-middle front (f x) (flat_map f xs) _ _ (sym e) (omega (arith, first, e)) in
+    let rest : map (λ i. slice_range ((front ++ f x) ++ flat_map f xs) (size * i) (size * i + size))
+    (range_with_len (k + 1) (length xs)) ≡ map f xs =
+    cut size f (front ++ f x) (k + 1) xs (All-others (λ y. length (f y) ≡ size) x xs h)
+    (omega (arith, first, e, length-append front (f x))) in
+    ap (λ (y : List ℕ). y ∷ map (λ i. slice_range (front ++ (f x ++ flat_map f xs)) (size * i) (size * i + size))
+    (range_with_len (k + 1) (length xs))) head
+    ∙ ap (λ (bytes : List ℕ). f x ∷ map (λ i. slice_range bytes (size * i) (size * i + size))
+    (range_with_len (k + 1) (length xs))) (sym (append_assoc front (f x) (flat_map f xs)))
     ∙ ap (λ (ys : List (List ℕ)). f x ∷ ys) rest
 
-pub pieces-flat_map : {X : Type 0} (size : ℕ) (f : X → List ℕ) (xs : List X) → 0 < size → AllSized size f xs → pieces size (flat_map f xs) ≡ map f xs
+pub pieces-flat_map : {X : Type 0} (size : ℕ) (f : X → List ℕ) (xs : List X) → 0 < size → AllSized size f xs
+    → pieces size (flat_map f xs) ≡ map f xs
 unfolding pieces
 pieces-flat_map size f xs h e =
-    let count : length (flat_map f xs) / size ≡ length xs = ap (λ (n : ℕ). n / size) (length-flat_map-sized size f xs e) ∙ mul-div_cancel_left (length xs) h in
+    let count : length (flat_map f xs) / size ≡ length xs = ap (λ (n : ℕ). n / size) (length-flat_map-sized size f xs e)
+    ∙ mul-div_cancel_left (length xs) h in
     ap (λ (n : ℕ). map (λ i. slice_range (flat_map f xs) (size * i) (size * i + size)) (range_with_len 0 n)) count
     ∙ cut size f [] 0 xs e (omega arith)
 

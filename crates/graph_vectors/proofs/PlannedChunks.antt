@@ -1,5 +1,6 @@
 -- the chunks of a plan
-use Rattle.std.proofs.Common.{◌≡◌, ℕ, ◌+◌, ◌-◌, ◌*◌, ◌/◌, ◌^◌, ◌<◌, ◌≤◌, List, [], ◌∷◌, ◌++◌, length, drop, Option, Some, None, IfSome, MatchOption, All, true, refl, ap, ◌∙◌, arith, length-append}
+use Rattle.std.proofs.Common.{◌≡◌, ℕ, ◌+◌, ◌-◌, ◌*◌, ◌/◌, ◌^◌, ◌<◌, ◌≤◌, List, [], ◌∷◌, ◌++◌, length, drop, Option, Some, None}
+use Rattle.std.proofs.Common.{IfSome, MatchOption, All, true, refl, ap, ◌∙◌, arith, length-append}
 use Rattle.std.proofs.lemmas.List.{map-id}
 use Rattle.gix_hash_core.specs.declared.kind.Kind.{Kind}
 use Rattle.gix_hash_core.specs.declared.kind.Kind.TheVariants.{Sha1, Sha256}
@@ -19,13 +20,15 @@ five_chunks fan ids records words bases =
     record { id = fan_id; bytes = fan } ∷ record { id = ids_id; bytes = ids } ∷ record { id = records_id; bytes = records }
     ∷ (edges_chunks words ++ bases_chunks bases)
 
-pub five-named : (fan ids records words : List ℕ) (bases : List (List ℕ)) → are_named (five_chunks fan ids records words bases) ≡ true
+pub five-named : (fan ids records words : List ℕ) (bases : List (List ℕ))
+    → are_named (five_chunks fan ids records words bases) ≡ true
 five-named fan ids records [] [] = refl
 five-named fan ids records [] (base ∷ bases) = refl
 five-named fan ids records (word ∷ words) [] = refl
 five-named fan ids records (word ∷ words) (base ∷ bases) = refl
 
-pub five-few : (fan ids records words : List ℕ) (bases : List (List ℕ)) → (3 ≤ length (five_chunks fan ids records words bases)) × (length (five_chunks fan ids records words bases) ≤ 5)
+pub five-few : (fan ids records words : List ℕ) (bases : List (List ℕ)) → (3 ≤ length (five_chunks fan ids records words bases))
+    × (length (five_chunks fan ids records words bases) ≤ 5)
 five-few fan ids records [] [] = (omega arith, omega arith)
 five-few fan ids records [] (base ∷ bases) = (omega arith, omega arith)
 five-few fan ids records (word ∷ words) [] = (omega arith, omega arith)
@@ -40,19 +43,22 @@ abbrev pub bases_bytes : List (List ℕ) → Option (List ℕ)
 bases_bytes [] = None
 bases_bytes (base ∷ bases) = Some (ids_bytes (base ∷ bases))
 
-pub edges-named : (fan ids records words : List ℕ) (bases : List (List ℕ)) → bytes_named (five_chunks fan ids records words bases) edges_id ≡ edges_bytes words
+pub edges-named : (fan ids records words : List ℕ) (bases : List (List ℕ))
+    → bytes_named (five_chunks fan ids records words bases) edges_id ≡ edges_bytes words
 edges-named fan ids records [] [] = refl
 edges-named fan ids records [] (base ∷ bases) = refl
 edges-named fan ids records (word ∷ words) bases = refl
 
-pub bases-named : (fan ids records words : List ℕ) (bases : List (List ℕ)) → bytes_named (five_chunks fan ids records words bases) bases_id ≡ bases_bytes bases
+pub bases-named : (fan ids records words : List ℕ) (bases : List (List ℕ))
+    → bytes_named (five_chunks fan ids records words bases) bases_id ≡ bases_bytes bases
 bases-named fan ids records [] [] = refl
 bases-named fan ids records [] (base ∷ bases) = refl
 bases-named fan ids records (word ∷ words) [] = refl
 bases-named fan ids records (word ∷ words) (base ∷ bases) = refl
 
 -- ids of one length that are put one after another
-pub length-ids_bytes : (kind : Kind) (ids : List (List ℕ)) → All (λ id. length id ≡ id_len kind) ids → length (ids_bytes ids) ≡ id_len kind * length ids
+pub length-ids_bytes : (kind : Kind) (ids : List (List ℕ)) → All (λ id. length id ≡ id_len kind) ids
+    → length (ids_bytes ids) ≡ id_len kind * length ids
 unfolding ids_bytes
 length-ids_bytes kind ids h = length-flat_map-sized (id_len kind) (λ id. id) ids h
 
@@ -60,21 +66,32 @@ pub id-whole : (kind : Kind) → 0 < id_len kind
 id-whole Sha1 = omega arith
 id-whole Sha256 = omega arith
 
-pub ids_bytes-read : (kind : Kind) (ids : List (List ℕ)) → All (λ id. length id ≡ id_len kind) ids → pieces (id_len kind) (ids_bytes ids) ≡ ids
+pub ids_bytes-read : (kind : Kind) (ids : List (List ℕ)) → All (λ id. length id ≡ id_len kind) ids
+    → pieces (id_len kind) (ids_bytes ids) ≡ ids
 unfolding ids_bytes
 ids_bytes-read kind ids h = pieces-flat_map (id_len kind) (λ id. id) ids (id-whole kind) h ∙ map-id ids
 
 -- how many bytes the chunks have
-optional-size : (kind : Kind) (words : List ℕ) (bases : List (List ℕ)) → All (λ id. length id ≡ id_len kind) bases → length (chunk_bytes (edges_chunks words ++ bases_chunks bases)) ≡ 4 * length words + id_len kind * length bases
+optional-size : (kind : Kind) (words : List ℕ) (bases : List (List ℕ)) → All (λ id. length id ≡ id_len kind) bases
+    → length (chunk_bytes (edges_chunks words ++ bases_chunks bases)) ≡ 4 * length words + id_len kind * length bases
 unfolding chunk_bytes
 optional-size kind [] [] h = omega arith
-optional-size kind [] (base ∷ bases) h = omega (arith, length-append (ids_bytes (base ∷ bases)) [], length-ids_bytes kind (base ∷ bases) h)
-optional-size kind (word ∷ words) [] h = omega (arith, length-append (words_bytes (word ∷ words)) [], length-words_bytes (word ∷ words))
+optional-size kind [] (base ∷ bases) h =
+    omega (arith, length-append (ids_bytes (base ∷ bases)) [], length-ids_bytes kind (base ∷ bases) h)
+optional-size kind (word ∷ words) [] h =
+    omega (arith, length-append (words_bytes (word ∷ words)) [], length-words_bytes (word ∷ words))
 optional-size kind (word ∷ words) (base ∷ bases) h =
-    omega (arith, length-append (words_bytes (word ∷ words)) (ids_bytes (base ∷ bases) ++ []), length-append (ids_bytes (base ∷ bases)) [], length-words_bytes (word ∷ words), length-ids_bytes kind (base ∷ bases) h)
+    omega (
+      arith,
+      length-append (words_bytes (word ∷ words)) (ids_bytes (base ∷ bases) ++ []),
+      length-append (ids_bytes (base ∷ bases)) [],
+      length-words_bytes (word ∷ words),
+      length-ids_bytes kind (base ∷ bases) h,
+    )
 
 pub five-size : (kind : Kind) (fan ids records words : List ℕ) (bases : List (List ℕ)) → All (λ id. length id ≡ id_len kind) bases
-    → length (chunk_bytes (five_chunks fan ids records words bases)) ≡ length fan + length ids + length records + (4 * length words + id_len kind * length bases)
+    → length (chunk_bytes (five_chunks fan ids records words bases))
+    ≡ length fan + length ids + length records + (4 * length words + id_len kind * length bases)
 unfolding chunk_bytes
 five-size kind fan ids records words bases h =
     simp length-append (omega (arith, optional-size kind words bases h))

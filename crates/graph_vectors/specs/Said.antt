@@ -1,5 +1,6 @@
 -- When a layer says what a plan says. (gitformat-commit-graph, "CHUNK DATA" and "TRAILER".)
-use Rattle.std.specs.Prelude.{◌≡◌, ◌+◌, ◌<◌, ℕ, List, [], map, length, take, slice_index, slice_get, Option, Some, None, IsSomeAnd, MatchOption}
+use Rattle.std.specs.Prelude.{◌≡◌, ◌+◌, ◌<◌, ℕ, List, [], map, length, take, slice_index, slice_get, Option, Some, None}
+use Rattle.std.specs.Prelude.{IsSomeAnd, MatchOption}
 use Rattle.gix_hash_core.specs.Digest.{digest_of}
 use Rattle.graph_format.specs.Format.{Record, words}
 use Rattle.graph_format.specs.Layer.{Layer, IsLayer}

@@ -45,7 +45,8 @@ fn push_body(file: &mut Vec<u8>, plan: &LayerPlan, sizes: Sizes) -> Result<(), A
     requires plan { IsPlan plan.now }
     requires sizes { AreSizes plan.now sizes }
     ensures body { OnOk result (file.new.items ≡ file.old.items ++ planned_body plan.now) }
-    ensures bytes { OnOk result (All (λ id. slice_index id 0 < 256) (ids_of plan.now.commits.items)) }
+    ensures bytes { OnOk result
+        (All (λ id. slice_index id 0 < 256) (ids_of plan.now.commits.items)) }
 {
     push_header(file, plan, sizes.chunk_count())?;
     push_table(file, plan, sizes)?;

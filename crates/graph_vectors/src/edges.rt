@@ -2,7 +2,8 @@
 //! (gitformat-commit-graph, "Commit Data" and "Extra Edge List".)
 
 ghost use Rattle.std.specs.Prelude.{◌≡◌, ◌+◌, ◌<◌, ◌++◌, ◌↔◌, IsTrue, OnOk, length, All};
-ghost use Rattle.graph_vectors.specs.ExtraEdges.{extra_words, all_extra_words, top_bit, no_parent, first_field, second_field};
+ghost use Rattle.graph_vectors.specs.ExtraEdges.{extra_words, all_extra_words, top_bit, no_parent};
+ghost use Rattle.graph_vectors.specs.ExtraEdges.{first_field, second_field};
 ghost use Rattle.graph_vectors.specs.Written.{words_bytes};
 
 use crate::plan::PlanCommit;
@@ -73,7 +74,8 @@ pub(crate) fn parent_fields(parents: &[u32], index: u32) -> (u32, u32)
 /// Adds the extra words of a commit with these parents.
 pub(crate) fn push_extra_words(file: &mut Vec<u8>, parents: &[u32]) -> Result<(), AllocError>
     requires { All (λ parent. parent < no_parent) parents.now }
-    ensures { OnOk result (file.new.items ≡ file.old.items ++ words_bytes (extra_words parents.now)) }
+    ensures { OnOk result (file.new.items
+        ≡ file.old.items ++ words_bytes (extra_words parents.now)) }
 {
     if parents.len() > 2 {
         let last = parents.len() - 1;
@@ -88,7 +90,8 @@ pub(crate) fn push_extra_words(file: &mut Vec<u8>, parents: &[u32]) -> Result<()
 /// Adds the extra words of these commits.
 pub(crate) fn push_edges(file: &mut Vec<u8>, commits: &[PlanCommit]) -> Result<(), AllocError>
     requires { All (λ commit. All (λ parent. parent < no_parent) commit.parents.items) commits.now }
-    ensures { OnOk result (file.new.items ≡ file.old.items ++ words_bytes (all_extra_words commits.now)) }
+    ensures { OnOk result (file.new.items
+        ≡ file.old.items ++ words_bytes (all_extra_words commits.now)) }
 {
     for commit in commits {
         push_extra_words(file, &commit.parents)?;

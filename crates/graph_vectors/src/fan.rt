@@ -10,7 +10,8 @@ use std::alloc::AllocError;
 /// How many ids have each first byte.
 fn first_bytes(commits: &[PlanCommit]) -> [u32; 256]
     requires { length commits.now < 2 ^ 32 }
-    ensures counted { (byte : ℕ) → byte < 256 → slice_index result byte ≡ ids_with byte (ids_of commits.now) }
+    ensures counted { (byte : ℕ) → byte < 256
+        → slice_index result byte ≡ ids_with byte (ids_of commits.now) }
     ensures bytes { All (λ id. slice_index id 0 < 256) (ids_of commits.now) }
 {
     let mut counts = [0; 256];

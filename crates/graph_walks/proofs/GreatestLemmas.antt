@@ -1,5 +1,6 @@
 -- The greatest of some numbers is a bound of them, and one of them.
-use Rattle.std.proofs.Common.{◌≡◌, ℕ, suc, zero, ◌<◌, ◌≤◌, max, fold, List, [], ◌∷◌, map, slice_get, Some, refl, ap, ⊎_elim, arith}
+use Rattle.std.proofs.Common.{◌≡◌, ℕ, suc, zero, ◌<◌, ◌≤◌, max, fold, List, [], ◌∷◌, map, slice_get, Some, refl, ap, ⊎_elim}
+use Rattle.std.proofs.Common.{arith}
 use Rattle.std.proofs.lemmas.Option.{same_Some, none-some}
 use Rattle.std.proofs.lemmas.Bool.{cases_lt}
 use Rattle.graph_walks.specs.Counts.{greatest}
@@ -21,13 +22,15 @@ greatest_bounds f (y ∷ ys) (suc k) x at =
     let bound : f x ≤ greatest (map f ys) = greatest_bounds f ys k x at in
     omega (arith, greatest-cons (f y) (map f ys))
 
-pub greatest_reached : {A : Type 0} (f : A → ℕ) (xs : List A) → 0 < greatest (map f xs) → (k : ℕ) × (x : A) × (slice_get xs k ≡ Some x) × (f x ≡ greatest (map f xs))
+pub greatest_reached : {A : Type 0} (f : A → ℕ) (xs : List A) → 0 < greatest (map f xs) → (k : ℕ) × (x : A)
+    × (slice_get xs k ≡ Some x) × (f x ≡ greatest (map f xs))
 greatest_reached f [] positive = absurd (omega arith)
 greatest_reached {A} f (y ∷ ys) positive =
     let cons = greatest-cons (f y) (map f ys) in
     ⊎_elim
     (λ (lt : f y < greatest (map f ys)).
-    let found : (k : ℕ) × (x : A) × (slice_get ys k ≡ Some x) × (f x ≡ greatest (map f ys)) = greatest_reached f ys (omega arith) in
+    let found : (k : ℕ) × (x : A) × (slice_get ys k ≡ Some x) × (f x ≡ greatest (map f ys)) =
+    greatest_reached f ys (omega arith) in
     let same : f found.1 ≡ greatest (map f ys) = found.3 in
     (suc found.0, found.1, found.2, omega arith))
     (λ (le : greatest (map f ys) ≤ f y). (0, y, refl, omega arith))

@@ -1,5 +1,6 @@
 -- Numbers, counted by which number they are: the counts add up to how many numbers there are.
-use Rattle.std.proofs.Common.{◌≡◌, ◌==◌, nat_eq, ℕ, zero, suc, ◌+◌, Bool, true, false, cond, not, List, [], ◌∷◌, length, filter, Some, None, sum, count_by, refl, sym, ap, ◌∙◌, arith, zero-add, ⊎_elim}
+use Rattle.std.proofs.Common.{◌≡◌, ◌==◌, nat_eq, ℕ, zero, suc, ◌+◌, Bool, true, false, cond, not, List, [], ◌∷◌, length, filter}
+use Rattle.std.proofs.Common.{Some, None, sum, count_by, refl, sym, ap, ◌∙◌, arith, zero-add, ⊎_elim}
 use Rattle.std.specs.List.{AllByRecursion, IsDistinct}
 use Rattle.std.specs.Map.{keys_of, values_of, lookup}
 use Rattle.std.proofs.lemmas.Bool.{cases_Bool, cond-true, cond-false, eqb-true, eq-eqb}
@@ -35,7 +36,8 @@ count-others_same : (k : ℕ) (numbers : List ℕ) → count k (others k numbers
 count-others_same k [] = refl
 count-others_same k (n ∷ numbers) = step_same k n (others k numbers) (n == k) refl (count-others_same k numbers)
 
-step_apart : (k q n : ℕ) (numbers rest : List ℕ) (b : Bool) → (k == q) ≡ false → (n == k) ≡ b → count q rest ≡ count q numbers → count q (cond (not b) (n ∷ rest) rest) ≡ count q (n ∷ numbers)
+step_apart : (k q n : ℕ) (numbers rest : List ℕ) (b : Bool) → (k == q) ≡ false → (n == k) ≡ b → count q rest ≡ count q numbers
+    → count q (cond (not b) (n ∷ rest) rest) ≡ count q (n ∷ numbers)
 step_apart k q n numbers rest true apart here same =
     same ∙ sym (count-apart q n numbers (ap (λ (m : ℕ). m == q) (eqb-true n k here) ∙ apart))
 step_apart k q n numbers rest false apart here same =
@@ -44,7 +46,8 @@ step_apart k q n numbers rest false apart here same =
 -- and of each other number as many as before
 count-others : (k q : ℕ) (numbers : List ℕ) → (k == q) ≡ false → count q (others k numbers) ≡ count q numbers
 count-others k q [] apart = refl
-count-others k q (n ∷ numbers) apart = step_apart k q n numbers (others k numbers) (n == k) apart refl (count-others k q numbers apart)
+count-others k q (n ∷ numbers) apart =
+    step_apart k q n numbers (others k numbers) (n == k) apart refl (count-others k q numbers apart)
 
 -- with k and the rest counted apart, all are counted
 length-others : (k : ℕ) (numbers : List ℕ) → count k numbers + length (others k numbers) ≡ length numbers
@@ -78,7 +81,8 @@ module _ (e : ℕ → ℕ → Bool) (ties : (a b : ℕ) → e a b ≡ (a == b)) 
   none_at k (entry ∷ entries) apart = cond-false _ _ _ apart.0 ∙ none_at k entries apart.1
 
   -- without the first key, its number is left out
-  tallies-rest : (entry : ℕ × ℕ) (entries : List (ℕ × ℕ)) (numbers : List ℕ) → IsDistinct e (keys_of (entry ∷ entries)) → Tallies (entry ∷ entries) numbers → Tallies entries (others entry.0 numbers)
+  tallies-rest : (entry : ℕ × ℕ) (entries : List (ℕ × ℕ)) (numbers : List ℕ) → IsDistinct e (keys_of (entry ∷ entries))
+      → Tallies (entry ∷ entries) numbers → Tallies entries (others entry.0 numbers)
   tallies-rest entry entries numbers apart tallies q = ⊎_elim same other (cases_Bool (q == entry.0))
     where
       none_left : lookup (e entry.0) entries ≡ None
@@ -98,10 +102,13 @@ module _ (e : ℕ → ℕ → Bool) (ties : (a b : ℕ) → e a b ≡ (a == b)) 
           ∙ sym (ap above_zero (count-others entry.0 q numbers (nat_eq_equiv.symm entry.0 q ∙ h)))
 
   -- where the keys differ, the values add up to how many numbers there are
-  pub tallied : (entries : List (ℕ × ℕ)) (numbers : List ℕ) → IsDistinct e (keys_of entries) → Tallies entries numbers → sum (values_of entries) ≡ length numbers
+  pub tallied : (entries : List (ℕ × ℕ)) (numbers : List ℕ) → IsDistinct e (keys_of entries) → Tallies entries numbers
+      → sum (values_of entries) ≡ length numbers
   tallied [] numbers apart tallies = sym (no_numbers numbers tallies)
   tallied (entry ∷ entries) numbers apart tallies =
       let here : e entry.0 entry.0 ≡ true = ties entry.0 entry.0 ∙ eq-eqb entry.0 entry.0 refl in
       let value : count entry.0 numbers ≡ entry.1 = counted _ _ (sym (tallies entry.0) ∙ cond-true _ _ _ here) in
-      let rest : sum (values_of entries) ≡ length (others entry.0 numbers) = tallied entries (others entry.0 numbers) (IsDistinct-tail e entry.0 (keys_of entries) apart) (tallies-rest entry entries numbers apart tallies) in
+      let rest : sum (values_of entries) ≡ length (others entry.0 numbers) =
+      tallied entries (others entry.0 numbers) (IsDistinct-tail e entry.0 (keys_of entries) apart)
+      (tallies-rest entry entries numbers apart tallies) in
       omega (arith, sum_by-cons (λ (x : ℕ). x) entry.1 (values_of entries), rest, value, length-others entry.0 numbers)

@@ -1,5 +1,6 @@
 -- Walks, taken apart at their first commit.
-use Rattle.std.proofs.Common.{◌≡◌, ℕ, suc, zero, ◌-◌, ◌<◌, ◌≤◌, List, [], ◌∷◌, length, slice_get, Some, refl, sym, ap, ◌∙◌, subst, arith}
+use Rattle.std.proofs.Common.{◌≡◌, ℕ, suc, zero, ◌-◌, ◌<◌, ◌≤◌, List, [], ◌∷◌, length, slice_get, Some, refl, sym, ap, ◌∙◌, subst}
+use Rattle.std.proofs.Common.{arith}
 use Rattle.std.proofs.lemmas.Option.{same_Some, none-some}
 use Rattle.graph_walks.specs.History.{Node, IsParent}
 use Rattle.graph_walks.specs.Walks.{IsWalk, IsWalkBetween, HasWalk}
@@ -42,7 +43,8 @@ between_from_path h p q rest w = record {
   last = rw (one_less (length rest)) (last_is p rest ∙ ap (λ x. Some x) (path_last h p q rest w));
 }
 
-pub path_from_between : (h : List Node) (p q : ℕ) (walk : List ℕ) → IsWalkBetween h p q walk → (rest : List ℕ) × (walk ≡ p ∷ rest) × Path h p q rest
+pub path_from_between : (h : List Node) (p q : ℕ) (walk : List ℕ) → IsWalkBetween h p q walk → (rest : List ℕ) × (walk ≡ p ∷ rest)
+    × Path h p q rest
 path_from_between h p q [] b = absurd (none-some p b.first)
 path_from_between h p q (x ∷ rest) b =
     let begins : x ≡ p = same_Some x p b.first in
@@ -54,9 +56,11 @@ pub has_walk_from_path : (h : List Node) (p q : ℕ) (rest : List ℕ) → Path 
 has_walk_from_path h p q rest w = (p ∷ rest, walk_from_path h p q rest w, refl, refl)
 
 -- a walk of n commits from p, as a path
-pub path_from_has_walk : (h : List Node) (p n : ℕ) → HasWalk h p n → (q : ℕ) × (rest : List ℕ) × Path h p q rest × (suc (length rest) ≡ n)
+pub path_from_has_walk : (h : List Node) (p n : ℕ) → HasWalk h p n → (q : ℕ) × (rest : List ℕ) × Path h p q rest
+    × (suc (length rest) ≡ n)
 path_from_has_walk h p n w = by_cases w.0 w.1 w.2 w.3 where
-  by_cases : (walk : List ℕ) → IsWalk h walk → slice_get walk 0 ≡ Some p → length walk ≡ n → (q : ℕ) × (rest : List ℕ) × Path h p q rest × (suc (length rest) ≡ n)
+  by_cases : (walk : List ℕ) → IsWalk h walk → slice_get walk 0 ≡ Some p → length walk ≡ n → (q : ℕ) × (rest : List ℕ)
+      × Path h p q rest × (suc (length rest) ≡ n)
   by_cases [] is_walk first len = absurd is_walk
   by_cases (x ∷ rest) is_walk first len =
       let begins : x ≡ p = same_Some x p first in
@@ -68,7 +72,8 @@ begins_within h p q [] w = w.1
 begins_within h p q (y ∷ rest) w = w.0.0
 
 -- the first commits of a path are a path
-pub front_of_path : (h : List Node) (n p q : ℕ) (rest : List ℕ) → n ≤ length rest → Path h p q rest → (r : ℕ) × (front : List ℕ) × Path h p r front × (length front ≡ n)
+pub front_of_path : (h : List Node) (n p q : ℕ) (rest : List ℕ) → n ≤ length rest → Path h p q rest → (r : ℕ) × (front : List ℕ)
+    × Path h p r front × (length front ≡ n)
 front_of_path h zero p q rest n w = (p, [], (refl, begins_within h p q rest w), refl)
 front_of_path h (suc n) p q [] le w = absurd (omega arith)
 front_of_path h (suc n) p q (y ∷ rest) le w =

@@ -35,7 +35,8 @@ pub fn generations_never_rise_along_walks()
 /// Along a walk of two commits or more it falls, unless the walk ends at the cap.
 pub fn generations_fall_along_walks()
     ensures { (history : List Node) (p q : ℕ) → CountWalks history → IsProperAncestor history p q
-        → generation_at history q < GENERATION_NUMBER_MAX → generation_at history q < generation_at history p }
+        → generation_at history q < GENERATION_NUMBER_MAX
+        → generation_at history q < generation_at history p }
 {}
 
 /// No commit with a generation number below the cap lies on a cycle.
@@ -44,8 +45,8 @@ pub fn cycles_are_at_the_cap()
         → generation_at history p ≡ GENERATION_NUMBER_MAX }
 {}
 
-/// Where no generation number is at the cap, the greatest of them less one is the number of edges of
-/// the longest walk, and 0 where there are no commits.
+/// Where no generation number is at the cap, the greatest of them less one is the number of edges
+/// of the longest walk, and 0 where there are no commits.
 pub fn greatest_generation_is_the_longest_walk()
     ensures { (history : List Node) → CountWalks history
         → ((p : ℕ) → p < length history → generation_at history p < GENERATION_NUMBER_MAX)

@@ -1,9 +1,9 @@
-//! `graphtool`: lists the layers of Git's commit-graphs, checks commit-graphs, and finds commits and
-//! walks to their ancestors in them.
+//! `graphtool`: lists the layers of Git's commit-graphs, checks commit-graphs, and finds commits
+//! and walks to their ancestors in them.
 //!
 //! The exit status is 0 where the command did what was asked, 1 where it was refused or nothing was
-//! found, and 2 for other words than a command, for a text that is no id and for a failed write. Wrong
-//! words and a failed write are reported on standard error.
+//! found, and 2 for other words than a command, for a text that is no id and for a failed write.
+//! Wrong words and a failed write are reported on standard error.
 #![tactic(auto)]
 
 ghost use Rattle.std.specs.Prelude.{◌≡◌, MatchResult};

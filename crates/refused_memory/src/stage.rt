@@ -24,8 +24,8 @@ pub struct Stage {
     pub layers: Vec<File>,
     /// The graph of the same layers.
     pub graph: Graph,
-    /// The file `f`, and the folders `chain`, `info` and `damaged`: that of the chain, an info folder
-    /// with the chain, and one with a damaged file beside the chain.
+    /// The file `f`, and the folders `chain`, `info` and `damaged`: that of the chain, an info
+    /// folder with the chain, and one with a damaged file beside the chain.
     pub memory: Memory,
     /// Room for what is written.
     pub out: Vec<u8>,

@@ -5,7 +5,8 @@ ghost use Rattle.graph_format.specs.Layer.{Layer, record_at};
 ghost use Rattle.gix_commitgraph.specs.Graph.{total, start};
 ghost use Rattle.graph_format.specs.Layer.{IsOpened};
 ghost use Rattle.graph_format.specs.StoredHistory.{node_of, history_of};
-ghost use Rattle.gix_commitgraph.specs.GraphLaw.{LiesIn, LiesInOne, ComesFromLayer, AreCounted, AreScanned, IsJudged};
+ghost use Rattle.gix_commitgraph.specs.GraphLaw.{LiesIn, LiesInOne, ComesFromLayer, AreCounted};
+ghost use Rattle.gix_commitgraph.specs.GraphLaw.{AreScanned, IsJudged};
 
 /// Each position of a graph lies in one layer, and in no other.
 pub fn a_position_lies_in_one_layer()
@@ -15,7 +16,8 @@ pub fn a_position_lies_in_one_layer()
 /// The id and the commit at a position are those of its layer, at the position less the number of
 /// commits before the layer.
 pub fn a_position_is_a_place_in_its_layer()
-    ensures { (layers : List Layer) (pos i : ℕ) (layer : Layer) → LiesIn layers pos i layer → ComesFromLayer layers pos i layer }
+    ensures { (layers : List Layer) (pos i : ℕ) (layer : Layer) → LiesIn layers pos i layer
+        → ComesFromLayer layers pos i layer }
 {}
 
 /// A graph has as many ids and commits as its layers have together.
@@ -37,7 +39,10 @@ pub fn layers_are_refused_or_make_a_graph()
 /// The history of a graph of opened layers has one commit for each position, and says of it what
 /// its record in its layer says.
 pub fn the_history_of_a_graph_is_that_of_its_layers()
-    ensures counted { (layers : List Layer) → All IsOpened layers → length (history_of layers) ≡ total layers }
-    ensures placed { (layers : List Layer) (pos i : ℕ) (layer : Layer) → All IsOpened layers → LiesIn layers pos i layer
-        → slice_get (history_of layers) pos ≡ Some (node_of layer (record_at layer (pos - start layers i))) }
+    ensures counted { (layers : List Layer) → All IsOpened layers
+        → length (history_of layers) ≡ total layers }
+    ensures placed { (layers : List Layer) (pos i : ℕ) (layer : Layer) → All IsOpened layers
+        → LiesIn layers pos i layer
+        → slice_get (history_of layers) pos
+        ≡ Some (node_of layer (record_at layer (pos - start layers i))) }
 {}

@@ -18,17 +18,20 @@ ghost use Rattle.graph_walks.specs.Walks.{MatchesLongestWalk};
 
 /// Where no condition of its check fails, a graph of opened layers is right.
 pub fn a_graph_without_fault_is_right<E>()
-    ensures { (layers : List Layer) → All IsOpened layers → first_fault (graph_points {E = E} layers) ≡ None → Sound layers }
+    ensures { (layers : List Layer) → All IsOpened layers
+        → first_fault (graph_points {E = E} layers) ≡ None → Sound layers }
 {}
 
 /// Where a graph of opened layers is right, no condition of its check fails.
 pub fn a_right_graph_is_without_fault<E>()
-    ensures { (layers : List Layer) → All IsOpened layers → Sound layers → first_fault (graph_points {E = E} layers) ≡ None }
+    ensures { (layers : List Layer) → All IsOpened layers → Sound layers
+        → first_fault (graph_points {E = E} layers) ≡ None }
 {}
 
 /// In a graph that is right, an answer to a lookup is that of a plain scan of all ids.
 pub fn a_lookup_in_a_right_graph_is_a_scan()
-    ensures { (layers : List Layer) (id : List ℕ) (answer : Option ℕ) → Sound layers → FoundIn layers id answer
+    ensures { (layers : List Layer) (id : List ℕ) (answer : Option ℕ) → Sound layers
+        → FoundIn layers id answer
         → answer ≡ scan (graph_ids layers) id }
 {}
 

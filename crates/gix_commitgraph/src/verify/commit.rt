@@ -49,7 +49,8 @@ impl Graph {
         ensures agrees { Agrees (CalledOn F.FnMut (InGraph self.now))
             (commit_points self.now span.entry.layer span.entry.file.now (commit_pos commit.now))
             processor.old processor.new cause_of result }
-        ensures parents { IfOk result (λ parents. parents ≡ length (parents_at (history_of self.now) pos.0)) }
+        ensures parents { IfOk result (λ parents.
+            parents ≡ length (parents_at (history_of self.now) pos.0)) }
     {
         if let Some(fault) = commit_fault(commit) {
             return Err(VerifyError::Commit { pos, fault });
@@ -80,7 +81,8 @@ impl Graph {
         requires commit { IsInSpan span commit.now pos.0 }
         requires gathered { IfSome gathered (IsGathered self.now span (commit_pos commit.now)) }
         ensures refusal { result_err result
-            ≡ parents_refusal self.now span.entry.layer span.entry.file.now (commit_pos commit.now) }
+            ≡ parents_refusal self.now span.entry.layer span.entry.file.now
+            (commit_pos commit.now) }
         ensures parents { IfOk result (ParentsTally (history_of self.now) pos.0) }
     {
         match gathered {
@@ -99,7 +101,8 @@ impl Graph {
         requires span { IsSpan self.now span }
         requires commit { IsInSpan span commit.now pos.0 }
         ensures refusal { result_err result
-            ≡ parents_refusal self.now span.entry.layer span.entry.file.now (commit_pos commit.now) }
+            ≡ parents_refusal self.now span.entry.layer span.entry.file.now
+            (commit_pos commit.now) }
         ensures parents { IfOk result (ParentsTally (history_of self.now) pos.0) }
     {
         let mut count = 0;

@@ -1,7 +1,7 @@
 //! What the parents of many commits come to, gathered before these commits are checked.
 //!
-//! Parents stand anywhere in a layer, so that the memory with their generation numbers is waited for.
-//! In a loop as short as the one here, those of several commits are waited for at once.
+//! Parents stand anywhere in a layer, so that the memory with their generation numbers is waited
+//! for. In a loop as short as the one here, those of several commits are waited for at once.
 
 ghost use Rattle.std.specs.Prelude.{◌≡◌, ℕ, ◌+◌, ◌<◌, None, IfSome, length, slice_index_or};
 
@@ -53,7 +53,8 @@ impl Graph {
     fn gather(&self, span: LayerSpan<'_>, first: u32) -> Block
         requires span { IsSpan self.now span }
         requires within { first < length span.file.now.ids }
-        ensures { (i : ℕ) → IfSome (slice_index_or result i None) (IsGathered self.now span.entry (first + i)) }
+        ensures { (i : ℕ)
+            → IfSome (slice_index_or result i None) (IsGathered self.now span.entry (first + i)) }
     {
         let mut block = [None; BLOCK];
         let count = (span.file.num_commits() - first).min(BLOCK as u32);
@@ -96,7 +97,8 @@ impl Graph {
     fn generation_within(&self, span: LayerSpan<'_>, pos: Position) -> Option<u32>
         requires { IsSpan self.now span }
         ensures below { IfSome result (λ _. pos.0 < span.entry.stop) }
-        ensures generation { IfSome result (λ generation. generation ≡ generation_at (history_of self.now) pos.0) }
+        ensures generation { IfSome result (λ generation.
+            generation ≡ generation_at (history_of self.now) pos.0) }
     {
         if pos.0 >= span.first && pos.0 < span.stop {
             Some(self.generation_at(span, pos))

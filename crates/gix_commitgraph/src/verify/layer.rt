@@ -61,9 +61,11 @@ impl Graph {
         requires span { IsSpan self.now span }
         requires callable { MayBeCalled F.FnMut (InGraph self.now) }
         requires tally { Tallies (take span.first (history_of self.now)) tally.old }
-        ensures agrees { Agrees (CalledOn F.FnMut (InGraph self.now)) (layer_points self.now span.entry.layer span.entry.file.now)
+        ensures agrees { Agrees (CalledOn F.FnMut (InGraph self.now))
+            (layer_points self.now span.entry.layer span.entry.file.now)
             processor.old processor.new cause_of result }
-        ensures tally { OnOk result (Tallies (take span.entry.stop (history_of self.now)) tally.new) }
+        ensures tally { OnOk result
+            (Tallies (take span.entry.stop (history_of self.now)) tally.new) }
     {
         self.check_bases(span)?;
         if let Some(fault) = layer_fault(span.file) {
@@ -86,7 +88,8 @@ impl Graph {
     /// Whether the base ids of a layer are the checksums of the layers below it.
     fn check_bases<E>(&self, span: LayerSpan<'_>) -> Result<(), VerifyError<E>>
         requires { IsSpan self.now span }
-        ensures { result_err result ≡ base_ids_refusal self.now span.entry.layer span.entry.file.now }
+        ensures { result_err result ≡ base_ids_refusal self.now span.entry.layer
+            span.entry.file.now }
     {
         let layer = span.layer;
         let bases = span.file.base_graph_count();

@@ -46,7 +46,8 @@ impl Tally {
 
     /// The statistics as an outcome, once all commits are added.
     pub(super) fn outcome(self) -> Result<Outcome, AllocError>
-        ensures { IfOk result (λ outcome. (seen : List Node) → Tallies seen self → Summarizes seen outcome) }
+        ensures { IfOk result (λ outcome.
+            (seen : List Node) → Tallies seen self → Summarizes seen outcome) }
     {
         Ok(Outcome {
             longest_path_length: if self.max_generation < GENERATION_NUMBER_MAX {

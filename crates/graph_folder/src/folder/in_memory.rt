@@ -5,7 +5,8 @@ ghost use Rattle.std.specs.FinMap as map;
 ghost use Rattle.std.specs.Option.{option_map, option_copied};
 ghost use Rattle.graph_folder.specs.Tree.{RegularFile, Directory, is_file, is_folder};
 ghost use Rattle.graph_folder.specs.Failures.{failures_after};
-ghost use Rattle.graph_folder.specs.Memory.{nothing, put, will_fail, read_of, after_read, AnswersRead};
+ghost use Rattle.graph_folder.specs.Memory.{nothing, put, will_fail, read_of, after_read};
+ghost use Rattle.graph_folder.specs.Memory.{AnswersRead};
 
 use super::{Folder, ReadError};
 use std::alloc::{AllocError, Global};
@@ -58,15 +59,16 @@ impl Memory {
     /// where an allocation failed: the folder is then as before, and the path and the bytes are
     /// dropped.
     pub fn put_file(&mut self, path: String, bytes: Vec<u8>) -> Result<(), AllocError>
-        ensures ok { OnOk result (self.new ≡ put self.old (string_bytes path) (RegularFile bytes.items)) }
+        ensures ok { OnOk result (self.new
+            ≡ put self.old (string_bytes path) (RegularFile bytes.items)) }
         ensures err { OnErr result (self.new ≡ self.old) }
     {
         self.nodes.insert(path, Node::File(bytes))?;
         Ok(())
     }
 
-    /// Puts a folder in the place of what stands at the path. `AllocError` comes where an allocation
-    /// failed: the folder is then as before, and the path is dropped.
+    /// Puts a folder in the place of what stands at the path. `AllocError` comes where an
+    /// allocation failed: the folder is then as before, and the path is dropped.
     pub fn put_dir(&mut self, path: String) -> Result<(), AllocError>
         ensures ok { OnOk result (self.new ≡ put self.old (string_bytes path) Directory) }
         ensures err { OnErr result (self.new ≡ self.old) }

@@ -13,7 +13,8 @@ const PIECE: usize = 64 * 1024;
 /// All bytes of the reader to its end, however it cuts them. Any error of the reader is `Device`,
 /// and `OutOfMemory` comes where an allocation failed. `NotOpened` never comes.
 pub fn read_all<R: Read>(alloc: Global, reader: &mut R) -> Result<Vec<u8>, ReadError>
-    ensures bytes { IfOk result (λ bytes. IfSome (R.remaining reader.old) (λ all. bytes.items ≡ all)) }
+    ensures bytes { IfOk result (λ bytes.
+        IfSome (R.remaining reader.old) (λ all. bytes.items ≡ all)) }
     ensures end { OnOk result (IsAtEnd (R.remaining reader.new)) }
     ensures opened { IfErr result (λ error. error ≢ ReadError.NotOpened) }
 {
@@ -24,7 +25,8 @@ pub fn read_all<R: Read>(alloc: Global, reader: &mut R) -> Result<Vec<u8>, ReadE
 /// All bytes of the reader to its end, as `read_all` answers them, each read into this piece.
 fn read_by<R: Read>(alloc: Global, reader: &mut R, piece: &mut [u8]) -> Result<Vec<u8>, ReadError>
     requires { 0 < length piece.old }
-    ensures bytes { IfOk result (λ bytes. IfSome (R.remaining reader.old) (λ all. bytes.items ≡ all)) }
+    ensures bytes { IfOk result (λ bytes.
+        IfSome (R.remaining reader.old) (λ all. bytes.items ≡ all)) }
     ensures end { OnOk result (IsAtEnd (R.remaining reader.new)) }
     ensures opened { IfErr result (λ error. error ≢ ReadError.NotOpened) }
 {

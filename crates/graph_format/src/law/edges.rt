@@ -13,10 +13,14 @@ use crate::parents::ParentError;
 /// past it, that error comes alone.
 #[tactic(auto, using(crate::proofs::ExtraEdgeLemmas::edge_laws))]
 pub fn each_edge_list_ends_or_runs_out()
-    ensures ends { (bytes : List ℕ) (k j : ℕ) → EndsAt (words bytes) k j → extra_parents bytes k ≡ up_to_last (words bytes) k j }
-    ensures runs_out { (bytes : List ℕ) (k : ℕ) → RunsOut (words bytes) k → extra_parents bytes k ≡ all_from (words bytes) k }
-    ensures past { (bytes : List ℕ) (k : ℕ) → length (words bytes) ≤ k → extra_parents bytes k ≡ faulty ParentError.EdgeOverflow }
+    ensures ends { (bytes : List ℕ) (k j : ℕ) → EndsAt (words bytes) k j
+        → extra_parents bytes k ≡ up_to_last (words bytes) k j }
+    ensures runs_out { (bytes : List ℕ) (k : ℕ) → RunsOut (words bytes) k
+        → extra_parents bytes k ≡ all_from (words bytes) k }
+    ensures past { (bytes : List ℕ) (k : ℕ) → length (words bytes) ≤ k
+        → extra_parents bytes k ≡ faulty ParentError.EdgeOverflow }
 
     // One of both is always so.
-    ensures either { (bytes : List ℕ) (k : ℕ) → ((j : ℕ) × EndsAt (words bytes) k j) ⊎ RunsOut (words bytes) k }
+    ensures either { (bytes : List ℕ) (k : ℕ) → ((j : ℕ) × EndsAt (words bytes) k j)
+        ⊎ RunsOut (words bytes) k }
 {}

@@ -1,6 +1,7 @@
 //! Accessors of a layer, and iterators over its ids, its base ids and its commits.
 
-ghost use Rattle.std.specs.Prelude.{◌≡◌, ◌+◌, ◌*◌, ◌<◌, ◌≤◌, length, map, drop, slice_index, slice_range, slice_get, Some, IfSome, option_map, bytes_eq};
+ghost use Rattle.std.specs.Prelude.{◌≡◌, ◌+◌, ◌*◌, ◌<◌, ◌≤◌, length, map, drop, slice_index};
+ghost use Rattle.std.specs.Prelude.{slice_range, slice_get, Some, IfSome, option_map, bytes_eq};
 ghost use Rattle.gix_hash_core.specs.Kind.{id_len};
 ghost use Rattle.gix_hash_core.specs.Oid.{oid_bytes};
 ghost use Rattle.graph_format.specs.Format.{words, commits_of};
@@ -267,7 +268,8 @@ impl<'a> Iterator for BaseIds<'a> {
     }
 
     fn size_hint(&self) -> (usize, Option<usize>)
-        ensures exact { result ≡ (length (base_ids_left self.now), Some (length (base_ids_left self.now))) }
+        ensures exact { result
+            ≡ (length (base_ids_left self.now), Some (length (base_ids_left self.now))) }
         ensures lower { IsWithinCount result.0 (item_count base_ids_left self.now) }
         ensures upper { IfSome result.1 (UpTo (item_count base_ids_left self.now)) }
     {
@@ -320,7 +322,8 @@ impl<'a> Iterator for Commits<'a> {
 
     #[tactic(auto, using(crate::proofs::ElementLemmas::element_laws))]
     fn size_hint(&self) -> (usize, Option<usize>)
-        ensures exact { result ≡ (length (commits_left self.now), Some (length (commits_left self.now))) }
+        ensures exact { result
+            ≡ (length (commits_left self.now), Some (length (commits_left self.now))) }
         ensures lower { IsWithinCount result.0 (item_count commits_left self.now) }
         ensures upper { IfSome result.1 (UpTo (item_count commits_left self.now)) }
     {

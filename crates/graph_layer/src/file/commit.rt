@@ -1,6 +1,7 @@
 //! The commits of a layer: the section "Commit Data" of Git's commit-graph format.
 
-ghost use Rattle.std.specs.Prelude.{◌≡◌, ◌<◌, ◌^◌, ◌↔◌, length, slice_get, IsTrue, MatchResult, Some, None};
+ghost use Rattle.std.specs.Prelude.{◌≡◌, ◌<◌, ◌^◌, ◌↔◌, length, slice_get, IsTrue, MatchResult};
+ghost use Rattle.std.specs.Prelude.{Some, None};
 
 use crate::file;
 use crate::file::File;
@@ -24,7 +25,8 @@ pub struct Commit<'a> {
 
 impl<'a> Commit<'a> {
     ghost use Rattle.gix_hash_core.specs.Oid.{oid_bytes};
-    ghost use Rattle.graph_layer.specs.Commit.{commit_layer, commit_pos, commit_record, commit_parents};
+    ghost use Rattle.graph_layer.specs.Commit.{commit_layer, commit_pos, commit_record};
+    ghost use Rattle.graph_layer.specs.Commit.{commit_parents};
     ghost use Rattle.graph_format.specs.Parents.{edge_of, items_of, first_of};
     ghost use Rattle.graph_layer.specs.RemainingParents.{parents_left, parents_hint, first_hint};
     ghost use Rattle.graph_format.specs.Faults.{commit_fault, is_out_of_order};
@@ -39,7 +41,8 @@ impl<'a> Commit<'a> {
 
     /// The commit's id. It is lent from the file, and outlives the `Commit`.
     pub fn id(&self) -> oid<'a>
-        ensures { slice_get (commit_layer self.now).ids (commit_pos self.now) ≡ Some (oid_bytes result) }
+        ensures { slice_get (commit_layer self.now).ids (commit_pos self.now)
+            ≡ Some (oid_bytes result) }
     {
         self.file.id_at(self.pos)
     }
@@ -87,7 +90,9 @@ impl<'a> Commit<'a> {
     /// The parents in order, and after them the error that ends their decoding, if there is one.
     pub fn iter_parents(self) -> Parents<'a>
         ensures items { parents_left result ≡ items_of (commit_parents self.entry) }
-        ensures hint { parents_hint result ≡ first_hint (edge_of (commit_record self.entry).parent1) (edge_of (commit_record self.entry).parent2) }
+        ensures hint { parents_hint result
+            ≡ first_hint (edge_of (commit_record self.entry).parent1)
+            (edge_of (commit_record self.entry).parent2) }
     {
         let (first, second) = self.parent_fields();
         Parents::new(self.file, first, second)
@@ -125,7 +130,9 @@ impl<'a> Commit<'a> {
     pub(crate) fn count_parents(&self) -> Result<u32, ParentError>
         requires { length (commit_parents self.now).positions < 2 ^ 32 }
         ensures { MatchResult result
-            (λ count. (count ≡ length (commit_parents self.now).positions) × ((commit_parents self.now).fault ≡ None))
+            (λ count.
+            (count ≡ length (commit_parents self.now).positions)
+            × ((commit_parents self.now).fault ≡ None))
             (λ error. (commit_parents self.now).fault ≡ Some error) }
     {
         let mut count = 0;
@@ -177,7 +184,9 @@ impl<'a> PartialEq for Commit<'a> {
     /// Whether the commits have equal positions, in files with equal bytes.
     fn eq(&self, other: &Commit<'a>) -> bool
         ensures value { result ≡ commit_eq self.now other.now }
-        ensures same { IsTrue result ↔ ((commit_bytes self.now ≡ commit_bytes other.now) × (commit_pos self.now ≡ commit_pos other.now)) }
+        ensures same { IsTrue result
+            ↔ ((commit_bytes self.now ≡ commit_bytes other.now)
+            × (commit_pos self.now ≡ commit_pos other.now)) }
     {
         self.pos == other.pos && self.file.has_bytes_of(other.file)
     }

@@ -1,10 +1,12 @@
 //! What is wrong with a layer as a whole.
 
-ghost use Rattle.std.specs.Prelude.{◌≡◌, ◌==◌, ◌^◌, ◌<◌, ℕ, if◌then◌else◌, option_map, Some, None, count_by, slice_index, length};
+ghost use Rattle.std.specs.Prelude.{◌≡◌, ◌==◌, ◌^◌, ◌<◌, ℕ, if◌then◌else◌, option_map, Some, None};
+ghost use Rattle.std.specs.Prelude.{count_by, slice_index, length};
 ghost use Rattle.first_faults.specs.First.{first_below};
 ghost use Rattle.gix_hash_core.specs.Hexadecimal.{spells_id};
 ghost use Rattle.gix_hash_core.specs.Oid.{oid_bytes};
-ghost use Rattle.graph_format.specs.NameRule.{is_name, name_of, is_chain_name, hash_text, is_named_right};
+ghost use Rattle.graph_format.specs.NameRule.{is_name, name_of, is_chain_name, hash_text};
+ghost use Rattle.graph_format.specs.NameRule.{is_named_right};
 ghost use Rattle.graph_format.specs.Faults.{wrong_fan, layer_fault};
 
 use crate::file::{File, Position};

@@ -6,7 +6,8 @@ mod header;
 mod layout;
 mod records;
 
-ghost use Rattle.std.specs.Prelude.{◌≡◌, List, ℕ, string_bytes, option_map, None, IfOk, MatchResult};
+ghost use Rattle.std.specs.Prelude.{◌≡◌, List, ℕ, string_bytes, option_map, None, IfOk};
+ghost use Rattle.std.specs.Prelude.{MatchResult};
 ghost use Rattle.graph_format.specs.Format.{words};
 ghost use Rattle.graph_format.specs.Layer.{IsLayer, decoded_layer};
 ghost use Rattle.graph_format.specs.Opened.{MayRefuse};
@@ -34,7 +35,8 @@ impl File {
     #[tactic(auto, using(graph_format::proofs::AcceptedFileLemmas::accepted_laws))]
     pub fn new(alloc: Global, bytes: Vec<u8>, path: String) -> Result<File, FileError>
         ensures layer { IfOk result (IsLayer bytes.items (string_bytes path)) }
-        ensures refusal { MatchResult result (λ _. refusal bytes.items ≡ None) (MayRefuse bytes.items) }
+        ensures refusal { MatchResult result (λ _. refusal bytes.items ≡ None)
+            (MayRefuse bytes.items) }
     {
         let layout = layout_of(&bytes)?;
         let Ok((records, extra_edges)) = decode_chunks(alloc, &bytes, &layout) else {
@@ -58,9 +60,11 @@ fn decode_chunks(
     layout: &Layout,
 ) -> Result<(Records, Option<Vec<u32>>), AllocError>
     requires { IsLayout bytes.now layout.now }
-    ensures records { (path : List ℕ) → IfOk result (λ decoded. AreDecoded (decoded_layer bytes.now path).records decoded.0) }
+    ensures records { (path : List ℕ) → IfOk result (λ decoded.
+        AreDecoded (decoded_layer bytes.now path).records decoded.0) }
     ensures edges { (path : List ℕ) → IfOk result (λ decoded.
-        option_map (λ edges. edges.items) decoded.1 ≡ option_map words (decoded_layer bytes.now path).edges) }
+        option_map (λ edges. edges.items) decoded.1
+        ≡ option_map words (decoded_layer bytes.now path).edges) }
 {
     let chunk = layout.chunks.records;
     let records = Records::decode(alloc, layout.kind, &bytes[chunk.start..chunk.end])?;

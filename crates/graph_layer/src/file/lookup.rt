@@ -1,11 +1,13 @@
 //! Lookup of an id by the fan.
 
-ghost use Rattle.std.specs.Prelude.{◌≡◌, ℕ, ◌+◌, ◌-◌, ◌*◌, ◌<◌, ◌≤◌, length, slice_index, slice_range, slice_get, Some, OnSome};
+ghost use Rattle.std.specs.Prelude.{◌≡◌, ℕ, ◌+◌, ◌-◌, ◌*◌, ◌<◌, ◌≤◌, length, slice_index};
+ghost use Rattle.std.specs.Prelude.{slice_range, slice_get, Some, OnSome};
 ghost use Rattle.std.specs.Ordering.{nat_cmp};
 ghost use Rattle.std.specs.Cmp.Lexicographic.{slice_cmp};
 ghost use Rattle.gix_hash_core.specs.Kind.{id_len};
 ghost use Rattle.gix_hash_core.specs.Oid.{oid_bytes};
-ghost use Rattle.graph_format.specs.Lookup.{Found, file_position_number, bucket_start, bucket_size, digits};
+ghost use Rattle.graph_format.specs.Lookup.{Found, file_position_number, bucket_start, bucket_size};
+ghost use Rattle.graph_format.specs.Lookup.{digits};
 
 use crate::file::init::fan_at;
 use crate::file::{File, Position};
@@ -50,13 +52,14 @@ impl File {
     }
 
     /// An answer under the rule of `lookup`, and how many times the id was compared with an id of
-    /// the file. One comparison has one of three outcomes: less, equal or greater. An id of another kind is
-    /// compared with none.
+    /// the file. One comparison has one of three outcomes: less, equal or greater. An id of another
+    /// kind is compared with none.
     pub fn lookup_counted(&self, id: oid<'_>) -> (Option<Position>, u32)
         ensures found { Found self.now (oid_bytes id.entry) (file_position_number result.0) }
 
         // At most as many comparisons as the size of the id's bucket has binary digits.
-        ensures most { result.1 ≤ digits (bucket_size self.now.fan (slice_index (oid_bytes id.entry) 0)) }
+        ensures most { result.1 ≤ digits
+            (bucket_size self.now.fan (slice_index (oid_bytes id.entry) 0)) }
         ensures least { OnSome result.0 (1 ≤ result.1) }
     {
         let wanted = id.as_bytes();

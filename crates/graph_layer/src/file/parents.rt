@@ -27,11 +27,13 @@ pub struct Parents<'a> {
 
 impl<'a> Parents<'a> {
     ghost use Rattle.std.specs.Iterator.{YieldsFirst};
-    ghost use Rattle.graph_layer.specs.RemainingParents.{parents_left, parents_hint, first_hint, hint_after};
+    ghost use Rattle.graph_layer.specs.RemainingParents.{parents_left, parents_hint, first_hint};
+    ghost use Rattle.graph_layer.specs.RemainingParents.{hint_after};
 
     /// The parents that both fields of a commit of this file give.
     pub(crate) fn new(file: &'a File, first: u32, second: u32) -> Parents<'a>
-        ensures items { parents_left result ≡ items_of (both_parents (edge_of first) (edge_of second) file.now.edges) }
+        ensures items { parents_left result
+            ≡ items_of (both_parents (edge_of first) (edge_of second) file.now.edges) }
         ensures hint { parents_hint result ≡ first_hint (edge_of first) (edge_of second) }
     {
         Parents {
@@ -44,11 +46,12 @@ impl<'a> Parents<'a> {
 
     /// The next parent, or the error that ends them, or `None` where nothing is left.
     ///
-    /// It is the trait's `next`, whose `next_gives` says the same of the item and of the bounds that
-    /// `size_hint` answers.
+    /// It is the trait's `next`, whose `next_gives` says the same of the item and of the bounds
+    /// that `size_hint` answers.
     pub fn next(&mut self) -> Option<Result<Position, ParentError>>
         ensures steps { YieldsFirst parents_left self.old result self.new }
-        ensures hint { parents_hint self.new ≡ hint_after (parents_hint self.old) (parents_left self.new) }
+        ensures hint { parents_hint self.new
+            ≡ hint_after (parents_hint self.old) (parents_left self.new) }
     {
         let word = self.next;
         if word < TOP_BIT as u64 && word != NO_PARENT as u64 {
@@ -68,9 +71,11 @@ impl<'a> Parents<'a> {
     #[cold]
     #[inline(never)]
     fn next_beyond_fields(&mut self) -> Result<Position, ParentError>
-        requires { 0x80000000 ≤ self.old.next ⊎ ((self.old.next ≡ 0x70000000) × (self.old.after ≢ 0x70000000)) }
+        requires { 0x80000000 ≤ self.old.next
+            ⊎ ((self.old.next ≡ 0x70000000) × (self.old.after ≢ 0x70000000)) }
         ensures items { parents_left self.old ≡ result ∷ parents_left self.new }
-        ensures hint { parents_hint self.new ≡ hint_after (parents_hint self.old) (parents_left self.new) }
+        ensures hint { parents_hint self.new
+            ≡ hint_after (parents_hint self.old) (parents_left self.new) }
     {
         let word = self.next;
         self.next = NO_PARENT as u64;
@@ -124,7 +129,8 @@ impl<'a> Iterator for Parents<'a> {
         // least, and the upper one is exact wherever it is known.
         ensures none { parents_left self.now ≡ [] → result ≡ (0, Some 0) }
         ensures some { 0 < length (parents_left self.now) → 1 ≤ result.0 }
-        ensures exact { IfSome result.1 (λ most. (most ≡ length (parents_left self.now)) × (result.0 ≡ most)) }
+        ensures exact { IfSome result.1 (λ most.
+            (most ≡ length (parents_left self.now)) × (result.0 ≡ most)) }
 
         // The number of items that are left lies within the bounds.
         ensures lower { IsWithinCount result.0 (item_count parents_left self.now) }

@@ -2,7 +2,8 @@
 
 mod tally;
 
-ghost use Rattle.std.specs.Prelude.{◌≡◌, ◌≢◌, ◌==◌, ℕ, ◌+◌, ◌<◌, ◌^◌, [], length, take, nat_eq, if◌then◌else◌, unwrap_or, Some, IfOk, OnOk, MatchResult};
+ghost use Rattle.std.specs.Prelude.{◌≡◌, ◌≢◌, ◌==◌, ℕ, ◌+◌, ◌<◌, ◌^◌, [], length, take, nat_eq};
+ghost use Rattle.std.specs.Prelude.{if◌then◌else◌, unwrap_or, Some, IfOk, OnOk, MatchResult};
 ghost use Rattle.std.specs.HashMap.{get};
 ghost use Rattle.gix_hash_core.specs.Digest.{digest_of};
 
@@ -154,9 +155,11 @@ impl<'a> Commit<'a> {
         F: FnMut(&Commit<'a>) -> Result<(), E>,
         requires callable { (state : F) → TakesAt F.FnMut state self.now }
         requires few { length (commit_parents self.now).positions < 2 ^ 32 }
-        ensures agrees { Agrees (CalledOn F.FnMut (InLayer (commit_layer self.now))) (commit_points (commit_layer self.now) (commit_pos self.now))
+        ensures agrees { Agrees (CalledOn F.FnMut (InLayer (commit_layer self.now)))
+            (commit_points (commit_layer self.now) (commit_pos self.now))
             processor.old processor.new cause_of result }
-        ensures parents { IfOk result (λ parents. parents ≡ length (commit_parents self.now).positions) }
+        ensures parents { IfOk result (λ parents.
+            parents ≡ length (commit_parents self.now).positions) }
     {
         let pos = self.position();
         if let Some(fault) = self.fault() {
@@ -201,7 +204,8 @@ impl File {
     where
         F: FnMut(&Commit<'a>) -> Result<(), E>,
         requires { MayBeCalled F.FnMut (InLayer self.now) }
-        ensures agrees { Agrees (CalledOn F.FnMut (InLayer self.now)) (layer_points self.now) processor.old processor.new cause_of result }
+        ensures agrees { Agrees (CalledOn F.FnMut (InLayer self.now)) (layer_points self.now)
+            processor.old processor.new cause_of result }
         ensures outcome { IfOk result (FileStats self.now) }
     {
         if let Some(fault) = self.layer_fault() {

@@ -17,10 +17,13 @@ returns-then-ne c =
     let at = c.loop-below.below in
     let layer = c.index-files-below.result in
     let next = c.index-files-below-in-loop-below.result in
-    let here : slice_get files at ≡ Some layer = slice_get_read files (length files) at layer refl (omega arith) c.index-files-below.is in
-    let there : slice_get files (at + 1) ≡ Some next = slice_get_read files (length files) (at + 1) next refl (omega arith) c.index-files-below-in-loop-below.is in
+    let here : slice_get files at ≡ Some layer =
+    slice_get_read files (length files) at layer refl (omega arith) c.index-files-below.is in
+    let there : slice_get files (at + 1) ≡ Some next =
+    slice_get_read files (length files) (at + 1) next refl (omega arith) c.index-files-below-in-loop-below.is in
     first_below-found (mismatch_after files) at (length files - 1) (HashMismatch (at + 1)) c.loop-below.invariant
-    (mismatch-is files at layer next _ _ true here there c.object_hash.ensures c.object_hash-in-loop-below.ensures (sym c.if-ne.true ∙ c.ne.ensures))
+    (mismatch-is files at layer next _ _ true here there c.object_hash.ensures c.object_hash-in-loop-below.ensures
+    (sym c.if-ne.true ∙ c.ne.ensures))
     c.loop-below-test.true
 
 pub loop-below-preserved : goal.loop-below-preserved
@@ -29,10 +32,13 @@ loop-below-preserved c =
     let at = c.loop-below.below in
     let layer = c.index-files-below.result in
     let next = c.index-files-below-in-loop-below.result in
-    let here : slice_get files at ≡ Some layer = slice_get_read files (length files) at layer refl (omega arith) c.index-files-below.is in
-    let there : slice_get files (at + 1) ≡ Some next = slice_get_read files (length files) (at + 1) next refl (omega arith) c.index-files-below-in-loop-below.is in
+    let here : slice_get files at ≡ Some layer =
+    slice_get_read files (length files) at layer refl (omega arith) c.index-files-below.is in
+    let there : slice_get files (at + 1) ≡ Some next =
+    slice_get_read files (length files) (at + 1) next refl (omega arith) c.index-files-below-in-loop-below.is in
     first_below-none_more (mismatch_after files) at c.loop-below.invariant
-    (mismatch-is files at layer next _ _ false here there c.object_hash.ensures c.object_hash-in-loop-below.ensures (sym c.if-ne.false ∙ c.ne.ensures))
+    (mismatch-is files at layer next _ _ false here there c.object_hash.ensures c.object_hash-in-loop-below.ensures
+    (sym c.if-ne.false ∙ c.ne.ensures))
 
 pub returns : goal.returns
 unfolding mismatch_refusal

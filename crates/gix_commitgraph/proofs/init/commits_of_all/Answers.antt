@@ -22,7 +22,8 @@ loop-file-preserved c =
     record {
       sum = omega (arith, c.loop-file.invariant.sum, c.num_commits.ensures.ids, start-more files at file here);
       small = omega arith;
-      opened = All-more IsOpened files at file (omega arith) c.loop-file.invariant.opened (subst IsOpened c.file-item.is c.num_commits.ensures.layer);
+      opened = All-more IsOpened files at file (omega arith) c.loop-file.invariant.opened
+          (subst IsOpened c.file-item.is c.num_commits.ensures.layer);
     }
 
 pub returns-clause-sum : goal.returns-clause-sum

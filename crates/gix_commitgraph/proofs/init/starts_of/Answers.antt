@@ -14,15 +14,30 @@ pub overflow_add-start : goal.overflow_add-start
 overflow_add-start c =
     let files = c.args.files.now in
     let at = c.loop-file.file-index in
-    let here : slice_get files at ≡ Some c.file-item.result = slice_get_read files (length files) at c.file-item.result refl (omega arith) c.file-item.is in
-    omega (arith, c.requires, c.loop-file.invariant.next, c.num_commits-start.ensures.ids, start-more files at c.file-item.result here, start-fits files (at + 1))
+    let here : slice_get files at ≡ Some c.file-item.result =
+    slice_get_read files (length files) at c.file-item.result refl (omega arith) c.file-item.is in
+    omega (
+      arith,
+      c.requires,
+      c.loop-file.invariant.next,
+      c.num_commits-start.ensures.ids,
+      start-more files at c.file-item.result here,
+      start-fits files (at + 1),
+    )
 
 pub loop-file-preserved : goal.loop-file-preserved
 loop-file-preserved c =
     let files = c.args.files.now in
     let at = c.loop-file.file-index in
-    let here : slice_get files at ≡ Some c.file-item.result = slice_get_read files (length files) at c.file-item.result refl (omega arith) c.file-item.is in
+    let here : slice_get files at ≡ Some c.file-item.result =
+    slice_get_read files (length files) at c.file-item.result refl (omega arith) c.file-item.is in
     record {
-      starts = starts-more files at c.loop-file.start c.loop-file.starts.items _ c.loop-file.invariant.starts c.loop-file.invariant.next c.in_ok-push.ensures.items;
-      next = omega (arith, c.loop-file.invariant.next, c.num_commits-start.ensures.ids, start-more files at c.file-item.result here);
+      starts = starts-more files at c.loop-file.start c.loop-file.starts.items _ c.loop-file.invariant.starts
+          c.loop-file.invariant.next c.in_ok-push.ensures.items;
+      next = omega (
+        arith,
+        c.loop-file.invariant.next,
+        c.num_commits-start.ensures.ids,
+        start-more files at c.file-item.result here,
+      );
     }

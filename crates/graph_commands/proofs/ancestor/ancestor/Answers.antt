@@ -19,5 +19,6 @@ returns-clause-may g c =
     let opened = c.in_ok-graph.ensures in
     relates c.args.first.now c.args.second.now c.in_ok-first.first c.in_ok-second.second
     (c.open_in.new.folder ≡ c.args.folder.now)
-    (MayOpen (g.T.Folder.tree c.args.folder.now) c.args.path.now (g.T.Folder.failure_count c.args.folder.now) (g.T.Folder.failure_count c.open_in.new.folder))
+    (MayOpen (g.T.Folder.tree c.args.folder.now) c.args.path.now (g.T.Folder.failure_count c.args.folder.now)
+    (g.T.Folder.failure_count c.open_in.new.folder))
     c.in_ok-graph.graph c.ancestry_in.result first second (opened.opens, opened.graph, opened.device) answers

@@ -5,7 +5,8 @@ use Rattle.graph_commands.proofs.bytes.digit_count.Goals as goal
 
 pub overflow_add-count : goal.overflow_add-count
 overflow_add-count c =
-    let most : length (decimal c.args.number) ≤ 20 = length-decimal-le 20 c.args.number (omega arith) (omega arith) c.ranges.number.fits in
+    let most : length (decimal c.args.number) ≤ 20 =
+    length-decimal-le 20 c.args.number (omega arith) (omega arith) c.ranges.number.fits in
     omega arith
 
 pub loop-left-preserved : goal.loop-left-preserved
@@ -14,7 +15,8 @@ loop-left-preserved c =
 
 pub overflow_add-result : goal.overflow_add-result
 overflow_add-result c =
-    let most : length (decimal c.args.number) ≤ 20 = length-decimal-le 20 c.args.number (omega arith) (omega arith) c.ranges.number.fits in
+    let most : length (decimal c.args.number) ≤ 20 =
+    length-decimal-le 20 c.args.number (omega arith) (omega arith) c.ranges.number.fits in
     omega arith
 
 pub returns-clause-most : goal.returns-clause-most

@@ -11,7 +11,8 @@ use Rattle.graph_commands.proofs.listing.push_parents.Given as goal
 abbrev pub invariant-loop-item : goal.invariant-loop-item
 invariant-loop-item g l = record {
   written :
-      Appends (with_block (g.W.Write.contents l.initial.writer) l.initial.block) (with_block (g.W.Write.contents l.writer) l.block)
+      Appends (with_block (g.W.Write.contents l.initial.writer) l.initial.block)
+      (with_block (g.W.Write.contents l.writer) l.block)
       (join_by item_text (codes ",") l.yielded);
   any : l.any ≡ has_some l.yielded;
 }

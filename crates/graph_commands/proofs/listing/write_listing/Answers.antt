@@ -21,7 +21,9 @@ returns g c =
     c.in-None-commit.is c.next-in-loop-commit.ensures.steps).0 in
     let lines : flat_map position_line (map layer_and_position c.loop-commit.yielded) ≡ commit_lines layer =
     ap (flat_map position_line) places ∙ place_lines-all layer c.in_ok-push_head.ensures.commits in
-    let all : (layer_line layer ++ flat_map base_line layer.bases) ++ flat_map position_line (map layer_and_position c.loop-commit.yielded)
+    let all : (layer_line layer ++ flat_map base_line layer.bases) ++ flat_map position_line
+    (map layer_and_position c.loop-commit.yielded)
     ≡ layer_line layer ++ (flat_map base_line layer.bases ++ commit_lines layer) =
     rw lines (append_assoc (layer_line layer) (flat_map base_line layer.bases) (commit_lines layer)) in
-    appends_written c.write_out.result _ _ _ c.args.block.now _ _ c.requires (subst (Appends _ _) all c.loop-commit.invariant) c.write_out.ensures.written
+    appends_written c.write_out.result _ _ _ c.args.block.now _ _ c.requires (subst (Appends _ _) all c.loop-commit.invariant)
+    c.write_out.ensures.written

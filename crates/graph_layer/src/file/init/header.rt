@@ -15,7 +15,8 @@ pub const HEADER_LEN: usize = 8;
 /// The bytes that begin each file.
 const SIGNATURE: [u8; 4] = *b"CGPH";
 
-/// The least size of a file: a header, a table of three chunks and its end, a fan, and the shorter checksum.
+/// The least size of a file: a header, a table of three chunks and its end, a fan, and the shorter
+/// checksum.
 const MIN_FILE_SIZE: usize = HEADER_LEN + 4 * 12 + 256 * 4 + 20;
 
 /// The kind of a file's ids, where its header is right.

@@ -30,7 +30,8 @@ impl Records {
     /// Decodes the records that the bytes are.
     #[tactic(auto, using(crate::proofs::DecodedRecordLemmas::decoding_laws))]
     pub fn decode(alloc: Global, kind: Kind, bytes: &[u8]) -> Result<Records, AllocError>
-        ensures { IfOk result (AreDecoded (map (record_of kind) (pieces (record_len kind) bytes.now))) }
+        ensures { IfOk result
+            (AreDecoded (map (record_of kind) (pieces (record_len kind) bytes.now))) }
     {
         let size = record_len(kind);
         let count = bytes.len() / size;

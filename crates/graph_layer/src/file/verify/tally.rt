@@ -1,6 +1,7 @@
 //! The statistics of a layer, gathered commit by commit.
 
-ghost use Rattle.std.specs.Prelude.{◌≡◌, ◌+◌, ◌<◌, ◌^◌, [], ℕ, List, length, take, nat_eq, IfOk, OnOk};
+ghost use Rattle.std.specs.Prelude.{◌≡◌, ◌+◌, ◌<◌, ◌^◌, [], ℕ, List, length, take, nat_eq, IfOk};
+ghost use Rattle.std.specs.Prelude.{OnOk};
 ghost use Rattle.std.specs.Ordering.{nat_cmp};
 ghost use Rattle.std.specs.HashMap.{get};
 ghost use Rattle.std.specs.BTreeMap as tree;
@@ -46,8 +47,11 @@ impl Tally {
         requires small { commit_pos commit.now + 1 < 2 ^ 32 }
         requires record { commit_pos commit.now < length (commit_layer commit.now).records }
         requires parents { parents ≡ length (commit_parents commit.now).positions }
-        requires before { Tallies (take (commit_pos commit.now) (layer_history (commit_layer commit.now))) self.old }
-        ensures { OnOk result (Tallies (take (commit_pos commit.now + 1) (layer_history (commit_layer commit.now))) self.new) }
+        requires before { Tallies
+            (take (commit_pos commit.now) (layer_history (commit_layer commit.now))) self.old }
+        ensures { OnOk result
+            (Tallies (take (commit_pos commit.now + 1) (layer_history (commit_layer commit.now)))
+            self.new) }
     {
         self.parent_counts.add(parents)?;
         let generation = commit.generation();
@@ -64,7 +68,8 @@ impl Tally {
 
     /// The statistics as an outcome, once all commits are added.
     pub(super) fn outcome(self, alloc: Global) -> Result<Outcome, AllocError>
-        ensures { IfOk result (λ outcome. (seen : List Node) → Tallies seen self → Summarizes seen outcome) }
+        ensures { IfOk result (λ outcome.
+            (seen : List Node) → Tallies seen self → Summarizes seen outcome) }
     {
         Ok(Outcome {
             max_generation: self.max_generation,

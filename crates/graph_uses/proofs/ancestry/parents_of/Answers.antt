@@ -14,15 +14,20 @@ use Rattle.graph_uses.proofs.ancestry.parents_of.Goals as goal
 pub loop-parent-init : goal.loop-parent-init
 loop-parent-init c =
     let parents = commit_parents c.commit_at.result in
-    let there = known-there c.args.graph.now c.args.pos.0 (layer_and_position c.commit_at.result) c.num_commits.ensures.graph.opened c.requires.sound c.requires.within c.commit_at.ensures in
+    let there =
+    known-there c.args.graph.now c.args.pos.0 (layer_and_position c.commit_at.result) c.num_commits.ensures.graph.opened
+    c.requires.sound c.requires.within c.commit_at.ensures in
     let same = ap parents_left c.into_iter-parent-iterator.ensures.into_iter_gives ∙ c.iter_parents-parent-items.ensures.items in
     record {
-      items = ap (λ (taken : List Position). before taken (parents_left c.into_iter-parent-iterator.result)) c.new-parents.ensures.items;
+      items = ap (λ (taken : List Position). before taken (parents_left c.into_iter-parent-iterator.result))
+          c.new-parents.ensures.items;
       left_ok = subst (All IsOk) (sym same) (all-ok parents there.no_fault);
     }
 
 pub unwrap-requires : goal.unwrap-requires
-unwrap-requires c = All-head IsOk c.in-Some.parent (parents_left c.next.new.self) (subst (All IsOk) c.in-Some.ensures.steps.steps c.loop-parent.invariant.left_ok)
+unwrap-requires c =
+    All-head IsOk c.in-Some.parent (parents_left c.next.new.self)
+    (subst (All IsOk) c.in-Some.ensures.steps.steps c.loop-parent.invariant.left_ok)
 
 pub loop-parent-preserved : goal.loop-parent-preserved
 loop-parent-preserved c =
@@ -34,7 +39,8 @@ loop-parent-preserved c =
           ∙ before-push taken c.unwrap.result left
           ∙ ap (before taken) (ap (λ item. item ∷ left) (sym c.unwrap.ensures) ∙ sym c.in-Some.ensures.steps.steps)
           ∙ c.loop-parent.invariant.items;
-      left_ok = All-tail IsOk c.in-Some.parent left (subst (All IsOk) c.in-Some.ensures.steps.steps c.loop-parent.invariant.left_ok);
+      left_ok =
+          All-tail IsOk c.in-Some.parent left (subst (All IsOk) c.in-Some.ensures.steps.steps c.loop-parent.invariant.left_ok);
     }
 
 pub returns-clause-parents : goal.returns-clause-parents
@@ -42,17 +48,24 @@ returns-clause-parents c =
     let commit = c.commit_at.result in
     let layers = c.args.graph.now in
     let opened = c.num_commits.ensures.graph.opened in
-    let there = known-there layers c.args.pos.0 (layer_and_position commit) opened c.requires.sound c.requires.within c.commit_at.ensures in
+    let there =
+    known-there layers c.args.pos.0 (layer_and_position commit) opened c.requires.sound c.requires.within
+    c.commit_at.ensures in
     let same = ap parents_left c.into_iter-parent-iterator.ensures.into_iter_gives ∙ c.iter_parents-parent-items.ensures.items in
-    ap (map (λ (pos : Position). pos.0)) (all-taken (commit_parents commit) c.loop-parent.parents.items (parents_left c.loop-parent.parent-iterator) there.no_fault c.in-None.ensures.steps.steps.0 (c.loop-parent.invariant.items ∙ same))
+    ap (map (λ (pos : Position). pos.0))
+    (all-taken (commit_parents commit) c.loop-parent.parents.items (parents_left c.loop-parent.parent-iterator) there.no_fault
+    c.in-None.ensures.steps.steps.0 (c.loop-parent.invariant.items ∙ same))
     ∙ sym (parents-at layers c.args.pos.0 (commit_pos commit) (commit_layer commit) opened c.commit_at.ensures)
 
 pub returns-clause-within : goal.returns-clause-within
 returns-clause-within c =
     let commit = c.commit_at.result in
     let layers = c.args.graph.now in
-    let there = known-there layers c.args.pos.0 (layer_and_position commit) c.num_commits.ensures.graph.opened c.requires.sound c.requires.within c.commit_at.ensures in
+    let there =
+    known-there layers c.args.pos.0 (layer_and_position commit) c.num_commits.ensures.graph.opened c.requires.sound
+    c.requires.within c.commit_at.ensures in
     let same = ap parents_left c.into_iter-parent-iterator.ensures.into_iter_gives ∙ c.iter_parents-parent-items.ensures.items in
     subst (All (λ (pos : Position). pos.0 < total layers))
-    (sym (all-taken (commit_parents commit) c.loop-parent.parents.items (parents_left c.loop-parent.parent-iterator) there.no_fault c.in-None.ensures.steps.steps.0 (c.loop-parent.invariant.items ∙ same)))
+    (sym (all-taken (commit_parents commit) c.loop-parent.parents.items (parents_left c.loop-parent.parent-iterator)
+    there.no_fault c.in-None.ensures.steps.steps.0 (c.loop-parent.invariant.items ∙ same)))
     there.each

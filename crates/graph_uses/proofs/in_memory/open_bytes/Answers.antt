@@ -8,5 +8,11 @@ use Rattle.graph_uses.proofs.in_memory.open_bytes.Goals as goal
 pub returns : goal.returns
 returns c =
     let path = codes "commit-graph" in
-    let stands = file-put c.new-folder.result c.put_file.new.self (string_bytes c.in_ok-from_str.field-0) path c.args.bytes.items c.new-folder.ensures c.in_ok-from_str.ensures.ok c.in_ok-put_file.ensures.ok in
-    record { opens = opened-bytes c.open_file_in.result c.put_file.new.self.tree path c.args.bytes.items stands (c.open_file_in.ensures.opens _ refl) }
+    let stands =
+    file-put c.new-folder.result c.put_file.new.self (string_bytes c.in_ok-from_str.field-0) path c.args.bytes.items
+    c.new-folder.ensures c.in_ok-from_str.ensures.ok c.in_ok-put_file.ensures.ok in
+    record {
+      opens =
+          opened-bytes c.open_file_in.result c.put_file.new.self.tree path c.args.bytes.items stands
+          (c.open_file_in.ensures.opens _ refl);
+    }

@@ -8,7 +8,8 @@ use Rattle.graph_vectors.proofs.builder.build.Goals as goal
 -- the bytes
 bytes : (c : goal.In_ok-push_id) → c.push_id.new.file.items ≡ planned_file c.args.plan.now
 bytes c =
-    planned_file-added c.args.plan.now _ _ _ _ _ c.in_ok-push_body.ensures.body c.in_ok-file.ensures.items c.in_ok-push_id.ensures c.digest-checksum.ensures c.deref.ensures.value
+    planned_file-added c.args.plan.now _ _ _ _ _ c.in_ok-push_body.ensures.body c.in_ok-file.ensures.items c.in_ok-push_id.ensures
+    c.digest-checksum.ensures c.deref.ensures.value
 
 pub body_len-requires : goal.body_len-requires
 body_len-requires c = sizes-small c.args.plan.now c.of-sizes.result c.requires c.of-sizes.ensures

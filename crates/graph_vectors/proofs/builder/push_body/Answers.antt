@@ -13,8 +13,12 @@ returns-clause-body c =
     (ap (λ n. 8 + table_len n) (sym c.chunk_count.ensures))
     c.in_ok-push_header.ensures
     c.in_ok-push_table.ensures
-    (c.in_ok-push_fan.ensures.fan ∙ ap (λ commits. c.push_table.new.file.items ++ words_bytes (exact_fan (ids_of commits))) c.deref.ensures.value)
-    (c.in_ok-push_commit_ids.ensures ∙ ap (λ commits. c.push_fan.new.file.items ++ ids_bytes (ids_of commits)) c.deref-2.ensures.value)
-    (c.in_ok-push_records.ensures ∙ ap (λ commits. c.push_commit_ids.new.file.items ++ records_from 0 commits) c.deref-3.ensures.value)
-    (c.in_ok-push_edges.ensures ∙ ap (λ commits. c.push_records.new.file.items ++ words_bytes (all_extra_words commits)) c.deref-4.ensures.value)
+    (c.in_ok-push_fan.ensures.fan
+    ∙ ap (λ commits. c.push_table.new.file.items ++ words_bytes (exact_fan (ids_of commits))) c.deref.ensures.value)
+    (c.in_ok-push_commit_ids.ensures
+    ∙ ap (λ commits. c.push_fan.new.file.items ++ ids_bytes (ids_of commits)) c.deref-2.ensures.value)
+    (c.in_ok-push_records.ensures
+    ∙ ap (λ commits. c.push_commit_ids.new.file.items ++ records_from 0 commits) c.deref-3.ensures.value)
+    (c.in_ok-push_edges.ensures
+    ∙ ap (λ commits. c.push_records.new.file.items ++ words_bytes (all_extra_words commits)) c.deref-4.ensures.value)
     (c.in_ok-push_ids.ensures ∙ ap (λ ids. c.push_edges.new.file.items ++ ids_bytes ids) c.deref-5.ensures.value)

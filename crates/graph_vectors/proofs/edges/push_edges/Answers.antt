@@ -9,5 +9,6 @@ use Rattle.graph_vectors.proofs.edges.push_edges.Goals as goal
 pub returns : goal.returns
 returns c =
     c.loop-commit.invariant
-    ∙ ap (λ commits. c.args.file.now.items ++ flat_map (λ commit. words_bytes (extra_words commit.parents.items)) commits) (take_all c.loop-commit.commit-index c.args.commits.now c.loop-commit-test.false)
+    ∙ ap (λ commits. c.args.file.now.items ++ flat_map (λ commit. words_bytes (extra_words commit.parents.items)) commits)
+    (take_all c.loop-commit.commit-index c.args.commits.now c.loop-commit-test.false)
     ∙ ap (λ bytes. c.args.file.now.items ++ bytes) (sym (words_bytes-all c.args.commits.now))

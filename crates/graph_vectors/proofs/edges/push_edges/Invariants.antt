@@ -5,4 +5,6 @@ use Rattle.graph_vectors.specs.Written.{words_bytes}
 use Rattle.graph_vectors.proofs.edges.push_edges.Given as goal
 
 abbrev pub invariant-loop-commit : goal.invariant-loop-commit
-invariant-loop-commit l = l.file.items ≡ l.initial.file.items ++ flat_map (λ c. words_bytes (extra_words c.parents.items)) (take l.commit-index l.commits)
+invariant-loop-commit l =
+    l.file.items ≡ l.initial.file.items ++ flat_map (λ c. words_bytes (extra_words c.parents.items))
+    (take l.commit-index l.commits)

@@ -8,12 +8,20 @@ loop-byte-init c = sums-start c.first_bytes-fan.result (ids_of c.args.commits.no
 
 pub overflow_add-fan : goal.overflow_add-fan
 overflow_add-fan c =
-    omega (arith, sum_is c.loop-byte.fan (ids_of c.args.commits.now) c.loop-byte.byte c.loop-byte.invariant c.loop-byte.auto.byte c.loop-byte-test.true, ids_up_to-small c.loop-byte.byte c.args.commits.now, c.requires)
+    omega (
+      arith,
+      sum_is c.loop-byte.fan (ids_of c.args.commits.now) c.loop-byte.byte c.loop-byte.invariant c.loop-byte.auto.byte
+          c.loop-byte-test.true,
+      ids_up_to-small c.loop-byte.byte c.args.commits.now,
+      c.requires,
+    )
 
 pub loop-byte-preserved : goal.loop-byte-preserved
 loop-byte-preserved c =
     sums-more c.loop-byte.fan (ids_of c.args.commits.now) c.loop-byte.byte _ c.loop-byte.invariant c.loop-byte-test.true
-    (sum_is c.loop-byte.fan (ids_of c.args.commits.now) c.loop-byte.byte c.loop-byte.invariant c.loop-byte.auto.byte c.loop-byte-test.true)
+    (sum_is c.loop-byte.fan (ids_of c.args.commits.now) c.loop-byte.byte c.loop-byte.invariant c.loop-byte.auto.byte
+    c.loop-byte-test.true)
 
 pub returns-clause-fan : goal.returns-clause-fan
-returns-clause-fan c = sums-all c.loop-byte.fan (ids_of c.args.commits.now) c.loop-byte.byte c.loop-byte.invariant c.loop-byte-test.false
+returns-clause-fan c =
+    sums-all c.loop-byte.fan (ids_of c.args.commits.now) c.loop-byte.byte c.loop-byte.invariant c.loop-byte-test.false

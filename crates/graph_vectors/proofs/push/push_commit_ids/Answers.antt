@@ -9,5 +9,6 @@ pub returns : goal.returns
 unfolding ids_bytes
 returns c =
     c.loop-commit.invariant
-    ∙ ap (λ commits. c.args.file.now.items ++ flat_map (λ commit. commit.id) commits) (take_all c.loop-commit.commit-index c.args.commits.now c.loop-commit-test.false)
+    ∙ ap (λ commits. c.args.file.now.items ++ flat_map (λ commit. commit.id) commits)
+    (take_all c.loop-commit.commit-index c.args.commits.now c.loop-commit-test.false)
     ∙ ap (λ bytes. c.args.file.now.items ++ bytes) (sym (flat_map-map (λ id. id) (λ commit. commit.id) c.args.commits.now))

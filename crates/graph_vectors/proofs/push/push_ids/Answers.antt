@@ -6,4 +6,6 @@ use Rattle.graph_vectors.proofs.push.push_ids.Goals as goal
 
 pub returns : goal.returns
 unfolding ids_bytes
-returns c = c.loop-id.invariant ∙ ap (λ ids. c.args.file.now.items ++ flat_map (λ id. id) ids) (take_all c.loop-id.id-index c.args.ids.now c.loop-id-test.false)
+returns c = c.loop-id.invariant
+    ∙ ap (λ ids. c.args.file.now.items ++ flat_map (λ id. id) ids)
+    (take_all c.loop-id.id-index c.args.ids.now c.loop-id-test.false)

@@ -12,4 +12,12 @@ pub copy_from_slice-requires : goal.copy_from_slice-requires
 copy_from_slice-requires c =
     let sized : length c.as_bytes.result.now ≡ id_len c.args.kind =
     ap length (c.as_bytes.ensures.bytes ∙ c.as_oid.ensures ∙ c.digest-checksum.ensures) ∙ digest_is_sized c.args.kind _ in
-    omega (arith, sized, length-rest c.deref_mut.result.now (c.len.result - c.len_in_bytes.result), c.requires, c.len.ensures, c.len_in_bytes.ensures, ap length c.deref_mut.ensures.value)
+    omega (
+      arith,
+      sized,
+      length-rest c.deref_mut.result.now (c.len.result - c.len_in_bytes.result),
+      c.requires,
+      c.len.ensures,
+      c.len_in_bytes.ensures,
+      ap length c.deref_mut.ensures.value,
+    )

@@ -22,11 +22,13 @@ returns-then-ne g c =
     let within = slice_get_within layers c.args.span.layer layer c.requires.there in
     let below : slice_get layers index ≡ Some c.index.result.now =
     ap (λ ls. slice_get ls index) (sym c.self.view_is)
-    ∙ slice_get_read c.self.inside.files.items (length c.self.inside.files.items) index c.index.result.now refl (rw c.self.view_is (omega arith)) c.index.ensures in
+    ∙ slice_get_read c.self.inside.files.items (length c.self.inside.files.items) index c.index.result.now refl
+    (rw c.self.view_is (omega arith)) c.index.ensures in
     let counted : length layer.bases ≡ c.args.span.layer = omega arith in
     sym (bases-counted layers c.args.span.layer layer counted
     ∙ first_below-found (base_refusal layers c.args.span.layer layer) index c.args.span.layer _ c.loop-index.invariant
-    (base-tested layers c.args.span.layer index layer c.index.result.now _ _ true c.base_id_at.ensures below c.checksum.ensures (sym c.if-ne.true ∙ c.ne.ensures))
+    (base-tested layers c.args.span.layer index layer c.index.result.now _ _ true c.base_id_at.ensures below c.checksum.ensures
+    (sym c.if-ne.true ∙ c.ne.ensures))
     (omega arith))
 
 pub loop-index-preserved : goal.loop-index-preserved
@@ -37,6 +39,8 @@ loop-index-preserved g c =
     let within = slice_get_within layers c.args.span.layer layer c.requires.there in
     let below : slice_get layers index ≡ Some c.index.result.now =
     ap (λ ls. slice_get ls index) (sym c.self.view_is)
-    ∙ slice_get_read c.self.inside.files.items (length c.self.inside.files.items) index c.index.result.now refl (rw c.self.view_is (omega arith)) c.index.ensures in
+    ∙ slice_get_read c.self.inside.files.items (length c.self.inside.files.items) index c.index.result.now refl
+    (rw c.self.view_is (omega arith)) c.index.ensures in
     first_below-none_more (base_refusal layers c.args.span.layer layer) index c.loop-index.invariant
-    (base-tested layers c.args.span.layer index layer c.index.result.now _ _ false c.base_id_at.ensures below c.checksum.ensures (sym c.if-ne.false ∙ c.ne.ensures))
+    (base-tested layers c.args.span.layer index layer c.index.result.now _ _ false c.base_id_at.ensures below c.checksum.ensures
+    (sym c.if-ne.false ∙ c.ne.ensures))

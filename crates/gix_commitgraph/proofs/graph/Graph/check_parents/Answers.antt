@@ -22,12 +22,16 @@ overflow_add-count g c =
     omega (arith, few, c.loop-parent.invariant.count, ap length taken)
 
 -- a parent below the end is not refused
-refusal-passed : {E : Type 0} (p stop : ℕ) (left rest : List (Result Position ParentError)) (item : Result Position ParentError) (parent : Position) → left ≡ item ∷ rest → item ≡ Ok parent → parent.0 < stop
+refusal-passed : {E : Type 0} (p stop : ℕ) (left rest : List (Result Position ParentError)) (item : Result Position ParentError)
+    (parent : Position) → left ≡ item ∷ rest → item ≡ Ok parent → parent.0 < stop
     → first_some (map (item_refusal {E = E} p stop) left) ≡ first_some (map (item_refusal {E = E} p stop) rest)
 refusal-passed {E} p stop left rest item parent taken is below =
     ap (λ (items : List (Result Position ParentError)). first_some (map (item_refusal {E = E} p stop) items)) taken
-    ∙ ap (λ (first : Result Position ParentError). first_some (item_refusal {E = E} p stop first ∷ map (item_refusal {E = E} p stop) rest)) is
-    ∙ ap (λ (b : Bool). first_some ((ParentOutOfRange (position_of p) parent when not b) ∷ map (item_refusal {E = E} p stop) rest)) (lt-ltb parent.0 stop below)
+    ∙ ap (λ (first : Result Position ParentError). first_some
+    (item_refusal {E = E} p stop first ∷ map (item_refusal {E = E} p stop) rest)) is
+    ∙ ap (λ (b : Bool). first_some
+    ((ParentOutOfRange (position_of p) parent when not b) ∷ map (item_refusal {E = E} p stop) rest))
+    (lt-ltb parent.0 stop below)
 
 pub loop-parent-preserved : goal.loop-parent-preserved
 loop-parent-preserved g c =
@@ -36,9 +40,12 @@ loop-parent-preserved g c =
     let before = c.loop-parent.max_generation in
     let steps = c.in-Some.ensures.steps.steps in
     let numbers = numbers-taken _ _ c.in-Some.parent c.in-Ok.parent steps c.in-Ok.is in
-    let more : max before (generation_at history c.in-Ok.parent.0) ≡ c.max-max_generation.result = omega (arith, c.max-max_generation.ensures, c.generation_at.ensures) in
+    let more : max before (generation_at history c.in-Ok.parent.0) ≡ c.max-max_generation.result =
+    omega (arith, c.max-max_generation.ensures, c.generation_at.ensures) in
     record {
-      refusal = c.loop-parent.invariant.refusal ∙ refusal-passed c.args.pos.0 c.args.span.stop _ rest c.in-Some.parent c.in-Ok.parent steps c.in-Ok.is c.if-parent-span.false;
+      refusal = c.loop-parent.invariant.refusal
+          ∙ refusal-passed c.args.pos.0 c.args.span.stop _ rest c.in-Some.parent c.in-Ok.parent steps c.in-Ok.is
+          c.if-parent-span.false;
       count = omega (arith, c.loop-parent.invariant.count, ap length numbers);
       max_generation =
           c.loop-parent.invariant.max_generation ∙ ap (λ ns. fold max before (map (generation_at history) ns)) numbers
@@ -54,6 +61,8 @@ returns-clause-parents g c =
     record {
       count = omega (arith, c.loop-parent.invariant.count, ap (λ items. length (numbers_of items)) none, ap length numbers);
       max_generation =
-          sym (c.loop-parent.invariant.max_generation ∙ ap (λ items. fold max c.loop-parent.max_generation (map (generation_at (history_of layers)) (numbers_of items))) none)
+          sym (c.loop-parent.invariant.max_generation
+          ∙ ap (λ items. fold max c.loop-parent.max_generation (map (generation_at (history_of layers)) (numbers_of items)))
+          none)
           ∙ ap (λ ps. greatest (map (generation_at (history_of layers)) ps)) numbers;
     }

@@ -16,7 +16,8 @@ invariant-loop-parent g l = record {
   refusal :
       first_some (map (item_refusal {E = g.row.E.Denot} l.pos.0 l.span.stop) (items_of (commit_parents l.commit)))
       ≡ first_some (map (item_refusal l.pos.0 l.span.stop) (parents_left l.parent-iterator));
-  count : length (numbers_of (items_of (commit_parents l.commit))) ≡ l.count + length (numbers_of (parents_left l.parent-iterator));
+  count : length (numbers_of (items_of (commit_parents l.commit)))
+      ≡ l.count + length (numbers_of (parents_left l.parent-iterator));
   max_generation :
       greatest (map (generation_at (history_of l.self)) (numbers_of (items_of (commit_parents l.commit))))
       ≡ fold max l.max_generation (map (generation_at (history_of l.self)) (numbers_of (parents_left l.parent-iterator)));

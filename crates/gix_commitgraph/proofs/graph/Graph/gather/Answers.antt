@@ -8,5 +8,7 @@ loop-index-init c = record { gathered = none-yet (λ i. IsGathered c.args.self.n
 
 pub loop-index-preserved : goal.loop-index-preserved
 loop-index-preserved c = record {
-  gathered = one-more (λ i. IsGathered c.args.self.now c.args.span (c.args.first + i)) _ _ _ c.loop-index.invariant.gathered c.gather_one.ensures;
+  gathered =
+      one-more (λ i. IsGathered c.args.self.now c.args.span (c.args.first + i)) _ _ _ c.loop-index.invariant.gathered
+      c.gather_one.ensures;
 }

@@ -19,4 +19,5 @@ returns-then-pos-span c =
 pub returns-else-pos-span : goal.returns-else-pos-span
 returns-else-pos-span c =
     c.generation-else-pos-span.ensures
-    ∙ generation-in_graph c.args.self.now c.args.span c.commit_at-else-pos-span.result c.args.pos.0 c.requires.span c.commit_at-else-pos-span.ensures
+    ∙ generation-in_graph c.args.self.now c.args.span c.commit_at-else-pos-span.result c.args.pos.0 c.requires.span
+    c.commit_at-else-pos-span.ensures

@@ -8,7 +8,8 @@ use Rattle.gix_commitgraph.proofs.graph.Graph.layer_of_counted.Goals as goal
 
 -- there is a start for each layer
 starts-len : (c : goal.After-len-high) → c.len-high.result ≡ length c.args.self.now
-starts-len c = omega (arith, c.len-high.ensures, c.self.inside.starts.ok.0, c.self.invariant.counted.one_each, ap length c.self.view_is)
+starts-len c =
+    omega (arith, c.len-high.ensures, c.self.inside.starts.ok.0, c.self.invariant.counted.one_each, ap length c.self.view_is)
 
 pub loop-high-init : goal.loop-high-init
 loop-high-init c =
@@ -26,8 +27,21 @@ loop-high-init c =
 
 pub overflow_add-comparisons : goal.overflow_add-comparisons
 overflow_add-comparisons c =
-    let small : length c.args.self.now < 2 ^ 64 = omega (arith, c.self.inside.starts.ok.0, c.len-high.type_inv, c.len-high.ensures, c.self.invariant.counted.one_each, ap length c.self.view_is) in
-    omega (arith, c.loop-high.invariant.most, digits-lower (c.loop-high.high - c.loop-high.low - 1) 0 (omega arith) (omega arith), digits-enough (length c.args.self.now) 64 small)
+    let small : length c.args.self.now < 2 ^ 64 =
+    omega (
+      arith,
+      c.self.inside.starts.ok.0,
+      c.len-high.type_inv,
+      c.len-high.ensures,
+      c.self.invariant.counted.one_each,
+      ap length c.self.view_is,
+    ) in
+    omega (
+      arith,
+      c.loop-high.invariant.most,
+      digits-lower (c.loop-high.high - c.loop-high.low - 1) 0 (omega arith) (omega arith),
+      digits-enough (length c.args.self.now) 64 small,
+    )
 
 pub loop-high-preserved-then-index-pos : goal.loop-high-preserved-then-index-pos
 loop-high-preserved-then-index-pos c =
@@ -36,13 +50,19 @@ loop-high-preserved-then-index-pos c =
     let middle = low + (high - low) / 2 in
     let layers = c.args.self.now in
     let within : middle < length layers = omega arith in
-    let read = start-kept layers c.self.inside.files.items c.self.inside.starts.items middle c.index.result.now c.self.view_is c.self.invariant within c.index.ensures in
+    let read =
+    start-kept layers c.self.inside.files.items c.self.inside.starts.items middle c.index.result.now c.self.view_is
+    c.self.invariant within c.index.ensures in
     record {
       some = omega arith;
       within = omega arith;
       from = omega (arith, read);
       below = omega arith;
-      most = omega (arith, c.loop-high.invariant.most, digits-lower (high - low - 1) (high - middle - 1) (omega arith) (omega arith));
+      most = omega (
+        arith,
+        c.loop-high.invariant.most,
+        digits-lower (high - low - 1) (high - middle - 1) (omega arith) (omega arith),
+      );
       least = omega (arith, c.loop-high.invariant.least, digits-upper (high - low) (high - middle) (omega arith) (omega arith));
     }
 
@@ -53,13 +73,19 @@ loop-high-preserved c =
     let middle = low + (high - low) / 2 in
     let layers = c.args.self.now in
     let within : middle < length layers = omega arith in
-    let read = start-kept layers c.self.inside.files.items c.self.inside.starts.items middle c.index.result.now c.self.view_is c.self.invariant within c.index.ensures in
+    let read =
+    start-kept layers c.self.inside.files.items c.self.inside.starts.items middle c.index.result.now c.self.view_is
+    c.self.invariant within c.index.ensures in
     record {
       some = omega arith;
       within = omega arith;
       from = omega arith;
       below = omega (arith, read);
-      most = omega (arith, c.loop-high.invariant.most, digits-lower (high - low - 1) (middle - low - 1) (omega arith) (omega arith));
+      most = omega (
+        arith,
+        c.loop-high.invariant.most,
+        digits-lower (high - low - 1) (middle - low - 1) (omega arith) (omega arith),
+      );
       least = omega (arith, c.loop-high.invariant.least, digits-upper (high - low) (middle - low) (omega arith) (omega arith));
     }
 

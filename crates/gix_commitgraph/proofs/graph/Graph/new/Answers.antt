@@ -4,7 +4,8 @@ use Rattle.gix_commitgraph.proofs.graph.Graph.new.Goals as goal
 
 pub starts_of-requires : goal.starts_of-requires
 starts_of-requires c =
-    let graph : IsGraph c.args.files.items = rw c.deref.ensures.value at (graph-accepted _ c.in_ok-check.ensures.refusal c.in_ok-check.ensures.opened) in
+    let graph : IsGraph c.args.files.items =
+    rw c.deref.ensures.value at (graph-accepted _ c.in_ok-check.ensures.refusal c.in_ok-check.ensures.opened) in
     rw c.deref-2.ensures.value graph.makes.few
 
 pub invariant_of-result : goal.invariant_of-result

@@ -10,9 +10,12 @@ all-commits c =
     let files = c.self.inside.files.items in
     let last = c.len-last.result - 1 in
     let graph : IsGraph layers = subst IsGraph c.self.view_is c.self.invariant.graph in
-    let is_last : last + 1 ≡ length layers = omega (arith, graph.makes.some, c.len-last.ensures, c.self.inside.files.ok.0, ap length c.self.view_is) in
+    let is_last : last + 1 ≡ length layers =
+    omega (arith, graph.makes.some, c.len-last.ensures, c.self.inside.files.ok.0, ap length c.self.view_is) in
     let within : last < length layers = omega arith in
-    let first = start-kept layers files c.self.inside.starts.items last c.index.result.now c.self.view_is c.self.invariant within c.index.ensures in
+    let first =
+    start-kept layers files c.self.inside.starts.items last c.index.result.now c.self.view_is c.self.invariant within
+    c.index.ensures in
     let here = layer-kept layers files last c.index-2.result.now c.self.view_is within c.index-2.ensures in
     omega (arith, c.num_commits.ensures.ids, last-stop layers last c.index.result.now c.index-2.result.now is_last first here)
 

@@ -7,7 +7,8 @@ returns-clause-sound g c =
 
 pub returns-clause-statistics : goal.returns-clause-statistics
 returns-clause-statistics g c =
-    right_stats _ c.args.self.now _ _ c.verify_layers.ensures.graph.opened c.verify_layers.result c.verify_layers.ensures.agrees c.verify_layers.ensures.outcome
+    right_stats _ c.args.self.now _ _ c.verify_layers.ensures.graph.opened c.verify_layers.result c.verify_layers.ensures.agrees
+    c.verify_layers.ensures.outcome
 
 pub returns-clause-lookup : goal.returns-clause-lookup
 returns-clause-lookup g c =

@@ -10,7 +10,8 @@ use Rattle.gix_commitgraph.proofs.graph.Graph.verify_layers.Goals as goal
 
 pub loop-layer-init : goal.loop-layer-init
 loop-layer-init g c =
-    let few : length c.args.self.now ≤ 256 = omega (arith, c.len.ensures, c.self.inside.files.ok.0, ap length c.self.view_is, c.if-len-gt-MOST_LAYERS.false) in
+    let few : length c.args.self.now ≤ 256 =
+    omega (arith, c.len.ensures, c.self.inside.files.ok.0, ap length c.self.view_is, c.if-len-gt-MOST_LAYERS.false) in
     record {
       reached = reached_layers g.F.FnMut c.args.self.now _ few;
       first = sym (start-none c.args.self.now);
@@ -21,13 +22,15 @@ pub returns-in_err-verify_layer-clause-agrees : goal.returns-in_err-verify_layer
 returns-in_err-verify_layer-clause-agrees g c =
     let handed = err_from_is_err_and c.from_residual.result c.from_residual.ensures.1 in
     rw (handed.1, handed.2)
-    (stops_in_layer g.F.FnMut c.args.self.now _ c.loop-layer.layer c.span_at-span.result.file.now (rw c.span_at-span.ensures.layer at c.span_at-span.ensures.span.there) _ _ c.loop-layer.invariant.reached _
+    (stops_in_layer g.F.FnMut c.args.self.now _ c.loop-layer.layer c.span_at-span.result.file.now
+    (rw c.span_at-span.ensures.layer at c.span_at-span.ensures.span.there) _ _ c.loop-layer.invariant.reached _
     (rw c.span_at-span.ensures.layer at c.in_err-verify_layer.ensures.agrees))
 
 pub loop-layer-preserved : goal.loop-layer-preserved
 loop-layer-preserved g c = record {
   reached =
-      reached_next_layer g.F.FnMut c.args.self.now _ c.loop-layer.layer c.span_at-span.result.file.now (rw c.span_at-span.ensures.layer at c.span_at-span.ensures.span.there) _ _ c.loop-layer.invariant.reached
+      reached_next_layer g.F.FnMut c.args.self.now _ c.loop-layer.layer c.span_at-span.result.file.now
+      (rw c.span_at-span.ensures.layer at c.span_at-span.ensures.span.there) _ _ c.loop-layer.invariant.reached
       (rw c.span_at-span.ensures.layer at c.in_ok-verify_layer.ensures.agrees);
   first = c.span_at-span.ensures.span.stop ∙ ap (stop c.args.self.now) c.span_at-span.ensures.layer;
   tally = c.in_ok-verify_layer.ensures.tally;
@@ -40,13 +43,16 @@ returns-in_err-outcome-clause-agrees g c =
 
 pub returns-clause-agrees : goal.returns-clause-agrees
 returns-clause-agrees g c =
-    let past : length c.args.self.now ≤ c.loop-layer.layer = omega (arith, c.len-layer-end.ensures, c.self.inside.files.ok.0, ap length c.self.view_is, c.loop-layer-test.false) in
+    let past : length c.args.self.now ≤ c.loop-layer.layer =
+    omega (arith, c.len-layer-end.ensures, c.self.inside.files.ok.0, ap length c.self.view_is, c.loop-layer-test.false) in
     graph_passed g.F.FnMut c.args.self.now _ c.loop-layer.layer _ past c.loop-layer.invariant.reached
 
 pub returns-clause-outcome : goal.returns-clause-outcome
 returns-clause-outcome g c =
-    let past : length c.args.self.now ≤ c.loop-layer.layer = omega (arith, c.len-layer-end.ensures, c.self.inside.files.ok.0, ap length c.self.view_is, c.loop-layer-test.false) in
+    let past : length c.args.self.now ≤ c.loop-layer.layer =
+    omega (arith, c.len-layer-end.ensures, c.self.inside.files.ok.0, ap length c.self.view_is, c.loop-layer-test.false) in
     let graph : IsGraph c.args.self.now = subst IsGraph c.self.view_is c.self.invariant.graph in
     let all : take c.loop-layer.first (history_of c.args.self.now) ≡ history_of c.args.self.now =
-    ap (λ (n : ℕ). take n (history_of c.args.self.now)) c.loop-layer.invariant.first ∙ take-all c.args.self.now c.loop-layer.layer graph.opened past in
+    ap (λ (n : ℕ). take n (history_of c.args.self.now)) c.loop-layer.invariant.first
+    ∙ take-all c.args.self.now c.loop-layer.layer graph.opened past in
     rw all at (c.in_ok-outcome.ensures _ c.loop-layer.invariant.tally)

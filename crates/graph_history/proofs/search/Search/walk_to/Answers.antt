@@ -18,9 +18,13 @@ loop-reached-preserved c =
     let child = sym c.child_at-reached.ensures in
     record {
       within = omega (arith, queue.earlier l.reached c.loop-reached-test.true l.invariant.within, child);
-      walk = one_back (history_of s.graph.now) s.least (queued_by s) s.marks.items l.reached c.args.place reached c.commit_at-in-loop-reached.result l.walk.items c.push.new.self.items queue c.loop-reached-test.true l.invariant.within child c.commit_at-in-loop-reached.ensures pushed l.invariant.walk;
+      walk = one_back (history_of s.graph.now) s.least (queued_by s) s.marks.items l.reached c.args.place reached
+          c.commit_at-in-loop-reached.result l.walk.items c.push.new.self.items queue c.loop-reached-test.true l.invariant.within
+          child c.commit_at-in-loop-reached.ensures pushed l.invariant.walk;
       steps = λ d depth.
-          let more = one_step_more (queued_by s) l.reached c.args.place reached (length l.walk.items) c.loop-reached-test.true child l.invariant.steps d depth in
+          let more =
+          one_step_more (queued_by s) l.reached c.args.place reached (length l.walk.items) c.loop-reached-test.true child
+          l.invariant.steps d depth in
           (more.0, more.1, omega (arith, more.2, ap length pushed, length_push l.walk.items c.commit_at-in-loop-reached.result));
     }
 
@@ -33,7 +37,8 @@ returns-clause-walk c =
     let walk = l.invariant.walk in
     let between = between_from_path h (commit_in (queued_by s) l.reached) (commit_in (queued_by s) c.args.place) walk.0 walk.2 in
     let whole = ap numbers_of c.reverse.ensures.items ∙ walk.1 in
-    subst₂ (λ (k : ℕ) (xs : List ℕ). IsWalkBetween h (commit_in (queued_by s) k) (commit_in (queued_by s) c.args.place) xs) first (sym whole) between
+    subst₂ (λ (k : ℕ) (xs : List ℕ). IsWalkBetween h (commit_in (queued_by s) k) (commit_in (queued_by s) c.args.place) xs) first
+    (sym whole) between
 
 pub returns-clause-steps : goal.returns-clause-steps
 returns-clause-steps c =

@@ -7,8 +7,18 @@ returns-clause-number c = c.fan_at.ensures ∙ rw c.deref.ensures.value (view-fa
 
 pub returns-clause-rises : goal.returns-clause-rises
 returns-clause-rises c some =
-    omega (arith, returns-clause-number c, view-fan-rises _ _ _ _ c.args.byte c.self.invariant.layout c.self.view_is some (omega arith))
+    omega (
+      arith,
+      returns-clause-number c,
+      view-fan-rises _ _ _ _ c.args.byte c.self.invariant.layout c.self.view_is some
+          (omega arith),
+    )
 
 pub returns-clause-within : goal.returns-clause-within
 returns-clause-within c =
-    omega (arith, returns-clause-number c, view-fan-below _ _ _ _ c.args.byte c.self.invariant.layout c.self.view_is (omega arith))
+    omega (
+      arith,
+      returns-clause-number c,
+      view-fan-below _ _ _ _ c.args.byte c.self.invariant.layout c.self.view_is
+          (omega arith),
+    )

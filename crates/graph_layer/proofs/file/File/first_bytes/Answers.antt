@@ -11,7 +11,9 @@ loop-pos-preserved c =
     let room : c.first_byte.result < length c.loop-pos.counts = omega (arith, c.loop-pos.invariant.size, c.first_byte.type_inv) in
     record {
       size = length-set c.loop-pos.counts c.first_byte.result _ ∙ c.loop-pos.invariant.size;
-      counted = λ byte h. counted-more c.loop-pos.counts c.args.self.now.ids c.loop-pos.pos c.first_byte.result byte _ c.id_at.ensures c.first_byte.ensures room (c.loop-pos.invariant.counted byte h);
+      counted = λ byte h.
+          counted-more c.loop-pos.counts c.args.self.now.ids c.loop-pos.pos c.first_byte.result byte _ c.id_at.ensures
+          c.first_byte.ensures room (c.loop-pos.invariant.counted byte h);
     }
 
 pub returns-clause-counts : goal.returns-clause-counts

@@ -11,12 +11,14 @@ returns-in-Some c =
     c.spells.ensures
     ∙ ap (spells_id c.in-Some.text.now) c.checksum.ensures
     ∙ sym
-    (named-right layer.path layer.checksum c.file_name.result c.and_then.result (c.file_name.ensures ∙ ap name_of c.path.ensures) c.and_then.ensures
+    (named-right layer.path layer.checksum c.file_name.result c.and_then.result (c.file_name.ensures ∙ ap name_of c.path.ensures)
+    c.and_then.ensures
     ∙ ap (λ (r : Option (Bor (List ℕ))). option_map_or (λ t. spells_id t.now layer.checksum) r true) c.in-Some.is)
 
 pub returns-in-None : goal.returns-in-None
 returns-in-None c =
     let layer = c.args.self.now in
     sym
-    (named-right layer.path layer.checksum c.file_name.result c.and_then.result (c.file_name.ensures ∙ ap name_of c.path.ensures) c.and_then.ensures
+    (named-right layer.path layer.checksum c.file_name.result c.and_then.result (c.file_name.ensures ∙ ap name_of c.path.ensures)
+    c.and_then.ensures
     ∙ ap (λ (r : Option (Bor (List ℕ))). option_map_or (λ t. spells_id t.now layer.checksum) r true) c.in-None.is)

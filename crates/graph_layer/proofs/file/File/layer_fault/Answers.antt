@@ -1,4 +1,5 @@
-use Rattle.std.proofs.Common.{◌≡◌, ◌≢◌, ◌∙◌, List, ℕ, Bool, true, false, Some, Result, Ok, Err, MatchResult, bytes_eq, refl, sym, rules}
+use Rattle.std.proofs.Common.{◌≡◌, ◌≢◌, ◌∙◌, List, ℕ, Bool, true, false, Some, Result, Ok, Err, MatchResult, bytes_eq, refl, sym}
+use Rattle.std.proofs.Common.{rules}
 use Rattle.std.specs.Prelude.{option_map}
 use Rattle.std.specs.Result.{is_err}
 use Rattle.std.proofs.lemmas.Slice.Eq.{bytes_eq-Decides}
@@ -27,21 +28,26 @@ wrong-checksum : (layer : Layer) → layer.checksum ≢ digest_of layer.kind lay
 unfolding layer_fault
 wrong-checksum layer h = rw (differ layer.checksum (digest_of layer.kind layer.body) _ refl h) refl
 
-wrong-name : (layer : Layer) → layer.checksum ≡ digest_of layer.kind layer.body → is_named_right layer.path layer.checksum ≡ false → layer_fault layer ≡ Some FileName
+wrong-name : (layer : Layer) → layer.checksum ≡ digest_of layer.kind layer.body → is_named_right layer.path layer.checksum ≡ false
+    → layer_fault layer ≡ Some FileName
 unfolding layer_fault
 wrong-name layer h e = rw ((bytes_eq-Decides layer.checksum (digest_of layer.kind layer.body)).1 h, e) refl
 
-fan-fault : (layer : Layer) → layer.checksum ≡ digest_of layer.kind layer.body → is_named_right layer.path layer.checksum ≡ true → layer_fault layer ≡ first_below (wrong_fan layer) 256
+fan-fault : (layer : Layer) → layer.checksum ≡ digest_of layer.kind layer.body → is_named_right layer.path layer.checksum ≡ true
+    → layer_fault layer ≡ first_below (wrong_fan layer) 256
 unfolding layer_fault
 fan-fault layer h e = rw ((bytes_eq-Decides layer.checksum (digest_of layer.kind layer.body)).1 h, e) refl
 
 pub returns-then-is_err : goal.returns-then-is_err
 returns-then-is_err c =
-    sym (wrong-checksum c.args.self.now (failed c.verify_checksum.result _ _ c.verify_checksum.ensures.trailer (sym c.if-is_err.ensures.value)))
+    sym (wrong-checksum c.args.self.now
+    (failed c.verify_checksum.result _ _ c.verify_checksum.ensures.trailer (sym c.if-is_err.ensures.value)))
 
 pub returns-then-not-is_named_right : goal.returns-then-not-is_named_right
 returns-then-not-is_named_right c =
-    sym (wrong-name c.args.self.now (held c.verify_checksum.result _ _ c.verify_checksum.ensures.trailer (sym c.if-is_err.ensures.value)) (sym c.if-not-is_named_right.ensures))
+    sym (wrong-name c.args.self.now
+    (held c.verify_checksum.result _ _ c.verify_checksum.ensures.trailer (sym c.if-is_err.ensures.value))
+    (sym c.if-not-is_named_right.ensures))
 
 pub returns : goal.returns
 returns c =
@@ -49,4 +55,5 @@ returns c =
     let mapped : c.map.result ≡ option_map (λ byte. Fan byte) c.wrong_byte.result = search rules in
     mapped
     ∙ c.wrong_byte.ensures
-    ∙ sym (fan-fault layer (held c.verify_checksum.result _ _ c.verify_checksum.ensures.trailer (sym c.if-is_err.ensures.value)) (sym c.if-not-is_named_right.ensures))
+    ∙ sym (fan-fault layer (held c.verify_checksum.result _ _ c.verify_checksum.ensures.trailer (sym c.if-is_err.ensures.value))
+    (sym c.if-not-is_named_right.ensures))

@@ -3,14 +3,16 @@ use Rattle.gix_hash_core.specs.Kind.{id_len}
 use Rattle.graph_format.specs.Lookup.{bucket_size}
 use Rattle.graph_layer.proofs.BucketLemmas.{view-other_len}
 use Rattle.graph_format.proofs.DigitLemmas.{digits-enough, digits-lower}
-use Rattle.graph_layer.proofs.SearchLemmas.{stands_within-bucket, stands_within-lower, stands_within-upper, found-equal, found-none, found-other_len}
+use Rattle.graph_layer.proofs.SearchLemmas.{stands_within-bucket, stands_within-lower, stands_within-upper, found-equal}
+use Rattle.graph_layer.proofs.SearchLemmas.{found-none, found-other_len}
 use Rattle.graph_layer.proofs.FileViewLemmas.{view-kind}
 use Rattle.graph_layer.proofs.file.File.lookup_counted.Goals as goal
 
 pub returns-then-wanted-size-clause-found : goal.returns-then-wanted-size-clause-found
 returns-then-wanted-size-clause-found c =
     rw (← c.as_bytes-wanted.ensures.bytes) (found-other_len _ _ (view-other_len _ _ _ _ _ c.self.invariant.layout c.self.view_is
-    (λ same. c.if-wanted-size.true (same ∙ sym (ap id_len (view-kind _ _ _ _ c.self.invariant.layout c.self.view_is)) ∙ sym c.len_in_bytes-size.ensures))))
+    (λ same. c.if-wanted-size.true (same ∙ sym (ap id_len (view-kind _ _ _ _ c.self.invariant.layout c.self.view_is))
+    ∙ sym c.len_in_bytes-size.ensures))))
 
 pub loop-low-init : goal.loop-low-init
 loop-low-init c = record {
@@ -26,29 +28,50 @@ pub overflow_add-comparisons : goal.overflow_add-comparisons
 overflow_add-comparisons c =
     let size = bucket_size c.args.self.now.fan (slice_index c.as_bytes-wanted.result.now 0) in
     let small : size < 2 ^ 32 = omega (arith, c.bucket-low.type_inv) in
-    omega (arith, c.loop-low.invariant.counted, digits-lower (c.loop-low.high - c.loop-low.low) 0 (omega arith) (omega arith), digits-enough size 32 small)
+    omega (
+      arith,
+      c.loop-low.invariant.counted,
+      digits-lower (c.loop-low.high - c.loop-low.low) 0 (omega arith) (omega arith),
+      digits-enough size 32 small,
+    )
 
 pub loop-low-preserved-in-Less : goal.loop-low-preserved-in-Less
 loop-low-preserved-in-Less c = record {
   stands = stands_within-lower _ _ _ _ _ _ c.loop-low.invariant.stands c.id_bytes_at-other.ensures.id (sym c.in-Less.ensures);
   order = omega arith;
   within = omega arith;
-  counted = omega (arith, digits-lower (c.loop-low.high - c.loop-low.low) (c.loop-low.low + (c.loop-low.high - c.loop-low.low) / 2 - c.loop-low.low) (omega arith) (omega arith));
+  counted =
+      omega (
+        arith,
+        digits-lower (c.loop-low.high - c.loop-low.low)
+            (c.loop-low.low + (c.loop-low.high - c.loop-low.low) / 2 - c.loop-low.low) (omega arith) (omega arith),
+      );
 }
 
 pub returns-in-Equal-clause-found : goal.returns-in-Equal-clause-found
-returns-in-Equal-clause-found c = rw (← c.as_bytes-wanted.ensures.bytes) (found-equal _ _ _ _ c.id_bytes_at-other.ensures.id (sym c.in-Equal.ensures))
+returns-in-Equal-clause-found c =
+    rw (← c.as_bytes-wanted.ensures.bytes) (found-equal _ _ _ _ c.id_bytes_at-other.ensures.id (sym c.in-Equal.ensures))
 
 pub returns-in-Equal-clause-most : goal.returns-in-Equal-clause-most
 returns-in-Equal-clause-most c =
-    rw (← c.as_bytes-wanted.ensures.bytes) (omega (arith, c.loop-low.invariant.counted, digits-lower (c.loop-low.high - c.loop-low.low) 0 (omega arith) (omega arith)))
+    rw (← c.as_bytes-wanted.ensures.bytes)
+    (omega (
+      arith,
+      c.loop-low.invariant.counted,
+      digits-lower (c.loop-low.high - c.loop-low.low) 0 (omega arith) (omega arith),
+    ))
 
 pub loop-low-preserved : goal.loop-low-preserved
 loop-low-preserved c = record {
   stands = stands_within-upper _ _ _ _ _ _ c.loop-low.invariant.stands c.id_bytes_at-other.ensures.id (sym c.in-Greater.ensures);
   order = omega arith;
   within = omega arith;
-  counted = omega (arith, digits-lower (c.loop-low.high - c.loop-low.low) (c.loop-low.high - (c.loop-low.low + (c.loop-low.high - c.loop-low.low) / 2 + 1)) (omega arith) (omega arith));
+  counted =
+      omega (
+        arith,
+        digits-lower (c.loop-low.high - c.loop-low.low)
+            (c.loop-low.high - (c.loop-low.low + (c.loop-low.high - c.loop-low.low) / 2 + 1)) (omega arith) (omega arith),
+      );
 }
 
 pub returns-clause-found : goal.returns-clause-found

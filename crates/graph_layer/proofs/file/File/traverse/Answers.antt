@@ -28,27 +28,36 @@ pub returns-in_err-parents-clause-agrees : goal.returns-in_err-parents-clause-ag
 returns-in_err-parents-clause-agrees g c =
     let commit = c.commit_at-commit.result in
     let at = c.commit_at-commit.ensures in
-    let inside : c.loop-number.number < length c.args.self.now.ids = omega (arith, c.loop-number-test.true, c.num_commits-number-end.ensures.ids) in
+    let inside : c.loop-number.number < length c.args.self.now.ids =
+    omega (arith, c.loop-number-test.true, c.num_commits-number-end.ensures.ids) in
     let error = err_from_is_err_and c.from_residual.result c.from_residual.ensures.1 in
-    rw (error.1, error.2) (stops_at_commit g.F.FnMut c.args.self.now c.args.processor.now commit c.loop-number.number at.layer at.pos inside _ _ c.loop-number.invariant.reached _ c.in_err-parents.ensures.agrees)
+    rw (error.1, error.2)
+    (stops_at_commit g.F.FnMut c.args.self.now c.args.processor.now commit c.loop-number.number at.layer at.pos inside _ _
+    c.loop-number.invariant.reached _ c.in_err-parents.ensures.agrees)
 
 pub returns-in_err-add-clause-agrees : goal.returns-in_err-add-clause-agrees
 returns-in_err-add-clause-agrees g c =
     let commit = c.commit_at-commit.result in
     let at = c.commit_at-commit.ensures in
-    let inside : c.loop-number.number < length c.args.self.now.ids = omega (arith, c.loop-number-test.true, c.num_commits-number-end.ensures.ids) in
+    let inside : c.loop-number.number < length c.args.self.now.ids =
+    omega (arith, c.loop-number-test.true, c.num_commits-number-end.ensures.ids) in
     let error = err_from_is_err_and c.from_residual-in_err-add.result c.from_residual-in_err-add.ensures.1 in
     rw (error.1, error.2) (ran_out _ _ _ _ _
-    (reached_next g.F.FnMut c.args.self.now c.args.processor.now commit c.loop-number.number at.layer at.pos inside _ _ c.loop-number.invariant.reached c.in_ok-parents.ensures.agrees))
+    (reached_next g.F.FnMut c.args.self.now c.args.processor.now commit c.loop-number.number at.layer at.pos inside _ _
+    c.loop-number.invariant.reached c.in_ok-parents.ensures.agrees))
 
 pub loop-number-preserved : goal.loop-number-preserved
 loop-number-preserved g c =
     let commit = c.commit_at-commit.result in
     let at = c.commit_at-commit.ensures in
-    let inside : c.loop-number.number < length c.args.self.now.ids = omega (arith, c.loop-number-test.true, c.num_commits-number-end.ensures.ids) in
+    let inside : c.loop-number.number < length c.args.self.now.ids =
+    omega (arith, c.loop-number-test.true, c.num_commits-number-end.ensures.ids) in
     record {
-      reached = reached_next g.F.FnMut c.args.self.now c.args.processor.now commit c.loop-number.number at.layer at.pos inside _ _ c.loop-number.invariant.reached c.in_ok-parents.ensures.agrees;
-      tally = said_there commit at.layer at.pos (λ layer pos. Tallies (take (pos + 1) (layer_history layer)) c.add.new.self) c.in_ok-add.ensures;
+      reached =
+          reached_next g.F.FnMut c.args.self.now c.args.processor.now commit c.loop-number.number at.layer at.pos inside _ _
+          c.loop-number.invariant.reached c.in_ok-parents.ensures.agrees;
+      tally = said_there commit at.layer at.pos (λ layer pos. Tallies (take (pos + 1) (layer_history layer)) c.add.new.self)
+          c.in_ok-add.ensures;
     }
 
 pub returns-in_err-outcome-clause-agrees : goal.returns-in_err-outcome-clause-agrees
@@ -58,5 +67,7 @@ returns-in_err-outcome-clause-agrees g c =
 
 pub returns-clause-outcome : goal.returns-clause-outcome
 returns-clause-outcome g c =
-    let all : c.loop-number.number ≡ length c.args.self.now.ids = omega (arith, c.loop-number-test.false, c.loop-number.auto.number-end, c.num_commits-number-end.ensures.ids) in
-    stats_of_all c.args.self.now c.loop-number.number _ c.num_commits-number-end.ensures.layer all (c.in_ok-outcome.ensures _ c.loop-number.invariant.tally)
+    let all : c.loop-number.number ≡ length c.args.self.now.ids =
+    omega (arith, c.loop-number-test.false, c.loop-number.auto.number-end, c.num_commits-number-end.ensures.ids) in
+    stats_of_all c.args.self.now c.loop-number.number _ c.num_commits-number-end.ensures.layer all
+    (c.in_ok-outcome.ensures _ c.loop-number.invariant.tally)

@@ -10,16 +10,19 @@ slice_bounds-digest-end c =
 
 pub returns-then-eq-clause-digest : goal.returns-then-eq-clause-digest
 returns-then-eq-clause-digest c =
-    rw (c.object_hash.ensures, c.deref.ensures.value, view-body _ _ _ _ c.self.invariant.layout c.self.view_is) at c.digest-actual.ensures
+    rw (c.object_hash.ensures, c.deref.ensures.value, view-body _ _ _ _ c.self.invariant.layout c.self.view_is) at
+    c.digest-actual.ensures
 
 pub returns-then-eq-clause-trailer : goal.returns-then-eq-clause-trailer
 returns-then-eq-clause-trailer c =
-    sym c.checksum.ensures ∙ sym (same_text _ _ (sym c.if-eq.true ∙ c.eq.ensures)) ∙ c.as_oid.ensures ∙ returns-then-eq-clause-digest c
+    sym c.checksum.ensures ∙ sym (same_text _ _ (sym c.if-eq.true ∙ c.eq.ensures)) ∙ c.as_oid.ensures
+    ∙ returns-then-eq-clause-digest c
 
 pub returns-else-eq-clause-trailer : goal.returns-else-eq-clause-trailer
 returns-else-eq-clause-trailer c same =
     other_text _ _ (sym c.if-eq.false ∙ c.eq.ensures)
     (c.as_oid.ensures
-    ∙ (rw (c.object_hash.ensures, c.deref.ensures.value, view-body _ _ _ _ c.self.invariant.layout c.self.view_is) at c.digest-actual.ensures)
+    ∙ (rw (c.object_hash.ensures, c.deref.ensures.value, view-body _ _ _ _ c.self.invariant.layout c.self.view_is) at
+    c.digest-actual.ensures)
     ∙ sym same
     ∙ sym c.checksum.ensures)

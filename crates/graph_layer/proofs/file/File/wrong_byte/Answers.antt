@@ -13,7 +13,13 @@ pub overflow_add-ids : goal.overflow_add-ids
 overflow_add-ids c =
     let ids = c.args.self.now.ids in
     let byte = c.loop-byte.byte in
-    omega (arith, sum-is ids c.loop-byte.ids _ byte c.loop-byte.invariant.sum (c.first_bytes.ensures.counts byte c.loop-byte-test.true), ids_up_to-small byte ids, c.first_bytes.ensures.few)
+    omega (
+      arith,
+      sum-is ids c.loop-byte.ids _ byte c.loop-byte.invariant.sum
+          (c.first_bytes.ensures.counts byte c.loop-byte-test.true),
+      ids_up_to-small byte ids,
+      c.first_bytes.ensures.few,
+    )
 
 pub returns-then-fan_number-ids : goal.returns-then-fan_number-ids
 returns-then-fan_number-ids c =
@@ -21,15 +27,20 @@ returns-then-fan_number-ids c =
     let byte = c.loop-byte.byte in
     sym
     (first_below-found (wrong_fan layer) byte 256 (Fan byte) c.loop-byte.invariant.right
-    (wrong-at layer byte _ _ c.fan_number.ensures.number (sum-is layer.ids c.loop-byte.ids _ byte c.loop-byte.invariant.sum (c.first_bytes.ensures.counts byte c.loop-byte-test.true)) c.if-fan_number-ids.true)
+    (wrong-at layer byte _ _ c.fan_number.ensures.number
+    (sum-is layer.ids c.loop-byte.ids _ byte c.loop-byte.invariant.sum
+    (c.first_bytes.ensures.counts byte c.loop-byte-test.true)) c.if-fan_number-ids.true)
     c.loop-byte-test.true)
 
 pub loop-byte-preserved : goal.loop-byte-preserved
 loop-byte-preserved c =
     let layer = c.args.self.now in
     let byte = c.loop-byte.byte in
-    let sum = sum-is layer.ids c.loop-byte.ids _ byte c.loop-byte.invariant.sum (c.first_bytes.ensures.counts byte c.loop-byte-test.true) in
+    let sum =
+    sum-is layer.ids c.loop-byte.ids _ byte c.loop-byte.invariant.sum
+    (c.first_bytes.ensures.counts byte c.loop-byte-test.true) in
     record {
       sum = sum ∙ sym (ids_below-next byte layer.ids);
-      right = first_below-none_more (wrong_fan layer) byte c.loop-byte.invariant.right (right-at layer byte _ _ c.fan_number.ensures.number sum c.if-fan_number-ids.false);
+      right = first_below-none_more (wrong_fan layer) byte c.loop-byte.invariant.right
+          (right-at layer byte _ _ c.fan_number.ensures.number sum c.if-fan_number-ids.false);
     }

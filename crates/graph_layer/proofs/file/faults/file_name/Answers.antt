@@ -14,7 +14,8 @@ returns c =
     let items : map (λ x. x.now) ran.0 ≡ names_in path =
     items_from_drains ran.0 (ran.1.1.0, ran.1.1.1, λ _. (ran.1.0, ran.1.1.2))
     (YieldsList-from_filter _ is_name
-    (YieldsList-at c.filter.ensures.source (YieldsList-from_str_split 47 path (lit< tt) c.split.ensures.text c.split.ensures.has_more c.split.ensures.pattern))
+    (YieldsList-at c.filter.ensures.source
+    (YieldsList-from_str_split 47 path (lit< tt) c.split.ensures.text c.split.ensures.has_more c.split.ensures.pattern))
     c.filter.ensures.closure
     (λ x b q k. search (rules, tests))) in
     last-is (λ x. x.now) ran.0 c.last.result (names_in path) ran.2 items

@@ -11,6 +11,7 @@ returns-clause-edges c path =
     let chunk = view-edges bytes path c.args.layout.now _ c.requires refl in
     elim c.match-layout.branch [
       | in-Some+in_ok-decode_words-in-Some w ↦
-          ap items w.extra_edges-is ∙ ap (λ (e : List ℕ). Some e) w.in_ok-decode_words-in-Some.ensures ∙ ap (option_map words) (rw w.in-Some.is at chunk)
+          ap items w.extra_edges-is ∙ ap (λ (e : List ℕ). Some e) w.in_ok-decode_words-in-Some.ensures
+          ∙ ap (option_map words) (rw w.in-Some.is at chunk)
       | in-None w ↦ ap items w.extra_edges-is ∙ ap (option_map words) (rw w.in-None.is at chunk)
     ]

@@ -4,10 +4,12 @@ use Rattle.graph_layer.proofs.file.lookup.order.Goals as goal
 
 pub returns-then-first-second : goal.returns-then-first-second
 returns-then-first-second c =
-    sym (fronts-less _ _ c.requires.one_bytes c.requires.other_bytes c.requires.one (omega (arith, c.requires.one, c.requires.same))
+    sym (fronts-less _ _ c.requires.one_bytes c.requires.other_bytes c.requires.one
+    (omega (arith, c.requires.one, c.requires.same))
     (omega (arith, c.long_at-first.ensures, c.long_at-second.ensures, c.if-first-second.true)))
 
 pub returns-then-second-first : goal.returns-then-second-first
 returns-then-second-first c =
-    sym (fronts-greater _ _ c.requires.one_bytes c.requires.other_bytes c.requires.one (omega (arith, c.requires.one, c.requires.same))
+    sym (fronts-greater _ _ c.requires.one_bytes c.requires.other_bytes c.requires.one
+    (omega (arith, c.requires.one, c.requires.same))
     (omega (arith, c.long_at-first.ensures, c.long_at-second.ensures, c.if-second-first.true)))

@@ -7,14 +7,16 @@ returns-in-Err-clause-agrees g c =
     let commit = c.args.self.now in
     let called = called_there g.F.FnMut c.args.self _ _ _ c.in-Err.ensures in
     rw c.position-pos.ensures.value
-    (stopped_by_processor g.F.FnMut (commit_layer commit) (commit_pos commit) c.args.processor.now c.in_default.ensures c.in-Err.error c.processor.new.self
+    (stopped_by_processor g.F.FnMut (commit_layer commit) (commit_pos commit) c.args.processor.now c.in_default.ensures
+    c.in-Err.error c.processor.new.self
     called)
 
 pub returns-in-Ok-clause-agrees : goal.returns-in-Ok-clause-agrees
 returns-in-Ok-clause-agrees g c =
     let commit = c.args.self.now in
     let called = called_there g.F.FnMut c.args.self _ _ _ c.in_default-processor.ensures in
-    passed_commit g.F.FnMut (commit_layer commit) (commit_pos commit) c.args.processor.now c.in_default.ensures c.processor.new.self
+    passed_commit g.F.FnMut (commit_layer commit) (commit_pos commit) c.args.processor.now c.in_default.ensures
+    c.processor.new.self
     called c.in-Ok.ensures.1
 
 pub returns-in-Err-count_parents-clause-agrees : goal.returns-in-Err-count_parents-clause-agrees
@@ -22,5 +24,6 @@ returns-in-Err-count_parents-clause-agrees g c =
     let commit = c.args.self.now in
     let called = called_there g.F.FnMut c.args.self _ _ _ c.in_default-processor.ensures in
     rw c.position-pos.ensures.value
-    (refused_by_parents g.F.FnMut (commit_layer commit) (commit_pos commit) c.args.processor.now c.in_default.ensures c.processor.new.self
+    (refused_by_parents g.F.FnMut (commit_layer commit) (commit_pos commit) c.args.processor.now c.in_default.ensures
+    c.processor.new.self
     called c.in-Err-count_parents.error c.in-Err-count_parents.ensures)

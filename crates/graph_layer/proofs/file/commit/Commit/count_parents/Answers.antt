@@ -22,4 +22,6 @@ loop-parent-preserved c =
     record { left = next.left; within = next.within }
 
 pub returns : goal.returns
-returns c = after-end (commit_parents c.args.self.now) c.loop-parent.count c.loop-parent.invariant.within (sym c.in-None.ensures.steps.steps.0 ∙ c.loop-parent.invariant.left)
+returns c =
+    after-end (commit_parents c.args.self.now) c.loop-parent.count c.loop-parent.invariant.within
+    (sym c.in-None.ensures.steps.steps.0 ∙ c.loop-parent.invariant.left)

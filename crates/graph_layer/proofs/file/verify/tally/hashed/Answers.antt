@@ -17,4 +17,5 @@ returns c =
     IfOk-weaker c.collect.result (hash.IsFromIterResult nat_eq entries) _
     (λ hashed from k. from.0 k ∙ update_all_none (eq_by_cmp_equiv nat_cmp_total) nat_eq (λ x y. sym (unsigned_tied x y)) entries k
     (IsDistinct-from_sorted nat_cmp (tree.keys c.args.map) given.5))
-    (fact_from_collect (hash.IsFromIterResult nat_eq) c.collect.result c.collect.ensures.ran (YieldsList-from_rest entries given.0))
+    (fact_from_collect (hash.IsFromIterResult nat_eq) c.collect.result c.collect.ensures.ran
+    (YieldsList-from_rest entries given.0))

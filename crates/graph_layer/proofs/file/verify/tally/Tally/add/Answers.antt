@@ -8,10 +8,21 @@ pub returns : goal.returns
 returns c =
     let before = c.args.self.now in
     let generation = c.generation-generation.ensures in
-    Tallies-more (commit_layer c.args.commit.now) (commit_pos c.args.commit.now) c.requires.record before _ c.args.parents c.requires.parents c.requires.before (record {
+    Tallies-more (commit_layer c.args.commit.now) (commit_pos c.args.commit.now) c.requires.record before _ c.args.parents
+    c.requires.parents c.requires.before (record {
       max_generation = c.max-self.ensures ∙ ap (max before.max_generation) generation;
-      first = λ none. elim c.if-self-eq0.branch [ then-self-eq0 w ↦ w.self-is ∙ generation | else-self-eq0 w ↦ absurd (omega (arith, none, w.if-self-eq0.false)) ];
-      later = λ some. elim c.if-self-eq0.branch [ then-self-eq0 w ↦ absurd (omega (arith, some, w.if-self-eq0.true)) | else-self-eq0 w ↦ w.self-is ∙ w.min-self.ensures ∙ ap (min before.min_generation) generation ];
+      first = λ none.
+          elim c.if-self-eq0.branch [
+            | then-self-eq0 w ↦ w.self-is ∙ generation
+            | else-self-eq0 w ↦
+                absurd (omega (arith, none, w.if-self-eq0.false))
+          ];
+      later = λ some.
+          elim c.if-self-eq0.branch [
+            | then-self-eq0 w ↦ absurd (omega (arith, some, w.if-self-eq0.true))
+            | else-self-eq0 w ↦
+                w.self-is ∙ w.min-self.ensures ∙ ap (min before.min_generation) generation
+          ];
       max_parents = c.max-self-2.ensures;
       num_commits = refl;
       parent_counts = c.in_ok-add.ensures;
