@@ -18,7 +18,8 @@ pub enum Kind {
 impl TryFrom<u8> for Kind {
     type Error = u8;
 
-    ghost try_from_gives = { λ byte r. MatchResult r (λ kind. kind_of byte ≡ Some kind) (λ e. (e ≡ byte) × (kind_of byte ≡ None)) };
+    ghost try_from_gives = { λ byte r. MatchResult r (λ kind. kind_of byte ≡ Some kind)
+        (λ e. (e ≡ byte) × (kind_of byte ≡ None)) };
 
     fn try_from(byte: u8) -> Result<Kind, u8> {
         match byte {

@@ -155,7 +155,8 @@ impl Eq for ObjectId {
 impl PartialOrd for ObjectId {
     ghost partial_cmp = { as_partial_cmp (slice_cmp nat_cmp) };
 
-    ghost laws = { partial_order_from_own_ties (Prim.search (comparing, rules)) (Prim.search (comparing, rules)) };
+    ghost laws = { partial_order_from_own_ties (Prim.search (comparing, rules))
+        (Prim.search (comparing, rules)) };
 
     fn partial_cmp(&self, other: &ObjectId) -> Option<Ordering> {
         Some(self.cmp(other))

@@ -119,7 +119,8 @@ fn push_number<W: Write>(block: &mut Block, writer: &mut W, number: u64) -> Resu
 /// Adds an id and a space.
 fn push_id<W: Write>(block: &mut Block, writer: &mut W, id: oid<'_>) -> Result<(), WriteFailed>
     ensures { OnOk result (Appends (with_block (W.contents writer.old) block.old)
-        (with_block (W.contents writer.new) block.new) (encode_lower (oid_bytes id.entry) ++ codes " ")) }
+        (with_block (W.contents writer.new) block.new)
+        (encode_lower (oid_bytes id.entry) ++ codes " ")) }
 {
     block.push_id(writer, id)?;
     block.push_byte(writer, b' ')
