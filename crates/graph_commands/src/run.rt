@@ -72,8 +72,8 @@ fn prepare<R: Read>(alloc: Global, reader: &mut R) -> Result<(File, Block), Refu
 {
     let input = read_all(alloc, reader)?;
     let path = String::from_str(alloc, "-").map_err(|_| FileError::OutOfMemory)?;
-    let layer = File::new(alloc, input, path)?;
     let block = Block::new(alloc).map_err(|_| FileError::OutOfMemory)?;
+    let layer = File::new(alloc, input, path)?;
     Ok((layer, block))
 }
 
