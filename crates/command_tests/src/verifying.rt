@@ -3,6 +3,7 @@ use gix_hash_core::ObjectId;
 use graph_commands::run::{WriteFailed, run_verify};
 use graph_folder::folder::{Folder, Memory};
 use std::alloc::Global;
+use std::process::Abort;
 use std::test::Fail;
 
 // The status of `verify` and what it writes.
@@ -136,6 +137,53 @@ fn checks_a_chain(rt: HostRuntime) -> Result<(), Fail> {
     assert_eq!(rt; answer.as_str(), "refused verify 2 layer 0\n");
     let answer = verify_chain(alloc, &lower, &stranger)?;
     assert_eq!(rt; answer.as_str(), "refused verify 3 layer 1 index 0\n");
+    Ok(())
+}
+
+// The files of so many layers of one commit each. It has the commit of the layer before as its
+// parent, and its layer has those before it as bases, the first 255 of them where they are more.
+fn long_chain(rt: &impl Abort, alloc: Global, layers: u32) -> Result<Vec<Vec<u8>>, Fail> {
+    let mut files = Vec::new(alloc);
+    let mut checksums = Vec::new(alloc);
+    for layer in 0..layers {
+        let mut parents = Vec::new(alloc);
+        if layer > 0 {
+            parents.push(layer - 1)?;
+        }
+        let bases = &checksums[..checksums.len().min(255)];
+        let file = built(
+            rt,
+            alloc,
+            bases,
+            &[(0x11, &parents, layer.saturating_add(1))],
+        )?;
+        checksums.push(checksum_of(&file))?;
+        files.push(file)?;
+    }
+    Ok(files)
+}
+
+#[test]
+fn checks_chains_of_up_to_256_layers(rt: HostRuntime) -> Result<(), Fail> {
+    let alloc = rt.alloc();
+    let files = long_chain(&rt, alloc, 257)?;
+    let mut layers: Vec<&[u8]> = Vec::new(alloc);
+    for file in &files {
+        layers.push(file)?;
+    }
+    let longest = "ok commits 256 longest 255\nparents 0 commits 1\nparents 1 commits 255\n";
+    for (count, status, want) in [(256, 0, longest), (257, 1, "refused verify 1\n")] {
+        let mut folder = Memory::new(alloc);
+        put_chain(
+            alloc,
+            &mut folder,
+            "graphs",
+            &layers[..count.min(layers.len())],
+        )?;
+        let answer = verify(alloc, &mut folder, "graphs")?;
+        assert_eq!(rt; answer.0, status);
+        assert_eq!(rt; answer.1.as_str(), want);
+    }
     Ok(())
 }
 

@@ -20,3 +20,4 @@ pub mod GraphCheckLemmas
 pub mod GraphCallLemmas
 pub mod HeadlineLemmas
 pub mod GraphTallyLemmas
+pub mod LayerStartLemmas

@@ -31,6 +31,12 @@ pub from_wider : (P Q : List Layer → Type 0) (answer : Result (List Layer) Ope
 from_wider P Q (Ok layers) wider from = wider layers from
 from_wider P Q (Err e) wider from = from
 
+-- and so is what is from a file
+pub from_file-wider : (P Q : List Layer → Type 0) (answer : Result (List Layer) OpenError)
+    → ((layers : List Layer) → P layers → Q layers) → MatchResult answer P IsFileError → MatchResult answer Q IsFolderError
+from_file-wider P Q (Ok layers) wider from = wider layers from
+from_file-wider P Q (Err e) wider from = folder_error e from
+
 -- one more layer of a chain
 pub from-pushed : (folder : List ℕ) (layers more : List Layer) (layer : Layer)
     → IsFromChain folder layers → (line : List ℕ) × (layer.path ≡ layer_path folder line)

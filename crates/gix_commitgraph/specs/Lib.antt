@@ -42,6 +42,7 @@ pub mod OpenAlways
 pub mod Opening
 pub mod Tallies
 pub mod LayerSpans
+pub mod LayerStarts
 pub mod Headline
 pub mod InGraph
 pub use Rattle.gix_hash_core.specs.Digest

@@ -3,8 +3,8 @@
 ghost use Rattle.std.specs.Prelude.{◌≡◌, ◌+◌, ◌^◌, ◌<◌, ◌≤◌, All, length, slice_get, option_map, Some, IfSome};
 ghost use Rattle.gix_hash_core.specs.Oid.{oid_bytes};
 ghost use Rattle.graph_layer.specs.Commit.{commit_layer, commit_pos, layer_and_position};
-ghost use Rattle.gix_commitgraph.specs.Graph.{IsGraph, graph_ids, graph_commits, total};
-ghost use Rattle.graph_format.specs.Layer.{IsOpened};
+ghost use Rattle.gix_commitgraph.specs.Graph.{IsGraph, graph_ids, graph_commits, start, stop, total};
+ghost use Rattle.graph_format.specs.Lookup.{digits};
 ghost use Rattle.gix_commitgraph.specs.GraphLookup.{FoundIn, CommitFoundIn, position_number};
 ghost use Rattle.gix_commitgraph.specs.GraphRemaining.{graph_ids_left, graph_commits_left};
 
@@ -39,7 +39,8 @@ impl Graph {
         // There is a layer, all are of one kind, and each is that of a file that was opened.
         ensures graph { IsGraph self.now }
     {
-        commits_of_all(&self.files) as u32
+        let last = self.files.len() - 1;
+        self.starts[last] + self.files[last].num_commits()
     }
 
     /// The id at a position, which is below `num_commits()`. The positions of a graph are those of
@@ -98,6 +99,33 @@ impl Graph {
         Some(found.file.commit_at(found.pos))
     }
 
+    /// The layer in which a position lies, which is below `num_commits()`, and how many starts were
+    /// compared with the position. Layers count from 0, and the start of one is the number of commits
+    /// before it. A layer without commits has no position.
+    pub fn layer_of_counted(&self, pos: Position) -> (usize, u32)
+        requires { pos.0 < total self.now }
+        ensures layer { result.0 < length self.now }
+        ensures from { start self.now result.0 ≤ pos.0 }
+        ensures below { pos.0 < stop self.now result.0 }
+
+        // As many comparisons as the number of layers has binary digits, or one fewer.
+        ensures most { result.1 ≤ digits (length self.now) }
+        ensures least { digits (length self.now) ≤ result.1 + 1 }
+    {
+        let (mut low, mut high) = (0, self.starts.len());
+        let mut comparisons = 0;
+        while high - low > 1 {
+            let middle = low + (high - low) / 2;
+            comparisons += 1;
+            if self.starts[middle] <= pos.0 {
+                low = middle;
+            } else {
+                high = middle;
+            }
+        }
+        (low, comparisons)
+    }
+
     /// The layer of a position, and the position there.
     fn layer_at(&self, pos: Position) -> (&File, file::Position)
         requires { pos.0 < total self.now }
@@ -105,15 +133,9 @@ impl Graph {
         ensures id { slice_get (graph_ids self.now) pos.0 ≡ slice_get result.0.now.ids result.1.0 }
         ensures within { result.1.0 < length result.0.now.ids }
     {
-        let mut left = pos.0;
-        for file in &self.files {
-            let commits = file.num_commits();
-            if left < commits {
-                return (file, file::Position(left));
-            }
-            left -= commits;
-        }
-        unreachable!()
+        let (layer, _) = self.layer_of_counted(pos);
+        let place = file::Position(pos.0 - self.starts[layer]);
+        (&self.files[layer], place)
     }
 
     /// The first layer that finds an id, and where.
@@ -134,16 +156,4 @@ impl Graph {
         }
         None
     }
-}
-
-/// How many commits the files have together.
-pub(crate) fn commits_of_all(files: &[File]) -> u128
-    ensures sum { result ≡ total files.now }
-    ensures opened { All IsOpened files.now }
-{
-    let mut commits = 0;
-    for file in files {
-        commits += file.num_commits() as u128;
-    }
-    commits
 }

@@ -8,16 +8,18 @@ use std::marker::Model;
 #[derive(Drop)]
 pub struct Graph {
     pub(crate) files: Vec<File>,
+    /// For each file, how many commits the files before it have together.
+    pub(crate) starts: Vec<u32>,
 }
 
 impl Model for Graph {
     ghost use Rattle.std.specs.Prelude.{List};
     ghost use Rattle.graph_format.specs.Layer.{Layer};
-    ghost use Rattle.gix_commitgraph.specs.Graph.{IsGraph};
+    ghost use Rattle.gix_commitgraph.specs.LayerStarts.{IsGraphWithStarts};
 
     ghost Value = { List Layer };
 
     ghost view = { λ a. a.files.items };
 
-    ghost invariant = { λ a. IsGraph a.files.items };
+    ghost invariant = { λ a. IsGraphWithStarts a.files.items a.starts.items };
 }

@@ -1,17 +1,18 @@
 //! Building a graph from its layers.
 
-ghost use Rattle.std.specs.Prelude.{◌≡◌, ◌+◌, ◌-◌, ◌<◌, ◌⊎◌, All, length, Some, None, IfOk, MatchResult};
+ghost use Rattle.std.specs.Prelude.{◌≡◌, ◌+◌, ◌-◌, ◌<◌, ◌≤◌, ◌⊎◌, All, length, Some, None, IfOk, MatchResult};
 ghost use Rattle.graph_format.specs.Reports.{Reports};
 ghost use Rattle.graph_format.specs.Layer.{IsOpened};
 ghost use Rattle.gix_commitgraph.specs.Graph.{total};
 ghost use Rattle.gix_commitgraph.specs.GraphRefusal.{mismatch_refusal, graph_refusal};
+ghost use Rattle.gix_commitgraph.specs.LayerStarts.{AreStarts};
+ghost use Rattle.graph_format.specs.declared.TheConstants as limits;
 
 use crate::MAX_COMMITS;
-use crate::access::commits_of_all;
 use crate::file::File;
 use crate::graph::Graph;
 pub use graph_format::error::GraphError;
-use std::alloc::Global;
+use std::alloc::{AllocError, Global};
 
 impl Graph {
     /// The graph of these files, which are its layers, the lowest first. It takes any files of one
@@ -26,13 +27,16 @@ impl Graph {
     /// 2. `TooManyCommits`: the files have more commits together, and this is their number.
     /// 3. `HashMismatch`: the first file of another kind than the one before it.
     /// 4. `OutOfMemory`: an allocation failed.
-    pub fn new(_alloc: Global, files: Vec<File>) -> Result<Graph, GraphError>
+    pub fn new(alloc: Global, files: Vec<File>) -> Result<Graph, GraphError>
         ensures layers { IfOk result (λ graph. graph ≡ files.items) }
         ensures refusal { MatchResult result (λ _. graph_refusal files.items ≡ None)
             (λ e. (graph_refusal files.items ≡ Some e) ⊎ ((e ≡ GraphError.OutOfMemory) × (graph_refusal files.items ≡ None))) }
     {
         check(&files)?;
-        Ok(Graph { files })
+        let Ok(starts) = starts_of(alloc, &files) else {
+            return Err(GraphError::OutOfMemory);
+        };
+        Ok(Graph { files, starts })
     }
 }
 
@@ -53,6 +57,18 @@ fn check(files: &[File]) -> Result<(), GraphError>
     check_kinds(files)
 }
 
+/// How many commits the files have together.
+fn commits_of_all(files: &[File]) -> u128
+    ensures sum { result ≡ total files.now }
+    ensures opened { All IsOpened files.now }
+{
+    let mut commits = 0;
+    for file in files {
+        commits += file.num_commits() as u128;
+    }
+    commits
+}
+
 /// Refuses files of two kinds.
 fn check_kinds(files: &[File]) -> Result<(), GraphError>
     requires { 0 < length files.now }
@@ -64,4 +80,18 @@ fn check_kinds(files: &[File]) -> Result<(), GraphError>
         }
     }
     Ok(())
+}
+
+/// For each file, how many commits the files before it have together.
+fn starts_of(alloc: Global, files: &[File]) -> Result<Vec<u32>, AllocError>
+    requires { total files.now ≤ limits.MAX_COMMITS }
+    ensures { IfOk result (λ starts. AreStarts files.now starts.items) }
+{
+    let mut starts = Vec::with_capacity(alloc, files.len())?;
+    let mut start = 0;
+    for file in files {
+        starts.push(start)?;
+        start += file.num_commits();
+    }
+    Ok(starts)
 }

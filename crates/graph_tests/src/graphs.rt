@@ -114,6 +114,11 @@ fn empty_layers_have_no_positions(rt: HostRuntime) -> Result<(), Fail> {
     assert_eq!(rt; graph.id_at(Position(0)), first.as_oid());
     assert_eq!(rt; graph.commit_at(Position(2)).position(), file::Position(0));
     assert_eq!(rt; graph.id_at(Position(2)), last.as_oid());
+    for (pos, layer) in [(0, 1), (1, 1), (2, 3)] {
+        let (found, count) = graph.layer_of_counted(Position(pos));
+        assert_eq!(rt; found, layer);
+        assert!(rt; count <= 3);
+    }
     let mut places = Vec::new(rt.alloc());
     for (id, commit) in graph.iter_ids().zip(graph.iter_commits()) {
         assert_eq!(rt; id, commit.id());
@@ -129,6 +134,21 @@ fn empty_layers_have_no_positions(rt: HostRuntime) -> Result<(), Fail> {
     assert_eq!(rt; none.num_commits(), 0);
     assert!(rt; none.iter_ids().next().is_none());
     assert!(rt; none.iter_commits().next().is_none());
+    Ok(())
+}
+
+#[test]
+fn one_of_256_layers_is_found_in_eight_or_nine_comparisons(rt: HostRuntime) -> Result<(), Fail> {
+    let commit: &[ObjectId] = &[id(0x11, 0)];
+    let graph = graph_of(&rt, rt.alloc(), &[commit; 256])?;
+    assert_eq!(rt; graph.num_commits(), 256);
+    let mut most = 0;
+    for pos in 0..graph.num_commits() {
+        let (layer, count) = graph.layer_of_counted(Position(pos));
+        assert_eq!(rt; layer, pos as usize);
+        most = count.max(most);
+    }
+    assert!(rt; 8 <= most && most <= 9);
     Ok(())
 }
 

@@ -12,7 +12,7 @@ ghost use Rattle.gix_commitgraph.specs.Reports.{Reports};
 ghost use Rattle.gix_commitgraph.specs.FileError.{FileError};
 ghost use Rattle.gix_commitgraph.specs.Format.{commits_of, fan_id, fan_of, kind_in, least_size, words};
 ghost use Rattle.gix_commitgraph.specs.Generations.{AreLocal, longest_path};
-ghost use Rattle.gix_commitgraph.specs.Graph.{IsGraph, graph_commits, graph_ids, start, total};
+ghost use Rattle.gix_commitgraph.specs.Graph.{IsGraph, graph_commits, graph_ids, start, stop, total};
 ghost use Rattle.gix_commitgraph.specs.GraphError.{GraphError};
 ghost use Rattle.gix_commitgraph.specs.GraphLaw.{AreCounted, AreScanned, IsJudged, IsPlaceIn, LiesIn, LiesInOne};
 ghost use Rattle.gix_commitgraph.specs.GraphRemaining.{graph_commits_left, graph_ids_left};

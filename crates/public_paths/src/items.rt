@@ -40,7 +40,11 @@ fn graphs<R: Files>(outcome: &Outcome) -> file::Position {
     let _ = Graph::from_commit_graphs_dir::<R>;
     let _ = (Graph::commit_at, Graph::id_at, Graph::lookup);
     let _ = (Graph::commit_by_id, Graph::object_hash);
-    let _ = (Graph::num_commits, Outcome::try_clone);
+    let _ = (
+        Graph::num_commits,
+        Graph::layer_of_counted,
+        Outcome::try_clone,
+    );
     let _: &BTreeMap<u32, u32> = &outcome.parent_counts;
     let _ = (outcome.longest_path_length, outcome.num_commits);
     let _ = (GENERATION_NUMBER_INFINITY, GENERATION_NUMBER_MAX);

@@ -1,8 +1,8 @@
-use Rattle.std.proofs.Common.{◌≡◌, true, false, ◌∙◌, inr}
+use Rattle.std.proofs.Common.{◌≡◌, true, false, ◌∙◌, inl, inr}
 use Rattle.gix_commitgraph.specs.OpenAlways.{IsFromInfo}
 use Rattle.graph_layer.specs.OpenAnswer.{is_settled}
 use Rattle.gix_commitgraph.proofs.InfoOpeningLemmas.{info_opens-file, info_opens-chain}
-use Rattle.gix_commitgraph.proofs.OpenedPathLemmas.{from_wider}
+use Rattle.gix_commitgraph.proofs.OpenedPathLemmas.{from_wider, from_file-wider}
 use Rattle.gix_commitgraph.proofs.opening.open_info_dir_in.Goals as goal
 
 pub returns-then-is_settled-clause-opens : goal.returns-then-is_settled-clause-opens
@@ -10,6 +10,11 @@ returns-then-is_settled-clause-opens g c = λ tree is.
     let was = rw (c.as_str.ensures.value, c.in_ok-file.ensures) at (c.open_file_in-answer.ensures.opens tree is) in
     let settled : is_settled c.open_file_in-answer.result ≡ true = cc in
     info_opens-file tree c.args.path.now _ _ c.open_file_in-answer.result settled was c.open_file_in-answer.ensures.failures
+
+pub returns-then-is_settled-clause-from : goal.returns-then-is_settled-clause-from
+returns-then-is_settled-clause-from g c =
+    let first = rw (c.as_str.ensures.value, c.in_ok-file.ensures) at c.open_file_in-answer.ensures.from in
+    from_file-wider _ (IsFromInfo c.args.path.now) c.open_file_in-answer.result (λ layers from. inl from) first
 
 pub returns-clause-opens : goal.returns-clause-opens
 returns-clause-opens g c = λ tree is.

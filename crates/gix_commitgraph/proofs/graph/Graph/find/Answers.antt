@@ -38,7 +38,7 @@ returns-in-Some-clause-id c =
 pub returns-in-Some-clause-few : goal.returns-in-Some-clause-few
 returns-in-Some-clause-few c =
     let within : c.in-Some.pos.0 < length c.file-item.result.ids = returns-in-Some-clause-within c in
-    omega (arith, within, counted-fits c.args.self.now c.loop-file.file-index c.loop-file.start c.file-item.result (subst IsGraph c.self.view_is c.self.invariant) c.loop-file.invariant.counted (layer-in-Some c))
+    omega (arith, within, counted-fits c.args.self.now c.loop-file.file-index c.loop-file.start c.file-item.result (subst IsGraph c.self.view_is c.self.invariant.graph) c.loop-file.invariant.counted (layer-in-Some c))
 
 -- the layer that did not
 layer-after : (c : goal.After-num_commits-start) → slice_get c.args.self.now c.loop-file.file-index ≡ Some c.file-item.result
@@ -50,7 +50,7 @@ layer-after c =
 
 pub overflow_add-start : goal.overflow_add-start
 overflow_add-start c =
-    omega (arith, c.num_commits-start.ensures.ids, counted-fits c.args.self.now c.loop-file.file-index c.loop-file.start c.file-item.result (subst IsGraph c.self.view_is c.self.invariant) c.loop-file.invariant.counted (layer-after c))
+    omega (arith, c.num_commits-start.ensures.ids, counted-fits c.args.self.now c.loop-file.file-index c.loop-file.start c.file-item.result (subst IsGraph c.self.view_is c.self.invariant.graph) c.loop-file.invariant.counted (layer-after c))
 
 pub loop-file-preserved : goal.loop-file-preserved
 loop-file-preserved c = record {

@@ -14,11 +14,11 @@ layer-there c =
 
 pub overflow_add-result : goal.overflow_add-result
 overflow_add-result c =
-    omega (arith, c.num_commits.ensures.ids, counted-fits c.args.self.now c.args.layer c.args.first c.index-file.result.now (subst IsGraph c.self.view_is c.self.invariant) c.requires.first (layer-there c))
+    omega (arith, c.num_commits.ensures.ids, counted-fits c.args.self.now c.args.layer c.args.first c.index-file.result.now (subst IsGraph c.self.view_is c.self.invariant.graph) c.requires.first (layer-there c))
 
 pub returns-clause-span : goal.returns-clause-span
 returns-clause-span c = record {
-  graph = subst IsGraph c.self.view_is c.self.invariant;
+  graph = subst IsGraph c.self.view_is c.self.invariant.graph;
   there = layer-there c;
   first = c.requires.first;
   stop = omega (arith, c.requires.first, c.num_commits.ensures.ids, start-more c.args.self.now c.args.layer c.index-file.result.now (layer-there c));

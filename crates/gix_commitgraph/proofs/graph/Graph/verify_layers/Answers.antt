@@ -40,7 +40,7 @@ returns-clause-agrees g c =
 pub returns-clause-outcome : goal.returns-clause-outcome
 returns-clause-outcome g c =
     let past : length c.args.self.now ≤ c.loop-layer.layer = omega (arith, c.len-layer-end.ensures, c.self.inside.files.ok.0, ap length c.self.view_is, c.loop-layer-test.false) in
-    let graph : IsGraph c.args.self.now = subst IsGraph c.self.view_is c.self.invariant in
+    let graph : IsGraph c.args.self.now = subst IsGraph c.self.view_is c.self.invariant.graph in
     let all : take c.loop-layer.first (history_of c.args.self.now) ≡ history_of c.args.self.now =
     ap (λ (n : ℕ). take n (history_of c.args.self.now)) c.loop-layer.invariant.first ∙ take-all c.args.self.now c.loop-layer.layer graph.opened past in
     rw all at (c.outcome.ensures _ c.loop-layer.invariant.tally)
