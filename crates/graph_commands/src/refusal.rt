@@ -188,6 +188,9 @@ impl fmt::Display for VerifyText<'_> {
             }
             VerifyError::Processor { error, .. } => match *error {},
             VerifyError::OutOfMemory => write!(f, "10"),
+            VerifyError::DuplicateId { pos, earlier } => {
+                write!(f, "11 position {} earlier {}", pos.0, earlier.0)
+            }
         }
     }
 }
