@@ -22,8 +22,8 @@ fan-size bytes fan place at h =
     let is = rw at.chunk at h in
     omega (arith, is.0, length-slice_range bytes place.start place.end at.in_file)
 
-pub view-fan-size : (bytes path : List ℕ) (layout : Layout) (layer : Layer) → IsLayout bytes layout → decoded_layer bytes path ≡ layer → layout.places.fan.end ≡ layout.places.fan.start + 1024
-view-fan-size bytes path layout layer kept view = fan-size bytes layer.fan layout.places.fan kept.places.fan (is-layer bytes path layout layer kept view).fan
+pub view-fan-size : (bytes path : List ℕ) (layout : Layout) (layer : Layer) → IsLayout bytes layout → decoded_layer bytes path ≡ layer → layout.chunks.fan.end ≡ layout.chunks.fan.start + 1024
+view-fan-size bytes path layout layer kept view = fan-size bytes layer.fan layout.chunks.fan kept.chunks.fan (is-layer bytes path layout layer kept view).fan
 
 -- the fan of the bytes is the layer's
 pub view-fan : (bytes path : List ℕ) (layer : Layer) (i : ℕ) → decoded_layer bytes path ≡ layer → slice_index (fan_of bytes) i ≡ slice_index layer.fan i
@@ -59,15 +59,15 @@ view-fan-rises bytes path layout layer i kept view some h =
 
 -- the id at a position, by the size of ids
 pub view-sized_id : (bytes path : List ℕ) (layout : Layout) (layer : Layer) (i size : ℕ) → IsLayout bytes layout → decoded_layer bytes path ≡ layer → i < length layer.ids → size ≡ id_len layer.kind
-    → slice_get layer.ids i ≡ Some (slice_range bytes (layout.places.ids.start + size * i) (layout.places.ids.start + size * i + size))
+    → slice_get layer.ids i ≡ Some (slice_range bytes (layout.chunks.ids.start + size * i) (layout.chunks.ids.start + size * i + size))
 view-sized_id bytes path layout layer i size kept view k e =
-    view-id bytes path layout layer i kept view k ∙ ap (λ (n : ℕ). Some (slice_range bytes (layout.places.ids.start + n * i) (layout.places.ids.start + n * i + n))) (sym e)
+    view-id bytes path layout layer i kept view k ∙ ap (λ (n : ℕ). Some (slice_range bytes (layout.chunks.ids.start + n * i) (layout.chunks.ids.start + n * i + n))) (sym e)
 
 pub view-sized_id-fits : (bytes path : List ℕ) (layout : Layout) (layer : Layer) (i size : ℕ) → IsLayout bytes layout → decoded_layer bytes path ≡ layer → i < length layer.ids → size ≡ id_len layer.kind
-    → layout.places.ids.start + size * i + size ≤ length bytes
+    → layout.chunks.ids.start + size * i + size ≤ length bytes
 view-sized_id-fits bytes path layout layer i size kept view k e =
     let same : id_len layer.kind ≡ size = sym e in
-    let P : ℕ → Type 0 = λ n. layout.places.ids.start + n * i + n ≤ length bytes in
+    let P : ℕ → Type 0 = λ n. layout.chunks.ids.start + n * i + n ≤ length bytes in
     subst P same (view-id-fits bytes path layout layer i kept view k)
 
 -- no id of the layer has another length than its kind says
@@ -76,9 +76,9 @@ pub view-other_len : (bytes path : List ℕ) (layout : Layout) (layer : Layer) (
 view-other_len bytes path layout layer id kept view differs i other here same =
     let k : i < length layer.ids = slice_get_within layer.ids i other here in
     let size = id_len layer.kind in
-    let fits : layout.places.ids.start + size * i + size ≤ length bytes = view-sized_id-fits bytes path layout layer i size kept view k refl in
-    let is : other ≡ slice_range bytes (layout.places.ids.start + size * i) (layout.places.ids.start + size * i + size) =
+    let fits : layout.chunks.ids.start + size * i + size ≤ length bytes = view-sized_id-fits bytes path layout layer i size kept view k refl in
+    let is : other ≡ slice_range bytes (layout.chunks.ids.start + size * i) (layout.chunks.ids.start + size * i + size) =
     same_Some _ _ (sym here ∙ view-sized_id bytes path layout layer i size kept view k refl) in
-    differs (same ∙ ap length is ∙ length-slice_range bytes (layout.places.ids.start + size * i) (layout.places.ids.start + size * i + size) fits ∙ (omega arith))
+    differs (same ∙ ap length is ∙ length-slice_range bytes (layout.chunks.ids.start + size * i) (layout.chunks.ids.start + size * i + size) fits ∙ (omega arith))
 
 pub ruleset bucket_laws = (view-fan-size, view-kind, view-sized_id, view-sized_id-fits)

@@ -1,5 +1,5 @@
 -- what an opened file's fields say of its layer
-use Rattle.std.proofs.Common.{◌≡◌, ℕ, ◌+◌, ◌-◌, ◌*◌, ◌/◌, ◌<◌, ◌≤◌, List, [], map, length, drop, Option, Some, None, unwrap_or, option_map, IsSomeAnd, MatchOption, slice_range, slice_get, slice_index, sym, ap, subst, ◌∙◌, arith, length-drop, lit<}
+use Rattle.std.proofs.Common.{◌≡◌, ℕ, ◌+◌, ◌-◌, ◌*◌, ◌/◌, ◌<◌, ◌≤◌, List, [], map, length, drop, Option, Some, None, unwrap_or, option_map, IsSomeAnd, MatchOption, slice_range, slice_get, slice_index, refl, sym, ap, subst, ◌∙◌, arith, length-drop, lit<}
 use Rattle.std.proofs.lemmas.List.{length-map, take_rest, take-append-drop}
 use Rattle.std.proofs.lemmas.Nat.{row_fits_turned}
 use Rattle.std.proofs.Math.Nat.{mul_comm}
@@ -68,9 +68,9 @@ ids-lie kind commits bytes place ids at h =
       rw is.1 (pieces-lie bytes place.start place.end (id_len kind) commits at.in_file long at.order (quotient_ids kind _ _ long)),
     )
 
-pub view-ids : (bytes path : List ℕ) (layout : Layout) (layer : Layer) → IsLayout bytes layout → decoded_layer bytes path ≡ layer → (length layer.ids ≡ layout.commits) × ArePieces bytes layout.places.ids.start (id_len layer.kind) layer.ids
+pub view-ids : (bytes path : List ℕ) (layout : Layout) (layer : Layer) → IsLayout bytes layout → decoded_layer bytes path ≡ layer → (length layer.ids ≡ layout.commits) × ArePieces bytes layout.chunks.ids.start (id_len layer.kind) layer.ids
 view-ids bytes path layout layer kept view =
-    let lie = ids-lie layer.kind (commits_of layer.fan) bytes layout.places.ids layer.ids kept.places.ids (is-layer bytes path layout layer kept view).ids in
+    let lie = ids-lie layer.kind (commits_of layer.fan) bytes layout.chunks.ids layer.ids kept.chunks.ids (is-layer bytes path layout layer kept view).ids in
     (lie.0 ∙ view-commits bytes path layout layer kept view, lie.1)
 
 pub commits-ids : (bytes path : List ℕ) (layout : Layout) (layer : Layer) → IsLayout bytes layout → decoded_layer bytes path ≡ layer → layout.commits ≡ length layer.ids
@@ -82,10 +82,10 @@ piece-fits bytes start size parts i lie k =
     omega (arith, lie.room, row_fits_turned i size size (length parts) k (omega arith), mul_comm size i)
 
 -- the id at a position
-pub view-id : (bytes path : List ℕ) (layout : Layout) (layer : Layer) (i : ℕ) → IsLayout bytes layout → decoded_layer bytes path ≡ layer → i < length layer.ids → slice_get layer.ids i ≡ Some (slice_range bytes (layout.places.ids.start + id_len layer.kind * i) (layout.places.ids.start + id_len layer.kind * i + id_len layer.kind))
+pub view-id : (bytes path : List ℕ) (layout : Layout) (layer : Layer) (i : ℕ) → IsLayout bytes layout → decoded_layer bytes path ≡ layer → i < length layer.ids → slice_get layer.ids i ≡ Some (slice_range bytes (layout.chunks.ids.start + id_len layer.kind * i) (layout.chunks.ids.start + id_len layer.kind * i + id_len layer.kind))
 view-id bytes path layout layer i kept view k = (view-ids bytes path layout layer kept view).1.each i k
 
-pub view-id-fits : (bytes path : List ℕ) (layout : Layout) (layer : Layer) (i : ℕ) → IsLayout bytes layout → decoded_layer bytes path ≡ layer → i < length layer.ids → layout.places.ids.start + id_len layer.kind * i + id_len layer.kind ≤ length bytes
+pub view-id-fits : (bytes path : List ℕ) (layout : Layout) (layer : Layer) (i : ℕ) → IsLayout bytes layout → decoded_layer bytes path ≡ layer → i < length layer.ids → layout.chunks.ids.start + id_len layer.kind * i + id_len layer.kind ≤ length bytes
 view-id-fits bytes path layout layer i kept view k = piece-fits bytes _ _ layer.ids i (view-ids bytes path layout layer kept view).1 k
 
 positive : (kind : Kind) → 0 < id_len kind
@@ -119,18 +119,22 @@ records-lie kind commits bytes place records at h =
       (parts, pieces-lie bytes place.start place.end (record_len kind) commits at.in_file long at.order (quotient_records kind _ _ long), is.1),
     )
 
-view-records : (bytes path : List ℕ) (layout : Layout) (layer : Layer) → IsLayout bytes layout → decoded_layer bytes path ≡ layer → (length layer.records ≡ layout.commits) × ((parts : List (List ℕ)) × ArePieces bytes layout.places.records.start (record_len layer.kind) parts × (layer.records ≡ map (record_of layer.kind) parts))
+view-records : (bytes path : List ℕ) (layout : Layout) (layer : Layer) → IsLayout bytes layout → decoded_layer bytes path ≡ layer → (length layer.records ≡ layout.commits) × ((parts : List (List ℕ)) × ArePieces bytes layout.chunks.records.start (record_len layer.kind) parts × (layer.records ≡ map (record_of layer.kind) parts))
 view-records bytes path layout layer kept view =
-    let lie = records-lie layer.kind (commits_of layer.fan) bytes layout.places.records layer.records kept.places.records (is-layer bytes path layout layer kept view).records in
+    let lie = records-lie layer.kind (commits_of layer.fan) bytes layout.chunks.records layer.records kept.chunks.records (is-layer bytes path layout layer kept view).records in
     (lie.0 ∙ view-commits bytes path layout layer kept view, lie.1)
 
 pub commits-records : (bytes path : List ℕ) (layout : Layout) (layer : Layer) → IsLayout bytes layout → decoded_layer bytes path ≡ layer → layout.commits ≡ length layer.records
 commits-records bytes path layout layer kept view = sym (view-records bytes path layout layer kept view).0
 
+-- there are as many records as ids
+pub records-ids : (bytes path : List ℕ) (layout : Layout) (layer : Layer) → IsLayout bytes layout → decoded_layer bytes path ≡ layer → length layer.records ≡ length layer.ids
+records-ids bytes path layout layer kept view = sym (commits-records bytes path layout layer kept view) ∙ commits-ids bytes path layout layer kept view
+
 -- the record at a position, and that it lies in the file
 view-record-both : (bytes path : List ℕ) (layout : Layout) (layer : Layer) (i : ℕ) → IsLayout bytes layout → decoded_layer bytes path ≡ layer → i < length layer.ids
-    → (slice_get layer.records i ≡ Some (record_of layer.kind (part bytes (layout.places.records.start + record_len layer.kind * i) (record_len layer.kind))))
-    × (layout.places.records.start + record_len layer.kind * i + record_len layer.kind ≤ length bytes)
+    → (slice_get layer.records i ≡ Some (record_of layer.kind (part bytes (layout.chunks.records.start + record_len layer.kind * i) (record_len layer.kind))))
+    × (layout.chunks.records.start + record_len layer.kind * i + record_len layer.kind ≤ length bytes)
 view-record-both bytes path layout layer i kept view k =
     let records = view-records bytes path layout layer kept view in
     let parts = records.1.0 in
@@ -141,11 +145,11 @@ view-record-both bytes path layout layer i kept view k =
     )
 
 pub view-record : (bytes path : List ℕ) (layout : Layout) (layer : Layer) (i : ℕ) → IsLayout bytes layout → decoded_layer bytes path ≡ layer → i < length layer.ids
-    → slice_get layer.records i ≡ Some (record_of layer.kind (part bytes (layout.places.records.start + (id_len layer.kind + 16) * i) (id_len layer.kind + 16)))
+    → slice_get layer.records i ≡ Some (record_of layer.kind (part bytes (layout.chunks.records.start + (id_len layer.kind + 16) * i) (id_len layer.kind + 16)))
 view-record bytes path layout layer i kept view k = (view-record-both bytes path layout layer i kept view k).0
 
 pub view-record-fits : (bytes path : List ℕ) (layout : Layout) (layer : Layer) (i : ℕ) → IsLayout bytes layout → decoded_layer bytes path ≡ layer → i < length layer.ids
-    → layout.places.records.start + (id_len layer.kind + 16) * i + (id_len layer.kind + 16) ≤ length bytes
+    → layout.chunks.records.start + (id_len layer.kind + 16) * i + (id_len layer.kind + 16) ≤ length bytes
 view-record-fits bytes path layout layer i kept view k = (view-record-both bytes path layout layer i kept view k).1
 
 pub record_at-is : (layer : Layer) (i : ℕ) (r : Record) → slice_get layer.records i ≡ Some r → record_at layer i ≡ r
@@ -153,17 +157,49 @@ unfolding record_at
 record_at-is layer i r h = ap (λ (o : Option Record). unwrap_or o no_record) h
 
 pub view-record_at : (bytes path : List ℕ) (layout : Layout) (layer : Layer) (i size : ℕ) → IsLayout bytes layout → decoded_layer bytes path ≡ layer → i < length layer.ids → size ≡ id_len layer.kind + 16
-    → record_at layer i ≡ record_of layer.kind (part bytes (layout.places.records.start + size * i) size)
+    → record_at layer i ≡ record_of layer.kind (part bytes (layout.chunks.records.start + size * i) size)
 view-record_at bytes path layout layer i size kept view k e =
     record_at-is layer i _ (view-record bytes path layout layer i kept view k)
-    ∙ ap (λ (n : ℕ). record_of layer.kind (part bytes (layout.places.records.start + n * i) n)) (sym e)
+    ∙ ap (λ (n : ℕ). record_of layer.kind (part bytes (layout.chunks.records.start + n * i) n)) (sym e)
+
+-- a record begins with the id of its root tree
+tree-of : (kind : Kind) (bytes : List ℕ) (start size : ℕ) → size ≡ id_len kind + 16 → (record_of kind (part bytes start size)).tree ≡ slice_range bytes start (start + id_len kind)
+unfolding record_of
+tree-of kind bytes start size e =
+    slice_range-slice_range bytes start (start + size) 0 (0 + id_len kind) (omega (arith, e))
+    ∙ ap (λ (n : ℕ). slice_range bytes n (start + (0 + id_len kind))) (omega arith) ∙ ap (λ (n : ℕ). slice_range bytes start n) (omega arith)
+
+pub view-tree : (bytes path : List ℕ) (layout : Layout) (layer : Layer) (i size n : ℕ) → IsLayout bytes layout → decoded_layer bytes path ≡ layer → i < length layer.ids → size ≡ id_len layer.kind + 16 → n ≡ id_len layer.kind
+    → slice_range bytes (layout.chunks.records.start + size * i) (layout.chunks.records.start + size * i + n) ≡ (record_at layer i).tree
+view-tree bytes path layout layer i size n kept view k e is =
+    ap (λ (m : ℕ). slice_range bytes (layout.chunks.records.start + size * i) (layout.chunks.records.start + size * i + m)) is
+    ∙ sym (tree-of layer.kind bytes (layout.chunks.records.start + size * i) size e) ∙ sym (ap (λ (r : Record). r.tree) (view-record_at bytes path layout layer i size kept view k e))
+
+pub view-tree-fits : (bytes path : List ℕ) (layout : Layout) (layer : Layer) (i size n : ℕ) → IsLayout bytes layout → decoded_layer bytes path ≡ layer → i < length layer.ids → size ≡ id_len layer.kind + 16 → n ≡ id_len layer.kind
+    → layout.chunks.records.start + size * i + n ≤ length bytes
+view-tree-fits bytes path layout layer i size n kept view k e is =
+    let fits = view-record-fits bytes path layout layer i kept view k in
+    let same : size * i ≡ (id_len layer.kind + 16) * i = ap (λ (m : ℕ). m * i) e in
+    omega (arith, fits, same, is)
+
+-- the records are those of their chunk
+chunk-records : (kind : Kind) (bytes : List ℕ) (place : ChunkRange) (commits : ℕ) (records : List Record) → IsAt bytes records_id place → IsSomeAnd (chunk_of bytes records_id) (λ chunk. (length chunk ≡ record_len kind * commits) × (records ≡ map (record_of kind) (pieces (record_len kind) chunk))) → records ≡ map (record_of kind) (pieces (record_len kind) (slice_range bytes place.start place.end))
+chunk-records kind bytes place commits records at h = (rw at.chunk at h).1
+
+pub view-decoded : (bytes path : List ℕ) (layout : Layout) → IsLayout bytes layout → map (record_of layout.kind) (pieces (record_len layout.kind) (slice_range bytes layout.chunks.records.start layout.chunks.records.end)) ≡ (decoded_layer bytes path).records
+view-decoded bytes path layout kept =
+    let layer = decoded_layer bytes path in
+    let is = is-layer bytes path layout layer kept refl in
+    let chunk = slice_range bytes layout.chunks.records.start layout.chunks.records.end in
+    ap (λ (kind : Kind). map (record_of kind) (pieces (record_len kind) chunk)) (view-kind bytes path layout layer kept refl)
+    ∙ sym (chunk-records layer.kind bytes layout.chunks.records (commits_of layer.fan) layer.records kept.chunks.records is.records)
 
 edges-lie : (bytes : List ℕ) (place : Option ChunkRange) → IsChunkRange bytes edges_id place → option_map (λ p. slice_range bytes p.start p.end) place ≡ chunk_of bytes edges_id
 edges-lie bytes None h = sym h
 edges-lie bytes (Some place) h = sym h.chunk
 
-pub view-edges : (bytes path : List ℕ) (layout : Layout) (layer : Layer) → IsLayout bytes layout → decoded_layer bytes path ≡ layer → option_map (λ p. slice_range bytes p.start p.end) layout.places.edges ≡ layer.edges
-view-edges bytes path layout layer kept view = edges-lie bytes layout.places.edges kept.places.edges ∙ sym (is-layer bytes path layout layer kept view).edges
+pub view-edges : (bytes path : List ℕ) (layout : Layout) (layer : Layer) → IsLayout bytes layout → decoded_layer bytes path ≡ layer → option_map (λ p. slice_range bytes p.start p.end) layout.chunks.edges ≡ layer.edges
+view-edges bytes path layout layer kept view = edges-lie bytes layout.chunks.edges kept.chunks.edges ∙ sym (is-layer bytes path layout layer kept view).edges
 
 bases-lie : (kind : Kind) (count : ℕ) (bytes : List ℕ) (place : Option ChunkRange) (bases : List (List ℕ)) → IsChunkRange bytes bases_id place → MatchOption (chunk_of bytes bases_id) ((count ≡ 0) × (bases ≡ [])) (λ chunk. (length chunk ≡ id_len kind * count) × (bases ≡ pieces (id_len kind) chunk)) → (length bases ≡ count) × ArePieces bytes (start_of place) (id_len kind) bases
 bases-lie kind count bytes None bases at h =
@@ -177,16 +213,16 @@ bases-lie kind count bytes (Some place) bases at h =
       rw is.1 (pieces-lie bytes place.start place.end (id_len kind) count at.in_file long at.order (quotient_ids kind _ _ long)),
     )
 
-view-bases : (bytes path : List ℕ) (layout : Layout) (layer : Layer) → IsLayout bytes layout → decoded_layer bytes path ≡ layer → (length layer.bases ≡ slice_index bytes 7) × ArePieces bytes (start_of layout.places.bases) (id_len layer.kind) layer.bases
-view-bases bytes path layout layer kept view = bases-lie layer.kind _ bytes layout.places.bases layer.bases kept.places.bases (is-layer bytes path layout layer kept view).bases
+view-bases : (bytes path : List ℕ) (layout : Layout) (layer : Layer) → IsLayout bytes layout → decoded_layer bytes path ≡ layer → (length layer.bases ≡ slice_index bytes 7) × ArePieces bytes (start_of layout.chunks.bases) (id_len layer.kind) layer.bases
+view-bases bytes path layout layer kept view = bases-lie layer.kind _ bytes layout.chunks.bases layer.bases kept.chunks.bases (is-layer bytes path layout layer kept view).bases
 
 pub base_count-bases : (bytes path : List ℕ) (layout : Layout) (layer : Layer) → IsLayout bytes layout → decoded_layer bytes path ≡ layer → layout.base_count ≡ length layer.bases
 base_count-bases bytes path layout layer kept view = kept.base_count ∙ sym (view-bases bytes path layout layer kept view).0
 
-pub view-base : (bytes path : List ℕ) (layout : Layout) (layer : Layer) (i : ℕ) → IsLayout bytes layout → decoded_layer bytes path ≡ layer → i < length layer.bases → slice_get layer.bases i ≡ Some (slice_range bytes (start_of layout.places.bases + id_len layer.kind * i) (start_of layout.places.bases + id_len layer.kind * i + id_len layer.kind))
+pub view-base : (bytes path : List ℕ) (layout : Layout) (layer : Layer) (i : ℕ) → IsLayout bytes layout → decoded_layer bytes path ≡ layer → i < length layer.bases → slice_get layer.bases i ≡ Some (slice_range bytes (start_of layout.chunks.bases + id_len layer.kind * i) (start_of layout.chunks.bases + id_len layer.kind * i + id_len layer.kind))
 view-base bytes path layout layer i kept view k = (view-bases bytes path layout layer kept view).1.each i k
 
-pub view-base-fits : (bytes path : List ℕ) (layout : Layout) (layer : Layer) (i : ℕ) → IsLayout bytes layout → decoded_layer bytes path ≡ layer → i < length layer.bases → start_of layout.places.bases + id_len layer.kind * i + id_len layer.kind ≤ length bytes
+pub view-base-fits : (bytes path : List ℕ) (layout : Layout) (layer : Layer) (i : ℕ) → IsLayout bytes layout → decoded_layer bytes path ≡ layer → i < length layer.bases → start_of layout.chunks.bases + id_len layer.kind * i + id_len layer.kind ≤ length bytes
 view-base-fits bytes path layout layer i kept view k = (piece-fits bytes _ _ layer.bases i (view-bases bytes path layout layer kept view).1 k)
 
 -- the body and the checksum are all of the bytes
@@ -205,4 +241,4 @@ view-layer bytes path layout layer kept view =
     let Q : List ℕ → Type 0 = λ p. IsLayer bytes p layer in
     subst P (sym (view-bytes bytes path layout layer kept view)) (subst Q (view-path bytes path layout layer kept view) (is-layer bytes path layout layer kept view))
 
-pub ruleset view_laws = (view-layer, view-checksum, view-checksum-in_file, view-bytes, base_count-bases, base_count-byte, commits-fan, view-base, view-base-fits, view-edges, view-kind, view-path, commits-ids, view-id, view-id-fits, commits-records, view-record, view-record-fits, record_at-is)
+pub ruleset view_laws = (view-layer, view-decoded, view-checksum, view-checksum-in_file, view-bytes, base_count-bases, base_count-byte, commits-fan, view-base, view-base-fits, view-edges, view-kind, view-path, commits-ids, view-id, view-id-fits, commits-records, records-ids, length-map, view-record, view-record-fits, view-tree, view-tree-fits, record_at-is)

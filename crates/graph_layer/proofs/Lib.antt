@@ -1,6 +1,7 @@
 pub mod ChecksumLemmas
 pub mod ChunkLemmas
 pub mod ChunkSizeLemmas
+pub mod DecodedRecordLemmas
 pub mod ListedParentLemmas
 pub mod FileViewLemmas
 pub mod ElementLemmas

@@ -25,12 +25,12 @@ abbrev pub size_at : ChunkRange → ℕ
 size_at place = place.end - place.start
 
 -- Here lie the chunks.
-pub record AreChunkRanges (bytes : List ℕ) (places : ChunkRanges) : Type 0 where
-  pub fan : IsAt bytes fan_id places.fan
-  pub ids : IsAt bytes ids_id places.ids
-  pub records : IsAt bytes records_id places.records
-  pub edges : IsChunkRange bytes edges_id places.edges
-  pub bases : IsChunkRange bytes bases_id places.bases
+pub record AreChunkRanges (bytes : List ℕ) (chunks : ChunkRanges) : Type 0 where
+  pub fan : IsAt bytes fan_id chunks.fan
+  pub ids : IsAt bytes ids_id chunks.ids
+  pub records : IsAt bytes records_id chunks.records
+  pub edges : IsChunkRange bytes edges_id chunks.edges
+  pub bases : IsChunkRange bytes bases_id chunks.bases
 
 -- These are the pieces of so many bytes that lie one after another from here on.
 pub record ArePieces (bytes : List ℕ) (start size : ℕ) (parts : List (List ℕ)) : Type 0 where

@@ -12,5 +12,5 @@ pub record IsLayout (bytes : List ℕ) (layout : Layout) : Type 0 where
   pub kind : kind_of (slice_index bytes 5) ≡ Some layout.kind
   pub commits : layout.commits ≡ commits_of (fan_of bytes)
   pub base_count : layout.base_count ≡ slice_index bytes 7
-  pub places : AreChunkRanges bytes layout.places
+  pub chunks : AreChunkRanges bytes layout.chunks
   pub trailer_start : layout.trailer_start ≡ (table_of bytes).end

@@ -21,6 +21,7 @@ pub use Rattle.graph_format.specs.Faults
 pub use Rattle.graph_format.specs.RightLayer
 pub mod ChunkRanges
 pub mod Layout
+pub mod DecodedRecords
 pub mod Commit
 pub mod RemainingParents
 pub mod Remaining

@@ -11,17 +11,20 @@ pub mod verify;
 pub use access::{BaseIds, Commits, Ids};
 pub use commit::Commit;
 pub use graph_format::file::Position;
-use init::Layout;
+use init::{Layout, Records};
 use std::fmt;
 use std::marker::Model;
 
-/// One layer of a commit-graph: the bytes of a file that has the written format, and the path that
-/// came with them. A contract sees it as the decoded layer.
+/// One layer of a commit-graph: the bytes of a file that has the written format, what its records and
+/// its extra edge list say, and the path that came with them. A contract sees it as the decoded
+/// layer.
 #[derive(Drop)]
 pub struct File {
     bytes: Vec<u8>,
     path: String,
     layout: Layout,
+    records: Records,
+    extra_edges: Option<Vec<u32>>,
 }
 
 impl Model for File {

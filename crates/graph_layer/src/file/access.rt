@@ -1,15 +1,14 @@
 //! Accessors of a layer, and iterators over its ids, its base ids and its commits.
 
-ghost use Rattle.std.specs.Prelude.{◌≡◌, ◌+◌, ◌*◌, ◌/◌, ◌%◌, ◌^◌, ◌<◌, ◌≤◌, length, drop, slice_index, slice_range, slice_get, Some, IfSome, option_copied, bytes_eq};
+ghost use Rattle.std.specs.Prelude.{◌≡◌, ◌+◌, ◌*◌, ◌<◌, ◌≤◌, length, map, drop, slice_index, slice_range, slice_get, Some, IfSome, option_map, option_copied, bytes_eq};
 ghost use Rattle.gix_hash_core.specs.Kind.{id_len};
 ghost use Rattle.gix_hash_core.specs.Oid.{oid_bytes};
-ghost use Rattle.graph_format.specs.Format.{record_of, record_len, commits_of};
+ghost use Rattle.graph_format.specs.Format.{words, commits_of};
 ghost use Rattle.graph_format.specs.Layer.{IsLayer, record_at, bytes_of};
 ghost use Rattle.graph_layer.specs.Commit.{commit_layer, commit_pos};
 
 use crate::file::init::{record_len, start_of};
 use crate::file::{Commit, File, Position};
-use crate::numbers::{long_at, word_at};
 use gix_hash_core::{Kind, oid};
 
 /// The id of this kind that begins at an offset.
@@ -73,7 +72,7 @@ impl File {
         ensures { slice_get self.now.ids pos.0 ≡ Some (oid_bytes result) }
     {
         let kind = self.object_hash();
-        let start = self.layout.places.ids.start + kind.len_in_bytes() * pos.0 as usize;
+        let start = self.layout.chunks.ids.start + kind.len_in_bytes() * pos.0 as usize;
         id_from(&self.bytes, start, kind)
     }
 
@@ -113,7 +112,7 @@ impl File {
         ensures { slice_get self.now.bases index ≡ Some (oid_bytes result) }
     {
         let kind = self.object_hash();
-        let start = start_of(self.layout.places.bases) + kind.len_in_bytes() * index as usize;
+        let start = start_of(self.layout.chunks.bases) + kind.len_in_bytes() * index as usize;
         id_from(&self.bytes, start, kind)
     }
 
@@ -124,54 +123,64 @@ impl File {
         self.bytes == other.bytes
     }
 
-    /// The bytes of a commit's record.
-    fn record_at(&self, pos: Position) -> &[u8]
-        requires { pos.0 < length self.now.ids }
-        ensures record { record_at self.now pos.0 ≡ record_of self.now.kind result.now }
-        ensures len { length result.now ≡ record_len self.now.kind }
-    {
-        let size = record_len(self.object_hash());
-        let start = self.layout.places.records.start + size * pos.0 as usize;
-        &self.bytes[start..start + size]
-    }
-
     /// The id of a commit's root tree.
-    #[tactic(auto, unfolding(graph_format::specs::Format::record_of))]
     pub(super) fn root_tree_at(&self, pos: Position) -> oid<'_>
         requires { pos.0 < length self.now.ids }
         ensures { oid_bytes result ≡ (record_at self.now pos.0).tree }
     {
-        id_from(self.record_at(pos), 0, self.object_hash())
+        let kind = self.object_hash();
+        let start = self.layout.chunks.records.start + record_len(kind) * pos.0 as usize;
+        id_from(&self.bytes, start, kind)
     }
 
-    /// The 64 bits that are a commit's generation number and its time.
-    #[tactic(auto, unfolding(graph_format::specs::Format::record_of))]
-    pub(super) fn generation_and_time_at(&self, pos: Position) -> u64
-        requires { pos.0 < length self.now.ids }
-        ensures generation { (record_at self.now pos.0).generation ≡ result / 2 ^ 34 }
-        ensures time { (record_at self.now pos.0).time ≡ result % 2 ^ 34 }
+    /// The generation numbers of the commits, in the order of their positions.
+    pub(crate) fn generations(&self) -> &[u32]
+        ensures fields { result.now ≡ map (λ r. r.generation) self.now.records }
+        ensures len { length result.now ≡ length self.now.ids }
     {
-        long_at(self.record_at(pos), self.object_hash().len_in_bytes() + 8)
+        &self.records.generations
     }
 
-    /// The two parent fields of a commit.
-    #[tactic(auto, unfolding(graph_format::specs::Format::record_of))]
-    pub(super) fn parent_fields_at(&self, pos: Position) -> (u32, u32)
-        requires { pos.0 < length self.now.ids }
-        ensures first { result.0 ≡ (record_at self.now pos.0).parent1 }
-        ensures second { result.1 ≡ (record_at self.now pos.0).parent2 }
+    /// The times of the commits, in the order of their positions.
+    pub(crate) fn times(&self) -> &[u64]
+        ensures fields { result.now ≡ map (λ r. r.time) self.now.records }
+        ensures len { length result.now ≡ length self.now.ids }
     {
-        let record = self.record_at(pos);
-        let start = self.object_hash().len_in_bytes();
-        (word_at(record, start), word_at(record, start + 4))
+        &self.records.times
+    }
+
+    /// The first parent fields of the commits, in the order of their positions.
+    pub(crate) fn first_fields(&self) -> &[u32]
+        ensures fields { result.now ≡ map (λ r. r.parent1) self.now.records }
+        ensures len { length result.now ≡ length self.now.ids }
+    {
+        &self.records.first_fields
+    }
+
+    /// The second parent fields of the commits, in the order of their positions.
+    pub(crate) fn second_fields(&self) -> &[u32]
+        ensures fields { result.now ≡ map (λ r. r.parent2) self.now.records }
+        ensures len { length result.now ≡ length self.now.ids }
+    {
+        &self.records.second_fields
     }
 
     /// The bytes of the extra edge list, where the file has one.
-    pub(super) fn extra_edges(&self) -> Option<&[u8]>
+    pub(super) fn edge_bytes(&self) -> Option<&[u8]>
         ensures { option_copied result ≡ self.now.edges }
     {
-        match self.layout.places.edges {
+        match self.layout.chunks.edges {
             Some(place) => Some(&self.bytes[place.start..place.end]),
+            None => None,
+        }
+    }
+
+    /// The words of the extra edge list, where the file has one.
+    pub(crate) fn extra_edges(&self) -> Option<&[u32]>
+        ensures { option_map (λ edges. edges.now) result ≡ option_map words self.now.edges }
+    {
+        match &self.extra_edges {
+            Some(edges) => Some(edges),
             None => None,
         }
     }

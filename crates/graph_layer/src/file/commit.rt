@@ -12,10 +12,6 @@ use graph_format::fault::CommitFault;
 pub use graph_format::parents::{ExtraEdge, ParentEdge, ParentError};
 use std::fmt;
 
-/// How many bits of a record's last eight bytes are the committer's time; the generation number is
-/// in the others, above them.
-const TIME_BITS: u32 = 34;
-
 /// A commit of a layer, as its record in the section "Commit Data" describes it.
 ///
 /// Two commits are equal where the bytes of their files are equal, and their positions.
@@ -64,18 +60,20 @@ impl<'a> Commit<'a> {
     }
 
     /// The commit's generation number (its topological level), at most 1073741823.
+    #[tactic(auto, using(crate::proofs::DecodedRecordLemmas::field_laws))]
     pub fn generation(&self) -> u32
         ensures { result ≡ (commit_record self.now).generation }
     {
-        (self.file.generation_and_time_at(self.pos) >> TIME_BITS) as u32
+        self.file.generations()[self.pos.0 as usize]
     }
 
     /// When the commit was made: the committer's time, in seconds since 1970-01-01 00:00:00 UTC, at
     /// most 17179869183.
+    #[tactic(auto, using(crate::proofs::DecodedRecordLemmas::field_laws))]
     pub fn committer_timestamp(&self) -> u64
         ensures { result ≡ (commit_record self.now).time }
     {
-        self.file.generation_and_time_at(self.pos) % (1 << TIME_BITS)
+        self.file.times()[self.pos.0 as usize]
     }
 
     /// The first parent, or `None` where the commit has none: the first item of `iter_parents`. An
@@ -139,11 +137,14 @@ impl<'a> Commit<'a> {
     }
 
     /// What both parent fields say.
+    #[tactic(auto, using(crate::proofs::DecodedRecordLemmas::field_laws))]
     fn parent_edges(&self) -> (ParentEdge, ParentEdge)
         ensures first { result.0 ≡ edge_of (commit_record self.now).parent1 }
         ensures second { result.1 ≡ edge_of (commit_record self.now).parent2 }
     {
-        let (first, second) = self.file.parent_fields_at(self.pos);
+        let index = self.pos.0 as usize;
+        let first = self.file.first_fields()[index];
+        let second = self.file.second_fields()[index];
         (ParentEdge::from_raw(first), ParentEdge::from_raw(second))
     }
 }

@@ -100,7 +100,7 @@ impl File {
         ensures rises { 0 < byte → slice_index self.now.fan (byte - 1) ≤ result }
         ensures within { result ≤ length self.now.ids }
     {
-        fan_at(&self.bytes, self.layout.places.fan, byte as usize)
+        fan_at(&self.bytes, self.layout.chunks.fan, byte as usize)
     }
 
     /// The bytes of the id at a position, where ids have so many bytes.
@@ -110,7 +110,7 @@ impl File {
         ensures id { slice_get self.now.ids pos ≡ Some result.now }
         ensures len { length result.now ≡ size }
     {
-        let start = self.layout.places.ids.start + size * pos as usize;
+        let start = self.layout.chunks.ids.start + size * pos as usize;
         &self.bytes[start..start + size]
     }
 }

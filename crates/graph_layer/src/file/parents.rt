@@ -68,7 +68,7 @@ impl<'a> Parents<'a> {
             }
             State::Second(ParentEdge::None) => None,
             State::Second(ParentEdge::GraphPosition(pos)) => Some(Ok(pos)),
-            State::Second(ParentEdge::ExtraEdgeIndex(index)) => match self.file.extra_edges() {
+            State::Second(ParentEdge::ExtraEdgeIndex(index)) => match self.file.edge_bytes() {
                 Some(edges) => Some(self.next_listed(edges, index as usize)),
                 None => Some(Err(ParentError::NoEdgeList)),
             },

@@ -177,8 +177,8 @@ fn chunk_range(bytes: &[u8], index: &Index<'_>, id: [u8; 4]) -> Option<ChunkRang
 #[tactic(auto, using(crate::proofs::ChunkLemmas::size_laws), unfolding(graph_format::specs::RefusalSteps::sizes_refusal))]
 pub fn chunk_ranges(bytes: &[u8], index: &Index<'_>, kind: Kind) -> Result<ChunkRanges, FileError>
     requires { Chunks bytes.now 8 (slice_index bytes.now 6) index.now }
-    ensures places { IfOk result (AreChunkRanges bytes.now) }
-    ensures fan { IfOk result (λ places. places.fan.end ≡ places.fan.start + 1024) }
+    ensures chunks { IfOk result (AreChunkRanges bytes.now) }
+    ensures fan { IfOk result (λ chunks. chunks.fan.end ≡ chunks.fan.start + 1024) }
     ensures refusal { Reports result (sizes_refusal kind bytes.now) }
 {
     let bases = chunk_range(bytes, index, BASE_GRAPHS_LIST_CHUNK_ID);

@@ -22,7 +22,7 @@ pub struct Layout {
     pub kind: Kind,
     pub commits: u32,
     pub base_count: u8,
-    pub places: ChunkRanges,
+    pub chunks: ChunkRanges,
     /// Where the checksum begins.
     pub trailer_start: usize,
 }
@@ -33,17 +33,17 @@ fn check_trailer(
     bytes: &[u8],
     end: usize,
     kind: Kind,
-    places: &ChunkRanges,
+    chunks: &ChunkRanges,
 ) -> Result<(), FileError>
     requires ends { end ≡ (table_of bytes.now).end }
     requires in_file { end ≤ length bytes.now }
-    requires places { AreChunkRanges bytes.now places.now }
+    requires chunks { AreChunkRanges bytes.now chunks.now }
     ensures { Reports result (trailer_refusal kind bytes.now) }
 {
     if bytes.len() - end != kind.len_in_bytes() {
         return Err(FileError::Trailer);
     }
-    if bytes[7] > 0 && places.bases.is_none() {
+    if bytes[7] > 0 && chunks.bases.is_none() {
         return Err(FileError::BaseMissing);
     }
     Ok(())
@@ -55,16 +55,16 @@ fn check_counts(
     bytes: &[u8],
     commits: u32,
     kind: Kind,
-    places: &ChunkRanges,
+    chunks: &ChunkRanges,
 ) -> Result<(), FileError>
     requires commits { commits ≡ commits_of (fan_of bytes.now) }
-    requires places { AreChunkRanges bytes.now places.now }
+    requires chunks { AreChunkRanges bytes.now chunks.now }
     ensures { Reports result (counts_refusal kind bytes.now) }
 {
-    if places.ids.size() / kind.len_in_bytes() != commits as usize {
+    if chunks.ids.size() / kind.len_in_bytes() != commits as usize {
         return Err(FileError::IdCount);
     }
-    if places.records.size() / record_len(kind) != commits as usize {
+    if chunks.records.size() / record_len(kind) != commits as usize {
         return Err(FileError::RecordCount);
     }
     Ok(())
@@ -81,17 +81,17 @@ pub fn layout_of(bytes: &[u8]) -> Result<Layout, FileError>
         Ok(index) => index,
         Err(fault) => return Err(FileError::Chunks(fault)),
     };
-    let places = chunk_ranges(bytes, &index, kind)?;
+    let chunks = chunk_ranges(bytes, &index, kind)?;
     let end = index.highest_offset();
-    check_trailer(bytes, end, kind, &places)?;
-    check_rising(bytes, places.fan)?;
-    let commits = fan_at(bytes, places.fan, 255);
-    check_counts(bytes, commits, kind, &places)?;
+    check_trailer(bytes, end, kind, &chunks)?;
+    check_rising(bytes, chunks.fan)?;
+    let commits = fan_at(bytes, chunks.fan, 255);
+    check_counts(bytes, commits, kind, &chunks)?;
     Ok(Layout {
         kind,
         commits,
         base_count: bytes[7],
-        places,
+        chunks,
         trailer_start: end,
     })
 }

@@ -1,5 +1,5 @@
 use Rattle.graph_layer.proofs.FileViewLemmas.{view-edges}
-use Rattle.graph_layer.proofs.file.File.extra_edges.Goals as goal
+use Rattle.graph_layer.proofs.file.File.edge_bytes.Goals as goal
 
 pub returns-in-Some : goal.returns-in-Some
 returns-in-Some c = rw c.deref.ensures.value (rw c.in-Some.is at (view-edges _ _ _ _ c.self.invariant.layout c.self.view_is))
