@@ -55,6 +55,11 @@ module _ {E : Type 0} where
       let parents = parents_of (record_at layer pos) layer.edges in
       items-iff (start layers i + pos) (stop layers i) parents.positions parents.fault
 
+  -- a commit whose parents are told and stand before the end of its layer
+  pub unrefused : (layers : List Layer) (i : ℕ) (layer : Layer) (pos : ℕ) → (parents_of (record_at layer pos) layer.edges).fault ≡ None
+      → All (λ q. q.0 < stop layers i) (parents_of (record_at layer pos) layer.edges).positions → parents_refusal {E = E} layers i layer pos ≡ None
+  unrefused layers i layer pos decoded within = (parents-at layers i layer pos).1 (decoded, within)
+
   -- the parents of all commits of layer i can be told, and stand before its end
   pub parents-iff : (layers : List Layer) (i : ℕ) (layer : Layer) → IsPaired layer → ((pos : ℕ) → pos < length layer.ids → parents_refusal {E = E} layers i layer pos ≡ None) ↔ AreParentsKnown layers i layer
   parents-iff layers i layer paired = (

@@ -1,8 +1,12 @@
 -- what the tally of some commits is
-use Rattle.std.specs.Prelude.{◌≡◌, ℕ, List, length, map}
+use Rattle.std.specs.Prelude.{◌≡◌, ◌≢◌, ℕ, ◌+◌, ◌-◌, ◌%◌, ◌<◌, List, All, Option, None, IfSome, length, map, slice_index_or}
 use Rattle.graph_walks.specs.Counts.{greatest, count_of}
 use Rattle.graph_layer.specs.ParentCounts.{counted}
 use Rattle.graph_walks.specs.History.{Node, generations, parent_numbers, generation_at, parents_at}
+use Rattle.graph_format.specs.Layer.{Layer, record_at}
+use Rattle.graph_format.specs.Parents.{DecodedParents, parents_of}
+use Rattle.graph_format.specs.StoredHistory.{history_of}
+use Rattle.gix_commitgraph.specs.declared.verify.layer.LayerSpan.{LayerSpan}
 use Rattle.gix_commitgraph.specs.declared.verify.tally.Tally.{Tally}
 use Rattle.gix_commitgraph.specs.declared.verify.commit.ParentTally.{ParentTally}
 
@@ -16,3 +20,19 @@ pub record Tallies (seen : List Node) (tally : Tally) : Type 0 where
 pub record ParentsTally (history : List Node) (p : ℕ) (tally : ParentTally) : Type 0 where
   pub count : tally.count ≡ length (parents_at history p)
   pub max_generation : tally.max_generation ≡ greatest (map (generation_at history) (parents_at history p))
+
+-- the parents of the commit at a place of a layer
+abbrev pub decoded_at : Layer → ℕ → DecodedParents
+decoded_at layer place = parents_of (record_at layer place) layer.edges
+
+-- This is the tally of the parents of the commit at a place of a layer. They are decoded without a fault, and stand before the
+-- layer's end.
+pub record IsGathered (layers : List Layer) (span : LayerSpan) (place : ℕ) (gathered : ParentTally) : Type 0 where
+  pub decoded : (decoded_at span.file.now place).fault ≡ None
+  pub within : All (λ q. q.0 < span.stop) (decoded_at span.file.now place).positions
+  pub tally : ParentsTally (history_of layers) (span.first + place) gathered
+
+-- This was gathered of the block of 256 commits in which the commit at a place stands, if it is not the first of one.
+abbrev pub IsBlock : List Layer → LayerSpan → ℕ → List (Option ParentTally) → Type 0
+IsBlock layers span place block =
+    place % 256 ≢ 0 → (i : ℕ) → IfSome (slice_index_or block i None) (IsGathered layers span (place - place % 256 + i))

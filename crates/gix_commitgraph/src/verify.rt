@@ -1,6 +1,7 @@
 //! The check of a graph: what may be wrong with it, and the statistics of its commits.
 
 mod commit;
+mod gather;
 mod layer;
 mod tally;
 

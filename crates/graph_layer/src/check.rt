@@ -3,11 +3,13 @@
 ghost use Rattle.std.specs.Prelude.{◌≡◌, ◌<◌, length, slice_get, Some};
 ghost use Rattle.gix_hash_core.specs.Oid.{oid_bytes};
 ghost use Rattle.graph_format.specs.Faults.{layer_fault, commit_fault};
-ghost use Rattle.graph_layer.specs.Commit.{commit_layer, commit_pos};
+ghost use Rattle.graph_format.specs.Parents.{edge_of};
+ghost use Rattle.graph_layer.specs.Commit.{commit_layer, commit_pos, commit_record};
 
 use crate::file::{Commit, File};
 use gix_hash_core::oid;
 use graph_format::fault::{CommitFault, LayerFault};
+use graph_format::parents::ParentEdge;
 
 /// The first thing that is wrong with a layer as a whole: its checksum ("TRAILER"), the name of its
 /// file ("Commit-Graphs Chains" of Git's commit-graph design), or its fan ("OID Fanout").
@@ -22,6 +24,14 @@ pub fn commit_fault(commit: &Commit<'_>) -> Option<CommitFault>
     ensures { result ≡ commit_fault (commit_layer commit.now) (commit_pos commit.now) }
 {
     commit.fault()
+}
+
+/// What both parent fields of a commit say ("Commit Data").
+pub fn parent_edges(commit: &Commit<'_>) -> (ParentEdge, ParentEdge)
+    ensures first { result.0 ≡ edge_of (commit_record commit.now).parent1 }
+    ensures second { result.1 ≡ edge_of (commit_record commit.now).parent2 }
+{
+    commit.parent_edges()
 }
 
 /// The id of a layer below this one ("Base Graphs List").

@@ -1,6 +1,6 @@
 //! The check of one commit of a graph.
 
-ghost use Rattle.std.specs.Prelude.{◌≡◌, ◌<◌, length, IfOk};
+ghost use Rattle.std.specs.Prelude.{◌≡◌, ◌<◌, length, IfOk, IfSome};
 ghost use Rattle.std.specs.Result.{result_err};
 ghost use Rattle.std.specs.Fn.{TakesAt};
 
@@ -12,10 +12,10 @@ use crate::{GENERATION_NUMBER_MAX, Position};
 use graph_layer::check::commit_fault;
 
 /// The number of a commit's parents, and the greatest of their generation numbers.
-#[derive(Drop)]
-struct ParentTally {
-    count: u32,
-    max_generation: u32,
+#[derive(Clone, Copy)]
+pub(super) struct ParentTally {
+    pub(super) count: u32,
+    pub(super) max_generation: u32,
 }
 
 impl Graph {
@@ -27,22 +27,24 @@ impl Graph {
     ghost use Rattle.graph_layer.specs.Called.{CalledOn};
     ghost use Rattle.gix_commitgraph.specs.InGraph.{InGraph};
     ghost use Rattle.gix_commitgraph.specs.Verify.{parents_refusal, commit_points, cause_of};
-    ghost use Rattle.gix_commitgraph.specs.Tallies.{ParentsTally};
+    ghost use Rattle.gix_commitgraph.specs.Tallies.{ParentsTally, IsGathered};
     ghost use Rattle.gix_commitgraph.specs.LayerSpans.{IsSpan, IsInSpan};
 
     /// One commit: its ids, its parents, its generation number, the processor. The answer is the
-    /// number of its parents.
+    /// number of its parents. They are decoded where nothing was gathered of them.
     pub(super) fn verify_commit<'a, F, E>(
         &'a self,
         span: LayerSpan<'a>,
         commit: &Commit<'a>,
         pos: Position,
+        gathered: Option<ParentTally>,
         processor: &mut F,
     ) -> Result<u32, VerifyError<E>>
     where
         F: FnMut(&Commit<'a>) -> Result<(), E>,
         requires span { IsSpan self.now span }
         requires commit { IsInSpan span commit.now pos.0 }
+        requires gathered { IfSome gathered (IsGathered self.now span (commit_pos commit.now)) }
         requires callable { (state : F) → TakesAt F.FnMut state commit.now }
         ensures agrees { Agrees (CalledOn F.FnMut (InGraph self.now))
             (commit_points self.now span.entry.layer span.entry.file.now (commit_pos commit.now))
@@ -52,7 +54,7 @@ impl Graph {
         if let Some(fault) = commit_fault(commit) {
             return Err(VerifyError::Commit { pos, fault });
         }
-        let parents = self.check_parents(span, commit, pos)?;
+        let parents = self.tally_parents(span, commit, pos, gathered)?;
         let expected = parents
             .max_generation
             .saturating_add(1)
@@ -64,6 +66,27 @@ impl Graph {
             return Err(VerifyError::Processor { pos, error });
         }
         Ok(parents.count)
+    }
+
+    /// The parents of a commit, as they were gathered, or else by `check_parents`.
+    fn tally_parents<E>(
+        &self,
+        span: LayerSpan<'_>,
+        commit: &Commit<'_>,
+        pos: Position,
+        gathered: Option<ParentTally>,
+    ) -> Result<ParentTally, VerifyError<E>>
+        requires span { IsSpan self.now span }
+        requires commit { IsInSpan span commit.now pos.0 }
+        requires gathered { IfSome gathered (IsGathered self.now span (commit_pos commit.now)) }
+        ensures refusal { result_err result
+            ≡ parents_refusal self.now span.entry.layer span.entry.file.now (commit_pos commit.now) }
+        ensures parents { IfOk result (ParentsTally (history_of self.now) pos.0) }
+    {
+        match gathered {
+            Some(parents) => Ok(parents),
+            None => self.check_parents(span, commit, pos),
+        }
     }
 
     /// The parents of a commit, which are all to stand below the end of its layer.
@@ -101,7 +124,7 @@ impl Graph {
 
     /// The generation number of a commit that stands below the end of this layer. One that stands
     /// in it is read there.
-    fn generation_at(&self, span: LayerSpan<'_>, pos: Position) -> u32
+    pub(super) fn generation_at(&self, span: LayerSpan<'_>, pos: Position) -> u32
         requires span { IsSpan self.now span }
         requires below { pos.0 < span.stop }
         ensures { result ≡ generation_at (history_of self.now) pos.0 }

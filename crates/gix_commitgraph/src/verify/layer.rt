@@ -7,6 +7,7 @@ use crate::Position;
 use crate::file::{Commit, File};
 use crate::graph::Graph;
 use crate::verify::VerifyError;
+use crate::verify::gather::NOTHING;
 use crate::verify::tally::Tally;
 use graph_layer::check::{base_id_at, layer_fault};
 
@@ -71,9 +72,12 @@ impl Graph {
                 fault,
             });
         }
+        let mut block = NOTHING;
         for commit in span.file.iter_commits() {
-            let pos = Position(span.first + commit.position().0);
-            let parents = self.verify_commit(span, &commit, pos, processor)?;
+            let place = commit.position().0;
+            let gathered = self.gathered(span, place, &mut block);
+            let pos = Position(span.first + place);
+            let parents = self.verify_commit(span, &commit, pos, gathered, processor)?;
             tally.add(commit.generation(), parents)?;
         }
         Ok(())

@@ -138,7 +138,7 @@ impl<'a> Commit<'a> {
 
     /// What both parent fields say.
     #[tactic(auto, using(crate::proofs::DecodedRecordLemmas::field_laws))]
-    fn parent_edges(&self) -> (ParentEdge, ParentEdge)
+    pub(crate) fn parent_edges(&self) -> (ParentEdge, ParentEdge)
         ensures first { result.0 ≡ edge_of (commit_record self.now).parent1 }
         ensures second { result.1 ≡ edge_of (commit_record self.now).parent2 }
     {
