@@ -4,18 +4,37 @@ ghost use Rattle.std.specs.Prelude.{◌≡◌, ◌<◌, length, IfOk, IfSome};
 ghost use Rattle.std.specs.Result.{result_err};
 ghost use Rattle.std.specs.Fn.{TakesAt};
 
+use crate::file::commit::ParentError;
 use crate::file::{self, Commit};
 use crate::graph::Graph;
 use crate::verify::VerifyError;
 use crate::verify::layer::LayerSpan;
+use crate::verify::lists::Lists;
 use crate::{GENERATION_NUMBER_MAX, Position};
-use graph_layer::check::commit_fault;
+use graph_layer::check::{commit_fault, parent_edges};
 
 /// The number of a commit's parents, and the greatest of their generation numbers.
 #[derive(Clone, Copy)]
 pub(super) struct ParentTally {
     pub(super) count: u32,
     pub(super) max_generation: u32,
+}
+
+impl ParentTally {
+    /// That of no parents.
+    pub(super) const NONE: ParentTally = ParentTally {
+        count: 0,
+        max_generation: 0,
+    };
+}
+
+/// Why the parents of a commit are refused: the first of them that is.
+#[derive(Clone, Copy)]
+pub(super) enum ParentRefusal {
+    /// They cannot be decoded.
+    Fault(ParentError),
+    /// One stands neither in the layer nor in one below it.
+    OutOfRange(Position),
 }
 
 impl Graph {
@@ -35,6 +54,7 @@ impl Graph {
     pub(super) fn verify_commit<'a, F, E>(
         &'a self,
         span: LayerSpan<'a>,
+        lists: &Lists,
         commit: &Commit<'a>,
         pos: Position,
         gathered: Option<ParentTally>,
@@ -54,7 +74,7 @@ impl Graph {
         if let Some(fault) = commit_fault(commit) {
             return Err(VerifyError::Commit { pos, fault });
         }
-        let parents = self.tally_parents(span, commit, pos, gathered)?;
+        let parents = self.tally_parents(span, lists, commit, pos, gathered)?;
         let expected = parents
             .max_generation
             .saturating_add(1)
@@ -72,6 +92,7 @@ impl Graph {
     fn tally_parents<E>(
         &self,
         span: LayerSpan<'_>,
+        lists: &Lists,
         commit: &Commit<'_>,
         pos: Position,
         gathered: Option<ParentTally>,
@@ -85,7 +106,7 @@ impl Graph {
     {
         match gathered {
             Some(parents) => Ok(parents),
-            None => self.check_parents(span, commit, pos),
+            None => self.check_parents(span, lists, commit, pos),
         }
     }
 
@@ -93,6 +114,7 @@ impl Graph {
     fn check_parents<E>(
         &self,
         span: LayerSpan<'_>,
+        lists: &Lists,
         commit: &Commit<'_>,
         pos: Position,
     ) -> Result<ParentTally, VerifyError<E>>
@@ -102,24 +124,13 @@ impl Graph {
             ≡ parents_refusal self.now span.entry.layer span.entry.file.now (commit_pos commit.now) }
         ensures parents { IfOk result (ParentsTally (history_of self.now) pos.0) }
     {
-        let mut count = 0;
-        let mut max_generation = 0;
-        for parent in commit.iter_parents() {
-            match parent {
-                Err(error) => return Err(VerifyError::Parent { pos, error }),
-                Ok(parent) => {
-                    if parent.0 >= span.stop {
-                        return Err(VerifyError::ParentOutOfRange { pos, parent });
-                    }
-                    count += 1;
-                    max_generation = self.generation_at(span, parent).max(max_generation);
-                }
+        match self.tally_fields(span, lists, parent_edges(commit)) {
+            Ok(parents) => Ok(parents),
+            Err(ParentRefusal::Fault(error)) => Err(VerifyError::Parent { pos, error }),
+            Err(ParentRefusal::OutOfRange(parent)) => {
+                Err(VerifyError::ParentOutOfRange { pos, parent })
             }
         }
-        Ok(ParentTally {
-            count,
-            max_generation,
-        })
     }
 
     /// The generation number of a commit that stands below the end of this layer. One that stands
