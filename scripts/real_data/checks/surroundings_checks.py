@@ -42,6 +42,7 @@ def check_all(program, tally):
             check_no_reader(program, tally, name, words, graph)
         check_input(program, tally)
         check_odd_paths(program, tally, folder)
+        check_pipe(program, tally, folder)
         check_permission(program, tally, folder)
         check_chain_files(program, tally, folder)
         check_memory(program, tally, os.path.join(folder, "large"))
@@ -121,6 +122,17 @@ def check_odd_paths(program, tally, folder):
     for name, path in paths.items():
         check_path(program, tally, name, path, NOTHING_FOUND)
     os.close(keeper)
+
+
+def check_pipe(program, tally, folder):
+    """A pipe in the place of the file in an info folder is read to its end."""
+    info = os.path.join(folder, "pipe")
+    pipe = os.path.join(info, "commit-graph")
+    os.mkdir(info)
+    os.mkfifo(pipe)
+    threading.Thread(target=write_bytes, args=(pipe, built.diamond()), daemon=True).start()
+    right = partial(judge.verdict, reading.verified(built.diamond()))
+    check_soon(tally, "verify, a pipe in an info folder", right, partial(program.verify, info))
 
 
 def check_path(program, tally, name, path, text, **streams):
