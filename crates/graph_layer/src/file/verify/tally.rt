@@ -85,5 +85,7 @@ impl Tally {
 fn hashed(map: BTreeMap<u32, u32>, alloc: Global) -> Result<HashMap<u32, u32>, AllocError>
     ensures { IfOk result (λ hashed. (k : ℕ) → get nat_eq hashed k ≡ tree.get nat_cmp map k) }
 {
-    map.into_iter().collect(alloc)
+    let mut hashed = HashMap::with_capacity(alloc, map.len())?;
+    hashed.extend(map)?;
+    Ok(hashed)
 }
