@@ -3,9 +3,10 @@
 use crate::stage::Stage;
 use gix_commitgraph::file::Commit;
 use gix_commitgraph::opening::{open_chain_dir_in, open_file_in, open_in, open_info_dir_in};
-use gix_commitgraph::{File, Graph, at};
-use graph_commands::run::{run_find, run_list, run_verify};
+use gix_commitgraph::{File, Graph, Position, at};
+use graph_commands::run::{run_ancestor, run_find, run_list, run_verify};
 use graph_folder::folder::{Folder, Memory};
+use graph_history::Checked;
 use graph_vectors::build;
 use std::alloc::Global;
 use std::convert::Infallible;
@@ -30,7 +31,8 @@ pub fn call(rt: &HostRuntime, alloc: Global, name: &[u8], stage: &mut Stage) -> 
         b"traverse" => traverse(rt, alloc, stage),
         b"verify_integrity" => verify_integrity(rt, alloc, stage),
         b"put_file" | b"put_dir" => put(rt, alloc, name, stage),
-        b"run_list" | b"run_verify" | b"run_verify_info" | b"run_find" => {
+        b"ancestor_walk" => ancestor_walk(rt, alloc, &stage.line),
+        b"run_list" | b"run_verify" | b"run_verify_info" | b"run_find" | b"run_ancestor" => {
             run(rt, alloc, name, stage)
         }
         _ => open(rt, alloc, name, stage),
@@ -91,6 +93,22 @@ fn verify_integrity(rt: &HostRuntime, alloc: Global, stage: &Stage) -> io::Resul
     println!(rt; "{copied:?}")
 }
 
+/// Checks a graph for queries, then looks for the walk from its tenth commit to the first. Each has
+/// a line.
+fn ancestor_walk(rt: &HostRuntime, alloc: Global, graph: &Graph) -> io::Result<()> {
+    let checked = Checked::new(alloc, graph);
+    println!(rt; "{:?}", checked.as_ref().map(|_| ()))?;
+    let Ok(checked) = checked else {
+        return Ok(());
+    };
+    if graph.num_commits() < 10 {
+        return println!(rt; "fewer than ten commits");
+    }
+    let answer = checked.ancestor_walk(alloc, Position(9), Position(0));
+    let walk = answer.map(|reached| reached.walk);
+    println!(rt; "{walk:?}")
+}
+
 /// Puts a file or a folder into a folder, and tells whether it stands there.
 fn put(rt: &HostRuntime, alloc: Global, name: &[u8], stage: &mut Stage) -> io::Result<()> {
     let path = mem::replace(&mut stage.path, String::new(alloc));
@@ -111,14 +129,21 @@ fn run(rt: &HostRuntime, alloc: Global, name: &[u8], stage: &mut Stage) -> io::R
         b"run_list" => run_list(alloc, &mut stage.bytes.as_slice(), out),
         b"run_verify" => run_verify(alloc, memory, "chain", out),
         b"run_verify_info" => run_verify(alloc, memory, "info", out),
-        _ => run_find(alloc, memory, "chain", HEX, out),
+        b"run_find" => run_find(alloc, memory, "chain", SECOND, out),
+        _ => run_ancestor(alloc, memory, "chain", THIRD, FIRST, out),
     };
     println!(rt; "{answer:?}")?;
     io::writer(rt).write_all(out)
 }
 
-/// The id of the chain's second commit.
-const HEX: &str = "0202020202020202020202020202020202020202";
+/// The id of the chain's first commit.
+const FIRST: &str = "0101010101010101010101010101010101010101";
+
+/// The id of the second.
+const SECOND: &str = "0202020202020202020202020202020202020202";
+
+/// The id of the third.
+const THIRD: &str = "0303030303030303030303030303030303030303";
 
 /// Opens by a path in memory, or on disk.
 fn open(rt: &HostRuntime, alloc: Global, name: &[u8], stage: &mut Stage) -> io::Result<()> {

@@ -6,8 +6,8 @@ use gix_hash_core::{Kind, ObjectId};
 use graph_folder::folder::Memory;
 use graph_vectors::{LayerPlan, PlanCommit, build};
 use std::alloc::{AllocError, Global};
-use std::fs;
 use std::rt::Files;
+use std::{fs, slice};
 
 /// What stands ready before a call.
 #[derive(Drop)]
@@ -24,6 +24,8 @@ pub struct Stage {
     pub layers: Vec<File>,
     /// The graph of the same layers.
     pub graph: Graph,
+    /// The graph of a layer of ten commits in a line.
+    pub line: Graph,
     /// The file `f`, and the folders `chain`, `info` and `damaged`: that of the chain, an info
     /// folder with the chain, and one with a damaged file beside the chain.
     pub memory: Memory,
@@ -47,6 +49,7 @@ impl Stage {
             memory: memory(alloc, &bytes, &chain)?,
             layers: layers(alloc, &chain)?,
             graph: Graph::new(alloc, layers(alloc, &chain)?)?,
+            line: line(alloc)?,
             path: String::from_str(alloc, "f")?,
             out: Vec::with_capacity(alloc, 4096)?,
             plan,
@@ -105,6 +108,24 @@ fn layers(alloc: Global, chain: &[Vec<u8>]) -> Result<Vec<File>> {
         layers.push(opened(alloc, bytes)?)?;
     }
     Ok(layers)
+}
+
+/// The graph of a layer of ten commits in a line.
+fn line(alloc: Global) -> Result<Graph> {
+    let rows: [Row<'_>; 10] = [
+        (1, &[], 1),
+        (2, &[0], 2),
+        (3, &[1], 3),
+        (4, &[2], 4),
+        (5, &[3], 5),
+        (6, &[4], 6),
+        (7, &[5], 7),
+        (8, &[6], 8),
+        (9, &[7], 9),
+        (10, &[8], 10),
+    ];
+    let bytes = file(alloc, &plan(alloc, &[], &rows)?)?;
+    Ok(Graph::new(alloc, layers(alloc, slice::from_ref(&bytes))?)?)
 }
 
 /// The name of a layer's file in its folder, and the line of the chain file.
