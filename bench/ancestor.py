@@ -1,17 +1,21 @@
 #!/usr/bin/env python3
-"""Measures queries for walks to ancestors, beside the same search in plain Rust.
+"""Measures queries for walks to ancestors, beside the same search in plain Rust, and beside Git.
 
 usage: python3 bench/ancestor.py [FOLDER]
 
 FOLDER keeps the files and both programs for further runs. The files are those of bench/lookup.py: one
 layer of a million commits, and a chain of ten layers of the same commits. Both programs answer the
-same queries, between 1,000 pairs of positions at random, in turn, and have to give the same number of
+same queries, between 1,000 pairs of commits at random, in turn, and have to give the same number of
 walks, of commits on them and of visits. A line a figure: ours and the baseline's, in microseconds a
-query, each the best of all runs, and their ratio. The check of the graph is not counted. The last line
-has the number of visits with and without generation numbers.
+query, each the best of all runs, and their ratio. The check of the graph is not counted.
+
+Then the time of `git merge-base --is-ancestor` for the first pairs, one process each, in a repository
+with the same commits and one commit-graph file, and that of a process of Git that does nothing. Git
+has to say yes as often. The last line has the number of visits for these pairs with and without
+generation numbers.
 
 Ours is bench/ancestor/main.rt.txt, which is proved and built by LLVM, over the repository's crates. The
-baseline is bench/ancestor/baseline.rs, by `rustc -O` for the same processor. The status is 1 where the
+baseline is bench/ancestor/baseline.rs, by `rustc -O` for the same processor. The status is 1 where
 two disagree.
 """
 
@@ -20,13 +24,16 @@ import shutil
 import subprocess
 import sys
 import tempfile
+import time
 
 import lookup
 
 SOURCES = os.path.join(lookup.TOP, "bench", "ancestor")
 PROGRAM = "ancestor_bench"
-PROGRAM_LIBRARIES = ["gix_commitgraph", "graph_history", "anyhow"]
+PROGRAM_LIBRARIES = ["gix_hash_core", "gix_commitgraph", "graph_history", "anyhow"]
 PAIRS = 1000
+FIRST_PAIRS = PAIRS // 10
+"""So many pairs are asked of Git, and without generation numbers."""
 ROUNDS = 3
 """How often each program is run. The two take turns."""
 
@@ -36,16 +43,18 @@ def main(folder=None):
     with tempfile.TemporaryDirectory() as scratch:
         folder = os.path.abspath(folder or scratch)
         os.makedirs(folder, exist_ok=True)
-        _, _, positions, *layers = lookup.written_files(folder)
-        files = [pairs_file(folder, positions)] + layers
+        present, _, _, _, _, *layers = lookup.written_files(folder)
+        files = [pairs_file(folder, present)] + layers
         ours, baseline = our_program(folder), baseline_program(folder)
+        commits = git_commits(folder)
         print("load     %.2f" % os.getloadavg()[0])
         rounds = [(figures(ours, files), figures(baseline, files)) for _ in range(ROUNDS)]
-        return report([first for first, _ in rounds], [second for _, second in rounds])
+        agreed = report([first for first, _ in rounds], [second for _, second in rounds])
+        return 0 if report_git(folder, commits, rounds[0][1]) and agreed else 1
 
 
 def report(ours, baseline):
-    """Prints a line a figure, and answers the exit status."""
+    """Prints a line a figure, and answers whether the two agreed."""
     agreed = True
     print("%-6s %10s %10s %7s" % ("figure", "ours us", "rust us", "ratio"))
     for name in ours[0]:
@@ -55,9 +64,30 @@ def report(ours, baseline):
         if len(answers) != 1:
             print("%-6s the answers differ: %s" % (name, answers))
             agreed = False
-    _, walks, commits, visits = baseline[0]["layer"]
-    print("%d walks of %d commits, %d visits; without generation numbers %d" % (walks, commits, visits, baseline[0]["layer-whole"][3]))
-    return 0 if agreed else 1
+    print("%d walks of %d commits, %d visits" % baseline[0]["layer"][1:])
+    return agreed
+
+
+def report_git(folder, commits, baseline):
+    """Prints what Git takes, and the number of visits for the same pairs, and answers whether Git agreed."""
+    repository = os.path.join(folder, "commits.git")
+    is_ancestor = ["git", "-C", repository, "merge-base", "--is-ancestor"]
+    taken, yes = 0, 0
+    for first, second in zip(commits[::2], commits[1::2]):
+        started = time.perf_counter()
+        yes += subprocess.call(is_ancestor + [second, first]) == 0
+        taken += time.perf_counter() - started
+    started = time.perf_counter()
+    for _ in range(FIRST_PAIRS):
+        subprocess.check_call(["git", "-C", repository, "rev-parse", "--git-dir"], stdout=subprocess.DEVNULL)
+    idle = time.perf_counter() - started
+    print("git %.1f us, of which a process takes %.1f" % (taken * 1e6 / FIRST_PAIRS, idle * 1e6 / FIRST_PAIRS))
+    _, walks, _, pruned = baseline["tenth"]
+    whole, visits = baseline["whole"][0], baseline["whole"][3]
+    print("%d pairs: %d visits; without generation numbers %d, %.1f us a query" % (FIRST_PAIRS, pruned, visits, whole / FIRST_PAIRS / 1000))
+    if yes != walks:
+        print("git says yes %d times, and there are %d walks" % (yes, walks))
+    return yes == walks
 
 
 def figures(program, files):
@@ -66,18 +96,45 @@ def figures(program, files):
     return {name: tuple(map(int, numbers)) for name, *numbers in map(str.split, lines)}
 
 
-def pairs_file(folder, positions):
-    """The path of the pairs: the first of the random positions, two by two."""
+def pairs_file(folder, present):
+    """The path of the pairs: the first of the ids in a random order, two by two."""
     path = os.path.join(folder, "pairs")
-    with open(positions, "rb") as source, open(path, "wb") as target:
-        target.write(source.read(8 * PAIRS))
+    with open(present, "rb") as source, open(path, "wb") as target:
+        target.write(source.read(2 * 20 * PAIRS))
     return path
+
+
+def git_commits(folder):
+    """The first pairs, as Git names them in a repository with the same commits, and one commit-graph file."""
+    repository = os.path.join(folder, "commits.git")
+    marks = os.path.join(folder, "marks")
+    if not os.path.exists(marks):
+        subprocess.check_call(["git", "init", "--quiet", "--bare", repository])
+        load = ["git", "-C", repository, "fast-import", "--quiet", "--export-marks=" + marks + ".new"]
+        with subprocess.Popen(load, stdin=subprocess.PIPE) as run:
+            for place in range(lookup.COMMITS):
+                run.stdin.write(commit_of(place))
+            run.stdin.close()
+        subprocess.check_call(["git", "-C", repository, "commit-graph", "write", "--reachable", "--no-progress"])
+        os.rename(marks + ".new", marks)
+    with open(marks) as file:
+        names = dict(line.split() for line in file)
+    order = sorted(range(lookup.COMMITS), key=lambda place: lookup.digest("order", place))
+    return [names[":%d" % (place + 1)] for place in order[: 2 * FIRST_PAIRS]]
+
+
+def commit_of(place):
+    """The lines from which `git fast-import` makes a commit."""
+    lines = ["commit refs/heads/main", "mark :%d" % (place + 1), "committer a <a> %d +0000" % (1_000_000_000 + 60 * place), "data 0"]
+    for number, parent in enumerate(lookup.parents(place)):
+        lines.append("%s :%d" % ("merge" if number else "from", parent + 1))
+    return "\n".join(lines + ["", ""]).encode()
 
 
 def baseline_program(folder):
     """The path of the baseline, built."""
     program = os.path.join(folder, "ancestor_baseline")
-    flags = ["--edition", "2021", "-O", "-C", "target-cpu=x86-64-v2"]
+    flags = ["--edition", "2024", "-O", "-C", "target-cpu=x86-64-v2", "-C", "codegen-units=1"]
     subprocess.check_call(["rustc"] + flags + [os.path.join(SOURCES, "baseline.rs"), "-o", program])
     return program
 
@@ -89,10 +146,10 @@ def our_program(folder):
     os.makedirs(os.path.join(crate, "src"), exist_ok=True)
     if not os.path.exists(os.path.join(repository, ".git")):
         subprocess.check_call(["git", "init", "--quiet", repository])
-    libraries = needed(PROGRAM_LIBRARIES)
-    lines = ["%s: %s\n" % (name, " ".join(names)) for name, names in {**libraries, PROGRAM: PROGRAM_LIBRARIES}.items()]
+    libraries = lookup.needed(PROGRAM_LIBRARIES, lookup.crates())
     with open(os.path.join(repository, "crates.txt"), "w") as file:
-        file.writelines(lines)
+        for name, uses in [*libraries.items(), (PROGRAM, PROGRAM_LIBRARIES)]:
+            file.write("%s: %s\n" % (name, " ".join(uses)))
     for library in libraries:
         lookup.copy_crate(library, repository)
     shutil.copyfile(os.path.join(SOURCES, "main.rt.txt"), os.path.join(crate, "src", "main.rt"))
@@ -104,18 +161,6 @@ def our_program(folder):
     if not os.path.exists(built):
         raise RuntimeError(run.stdout.decode())
     return built
-
-
-def needed(names):
-    """The crates of this repository that some crates stand on, each with the libraries that it uses."""
-    with open(os.path.join(lookup.TOP, "crates.txt"), encoding="utf-8") as file:
-        lines = dict(line.split(":") for line in file if not line.startswith("#"))
-    found = {}
-    for name in names:
-        if name in lines:
-            found.update(needed(lines[name].split()))
-            found[name] = lines[name].split()
-    return found
 
 
 if __name__ == "__main__":
