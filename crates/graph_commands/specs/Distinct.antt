@@ -1,5 +1,5 @@
 -- the answers of `distinct`, whose texts and exit statuses are those of `verify`
-use Rattle.std.specs.Prelude.{◌≡◌, ◌⊎◌, ℕ, List, Result, Ok, Err, Some, None, true}
+use Rattle.std.specs.Prelude.{◌≡◌, ◌⊎◌, List, Result, Ok, Err, Some, None, true}
 use Rattle.std.specs.BTreeMap.{IsOrdered}
 use Rattle.std.specs.Ordering.{nat_cmp}
 use Rattle.std.specs.declared.convert.Infallible.{Infallible}
