@@ -3,6 +3,7 @@
 mod commit;
 mod gather;
 mod layer;
+mod lists;
 mod tally;
 
 ghost use Rattle.std.specs.Prelude.{IfOk, MatchResult};
@@ -187,7 +188,7 @@ impl Graph {
         let mut first = 0;
         for layer in 0..self.files.len() {
             let span = self.span_at(layer, first);
-            self.verify_layer(span, &mut tally, processor)?;
+            self.verify_layer(span, alloc, &mut tally, processor)?;
             first = span.stop;
         }
         Ok(tally.outcome()?)

@@ -10,6 +10,7 @@ use crate::verify::VerifyError;
 use crate::verify::gather::NOTHING;
 use crate::verify::tally::Tally;
 use graph_layer::check::{base_id_at, layer_fault};
+use std::alloc::Global;
 
 /// A layer of a graph, and the positions of its commits there.
 #[derive(Clone, Copy)]
@@ -53,6 +54,7 @@ impl Graph {
     pub(super) fn verify_layer<'a, F, E>(
         &'a self,
         span: LayerSpan<'a>,
+        alloc: Global,
         tally: &mut Tally,
         processor: &mut F,
     ) -> Result<(), VerifyError<E>>
@@ -74,10 +76,11 @@ impl Graph {
                 fault,
             });
         }
+        let tallies = self.tally_lists(span, alloc)?;
         let mut block = NOTHING;
         for commit in span.file.iter_commits() {
             let place = commit.position().0;
-            let gathered = self.gathered(span, place, &mut block);
+            let gathered = self.gathered(span, &tallies, place, &mut block);
             let pos = Position(span.first + place);
             let parents = self.verify_commit(span, &commit, pos, gathered, processor)?;
             tally.add(commit.generation(), parents)?;
