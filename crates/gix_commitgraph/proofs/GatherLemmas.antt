@@ -25,7 +25,7 @@ use Rattle.gix_commitgraph.proofs.ParentFaultFreeLemmas.{unrefused}
 -- a commit whose parents are these
 module _ (layers : List Layer) (span : LayerSpan) (commit : Commit) (place : ℕ) (tally : ParentTally) (is : IsSpan layers span)
     (in_layer : commit_layer commit ≡ span.file.now) (at : commit_pos commit ≡ place) where
-  gathered : (positions : List Position) → commit_parents commit ≡ record { positions = positions; fault = None }
+  pub gathered : (positions : List Position) → commit_parents commit ≡ record { positions = positions; fault = None }
       → All (λ q. q.0 < span.stop) positions → tally.count ≡ length positions
       → tally.max_generation ≡ greatest (map (generation_at (history_of layers)) (map (λ q. q.0) positions))
       → IsGathered layers span place tally
@@ -94,7 +94,3 @@ module _ {A : Type 0} where
   one-more P (y ∷ xs) zero x all one (suc i) = all (suc i)
   one-more P (y ∷ xs) (suc j) x all one zero = all zero
   one-more P (y ∷ xs) (suc j) x all one (suc i) = one-more (λ k. P (suc k)) xs j x (λ k. all (suc k)) one i
-
-pub gathered-there : (layers : List Layer) (span : LayerSpan) (o : Option ParentTally) (p q : ℕ) → p ≡ q
-    → IfSome o (IsGathered layers span p) → IfSome o (IsGathered layers span q)
-gathered-there layers span o p q same known = subst (λ (place : ℕ). IfSome o (IsGathered layers span place)) same known

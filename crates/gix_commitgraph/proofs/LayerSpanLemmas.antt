@@ -47,7 +47,8 @@ pub numbers-in_graph : (layers : List Layer) (span : LayerSpan) (commit : Commit
 numbers-in_graph layers span commit p is here = numbers-parents (commit_parents commit)
     ∙ sym (parents-at layers p (commit_pos commit) (commit_layer commit) is.graph.opened here)
 
-span-opened : (layers : List Layer) (span : LayerSpan) → IsSpan layers span → IsOpened span.file.now
+-- the layer was opened
+pub span-opened : (layers : List Layer) (span : LayerSpan) → IsSpan layers span → IsOpened span.file.now
 span-opened layers span is =
     subst IsOpened (get_or_from_slice_get layers span.layer span.file.now span.file.now is.there)
     (is.graph.opened span.layer span.file.now (slice_get_within layers span.layer span.file.now is.there))

@@ -15,6 +15,7 @@ pub mod GraphHistoryLemmas
 pub mod LayerSpanLemmas
 pub mod BaseIdLemmas
 pub mod CommitCheckLemmas
+pub mod EdgeListLemmas
 pub mod GatherLemmas
 pub mod LayerCheckLemmas
 pub mod GraphCheckLemmas

@@ -38,6 +38,7 @@ pub mod Paths
 pub mod OpenAlways
 pub mod Opening
 pub mod Tallies
+pub mod ListedParents
 pub mod LayerSpans
 pub mod LayerStarts
 pub mod Headline

@@ -4,6 +4,7 @@ mod commit;
 mod gather;
 mod ids;
 mod layer;
+mod lists;
 mod tally;
 
 ghost use Rattle.std.specs.Prelude.{IfOk, IsTrue, MatchResult};
@@ -245,7 +246,7 @@ impl Graph {
         let mut first = 0;
         for layer in 0..self.files.len() {
             let span = self.span_at(layer, first);
-            self.verify_layer(options, span, &mut tally, processor)?;
+            self.verify_layer(options, span, alloc, &mut tally, processor)?;
             first = span.stop;
         }
         Ok(tally.outcome()?)

@@ -1,8 +1,9 @@
 //! What the check of a graph asks of a layer and of its commits.
 
-ghost use Rattle.std.specs.Prelude.{◌≡◌, ◌<◌, length, slice_get, Some};
+ghost use Rattle.std.specs.Prelude.{◌≡◌, ◌<◌, length, slice_get, option_map, Some};
 ghost use Rattle.gix_hash_core.specs.Oid.{oid_bytes};
 ghost use Rattle.graph_format.specs.Faults.{layer_fault, commit_fault};
+ghost use Rattle.graph_format.specs.Format.{words};
 ghost use Rattle.graph_format.specs.Parents.{edge_of};
 ghost use Rattle.graph_layer.specs.Commit.{commit_layer, commit_pos, commit_record};
 
@@ -33,6 +34,13 @@ pub fn parent_edges(commit: &Commit<'_>) -> (ParentEdge, ParentEdge)
 {
     let (first, second) = commit.parent_fields();
     (ParentEdge::from_raw(first), ParentEdge::from_raw(second))
+}
+
+/// The words of a layer's extra edge list, where it has one ("Extra Edge List").
+pub fn extra_edges(file: &File) -> Option<&[u32]>
+    ensures { option_map (λ edges. edges.now) result ≡ option_map words file.now.edges }
+{
+    file.extra_edges()
 }
 
 /// The id of a layer below this one ("Base Graphs List").

@@ -26,17 +26,21 @@ impl Graph {
     ghost use Rattle.graph_format.specs.StoredHistory.{history_of};
     ghost use Rattle.gix_commitgraph.specs.LayerSpans.{IsSpan};
     ghost use Rattle.gix_commitgraph.specs.Tallies.{IsGathered, IsBlock};
+    ghost use Rattle.gix_commitgraph.specs.ListedParents.{AreListed};
 
     /// What is gathered of the parents of the commit at this place of a layer: their number and the
     /// greatest of their generation numbers, where there are one or two, and they stand in the
-    /// layer. At the first commit of a block, it is gathered for the whole block.
+    /// layer, or where the tallies of the extra edge list have them. At the first commit of a
+    /// block, it is gathered for the whole block.
     pub(super) fn gathered(
         &self,
         span: LayerSpan<'_>,
+        tallies: &[Option<ParentTally>],
         place: u32,
         block: &mut Block,
     ) -> Option<ParentTally>
         requires span { IsSpan self.now span }
+        requires tallies { AreListed self.now span tallies.now }
         requires within { place < length span.file.now.ids }
         requires before { IsBlock self.now span place block.old }
         ensures result { IfSome result (IsGathered self.now span.entry place) }
@@ -46,7 +50,10 @@ impl Graph {
         if index == 0 {
             *block = self.gather(span, place);
         }
-        block[index]
+        match block[index] {
+            Some(parents) => Some(parents),
+            None => self.listed(span, tallies, place),
+        }
     }
 
     /// The same of as many commits as a block has, from this place on.

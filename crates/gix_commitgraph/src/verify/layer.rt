@@ -10,6 +10,7 @@ use crate::verify::gather::NOTHING;
 use crate::verify::tally::Tally;
 use crate::verify::{VerifyError, VerifyOptions};
 use graph_layer::check::{base_id_at, layer_fault};
+use std::alloc::Global;
 
 /// A layer of a graph, and the positions of its commits there.
 #[derive(Clone, Copy)]
@@ -56,6 +57,7 @@ impl Graph {
         &'a self,
         options: VerifyOptions,
         span: LayerSpan<'a>,
+        alloc: Global,
         tally: &mut Tally,
         processor: &mut F,
     ) -> Result<(), VerifyError<E>>
@@ -78,10 +80,11 @@ impl Graph {
                 fault,
             });
         }
+        let tallies = self.tally_lists(span, alloc)?;
         let mut block = NOTHING;
         for commit in span.file.iter_commits() {
             let place = commit.position().0;
-            let gathered = self.gathered(span, place, &mut block);
+            let gathered = self.gathered(span, &tallies, place, &mut block);
             let pos = Position(span.first + place);
             let parents = self.verify_commit(options, span, &commit, pos, gathered, processor)?;
             tally.add(commit.generation(), parents)?;

@@ -18,6 +18,12 @@ returns-in_err-check_bases-clause-agrees g c =
     rw (handed.1, handed.2) (refused_by_bases g.F.FnMut c.args.options c.args.self.now c.args.span _ _
     c.in_err-check_bases.ensures)
 
+pub returns-in_err-tallies-clause-agrees : goal.returns-in_err-tallies-clause-agrees
+returns-in_err-tallies-clause-agrees g c =
+    let first = reached_first g.F.FnMut c.args.self.now c.args.span _ c.in_ok-check_bases.ensures c.in_default.ensures in
+    let no_memory = err_from_is_err_and c.from_residual-in_err-tallies.result c.from_residual-in_err-tallies.ensures.1 in
+    rw (no_memory.1, no_memory.2) (ran_out _ _ _ _ _ first)
+
 pub loop-commit-init : goal.loop-commit-init
 loop-commit-init g c = record {
   left = ap commits_left c.into_iter-commit-iterator.ensures.into_iter_gives ∙ c.iter_commits-commit-items.ensures;
