@@ -20,7 +20,8 @@ returns-in_err-check_bases-clause-agrees g c =
 
 pub returns-in_err-tallies-clause-agrees : goal.returns-in_err-tallies-clause-agrees
 returns-in_err-tallies-clause-agrees g c =
-    let first = reached_first g.F.FnMut c.args.self.now c.args.span _ c.in_ok-check_bases.ensures c.in_default.ensures in
+    let first =
+    reached_first g.F.FnMut c.args.options c.args.self.now c.args.span _ c.in_ok-check_bases.ensures c.in_default.ensures in
     let no_memory = err_from_is_err_and c.from_residual-in_err-tallies.result c.from_residual-in_err-tallies.ensures.1 in
     rw (no_memory.1, no_memory.2) (ran_out _ _ _ _ _ first)
 
