@@ -1,6 +1,6 @@
 //! How a Rattle program uses the crates for commit-graphs: it opens a graph and checks it, finds a
-//! commit, goes over parents, and opens a file that it has in memory. `docs/CALLING.md` explains
-//! each of these uses by this code.
+//! commit, goes over parents, asks for ancestors, and opens a file that it has in memory.
+//! `docs/CALLING.md` explains each of these uses by this code.
 #![tactic(auto)]
 
 pub mod ancestry;
@@ -9,3 +9,4 @@ pub mod error;
 pub mod finding;
 pub mod in_memory;
 pub mod query;
+pub mod reaching;

@@ -7,6 +7,7 @@ use graph_uses::checked::{check, open_checked};
 use graph_uses::finding::{find, time_of};
 use graph_uses::in_memory::open_bytes;
 use graph_uses::query::parents_at_path;
+use graph_uses::reaching::reaches;
 use graph_vectors::{LayerPlan, PlanCommit, build};
 use std::alloc::Global;
 use std::fs;
@@ -156,5 +157,20 @@ fn gives_parents(rt: HostRuntime) -> Result<(), Fail> {
         }
         assert_eq!(rt; got.as_slice(), want, "at {pos}");
     }
+    Ok(())
+}
+
+#[test]
+fn asks_for_ancestors(rt: HostRuntime) -> Result<(), Fail> {
+    let alloc = rt.alloc();
+    let graph = open_bytes(alloc, file_of(&rt, alloc, DIAMOND)?)?;
+    for (from, to, want) in [(3, 0, true), (1, 2, false), (2, 2, true), (0, 3, false)] {
+        assert!(rt; from < graph.num_commits() && to < graph.num_commits());
+        let found = reaches(alloc, &graph, Position(from), Position(to))?;
+        assert_eq!(rt; found, want, "from {from} to {to}");
+    }
+    let wrong = open_bytes(alloc, file_of(&rt, alloc, TWICE)?)?;
+    assert!(rt; wrong.num_commits() > 3);
+    assert!(rt; reaches(alloc, &wrong, Position(3), Position(0)).is_err());
     Ok(())
 }
