@@ -57,7 +57,7 @@ def main(path, every_value=False):
             verify_checks.check_all(program, tally, new, differences)
             path_checks.check_all(program, tally, new, differences)
             ancestor_checks.check_all(program, tally, new)
-            distinct_checks.check_all(program, tally, new)
+            distinct_checks.check_all(program, tally, new, differences)
             disk_checks.check_all(program, tally, new, differences)
     differences.check(tally)
     return tally.finish()

@@ -44,5 +44,6 @@ pub fn check_distinct(alloc: Global, graph: &Graph) -> Result<Outcome, VerifyErr
     ensures lookups { IfOk result (λ _. LookupsAreExact graph.now) }
 {
     let options = VerifyOptions { distinct_ids: true };
-    graph.verify_integrity_with(alloc, options, &mut |_: &Commit<'_>| Ok(()))
+    let outcome = graph.verify_integrity_with(alloc, options, &mut |_: &Commit<'_>| Ok(()))?;
+    Ok(outcome)
 }

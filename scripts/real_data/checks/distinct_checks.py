@@ -7,14 +7,15 @@ from damage import trees
 from damage.layer import Outline, big_endian, exact_fan
 from damage.wrong_trees import Right
 from expected import judge
-from expected.facts import verified
+from expected.facts import summary, verified
+from expected.listing import generations
 from histories import shapes
 
 LAYER_SIZE = 5
 LAYERS = 4
 
 
-def check_all(program, tally, new):
+def check_all(program, tally, new, differences):
     """The checks of chains of layers; a new repository comes from a function of its name."""
     repository = new("distinct ids")
     chain, text = right_chain(repository)
@@ -27,6 +28,7 @@ def check_all(program, tally, new):
     tree, places = with_id_of(chain, 0, range(1, LAYERS))
     trees.lay_out(repository.info_path(), tree)
     check_answers(program, tally, repository, "an id in all layers", text, duplicate(places))
+    check_commit_again(program, tally, repository, chain, differences)
 
 
 def check_answers(program, tally, repository, name, text, distinct_text):
@@ -34,6 +36,42 @@ def check_answers(program, tally, repository, name, text, distinct_text):
     path, title = repository.info_path(), "%s, %s" % (repository.object_format, name)
     tally.check(title + ", verified", judge.verdict(text, program.verify(path)))
     tally.check(title + ", its ids distinct", judge.verdict(distinct_text, program.distinct(path)))
+
+
+def check_commit_again(program, tally, repository, chain, differences):
+    """A commit of a lower layer in the place of a tip of the last one, with all that the file says of it."""
+    words, number = repository.words(), LAYERS - 1
+    ids, start = ids_of(chain, number), chain.starts[number]
+    place, again = next(pair for pair in movable(chain, words) if len(words[pair[1][0].hex()].parents) <= 2)
+    commit, lower, at = again
+    layer = with_ids(chain, number, ids[:place] + [commit] + ids[place + 1 :])
+    records, size = [Outline(it.content, chain.object_format).chunks["CDAT"] for it in chain.layers], len(commit) + 16
+    record = chain.layers[lower].content[records[lower].start + at * size :][:size]
+    at_place = records[number].start + place * size
+    layer = layer[:at_place] + record + layer[at_place + size :]
+    trees.lay_out(repository.info_path(), trees.chain(chain.rebuilt_layers(number, layer)))
+    kept = [other for other in words if other != ids[place].hex()] + [commit.hex()]
+    levels = generations(words)
+    text = summary([len(words[other].parents) for other in kept], [levels[other] for other in kept])
+    name = "a commit in two layers"
+    check_answers(program, tally, repository, name, text, duplicate([chain.starts[lower] + at, start + place]))
+    differences.compare(name, program.verify(repository.info_path()), repository.git_verdict())
+    differences.compare(name + ", for distinct", program.distinct(repository.info_path()), repository.git_verdict())
+
+
+def movable(chain, words):
+    """Places of tips in the last layer, each with a commit of a lower layer whose id would stand there.
+
+    The commit comes as its id, the number of its layer and its place there.
+    """
+    parents = {parent for said in words.values() for parent in said.parents}
+    ids = ids_of(chain, LAYERS - 1)
+    for place, tip in enumerate(ids):
+        rest = ids[:place] + ids[place + 1 :]
+        for lower in range(LAYERS - 1):
+            for at, commit in enumerate(ids_of(chain, lower)):
+                if tip.hex() not in parents and bisect(rest, commit) == place:
+                    yield place, (commit, lower, at)
 
 
 def duplicate(places):
@@ -45,7 +83,7 @@ def right_chain(repository):
     """A chain of some layers, of one size, and the text of `verify` for it."""
     ids = repository.add(shapes.tangled(LAYERS * LAYER_SIZE, seed=9))
     for stop in range(LAYER_SIZE, len(ids) + 1, LAYER_SIZE):
-        repository.write_graph("--split=no-merge", tips=ids[:stop])
+        repository.write_graph("--split=no-merge", tips=ids[:stop], generation_version=1)
     layers = [trees.Layer(checksum, content) for checksum, content in repository.chain()]
     return Right(repository.object_format, layers, [], (None, None)), verified(repository.words())
 
