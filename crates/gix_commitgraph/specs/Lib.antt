@@ -38,7 +38,7 @@ pub mod Paths
 pub mod OpenAlways
 pub mod Opening
 pub mod Tallies
-pub mod ListedParents
+pub mod ListedTallies
 pub mod LayerSpans
 pub mod LayerStarts
 pub mod Headline

@@ -18,6 +18,7 @@ pub mod LayerOpeningLemmas
 pub mod CommitFaultLemmas
 pub mod ParentItemLemmas
 pub mod ParentCountLemmas
+pub mod EdgeListLemmas
 pub mod LayerStatisticsLemmas
 pub mod TraverseLemmas
 pub mod LayerCallLemmas

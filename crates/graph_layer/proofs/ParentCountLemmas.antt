@@ -69,7 +69,7 @@ pub after-end : (parents : DecodedParents) (n : ℕ) → n ≤ length parents.po
 after-end parents n within h = end_of n parents.positions parents.fault within h
 
 -- words give no more parents than there are words
-listed-few : (ws : List ℕ) → length (listed ws).positions ≤ length ws
+pub listed-few : (ws : List ℕ) → length (listed ws).positions ≤ length ws
 listed-few [] = lit≤ tt
 listed-few (word ∷ rest) =
     let few = listed-few rest in
@@ -82,7 +82,8 @@ listed-few (word ∷ rest) =
 abbrev pub HasFew : Option (List ℕ) → Type 0
 HasFew edges = IfSome edges (λ chunk. length chunk / 4 ≤ 4294967294)
 
-second-few : (second : ParentEdge) (edges : Option (List ℕ)) → HasFew edges
+-- what the second field gives are few parents
+pub second-few : (second : ParentEdge) (edges : Option (List ℕ)) → HasFew edges
     → length (second_parents second edges).positions ≤ 4294967294
 second-few edge.None edges few = lit≤ tt
 second-few (GraphPosition pos) edges few = lit≤ tt

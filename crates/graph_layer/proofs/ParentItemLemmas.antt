@@ -31,8 +31,7 @@ numbers-before (pos ∷ positions) fault = ap (λ (numbers : List ℕ). pos.0 �
 pub numbers-parents : (parents : DecodedParents) → numbers_of (items_of parents) ≡ map (λ pos. pos.0) parents.positions
 numbers-parents parents = numbers-before parents.positions parents.fault
 
--- words list as many parents as they are, at most
-pub listed-few : (ws : List ℕ) → length (listed ws).positions ≤ length ws
+listed-few : (ws : List ℕ) → length (listed ws).positions ≤ length ws
 listed-few [] = omega arith
 listed-few (word ∷ rest) =
     let others = listed-few rest in

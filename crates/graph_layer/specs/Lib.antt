@@ -33,3 +33,4 @@ pub mod OpenAnswer
 pub mod LayerOpening
 pub mod ParentCounts
 pub mod Tallies
+pub mod ListedParents

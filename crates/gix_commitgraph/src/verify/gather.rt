@@ -26,7 +26,7 @@ impl Graph {
     ghost use Rattle.graph_format.specs.StoredHistory.{history_of};
     ghost use Rattle.gix_commitgraph.specs.LayerSpans.{IsSpan};
     ghost use Rattle.gix_commitgraph.specs.Tallies.{IsGathered, IsBlock};
-    ghost use Rattle.gix_commitgraph.specs.ListedParents.{AreListed};
+    ghost use Rattle.gix_commitgraph.specs.ListedTallies.{AreTallied};
 
     /// What is gathered of the parents of the commit at this place of a layer: their number and the
     /// greatest of their generation numbers, where there are one or two, and they stand in the
@@ -40,7 +40,7 @@ impl Graph {
         block: &mut Block,
     ) -> Option<ParentTally>
         requires span { IsSpan self.now span }
-        requires tallies { AreListed self.now span tallies.now }
+        requires tallies { AreTallied self.now span tallies.now }
         requires within { place < length span.file.now.ids }
         requires before { IsBlock self.now span place block.old }
         ensures result { IfSome result (IsGathered self.now span.entry place) }

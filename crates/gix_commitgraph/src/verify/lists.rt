@@ -23,7 +23,7 @@ impl Graph {
     ghost use Rattle.graph_format.specs.Parents.{DecodedParents, followed_by};
     ghost use Rattle.gix_commitgraph.specs.LayerSpans.{IsSpan};
     ghost use Rattle.gix_commitgraph.specs.Tallies.{IsGathered};
-    ghost use Rattle.gix_commitgraph.specs.ListedParents.{IsTallied, AreListed};
+    ghost use Rattle.gix_commitgraph.specs.ListedTallies.{IsTallied, AreTallied};
 
     /// For each word of a layer's extra edge list, the tally of the parents that are listed from it
     /// on, where they can be decoded and stand before the end of the layer. Memory is asked for
@@ -34,10 +34,11 @@ impl Graph {
         alloc: Global,
     ) -> Result<Vec<Option<ParentTally>>, AllocError>
         requires { IsSpan self.now span }
-        ensures { IfOk result (λ tallies. AreListed self.now span.entry tallies.items) }
+        ensures { IfOk result (λ tallies. AreTallied self.now span.entry tallies.items) }
     {
         let mut tallies = Vec::new(alloc);
         if let Some(words) = extra_edges(span.file) {
+            tallies.reserve(words.len())?;
             let mut listed = None;
             for word in words.iter().rev() {
                 listed = match ExtraEdge::from_raw(*word) {
@@ -61,7 +62,7 @@ impl Graph {
     ) -> Option<ParentTally>
         requires span { IsSpan self.now span }
         requires within { place < length span.file.now.ids }
-        requires tallies { AreListed self.now span tallies.now }
+        requires tallies { AreTallied self.now span tallies.now }
         ensures { IfSome result (IsGathered self.now span.entry place) }
     {
         let commit = span.file.commit_at(file::Position(place));

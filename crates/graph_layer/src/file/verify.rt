@@ -1,5 +1,6 @@
 //! Checks of what one layer says.
 
+mod lists;
 mod tally;
 
 ghost use Rattle.std.specs.Prelude.{◌≡◌, ◌≢◌, ◌==◌, ℕ, ◌+◌, ◌<◌, ◌^◌, [], length, take, nat_eq};
@@ -147,12 +148,18 @@ impl<'a> Commit<'a> {
     ghost use Rattle.graph_layer.specs.Commit.{commit_layer, commit_pos, commit_parents};
     ghost use Rattle.graph_format.specs.Points.{Agrees};
     ghost use Rattle.graph_layer.specs.Traverse.{commit_points, cause_of};
+    ghost use Rattle.graph_layer.specs.ListedParents.{AreListed, IsCounted};
 
-    /// Checks the commit's ids, calls the processor on it, and decodes its parents. The answer is
-    /// the number of its parents.
-    fn check<F, E>(&self, processor: &mut F) -> Result<u32, TraverseError<E>>
+    /// Checks the commit's ids, calls the processor on it, and decodes its parents, by the counts of
+    /// its layer's extra edge list. The answer is the number of its parents.
+    fn check<F, E>(
+        &self,
+        counts: &[Option<u32>],
+        processor: &mut F,
+    ) -> Result<u32, TraverseError<E>>
     where
         F: FnMut(&Commit<'a>) -> Result<(), E>,
+        requires counts { AreListed IsCounted (commit_layer self.now).edges counts.now }
         requires callable { (state : F) → TakesAt F.FnMut state self.now }
         requires few { length (commit_parents self.now).positions < 2 ^ 32 }
         ensures agrees { Agrees (CalledOn F.FnMut (InLayer (commit_layer self.now)))
@@ -168,7 +175,7 @@ impl<'a> Commit<'a> {
         if let Err(error) = processor(self) {
             return Err(TraverseError::Processor { pos, error });
         }
-        match self.count_parents() {
+        match self.count_parents_by(counts) {
             Ok(parents) => Ok(parents),
             Err(error) => Err(TraverseError::Parent { pos, error }),
         }
@@ -211,10 +218,12 @@ impl File {
         if let Some(fault) = self.layer_fault() {
             return Err(TraverseError::of_layer(fault));
         }
+        let commits = self.num_commits();
+        let counts = self.count_lists(alloc)?;
         let mut tally = Tally::new(alloc);
-        for number in 0..self.num_commits() {
+        for number in 0..commits {
             let commit = self.commit_at(Position(number));
-            let parents = commit.check(processor)?;
+            let parents = commit.check(&counts, processor)?;
             tally.add(&commit, parents)?;
         }
         Ok(tally.outcome(alloc)?)

@@ -3,7 +3,8 @@ use Rattle.std.specs.Prelude.{slice_index_or}
 use Rattle.graph_format.specs.StoredHistory.{history_of}
 use Rattle.graph_format.specs.Parents.{second_parents}
 use Rattle.graph_format.specs.declared.parents.ParentEdge.TheVariants.{ExtraEdgeIndex}
-use Rattle.gix_commitgraph.specs.ListedParents.{IsTallied}
+use Rattle.graph_layer.proofs.ParentCountLemmas.{second-few}
+use Rattle.gix_commitgraph.specs.ListedTallies.{IsTallied}
 use Rattle.gix_commitgraph.proofs.LayerSpanLemmas.{span-opened}
 use Rattle.gix_commitgraph.proofs.EdgeListLemmas.{tallied_few, gathered-listed}
 use Rattle.gix_commitgraph.proofs.graph.Graph.listed.Goals as goal
@@ -13,8 +14,10 @@ with_parent-requires-clause-few c =
     let fields = c.in-GraphPosition-ExtraEdgeIndex in
     let found = c.in_ok-get-in-GraphPosition-ExtraEdgeIndex in
     let at : found.field-0.now ≡ slice_index_or c.args.tallies.now fields.index None = found.ensures.lookup.3.1 None in
-    tallied_few (history_of c.args.self.now) c.args.span.stop fields.index c.args.span.file.now.edges fields.first _
-    (rw at (c.requires.tallies fields.index)) (span-opened c.args.self.now c.args.span c.requires.span).few_edges
+    let edges = c.args.span.file.now.edges in
+    tallied_few (history_of c.args.self.now) c.args.span.stop (second_parents (ExtraEdgeIndex fields.index) edges) _
+    (rw at (c.requires.tallies fields.index))
+    (second-few (ExtraEdgeIndex fields.index) edges (span-opened c.args.self.now c.args.span c.requires.span).few_edges)
 
 pub returns-in_ok-get-in-GraphPosition-ExtraEdgeIndex : goal.returns-in_ok-get-in-GraphPosition-ExtraEdgeIndex
 returns-in_ok-get-in-GraphPosition-ExtraEdgeIndex c =

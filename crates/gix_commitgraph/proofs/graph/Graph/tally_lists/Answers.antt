@@ -2,21 +2,26 @@ use Rattle.std.proofs.Common.{◌≡◌, Option, Some, IfSome, ap, ◌∙◌}
 use Rattle.graph_format.specs.Parents.{extra_parent, extra_edge_of, no_parents, listed}
 use Rattle.graph_format.specs.StoredHistory.{history_of}
 use Rattle.graph_format.specs.declared.parents.ExtraEdge.{ExtraEdge}
-use Rattle.gix_commitgraph.specs.ListedParents.{IsTallied}
+use Rattle.graph_layer.proofs.EdgeListLemmas.{passed_none, passed_more, passed_few, passed_all}
+use Rattle.gix_commitgraph.specs.ListedTallies.{IsTallied}
 use Rattle.gix_commitgraph.specs.declared.verify.commit.ParentTally.{ParentTally}
 use Rattle.gix_commitgraph.proofs.LayerSpanLemmas.{span-opened}
-use Rattle.gix_commitgraph.proofs.EdgeListLemmas.{no_parents_tallied, passed_none, passed_more, passed_few, passed_all}
+use Rattle.gix_commitgraph.proofs.EdgeListLemmas.{no_parents_tallied, tallied_few}
 use Rattle.gix_commitgraph.proofs.graph.Graph.tally_lists.Goals as goal
-use Rattle.gix_commitgraph.proofs.graph.Graph.tally_lists.Goals.{in-Internal, in-Last, in-Some+in-None, in_default}
+use Rattle.gix_commitgraph.proofs.graph.Graph.tally_lists.Goals.{in-Internal, in-Last, in-Some+in_ok-reserve+in-None, in_default}
 
 pub loop-word-init : goal.loop-word-init
-loop-word-init c = rw c.new-tallies.ensures.items (passed_none _ _ _)
+loop-word-init c =
+    rw (c.in_ok-reserve.ensures.items, c.new-tallies.ensures.items)
+    (passed_none (IsTallied (history_of c.args.self.now) c.args.span.stop) _)
 
 pub with_parent-listed-requires-clause-few : goal.with_parent-listed-requires-clause-few
 with_parent-listed-requires-clause-few c =
+    let before = c.loop-word.invariant in
     let all : c.into_iter-word-iterator.result.iter.rest.now ≡ c.in-Some.words.now = cc in
-    passed_few (history_of c.args.self.now) c.args.span.stop c.args.span.file.now.edges _ _ c.loop-word.listed _
-    c.loop-word.invariant (ap Some all ∙ c.in-Some.ensures) (span-opened c.args.self.now c.args.span c.requires).few_edges
+    tallied_few (history_of c.args.self.now) c.args.span.stop (listed before.passed) c.loop-word.listed before.last
+    (passed_few (IsTallied (history_of c.args.self.now) c.args.span.stop) c.args.span.file.now.edges _ _ c.loop-word.listed _ before
+    (ap Some all ∙ c.in-Some.ensures) (span-opened c.args.self.now c.args.span c.requires).few_edges)
 
 pub loop-word-preserved : goal.loop-word-preserved
 loop-word-preserved c =
@@ -32,16 +37,16 @@ loop-word-preserved c =
           (w.with_parent-listed-in-Last.ensures no_parents (no_parents_tallied history c.args.span.stop))
     ] in
     rw c.in_ok-push.ensures.items
-    (passed_more history c.args.span.stop _ _ _ c.loop-word.listed c.match-from_raw.listed _ c.in-Some-word.word.now before
-    c.in-Some-word.ensures.steps told)
+    (passed_more (IsTallied history c.args.span.stop) _ _ _ c.loop-word.listed c.match-from_raw.listed _ c.in-Some-word.word.now
+    before c.in-Some-word.ensures.steps told)
 
 pub returns : goal.returns
 returns c =
     elim c.match-extra_edges.branch [
-      | in-Some+in-None w ↦
+      | in-Some+in_ok-reserve+in-None w ↦
           let all : w.into_iter-word-iterator.result.iter.rest.now ≡ w.in-Some.words.now = cc in
           rw (w.tallies-is, w.reverse.ensures.items)
-          (passed_all (history_of c.args.self.now) c.args.span.stop c.args.span.file.now.edges _ _ _ _ w.loop-word.invariant
-          w.in-None.ensures.steps.0 (ap Some all ∙ w.in-Some.ensures))
+          (passed_all (IsTallied (history_of c.args.self.now) c.args.span.stop) c.args.span.file.now.edges _ _ _ _
+          w.loop-word.invariant w.in-None.ensures.steps.0 (ap Some all ∙ w.in-Some.ensures))
       | in_default w ↦ λ index. rw (w.tallies-is, c.new-tallies.ensures.items) tt
     ]

@@ -19,11 +19,11 @@ returns-in-Ok-clause-agrees g c =
     c.processor.new.self
     called c.in-Ok.ensures.1
 
-pub returns-in-Err-count_parents-clause-agrees : goal.returns-in-Err-count_parents-clause-agrees
-returns-in-Err-count_parents-clause-agrees g c =
+pub returns-in-Err-count_parents_by-clause-agrees : goal.returns-in-Err-count_parents_by-clause-agrees
+returns-in-Err-count_parents_by-clause-agrees g c =
     let commit = c.args.self.now in
     let called = called_there g.F.FnMut c.args.self _ _ _ c.in_default-processor.ensures in
     rw c.position-pos.ensures.value
     (refused_by_parents g.F.FnMut (commit_layer commit) (commit_pos commit) c.args.processor.now c.in_default.ensures
     c.processor.new.self
-    called c.in-Err-count_parents.error c.in-Err-count_parents.ensures)
+    called c.in-Err-count_parents_by.error c.in-Err-count_parents_by.ensures)

@@ -1,11 +1,11 @@
 -- what the parents come to that an extra edge list has
-use Rattle.std.specs.Prelude.{◌≡◌, ℕ, ◌<◌, List, All, Option, None, IfSome, length, map, slice_index_or}
+use Rattle.std.specs.Prelude.{◌≡◌, ℕ, ◌<◌, List, All, Option, None, length, map}
 use Rattle.graph_walks.specs.Counts.{greatest}
 use Rattle.graph_walks.specs.History.{Node, generation_at}
 use Rattle.graph_format.specs.Layer.{Layer}
-use Rattle.graph_format.specs.Parents.{DecodedParents, second_parents}
+use Rattle.graph_format.specs.Parents.{DecodedParents}
 use Rattle.graph_format.specs.StoredHistory.{history_of}
-use Rattle.graph_format.specs.declared.parents.ParentEdge.TheVariants.{ExtraEdgeIndex}
+use Rattle.graph_layer.specs.ListedParents.{AreListed}
 use Rattle.gix_commitgraph.specs.declared.verify.layer.LayerSpan.{LayerSpan}
 use Rattle.gix_commitgraph.specs.declared.verify.commit.ParentTally.{ParentTally}
 
@@ -17,9 +17,6 @@ pub record IsTallied (history : List Node) (stop : ℕ) (parents : DecodedParent
   pub count : tally.count ≡ length parents.positions
   pub max_generation : tally.max_generation ≡ greatest (map (generation_at history) (map (λ q. q.0) parents.positions))
 
--- For each word of a layer's extra edge list: if there is a tally, it is that of the parents that are listed from this word on.
-abbrev pub AreListed : List Layer → LayerSpan → List (Option ParentTally) → Type 0
-AreListed layers span tallies =
-    (index : ℕ)
-    → IfSome (slice_index_or tallies index None)
-    (IsTallied (history_of layers) span.stop (second_parents (ExtraEdgeIndex index) span.file.now.edges))
+-- The tallies of the words of a layer's extra edge list, each of the parents that are listed from its word on, where there is one.
+abbrev pub AreTallied : List Layer → LayerSpan → List (Option ParentTally) → Type 0
+AreTallied layers span tallies = AreListed (IsTallied (history_of layers) span.stop) span.file.now.edges tallies
