@@ -84,7 +84,8 @@ def report_git(folder, commits, baseline):
     print("git %.1f us, of which a process takes %.1f" % (taken * 1e6 / FIRST_PAIRS, idle * 1e6 / FIRST_PAIRS))
     _, walks, _, pruned = baseline["tenth"]
     whole, visits = baseline["whole"][0], baseline["whole"][3]
-    print("%d pairs: %d visits; without generation numbers %d, %.1f us a query" % (FIRST_PAIRS, pruned, visits, whole / FIRST_PAIRS / 1000))
+    unpruned = "%d, %.1f us a query" % (visits, whole / FIRST_PAIRS / 1000)
+    print("%d pairs: %d visits; without generation numbers %s" % (FIRST_PAIRS, pruned, unpruned))
     if yes != walks:
         print("git says yes %d times, and there are %d walks" % (yes, walks))
     return yes == walks
@@ -125,7 +126,9 @@ def git_commits(folder):
 
 def commit_of(place):
     """The lines from which `git fast-import` makes a commit."""
-    lines = ["commit refs/heads/main", "mark :%d" % (place + 1), "committer a <a> %d +0000" % (1_000_000_000 + 60 * place), "data 0"]
+    time_of_commit = 1_000_000_000 + 60 * place
+    lines = ["commit refs/heads/main", "mark :%d" % (place + 1)]
+    lines += ["committer a <a> %d +0000" % time_of_commit, "data 0"]
     for number, parent in enumerate(lookup.parents(place)):
         lines.append("%s :%d" % ("merge" if number else "from", parent + 1))
     return "\n".join(lines + ["", ""]).encode()
@@ -157,7 +160,8 @@ def our_program(folder):
     if os.path.exists(built):
         os.remove(built)
     # With no arguments the program says how it is called, and fails.
-    run = subprocess.run(["rt", "run"], cwd=crate, stdin=subprocess.DEVNULL, stdout=subprocess.PIPE, stderr=subprocess.STDOUT)
+    pipes = {"stdin": subprocess.DEVNULL, "stdout": subprocess.PIPE, "stderr": subprocess.STDOUT}
+    run = subprocess.run(["rt", "run"], cwd=crate, check=False, **pipes)
     if not os.path.exists(built):
         raise RuntimeError(run.stdout.decode())
     return built

@@ -193,19 +193,23 @@ def check_memory(program, tally, path):
     answer, or the stated line for want of memory. Where there is none for the words, they are no command."""
     content = built.line("sha1", COMMITS)
     write_bytes(path, content)
-    found = next(iter(reading.found(content, content[1080:1100])))
+    root, child = content[1080:1100], content[1100:1120]
+    found = next(iter(reading.found(content, root)))
+    opens, walks = "refused open 7\n", ("ancestor", path, root.hex(), child.hex())
     commands = {
-        "list": (("list",), reading.listed(content), ("refused read 3\n", "refused file 20\n")),
-        "verify": (("verify", path), reading.verified(content), ("refused open 7\n", "refused verify 10\n")),
-        "find": (("find", path, content[1080:1100].hex()), found, ("refused open 7\n",)),
+        "list": (("list",), 0, reading.listed(content), ("refused read 3\n", "refused file 20\n")),
+        "verify": (("verify", path), 0, reading.verified(content), (opens, "refused verify 10\n")),
+        "find": (("find", path, root.hex()), 0, found, (opens,)),
+        "ancestor": (walks, 1, "none\nvisits 0\n", (opens, "refused verify 10\n", "refused walk\n")),
     }
     least = least_memory(program)
     factor = (MOST_MEMORY / least) ** (1 / LIMITS)
-    for name, (words, text, wants) in commands.items():
+    for name, (words, status, text, wants) in commands.items():
         answers = [limited(program, words, path, int(least * factor**step)) for step in range(LIMITS + 1)]
-        wrong = [answer for answer in answers if not is_allowed(answer, text, wants)]
+        right = [(status, text), *((1, line) for line in wants)]
+        wrong = [answer for answer in answers if not is_allowed(answer, right)]
         complaint = "status %s, %r, %r" % (wrong[0].status, wrong[0].out[:60], wrong[0].err[:60]) if wrong else None
-        enough = judge.same(text, answers[-1]) or complaint
+        enough = judge.exactly(status, text, "", answers[-1]) or complaint
         tally.check("%s, 100,000 commits in %d to %d KiB" % (name, least >> 10, MOST_MEMORY >> 10), enough)
 
 
@@ -216,12 +220,11 @@ def limited(program, words, path, size):
         return program.run(*words, stdin=stdin, preexec_fn=limit)
 
 
-def is_allowed(answer, text, wants):
-    """Whether an answer is the text, or the line for want of memory, or says that the words are no command."""
+def is_allowed(answer, right):
+    """Whether an answer is one of these, each a status and a text, or says that the words are no command."""
     if (answer.status, answer.out, answer.err) == (2, b"", USAGE.encode()):
         return True
-    out = answer.out.decode()
-    return not answer.err and (answer.status, out) in [(0, text), *((1, line) for line in wants)]
+    return not answer.err and (answer.status, answer.out.decode()) in right
 
 
 def least_memory(program):
