@@ -253,10 +253,10 @@ def layer_of(ids, records, edges, bases):
     return with_trailer(struct.pack(">4s4B", b"CGPH", 1, 1, len(chunks), len(bases)) + table(chunks))
 
 
-def shared_layer(commits):
-    """The bytes of a layer in which all commits but the roots have the same list of further parents."""
+def shared_layer(commits, words=SHARED_WORDS):
+    """The bytes of a layer in which all commits but the roots have one list of further parents, of so many words a commit."""
     ids = sorted(digest("shared", place) for place in range(commits))
-    edges = [place % ROOTS for place in range(SHARED_WORDS * commits - 1)] + [TOP_BIT]
+    edges = [place % ROOTS for place in range(words * commits - 1)] + [TOP_BIT]
     root = struct.pack(">2IQ", NO_PARENT, NO_PARENT, 1 << 34)
     other = struct.pack(">2IQ", 0, TOP_BIT, 2 << 34)
     records = [name[::-1] + (root if pos < ROOTS else other) for pos, name in enumerate(ids)]

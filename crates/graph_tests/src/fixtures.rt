@@ -210,6 +210,38 @@ pub fn damaged_diamond(
     Ok(file)
 }
 
+/// Four commits, each on the one before. The third has two parents more, which are the words of the
+/// extra edge list.
+const SHARING: &[Row<'static>] = &[
+    (0x11, &[], 1),
+    (0x22, &[0], 2),
+    (0x33, &[1, 0, 1], 3),
+    (0x44, &[2], 4),
+];
+
+/// The file of four commits, each on the one before, of which the last two have these second parent
+/// fields, beside an extra edge list of these two words. Its checksum is right. The ids begin at
+/// byte 1092, the records, of 36 bytes each, at 1172, and the words at 1316.
+///
+/// # Errors
+///
+/// `AllocError` where an allocation failed.
+pub fn sharing(
+    rt: &impl Abort,
+    alloc: Global,
+    fields: [u32; 2],
+    words: [u32; 2],
+) -> Result<Vec<u8>, AllocError> {
+    let mut file = layer(rt, alloc, &[], SHARING)?;
+    assert!(rt; file.len() == 1344);
+    file[1268..1272].copy_from_slice(&fields[0].to_be_bytes());
+    file[1304..1308].copy_from_slice(&fields[1].to_be_bytes());
+    file[1316..1320].copy_from_slice(&words[0].to_be_bytes());
+    file[1320..1324].copy_from_slice(&words[1].to_be_bytes());
+    reseal(Kind::Sha1, &mut file);
+    Ok(file)
+}
+
 /// Compares the text of each value with the one beside it. Where two differ, the process aborts.
 ///
 /// # Errors

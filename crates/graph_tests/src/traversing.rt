@@ -1,4 +1,4 @@
-use crate::fixtures::{DIAMOND, Row, damaged_diamond, layer, opened};
+use crate::fixtures::{DIAMOND, Row, damaged_diamond, layer, opened, sharing};
 use gix_commitgraph::File;
 use gix_commitgraph::file::commit::ParentError;
 use gix_commitgraph::file::verify::{Outcome, TraverseError};
@@ -154,6 +154,46 @@ fn right_layers_pass(rt: HostRuntime) -> Result<(), Fail> {
         let outcome = outcome?;
         compare_outcome(&rt, &outcome, want, counts);
         assert_eq!(rt; outcome.try_clone()?, outcome);
+    }
+    Ok(())
+}
+
+/// The parent fields that point to the first and to the second word of an extra edge list.
+const FIRST: u32 = 0x8000_0000;
+
+const SECOND: u32 = 0x8000_0001;
+
+#[test]
+fn commits_of_a_layer_share_an_edge_list(rt: HostRuntime) -> Result<(), Fail> {
+    let alloc = rt.alloc();
+    let rows: [([u32; 2], &[(u32, u32)]); 3] = [
+        ([FIRST, FIRST], &[(0, 1), (1, 1), (3, 2)]),
+        ([FIRST, SECOND], &[(0, 1), (1, 1), (2, 1), (3, 1)]),
+        ([SECOND, FIRST], &[(0, 1), (1, 1), (2, 1), (3, 1)]),
+    ];
+    for (fields, counts) in rows {
+        let bytes = sharing(&rt, alloc, fields, [9, 0x8000_0009])?;
+        let file = opened(alloc, bytes, "commit-graph")?;
+        let (outcome, _, _) = checked(alloc, &file, Ok(()));
+        compare_outcome(&rt, &outcome?, (4, 1, 3, 4), counts);
+    }
+    Ok(())
+}
+
+#[test]
+fn a_shared_edge_list_runs_out(rt: HostRuntime) -> Result<(), Fail> {
+    let alloc = rt.alloc();
+    let error = ParentError::EdgeOverflow;
+    let rows: [([u32; 2], [u32; 2], u32); 3] = [
+        ([FIRST, FIRST], [0, 1], 2),
+        ([FIRST, SECOND], [0x8000_0000, 1], 3),
+        ([FIRST, 0x8000_0002], [0, 0x8000_0001], 3),
+    ];
+    for (fields, words, place) in rows {
+        let bytes = sharing(&rt, alloc, fields, words)?;
+        let pos = Position(place);
+        let want = Some(TraverseError::Parent { pos, error });
+        compare(&rt, alloc, &bytes, (want, place + 1))?;
     }
     Ok(())
 }

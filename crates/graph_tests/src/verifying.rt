@@ -1,4 +1,4 @@
-use crate::fixtures::{DIAMOND, Row, damaged_diamond, layer, opened};
+use crate::fixtures::{DIAMOND, Row, damaged_diamond, layer, opened, sharing};
 use gix_commitgraph::file::Commit;
 use gix_commitgraph::file::commit::ParentError;
 use gix_commitgraph::verify::{CommitFault, LayerFault, Outcome, VerifyError};
@@ -248,6 +248,71 @@ fn damaged_layers_are_refused(rt: HostRuntime) -> Result<(), Fail> {
         let graph = graph_of_one(alloc, opened(alloc, bytes, "commit-graph")?)?;
         compare_refusal(&rt, alloc, &graph, error, calls);
     }
+    Ok(())
+}
+
+/// The parent fields that point to the first and to the second word of an extra edge list, and the
+/// first one past two words.
+const FIRST: u32 = 0x8000_0000;
+
+const SECOND: u32 = 0x8000_0001;
+
+const PAST: u32 = 0x8000_0002;
+
+/// A last parent, at position 1.
+const LAST: u32 = 0x8000_0001;
+
+#[test]
+fn commits_share_an_edge_list(rt: HostRuntime) -> Result<(), Fail> {
+    let alloc = rt.alloc();
+    let rows: [([u32; 2], &[(u32, u32)]); 3] = [
+        ([FIRST, FIRST], &[(0, 1), (1, 1), (3, 2)]),
+        ([FIRST, SECOND], &[(0, 1), (1, 1), (2, 1), (3, 1)]),
+        ([SECOND, FIRST], &[(0, 1), (1, 1), (2, 1), (3, 1)]),
+    ];
+    for (fields, counts) in rows {
+        let bytes = sharing(&rt, alloc, fields, [0, LAST])?;
+        let graph = graph_of_one(alloc, opened(alloc, bytes, "commit-graph")?)?;
+        compare_outcome(&rt, alloc, &graph, Some(3), counts)?;
+    }
+    Ok(())
+}
+
+#[test]
+fn a_word_of_a_shared_edge_list_is_refused(rt: HostRuntime) -> Result<(), Fail> {
+    let alloc = rt.alloc();
+    let out_of_range = |pos: u32, parent: u32| {
+        let (pos, parent) = (Position(pos), Position(parent));
+        VerifyError::ParentOutOfRange { pos, parent }
+    };
+    let overflow = |pos: u32| {
+        let (pos, error) = (Position(pos), ParentError::EdgeOverflow);
+        VerifyError::Parent { pos, error }
+    };
+    let rows: [([u32; 2], [u32; 2], VerifyError<Refused>, usize); 6] = [
+        ([FIRST, FIRST], [0, 0x8000_0009], out_of_range(2, 9), 2),
+        ([SECOND, FIRST], [9, LAST], out_of_range(3, 9), 3),
+        ([FIRST, FIRST], [9, 1], out_of_range(2, 9), 2),
+        ([FIRST, FIRST], [1, 9], out_of_range(2, 9), 2),
+        ([FIRST, FIRST], [0, 1], overflow(2), 2),
+        ([FIRST, PAST], [0, LAST], overflow(3), 3),
+    ];
+    for (fields, words, want, calls) in rows {
+        let bytes = sharing(&rt, alloc, fields, words)?;
+        let graph = graph_of_one(alloc, opened(alloc, bytes, "commit-graph")?)?;
+        compare_refusal(&rt, alloc, &graph, want, calls);
+    }
+    Ok(())
+}
+
+#[test]
+fn the_greatest_generation_stands_in_a_shared_edge_list(rt: HostRuntime) -> Result<(), Fail> {
+    let alloc = rt.alloc();
+    let bytes = sharing(&rt, alloc, [SECOND, FIRST], [3, LAST])?;
+    let graph = graph_of_one(alloc, opened(alloc, bytes, "commit-graph")?)?;
+    let (pos, expected) = (Position(3), 5);
+    let want = VerifyError::Generation { pos, expected };
+    compare_refusal(&rt, alloc, &graph, want, 3);
     Ok(())
 }
 
