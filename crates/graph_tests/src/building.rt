@@ -1,6 +1,8 @@
 use crate::fixtures::{DIAMOND, Row, bare, built, layer, opened, planned};
 use gix_commitgraph::file;
 use gix_hash_core::{Kind, ObjectId};
+use std::alloc::{AllocError, Global};
+use std::process::Abort;
 use std::test::Fail;
 
 /// Whether these bytes stand there.
@@ -8,63 +10,89 @@ fn has_at(file: &[u8], at: usize, bytes: &[u8]) -> bool {
     file.get(at..).is_some_and(|rest| rest.starts_with(bytes))
 }
 
-#[test]
-fn files_have_their_sizes(rt: HostRuntime) -> Result<(), Fail> {
-    let rows: [(&[Row<'_>], usize); 6] = [
-        (&[], 1100),
-        (&[(0x11, &[], 1)], 1156),
-        (&[(0x11, &[0, 0], 1)], 1156),
-        (DIAMOND, 1324),
-        (&[(0x11, &[5, 3, 2], 1)], 1176),
-        (
-            &[
-                (0x11, &[], 1),
-                (0x22, &[0], 2),
-                (0x33, &[1], 3),
-                (0x44, &[0, 0, 2], 4),
-            ],
-            1344,
-        ),
-    ];
+/// The commits of a layer, and the size of its file.
+const SIZES: &[(&[Row<'static>], usize)] = &[
+    (&[], 1100),
+    (&[(0x11, &[], 1)], 1156),
+    (&[(0x11, &[0, 0], 1)], 1156),
+    (DIAMOND, 1324),
+    (&[(0x11, &[5, 3, 2], 1)], 1176),
+    (
+        &[
+            (0x11, &[], 1),
+            (0x22, &[0], 2),
+            (0x33, &[1], 3),
+            (0x44, &[0, 0, 2], 4),
+        ],
+        1344,
+    ),
+];
+
+/// Compares the sizes of files.
+fn compare_sizes(
+    rt: &impl Abort,
+    alloc: Global,
+    rows: &[(&[Row<'_>], usize)],
+) -> Result<(), AllocError> {
     for (commits, size) in rows {
-        assert_eq!(rt; layer(&rt, rt.alloc(), &[], commits)?.len(), size);
+        assert_eq!(rt; layer(rt, alloc, &[], commits)?.len(), *size);
     }
     Ok(())
 }
 
 #[test]
+fn files_have_their_sizes(rt: HostRuntime) -> Result<(), Fail> {
+    Ok(compare_sizes(&rt, rt.alloc(), SIZES)?)
+}
+
+/// Compares the size of the file of these commits, and some of its bytes, each with its place.
+fn compare_bytes(
+    rt: &impl Abort,
+    alloc: Global,
+    commits: &[Row<'_>],
+    size: usize,
+    bytes: &[(usize, &[u8])],
+) -> Result<(), Fail> {
+    let file = layer(rt, alloc, &[], commits)?;
+    assert_eq!(rt; file.len(), size);
+    for (at, bytes) in bytes {
+        assert!(rt; has_at(&file, *at, bytes), "at {at}");
+    }
+    Ok(())
+}
+
+const FIVE_THREE_TWO: &[(usize, &[u8])] = &[
+    (44, b"EDGE\0\0\0\0\0\0\x04\x7c"),
+    (1132, b"\0\0\0\x05\x80\0\0\0\0\0\0\x04\0\0\0\x07"),
+    (1148, b"\0\0\0\x03\x80\0\0\x02"),
+];
+
+const TWO_LISTS: &[(usize, &[u8])] = &[
+    (1156, b"\x80\0\0\0"),
+    (1192, b"\x80\0\0\x03"),
+    (
+        1204,
+        b"\0\0\0\x08\0\0\0\x07\x80\0\0\x06\0\0\0\x02\x80\0\0\x03",
+    ),
+];
+
+#[test]
 fn extra_words_stand_in_their_places(rt: HostRuntime) -> Result<(), Fail> {
     let rows: &[Row<'_>] = &[(0x11, &[5, 3, 2], 1)];
-    let file = layer(&rt, rt.alloc(), &[], rows)?;
-    assert_eq!(rt; file.len(), 1176);
-    assert!(rt; has_at(&file, 44, b"EDGE\0\0\0\0\0\0\x04\x7c"));
-    assert!(rt; has_at(&file, 1132, b"\0\0\0\x05\x80\0\0\0\0\0\0\x04\0\0\0\x07"));
-    assert!(rt; has_at(&file, 1148, b"\0\0\0\x03\x80\0\0\x02"));
+    compare_bytes(&rt, rt.alloc(), rows, 1176, FIVE_THREE_TWO)?;
     let rows: &[Row<'_>] = &[(0x11, &[9, 8, 7, 6], 1), (0x22, &[1, 2, 3], 1)];
-    let file = layer(&rt, rt.alloc(), &[], rows)?;
-    assert_eq!(rt; file.len(), 1244);
-    assert!(rt; has_at(&file, 1156, b"\x80\0\0\0"));
-    assert!(rt; has_at(&file, 1192, b"\x80\0\0\x03"));
-    assert!(rt;
-        has_at(
-            &file,
-            1204,
-            b"\0\0\0\x08\0\0\0\x07\x80\0\0\x06\0\0\0\x02\x80\0\0\x03"
-        )
-    );
-    Ok(())
+    compare_bytes(&rt, rt.alloc(), rows, 1244, TWO_LISTS)
 }
 
 #[test]
 fn base_ids_follow_the_records(rt: HostRuntime) -> Result<(), Fail> {
     let plan = bare(rt.alloc(), Kind::Sha256, &[ObjectId::from([0x33; 32])])?;
     let bytes = built(&rt, rt.alloc(), &plan)?;
-    assert_eq!(rt; bytes.len(), 1156);
+    assert!(rt; bytes.len() == 1156);
     assert!(rt; has_at(&bytes, 44, b"BASE\0\0\0\0\0\0\x04\x44"));
     assert!(rt; has_at(&bytes, 1092, &[0x33; 32]));
     let file = opened(rt.alloc(), bytes, "")?;
-    assert_eq!(rt; file.object_hash(), Kind::Sha256);
-    assert_eq!(rt; file.base_graph_count(), 1);
+    assert!(rt; file.object_hash() == Kind::Sha256 && file.base_graph_count() == 1);
     Ok(())
 }
 
@@ -77,15 +105,11 @@ fn a_built_file_opens_as_planned(rt: HostRuntime) -> Result<(), Fail> {
     let bytes = built(&rt, rt.alloc(), &plan)?;
     assert!(rt; has_at(&bytes, 1140, b"\0\0\0\x07\xff\xff\xff\xff"));
     let file = opened(rt.alloc(), bytes, "")?;
-    assert_eq!(rt; file.num_commits(), 1);
+    assert!(rt; file.num_commits() == 1);
     let commit = file.commit_at(file::Position(0));
-    assert_eq!(rt; commit.id().to_owned(), ObjectId::from([0x11; 20]));
-    assert_eq!(rt;
-        commit.root_tree_id().to_owned(),
-        ObjectId::from([0x99; 20])
-    );
-    assert_eq!(rt; commit.generation(), 1);
-    assert_eq!(rt; commit.committer_timestamp(), 17179869183);
+    assert!(rt; commit.id().to_owned() == ObjectId::from([0x11; 20]));
+    assert!(rt; commit.root_tree_id().to_owned() == ObjectId::from([0x99; 20]));
+    assert!(rt; commit.generation() == 1 && commit.committer_timestamp() == 17179869183);
     Ok(())
 }
 

@@ -1,7 +1,8 @@
 use crate::fixtures::{DIAMOND, Row, layer};
+use gix_commitgraph::opening::OpenError;
 use gix_commitgraph::{File, Graph, at};
 use gix_hash_core::ObjectId;
-use std::alloc::Global;
+use std::alloc::{AllocError, Global};
 use std::fs;
 use std::process::Abort;
 use std::rt::Files;
@@ -53,65 +54,96 @@ fn write_all<R: Files + Abort>(rt: &R, alloc: Global) -> Result<(), Fail> {
     write_chain(rt, alloc, &[lower, upper])
 }
 
+/// The number of commits that an opener found, or its refusal.
+fn text_of(alloc: Global, answer: &Result<u32, OpenError>) -> Result<String, AllocError> {
+    match answer {
+        Ok(commits) => format!(in alloc; "{commits} | "),
+        Err(error) => format!(in alloc; "{error:?} | "),
+    }
+}
+
+/// Adds to a text the number of commits of a graph that was opened, or the refusal.
+fn tell(
+    text: &mut String,
+    alloc: Global,
+    answer: Result<Graph, OpenError>,
+) -> Result<(), AllocError> {
+    let answer = answer.map(|graph| graph.num_commits());
+    text.push_str(&text_of(alloc, &answer)?)
+}
+
 /// The number of commits that each opener finds at a path, or its refusal: both that take any path,
 /// that of a file, of an info folder and of a chain folder, and that of a layer alone.
-fn answers<R: Files>(rt: &R, alloc: Global, name: &str) -> Result<String, Fail> {
+fn answers<R: Files>(rt: &R, alloc: Global, name: &str) -> Result<String, AllocError> {
     let path = format!(in alloc; "{TOP}/{name}")?;
     let path = path.as_str();
     let mut text = String::new(alloc);
-    for answer in [
-        at(rt, alloc, path).map(|graph| graph.num_commits()),
-        Graph::at(rt, alloc, path).map(|graph| graph.num_commits()),
-        Graph::from_file(rt, alloc, path).map(|graph| graph.num_commits()),
-        Graph::from_info_dir(rt, alloc, path).map(|graph| graph.num_commits()),
-        Graph::from_commit_graphs_dir(rt, alloc, path).map(|graph| graph.num_commits()),
-        File::at(rt, alloc, path).map(|file| file.num_commits()),
-    ] {
-        let part = match answer {
-            Ok(commits) => format!(in alloc; "{commits} | ")?,
-            Err(error) => format!(in alloc; "{error:?} | ")?,
-        };
-        text.push_str(&part)?;
-    }
+    tell(&mut text, alloc, at(rt, alloc, path))?;
+    tell(&mut text, alloc, Graph::at(rt, alloc, path))?;
+    tell(&mut text, alloc, Graph::from_file(rt, alloc, path))?;
+    tell(&mut text, alloc, Graph::from_info_dir(rt, alloc, path))?;
+    tell(
+        &mut text,
+        alloc,
+        Graph::from_commit_graphs_dir(rt, alloc, path),
+    )?;
+    let layer = File::at(rt, alloc, path).map(|file| file.num_commits());
+    text.push_str(&text_of(alloc, &layer)?)?;
     Ok(text)
 }
+
+/// Compares what the openers answer at paths.
+fn compare_answers<R: Files + Abort>(
+    rt: &R,
+    alloc: Global,
+    rows: &[(&str, &str)],
+) -> Result<(), AllocError> {
+    for (name, want) in rows {
+        let answers = answers(rt, alloc, name)?;
+        assert_eq!(rt; answers.as_str(), *want, "{name}");
+    }
+    Ok(())
+}
+
+/// Names, and what the openers answer there.
+const ANSWERS: &[(&str, &str)] = &[
+    ("file", "4 | 4 | 4 | NotOpened | NotOpened | 4 | "),
+    ("info", "1 | 1 | NotOpened | 1 | NotOpened | NotOpened | "),
+    (
+        "info/commit-graphs",
+        "5 | 5 | NotOpened | NotOpened | 5 | NotOpened | ",
+    ),
+    (
+        "signature",
+        "Layer { layer: 0, error: Signature } | Layer { layer: 0, error: Signature } | \
+         Layer { layer: 0, error: Signature } | NotOpened | NotOpened | \
+         Layer { layer: 0, error: Signature } | ",
+    ),
+    (
+        "short",
+        "Layer { layer: 0, error: TooSmall } | Layer { layer: 0, error: TooSmall } | \
+         Layer { layer: 0, error: TooSmall } | NotOpened | NotOpened | \
+         Layer { layer: 0, error: TooSmall } | ",
+    ),
+    (
+        "missing",
+        "NothingFound | NothingFound | NotOpened | NotOpened | NotOpened | NotOpened | ",
+    ),
+];
+
+const WITH_DAMAGED_FILE: &[(&str, &str)] = &[(
+    "info",
+    "5 | 5 | NotOpened | 5 | NotOpened | NotOpened | ",
+)];
 
 #[test]
 fn each_opener_at_each_kind_of_path(rt: HostRuntime) -> Result<(), Fail> {
     let alloc = rt.alloc();
     let _ = fs::remove_dir_all(&rt, TOP);
     write_all(&rt, alloc)?;
-    let rows = [
-        ("file", "4 | 4 | 4 | NotOpened | NotOpened | 4 | "),
-        ("info", "1 | 1 | NotOpened | 1 | NotOpened | NotOpened | "),
-        (
-            "info/commit-graphs",
-            "5 | 5 | NotOpened | NotOpened | 5 | NotOpened | ",
-        ),
-        (
-            "signature",
-            "Layer { layer: 0, error: Signature } | Layer { layer: 0, error: Signature } | \
-             Layer { layer: 0, error: Signature } | NotOpened | NotOpened | \
-             Layer { layer: 0, error: Signature } | ",
-        ),
-        (
-            "short",
-            "Layer { layer: 0, error: TooSmall } | Layer { layer: 0, error: TooSmall } | \
-             Layer { layer: 0, error: TooSmall } | NotOpened | NotOpened | \
-             Layer { layer: 0, error: TooSmall } | ",
-        ),
-        (
-            "missing",
-            "NothingFound | NothingFound | NotOpened | NotOpened | NotOpened | NotOpened | ",
-        ),
-    ];
-    for (name, want) in rows {
-        let answers = answers(&rt, alloc, name)?;
-        assert_eq!(rt; answers.as_str(), want, "{name}");
-    }
+    compare_answers(&rt, alloc, ANSWERS)?;
     write(&rt, alloc, "info/commit-graph", &[0; 1099])?;
-    let want = "5 | 5 | NotOpened | 5 | NotOpened | NotOpened | ";
-    assert_eq!(rt; answers(&rt, alloc, "info")?.as_str(), want);
+    compare_answers(&rt, alloc, WITH_DAMAGED_FILE)?;
     fs::remove_dir_all(&rt, TOP)?;
     Ok(())
 }

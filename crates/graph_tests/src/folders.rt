@@ -48,21 +48,43 @@ fn info_folder(rt: &impl Abort, alloc: Global) -> Result<Memory, AllocError> {
 }
 
 /// Asserts that an opener answers a graph of so many commits, or this refusal.
-fn assert_answer(rt: &impl Abort, answer: Result<Graph, OpenError>, want: Result<u32, OpenError>) {
-    let commits = match answer {
-        Ok(graph) => Ok(graph.num_commits()),
-        Err(error) => Err(error),
-    };
-    assert_eq!(rt; commits, want);
+fn assert_answer(rt: &impl Abort, answer: Result<Graph, OpenError>, want: &Result<u32, OpenError>) {
+    let commits = answer.map(|graph| graph.num_commits());
+    assert_eq!(rt; commits, *want);
 }
 
-/// The first bytes of the graph's ids, in order.
-fn first_bytes(alloc: Global, graph: &Graph) -> Result<Vec<u8>, AllocError> {
-    let mut bytes = Vec::new(alloc);
-    for id in graph.iter_ids() {
-        bytes.push(id.first_byte())?;
+/// Whether the graph's ids begin with these bytes, in order.
+fn has_first_bytes(graph: &Graph, bytes: &[u8]) -> bool {
+    graph
+        .iter_ids()
+        .map(|id| id.first_byte())
+        .eq(bytes.iter().copied())
+}
+
+/// A chain file, and the first bytes of the ids of the graph that it makes.
+type Chain = (&'static [u8], &'static [u8]);
+
+const CHAINS: &[Chain] = &[
+    (b"aa\r\n\nbb", &[3, 2, 1]),
+    (b"a\r", &[4]),
+    (b"bb\naa\n", &[1, 3]),
+];
+
+/// Compares the commits of the graphs of chains, by either opener.
+fn compare_chains(
+    rt: &impl Abort,
+    alloc: Global,
+    memory: &mut Memory,
+    rows: &[Chain],
+) -> Result<(), Fail> {
+    for (chain, want) in rows {
+        put_text(memory, alloc, "c/commit-graph-chain", chain)?;
+        let graph = open_chain_dir_in(alloc, memory, "c")?;
+        assert!(rt; has_first_bytes(&graph, want));
+        let graph = open_in(alloc, memory, "c")?;
+        assert!(rt; has_first_bytes(&graph, want));
     }
-    Ok(bytes)
+    Ok(())
 }
 
 #[test]
@@ -70,19 +92,42 @@ fn a_chain_has_the_layers_of_its_lines(rt: HostRuntime) -> Result<(), Fail> {
     let alloc = rt.alloc();
     let mut memory = Memory::new(alloc);
     put_chain(&rt, &mut memory, alloc, "c")?;
-    let file = root(&rt, alloc, 4)?;
-    put(&mut memory, alloc, "c/graph-a\r.graph", file)?;
-    let rows: [(&[u8], &[u8]); 3] = [
-        (b"aa\r\n\nbb", &[3, 2, 1]),
-        (b"a\r", &[4]),
-        (b"bb\naa\n", &[1, 3]),
-    ];
-    for (chain, want) in rows {
-        put_text(&mut memory, alloc, "c/commit-graph-chain", chain)?;
-        let graph = open_chain_dir_in(alloc, &mut memory, "c")?;
-        assert_eq!(rt; first_bytes(alloc, &graph)?.as_slice(), want);
-        let graph = open_in(alloc, &mut memory, "c")?;
-        assert_eq!(rt; first_bytes(alloc, &graph)?.as_slice(), want);
+    put(
+        &mut memory,
+        alloc,
+        "c/graph-a\r.graph",
+        root(&rt, alloc, 4)?,
+    )?;
+    compare_chains(&rt, alloc, &mut memory, CHAINS)
+}
+
+/// A chain file, and its refusal.
+type RefusedChain = (&'static [u8], Result<u32, OpenError>);
+
+const REFUSED_CHAINS: &[RefusedChain] = &[
+    (b"aa\nmissing", Err(OpenError::NotOpened)),
+    (
+        b"aa\n\nbb\n",
+        Err(OpenError::Layer {
+            layer: 1,
+            error: FileError::TooSmall,
+        }),
+    ),
+    (b"", Err(OpenError::Graph(GraphError::NoFiles))),
+    (b"\xff\n", Err(OpenError::ChainNotText { line: 0 })),
+    (b"aa\n\xff\n", Err(OpenError::ChainNotText { line: 1 })),
+];
+
+/// Compares the refusals of chains.
+fn compare_refused_chains(
+    rt: &impl Abort,
+    alloc: Global,
+    memory: &mut Memory,
+    rows: &[RefusedChain],
+) -> Result<(), Fail> {
+    for (text, want) in rows {
+        put_text(memory, alloc, "c/commit-graph-chain", text)?;
+        assert_answer(rt, open_in(alloc, memory, "c"), want);
     }
     Ok(())
 }
@@ -93,19 +138,8 @@ fn chains_are_refused(rt: HostRuntime) -> Result<(), Fail> {
     let mut memory = Memory::new(alloc);
     put_chain(&rt, &mut memory, alloc, "c")?;
     put_text(&mut memory, alloc, "c/graph-.graph", &[0; 1099])?;
-    let (layer, error) = (1, FileError::TooSmall);
-    let rows: [(&[u8], OpenError); 5] = [
-        (b"aa\nmissing", OpenError::NotOpened),
-        (b"aa\n\nbb\n", OpenError::Layer { layer, error }),
-        (b"", OpenError::Graph(GraphError::NoFiles)),
-        (b"\xff\n", OpenError::ChainNotText { line: 0 }),
-        (b"aa\n\xff\n", OpenError::ChainNotText { line: 1 }),
-    ];
-    for (text, want) in rows {
-        put_text(&mut memory, alloc, "c/commit-graph-chain", text)?;
-        assert_answer(&rt, open_in(alloc, &mut memory, "c"), Err(want));
-    }
-    assert_eq!(rt; memory.failures(), 0);
+    compare_refused_chains(&rt, alloc, &mut memory, REFUSED_CHAINS)?;
+    assert!(rt; memory.failures() == 0);
     Ok(())
 }
 
@@ -113,15 +147,12 @@ fn chains_are_refused(rt: HostRuntime) -> Result<(), Fail> {
 fn what_does_not_stand_there_is_not_opened(rt: HostRuntime) -> Result<(), Fail> {
     let alloc = rt.alloc();
     let mut memory = Memory::new(alloc);
-    let nothing = open_in(alloc, &mut memory, "i");
-    assert_answer(&rt, nothing, Err(OpenError::NothingFound));
+    let (nothing, refused) = (Err(OpenError::NothingFound), Err(OpenError::NotOpened));
+    assert_answer(&rt, open_in(alloc, &mut memory, "i"), &nothing);
     memory.put_dir(String::from_str(alloc, "i")?)?;
-    let by_kind = open_in(alloc, &mut memory, "i");
-    assert_answer(&rt, by_kind, Err(OpenError::NotOpened));
-    let as_info_folder = open_info_dir_in(alloc, &mut memory, "i");
-    assert_answer(&rt, as_info_folder, Err(OpenError::NotOpened));
-    let as_file = open_file_in(alloc, &mut memory, "i");
-    assert_answer(&rt, as_file, Err(OpenError::NotOpened));
+    assert_answer(&rt, open_in(alloc, &mut memory, "i"), &refused);
+    assert_answer(&rt, open_info_dir_in(alloc, &mut memory, "i"), &refused);
+    assert_answer(&rt, open_file_in(alloc, &mut memory, "i"), &refused);
     Ok(())
 }
 
@@ -129,12 +160,12 @@ fn what_does_not_stand_there_is_not_opened(rt: HostRuntime) -> Result<(), Fail> 
 fn a_damaged_file_leaves_the_chain(rt: HostRuntime) -> Result<(), Fail> {
     let alloc = rt.alloc();
     let mut memory = info_folder(&rt, alloc)?;
-    assert_answer(&rt, open_info_dir_in(alloc, &mut memory, "i"), Ok(3));
-    assert_answer(&rt, open_in(alloc, &mut memory, "i"), Ok(3));
+    assert_answer(&rt, open_info_dir_in(alloc, &mut memory, "i"), &Ok(3));
+    assert_answer(&rt, open_in(alloc, &mut memory, "i"), &Ok(3));
     let file = layer(&rt, alloc, &[], DIAMOND)?;
     put(&mut memory, alloc, "i/commit-graph", file)?;
-    assert_answer(&rt, open_info_dir_in(alloc, &mut memory, "i"), Ok(4));
-    assert_answer(&rt, open_in(alloc, &mut memory, "i"), Ok(4));
+    assert_answer(&rt, open_info_dir_in(alloc, &mut memory, "i"), &Ok(4));
+    assert_answer(&rt, open_in(alloc, &mut memory, "i"), &Ok(4));
     Ok(())
 }
 
@@ -144,56 +175,84 @@ fn a_file_is_opened_alone(rt: HostRuntime) -> Result<(), Fail> {
     let mut memory = info_folder(&rt, alloc)?;
     let (layer, error) = (0, FileError::TooSmall);
     let damaged = open_file_in(alloc, &mut memory, "i/commit-graph");
-    assert_answer(&rt, damaged, Err(OpenError::Layer { layer, error }));
+    assert_answer(&rt, damaged, &Err(OpenError::Layer { layer, error }));
     memory.fail_read(0);
     let failed = open_file_in(alloc, &mut memory, "i/commit-graphs/graph-aa.graph");
-    assert_answer(&rt, failed, Err(OpenError::Device));
-    assert_eq!(rt; memory.failures(), 1);
+    assert_answer(&rt, failed, &Err(OpenError::Device));
+    assert!(rt; memory.failures() == 1);
+    Ok(())
+}
+
+/// The number of the read that fails, what opening an info folder then answers, and how many reads
+/// failed.
+type FailedRead = (u32, Result<u32, OpenError>, u64);
+
+const FAILED_READS: &[FailedRead] = &[
+    (0, Ok(3), 1),
+    (1, Err(OpenError::Device), 1),
+    (2, Err(OpenError::Device), 1),
+    (3, Err(OpenError::Device), 1),
+    (4, Err(OpenError::Device), 1),
+    (5, Ok(3), 0),
+];
+
+/// Compares the answers where a read fails.
+fn compare_failed_reads(rt: &impl Abort, alloc: Global, rows: &[FailedRead]) -> Result<(), Fail> {
+    for (read, want, failures) in rows {
+        let mut memory = info_folder(rt, alloc)?;
+        memory.fail_read(*read);
+        assert_answer(rt, open_info_dir_in(alloc, &mut memory, "i"), want);
+        assert!(rt; memory.failures() == *failures, "read {read}");
+    }
     Ok(())
 }
 
 #[test]
 fn a_failed_read_is_device(rt: HostRuntime) -> Result<(), Fail> {
-    let alloc = rt.alloc();
-    for (read, want, failures) in [
-        (0, Ok(3), 1),
-        (1, Err(OpenError::Device), 1),
-        (2, Err(OpenError::Device), 1),
-        (3, Err(OpenError::Device), 1),
-        (4, Err(OpenError::Device), 1),
-        (5, Ok(3), 0),
-    ] {
-        let mut memory = info_folder(&rt, alloc)?;
-        memory.fail_read(read);
-        assert_answer(&rt, open_info_dir_in(alloc, &mut memory, "i"), want);
-        assert_eq!(rt; memory.failures(), failures, "read {read}");
+    compare_failed_reads(&rt, rt.alloc(), FAILED_READS)
+}
+
+const REFUSED_AFTER_FAILED_READ: &[RefusedChain] = &[
+    (
+        b"aa\nshort\n",
+        Err(OpenError::Layer {
+            layer: 1,
+            error: FileError::TooSmall,
+        }),
+    ),
+    (b"aa\nmissing\n", Err(OpenError::NotOpened)),
+    (b"aa\n\xff\n", Err(OpenError::ChainNotText { line: 1 })),
+    (b"", Err(OpenError::Graph(GraphError::NoFiles))),
+];
+
+/// An info folder with this chain, in which one layer is too short and the first read fails.
+fn with_failed_read(rt: &impl Abort, alloc: Global, chain: &[u8]) -> Result<Memory, AllocError> {
+    let mut memory = info_folder(rt, alloc)?;
+    let path = "i/commit-graphs/commit-graph-chain";
+    put_text(&mut memory, alloc, path, chain)?;
+    let path = "i/commit-graphs/graph-short.graph";
+    put_text(&mut memory, alloc, path, &[0; 1099])?;
+    memory.fail_read(0);
+    Ok(memory)
+}
+
+/// Compares the refusals of chains after a failed read.
+fn compare_after_failed_read(
+    rt: &impl Abort,
+    alloc: Global,
+    rows: &[RefusedChain],
+) -> Result<(), Fail> {
+    for (chain, want) in rows {
+        let mut memory = with_failed_read(rt, alloc, chain)?;
+        assert_answer(rt, open_info_dir_in(alloc, &mut memory, "i"), want);
+        assert!(rt; memory.failures() == 1);
     }
     Ok(())
 }
 
 #[test]
 fn a_refused_chain_decides_after_a_failed_read(rt: HostRuntime) -> Result<(), Fail> {
-    let alloc = rt.alloc();
-    let (layer, error) = (1, FileError::TooSmall);
-    let rows: [(&[u8], OpenError); 4] = [
-        (b"aa\nshort\n", OpenError::Layer { layer, error }),
-        (b"aa\nmissing\n", OpenError::NotOpened),
-        (b"aa\n\xff\n", OpenError::ChainNotText { line: 1 }),
-        (b"", OpenError::Graph(GraphError::NoFiles)),
-    ];
-    let (chain_file, short) = (
-        "i/commit-graphs/commit-graph-chain",
-        "i/commit-graphs/graph-short.graph",
-    );
-    for (chain, want) in rows {
-        let mut memory = info_folder(&rt, alloc)?;
-        put_text(&mut memory, alloc, chain_file, chain)?;
-        put_text(&mut memory, alloc, short, &[0; 1099])?;
-        memory.fail_read(0);
-        assert_answer(&rt, open_info_dir_in(alloc, &mut memory, "i"), Err(want));
-        assert_eq!(rt; memory.failures(), 1);
-    }
-    Ok(())
+    compare_after_failed_read(&rt, rt.alloc(), REFUSED_AFTER_FAILED_READ)
 }
 
 #[test]
@@ -205,8 +264,8 @@ fn running_out_of_memory_is_no_damage(rt: HostRuntime) -> Result<(), Fail> {
             reads_before: read,
         };
         let answer = open_info_dir_in(alloc, &mut folder, "i");
-        assert_answer(&rt, answer, Err(OpenError::OutOfMemory));
-        assert_eq!(rt; folder.failures(), 0, "read {read}");
+        assert_answer(&rt, answer, &Err(OpenError::OutOfMemory));
+        assert!(rt; folder.failures() == 0, "read {read}");
     }
     Ok(())
 }

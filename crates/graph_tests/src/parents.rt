@@ -4,6 +4,7 @@ use crate::fixtures::{one_commit, opened};
 use gix_commitgraph::file::commit::ParentError;
 use gix_commitgraph::{Position, file};
 use std::alloc::Global;
+use std::process::Abort;
 use std::test::Fail;
 
 /// The hint before each item, and the items. It calls the trait's `next`, where a call on a
@@ -27,29 +28,39 @@ where
     Ok(text)
 }
 
-#[test]
-fn generations_and_times(rt: HostRuntime) -> Result<(), Fail> {
-    let rows: [(&[u8; 16], u32, u64); 3] = [
-        (
-            b"\x70\0\0\0\x70\0\0\0\0\0\0\x07\xff\xff\xff\xff",
-            1,
-            17179869183,
-        ),
-        (b"\x70\0\0\0\x70\0\0\0\0\0\0\x08\0\0\0\0", 2, 0),
-        (
-            b"\x70\0\0\0\x70\0\0\0\xff\xff\xff\xff\xff\xff\xff\xff",
-            1073741823,
-            17179869183,
-        ),
-    ];
+/// The fields of a commit, its generation number and its time.
+const DATES: &[(&[u8; 16], u32, u64)] = &[
+    (
+        b"\x70\0\0\0\x70\0\0\0\0\0\0\x07\xff\xff\xff\xff",
+        1,
+        17179869183,
+    ),
+    (b"\x70\0\0\0\x70\0\0\0\0\0\0\x08\0\0\0\0", 2, 0),
+    (
+        b"\x70\0\0\0\x70\0\0\0\xff\xff\xff\xff\xff\xff\xff\xff",
+        1073741823,
+        17179869183,
+    ),
+];
+
+/// Compares the generation numbers and the times of commits.
+fn compare_dates(
+    rt: &impl Abort,
+    alloc: Global,
+    rows: &[(&[u8; 16], u32, u64)],
+) -> Result<(), Fail> {
     for (fields, generation, time) in rows {
-        let file = opened(rt.alloc(), one_commit(rt.alloc(), fields, None)?, "")?;
-        assert_eq!(rt; file.num_commits(), 1);
+        let file = opened(alloc, one_commit(alloc, fields, None)?, "")?;
+        assert!(rt; file.num_commits() == 1);
         let commit = file.commit_at(file::Position(0));
-        assert_eq!(rt; commit.generation(), generation);
-        assert_eq!(rt; commit.committer_timestamp(), time);
+        assert!(rt; commit.generation() == *generation && commit.committer_timestamp() == *time);
     }
     Ok(())
+}
+
+#[test]
+fn generations_and_times(rt: HostRuntime) -> Result<(), Fail> {
+    compare_dates(&rt, rt.alloc(), DATES)
 }
 
 /// The hints and the items of a commit's parents, as `walked` writes them.
@@ -61,32 +72,49 @@ fn parents_of(alloc: Global, fields: &[u8; 16], edges: Option<&[u8]>) -> Result<
     walked(alloc, &mut file.commit_at(file::Position(0)).iter_parents())
 }
 
-#[test]
-fn parents_of_one_commit(rt: HostRuntime) -> Result<(), Fail> {
-    let rows: [(&[u8; 16], &str); 5] = [
-        (b"\x70\0\0\0\x70\0\0\0\0\0\0\x04\0\0\0\0", "(0, Some(0))"),
-        (
-            b"\x70\0\0\0\0\0\0\x07\0\0\0\x04\0\0\0\0",
-            "(1, Some(1)) SecondWithoutFirst, (0, Some(0))",
-        ),
-        (
-            b"\x80\0\0\0\x70\0\0\0\0\0\0\x04\0\0\0\0",
-            "(1, Some(1)) FirstIsEdgeIndex, (0, Some(0))",
-        ),
-        (
-            b"\0\0\0\x05\x70\0\0\0\0\0\0\x04\0\0\0\0",
-            "(1, Some(1)) 5, (0, Some(0))",
-        ),
-        (
-            b"\0\0\0\x05\0\0\0\x07\0\0\0\x04\0\0\0\0",
-            "(2, Some(2)) 5, (1, Some(1)) 7, (0, Some(0))",
-        ),
-    ];
-    for (fields, want) in rows {
-        let parents = parents_of(rt.alloc(), fields, None)?;
-        assert_eq!(rt; parents.as_str(), want);
+/// The fields of a commit, its extra edge list, and its parents, as `walked` writes them.
+type Listed = (&'static [u8; 16], Option<&'static [u8]>, &'static str);
+
+/// Compares the parents of commits.
+fn compare_parents(rt: &impl Abort, alloc: Global, rows: &[Listed]) -> Result<(), Fail> {
+    for (fields, edges, want) in rows {
+        let parents = parents_of(alloc, fields, *edges)?;
+        assert_eq!(rt; parents.as_str(), *want);
     }
     Ok(())
+}
+
+const WITHOUT_LIST: &[Listed] = &[
+    (
+        b"\x70\0\0\0\x70\0\0\0\0\0\0\x04\0\0\0\0",
+        None,
+        "(0, Some(0))",
+    ),
+    (
+        b"\x70\0\0\0\0\0\0\x07\0\0\0\x04\0\0\0\0",
+        None,
+        "(1, Some(1)) SecondWithoutFirst, (0, Some(0))",
+    ),
+    (
+        b"\x80\0\0\0\x70\0\0\0\0\0\0\x04\0\0\0\0",
+        None,
+        "(1, Some(1)) FirstIsEdgeIndex, (0, Some(0))",
+    ),
+    (
+        b"\0\0\0\x05\x70\0\0\0\0\0\0\x04\0\0\0\0",
+        None,
+        "(1, Some(1)) 5, (0, Some(0))",
+    ),
+    (
+        b"\0\0\0\x05\0\0\0\x07\0\0\0\x04\0\0\0\0",
+        None,
+        "(2, Some(2)) 5, (1, Some(1)) 7, (0, Some(0))",
+    ),
+];
+
+#[test]
+fn parents_of_one_commit(rt: HostRuntime) -> Result<(), Fail> {
+    compare_parents(&rt, rt.alloc(), WITHOUT_LIST)
 }
 
 /// The fields of a commit with the parent 5, whose other parents begin at the list's first word.
@@ -98,58 +126,68 @@ const FROM_THIRD_WORD: &[u8; 16] = b"\0\0\0\x05\x80\0\0\x02\0\0\0\x04\0\0\0\0";
 /// An extra edge list of two words: the parent 3, and the last parent 2.
 const TWO_WORDS: &[u8] = b"\0\0\0\x03\x80\0\0\x02";
 
+const WITH_LIST: &[Listed] = &[
+    (
+        FROM_FIRST_WORD,
+        Some(TWO_WORDS),
+        "(2, None) 5, (1, None) 3, (1, None) 2, (0, Some(0))",
+    ),
+    (
+        FROM_FIRST_WORD,
+        Some(b"\x70\0\0\0\x80\0\0\x01"),
+        "(2, None) 5, (1, None) 1879048192, (1, None) 1, (0, Some(0))",
+    ),
+    (
+        FROM_FIRST_WORD,
+        None,
+        "(2, None) 5, (1, None) NoEdgeList, (0, Some(0))",
+    ),
+];
+
 #[test]
 fn parents_in_the_extra_edge_list(rt: HostRuntime) -> Result<(), Fail> {
-    let rows: [(Option<&[u8]>, &str); 3] = [
-        (
-            Some(TWO_WORDS),
-            "(2, None) 5, (1, None) 3, (1, None) 2, (0, Some(0))",
-        ),
-        (
-            Some(b"\x70\0\0\0\x80\0\0\x01"),
-            "(2, None) 5, (1, None) 1879048192, (1, None) 1, (0, Some(0))",
-        ),
-        (None, "(2, None) 5, (1, None) NoEdgeList, (0, Some(0))"),
-    ];
-    for (edges, want) in rows {
-        let parents = parents_of(rt.alloc(), FROM_FIRST_WORD, edges)?;
-        assert_eq!(rt; parents.as_str(), want);
-    }
-    Ok(())
+    compare_parents(&rt, rt.alloc(), WITH_LIST)
 }
+
+const RUNS_OUT: &str = "(2, None) 5, (1, None) EdgeOverflow, (0, Some(0))";
+
+const SHORT_LISTS: &[Listed] = &[
+    (FROM_THIRD_WORD, Some(TWO_WORDS), RUNS_OUT),
+    (FROM_FIRST_WORD, Some(b"\0\0\0"), RUNS_OUT),
+    (FROM_FIRST_WORD, Some(b""), RUNS_OUT),
+];
 
 #[test]
 fn an_extra_edge_list_runs_out(rt: HostRuntime) -> Result<(), Fail> {
-    let rows: [(&[u8; 16], &[u8]); 3] = [
-        (FROM_THIRD_WORD, TWO_WORDS),
-        (FROM_FIRST_WORD, b"\0\0\0"),
-        (FROM_FIRST_WORD, b""),
-    ];
-    for (fields, edges) in rows {
-        let parents = parents_of(rt.alloc(), fields, Some(edges))?;
-        let want = "(2, None) 5, (1, None) EdgeOverflow, (0, Some(0))";
-        assert_eq!(rt; parents.as_str(), want);
+    compare_parents(&rt, rt.alloc(), SHORT_LISTS)
+}
+
+/// The fields of a commit, and its first parent.
+type First = (&'static [u8; 16], Result<Option<Position>, ParentError>);
+
+const FIRST_PARENTS: &[First] = &[
+    (b"\x70\0\0\0\x70\0\0\0\0\0\0\x04\0\0\0\0", Ok(None)),
+    (
+        b"\x70\0\0\0\x80\0\0\0\0\0\0\x04\0\0\0\0",
+        Err(ParentError::SecondWithoutFirst),
+    ),
+    (
+        b"\0\0\0\x05\x80\0\0\0\0\0\0\x04\0\0\0\0",
+        Ok(Some(Position(5))),
+    ),
+];
+
+/// Compares the first parents of commits with an empty extra edge list.
+fn compare_first_parents(rt: &impl Abort, alloc: Global, rows: &[First]) -> Result<(), Fail> {
+    for (fields, want) in rows {
+        let file = opened(alloc, one_commit(alloc, fields, Some(b""))?, "")?;
+        assert!(rt; file.num_commits() == 1);
+        assert_eq!(rt; file.commit_at(file::Position(0)).parent1(), *want);
     }
     Ok(())
 }
 
 #[test]
 fn the_first_parent(rt: HostRuntime) -> Result<(), Fail> {
-    let rows: [(&[u8; 16], Result<Option<Position>, ParentError>); 3] = [
-        (b"\x70\0\0\0\x70\0\0\0\0\0\0\x04\0\0\0\0", Ok(None)),
-        (
-            b"\x70\0\0\0\x80\0\0\0\0\0\0\x04\0\0\0\0",
-            Err(ParentError::SecondWithoutFirst),
-        ),
-        (
-            b"\0\0\0\x05\x80\0\0\0\0\0\0\x04\0\0\0\0",
-            Ok(Some(Position(5))),
-        ),
-    ];
-    for (fields, want) in rows {
-        let file = opened(rt.alloc(), one_commit(rt.alloc(), fields, Some(b""))?, "")?;
-        assert_eq!(rt; file.num_commits(), 1);
-        assert_eq!(rt; file.commit_at(file::Position(0)).parent1(), want);
-    }
-    Ok(())
+    compare_first_parents(&rt, rt.alloc(), FIRST_PARENTS)
 }

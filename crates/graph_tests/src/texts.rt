@@ -5,36 +5,39 @@ use gix_commitgraph::file::verify::TraverseError;
 use gix_commitgraph::opening::OpenError;
 use gix_commitgraph::verify::{CommitFault, LayerFault, VerifyError};
 use gix_commitgraph::{FileError, GraphError, Position, file};
-use std::alloc::Global;
+use std::alloc::{AllocError, Global};
 use std::collections::{BTreeSet, HashSet};
+use std::fmt::Debug;
 use std::hash::Hash;
+use std::process::Abort;
 use std::test::Fail;
+
+const FILE_ERRORS: &[(FileError, &str)] = &[
+    (FileError::TooSmall, "TooSmall"),
+    (FileError::Signature, "Signature"),
+    (FileError::Version(2), "Version"),
+    (FileError::Hash(3), "Hash"),
+    (FileError::Chunks(ChunkError::NoChunks), "Chunks"),
+    (FileError::BaseSize, "BaseSize"),
+    (FileError::BaseCount, "BaseCount"),
+    (FileError::NoCommitData, "NoCommitData"),
+    (FileError::CommitDataSize, "CommitDataSize"),
+    (FileError::NoFan, "NoFan"),
+    (FileError::FanSize, "FanSize"),
+    (FileError::NoIds, "NoIds"),
+    (FileError::IdsSize, "IdsSize"),
+    (FileError::TooManyEdges, "TooManyEdges"),
+    (FileError::Trailer, "Trailer"),
+    (FileError::BaseMissing, "BaseMissing"),
+    (FileError::FanFalls { at: 5 }, "FanFalls"),
+    (FileError::IdCount, "IdCount"),
+    (FileError::RecordCount, "RecordCount"),
+    (FileError::OutOfMemory, "OutOfMemory"),
+];
 
 #[test]
 fn errors_are_their_names(rt: HostRuntime) -> Result<(), Fail> {
-    let rows = [
-        (FileError::TooSmall, "TooSmall"),
-        (FileError::Signature, "Signature"),
-        (FileError::Version(2), "Version"),
-        (FileError::Hash(3), "Hash"),
-        (FileError::Chunks(ChunkError::NoChunks), "Chunks"),
-        (FileError::BaseSize, "BaseSize"),
-        (FileError::BaseCount, "BaseCount"),
-        (FileError::NoCommitData, "NoCommitData"),
-        (FileError::CommitDataSize, "CommitDataSize"),
-        (FileError::NoFan, "NoFan"),
-        (FileError::FanSize, "FanSize"),
-        (FileError::NoIds, "NoIds"),
-        (FileError::IdsSize, "IdsSize"),
-        (FileError::TooManyEdges, "TooManyEdges"),
-        (FileError::Trailer, "Trailer"),
-        (FileError::BaseMissing, "BaseMissing"),
-        (FileError::FanFalls { at: 5 }, "FanFalls"),
-        (FileError::IdCount, "IdCount"),
-        (FileError::RecordCount, "RecordCount"),
-        (FileError::OutOfMemory, "OutOfMemory"),
-    ];
-    Ok(compare_texts(&rt, rt.alloc(), &rows)?)
+    Ok(compare_texts(&rt, rt.alloc(), FILE_ERRORS)?)
 }
 
 #[test]
@@ -59,136 +62,180 @@ fn a_file_shows_its_path(rt: HostRuntime) -> Result<(), Fail> {
     Ok(())
 }
 
-/// The values in order, each once. A set by order and a set by hash have each of them once too.
-fn sorted_set<T: Ord + Hash + Copy>(alloc: Global, values: &[T]) -> Result<Vec<T>, Fail> {
-    let (mut by_order, mut by_hash) = (BTreeSet::new(alloc), HashSet::new(alloc));
+/// The values in order, each once, as a set by hash tells them apart.
+fn sorted_set<T: Ord + Hash + Copy>(alloc: Global, values: &[T]) -> Result<Vec<T>, AllocError> {
+    let mut set = HashSet::new(alloc);
     let mut sorted = Vec::new(alloc);
     for value in values {
-        by_order.insert(*value)?;
-        if by_hash.insert(*value)? {
+        if set.insert(*value)? {
             sorted.push(*value)?;
         }
     }
     sorted.sort()?;
-    if !sorted.iter().eq(by_order.iter()) {
-        return Err(Fail::new("a set has other positions"));
-    }
     Ok(sorted)
+}
+
+/// Whether a set by order has these values, in this order.
+fn are_in_set<T: Ord + Copy>(alloc: Global, values: &[T], want: &[T]) -> Result<bool, AllocError> {
+    let mut set = BTreeSet::new(alloc);
+    for value in values {
+        set.insert(*value)?;
+    }
+    Ok(set.iter().eq(want.iter()))
+}
+
+/// Compares the values in order, each once, with these.
+fn compare_sets<T: Ord + Hash + Copy + Debug>(
+    rt: &impl Abort,
+    alloc: Global,
+    values: &[T],
+    want: &[T],
+) -> Result<(), Fail> {
+    let sorted = sorted_set(alloc, values)?;
+    assert_eq!(rt; sorted.as_slice(), want);
+    assert!(rt; are_in_set(alloc, values, want)?);
+    Ok(())
 }
 
 #[test]
 fn positions_are_sorted_and_put_into_sets(rt: HostRuntime) -> Result<(), Fail> {
     let in_graph = [Position(256), Position(3), Position(256), Position(1)];
-    let sorted = sorted_set(rt.alloc(), &in_graph)?;
-    assert_eq!(rt;
-        sorted.as_slice(),
-        [Position(1), Position(3), Position(256)].as_slice()
-    );
+    let sorted = [Position(1), Position(3), Position(256)];
+    compare_sets(&rt, rt.alloc(), &in_graph, &sorted)?;
     let in_layer = [file::Position(256), file::Position(3), file::Position(3)];
-    let sorted = sorted_set(rt.alloc(), &in_layer)?;
-    assert_eq!(rt;
-        sorted.as_slice(),
-        [file::Position(3), file::Position(256)].as_slice()
-    );
-    Ok(())
+    let sorted = [file::Position(3), file::Position(256)];
+    compare_sets(&rt, rt.alloc(), &in_layer, &sorted)
 }
+
+const OPEN_ERRORS: &[(OpenError, &str)] = &[
+    (OpenError::NothingFound, "NothingFound"),
+    (OpenError::NotOpened, "NotOpened"),
+    (OpenError::Device, "Device"),
+    (OpenError::ChainNotText { line: 1 }, "ChainNotText"),
+    (
+        OpenError::Layer {
+            layer: 1,
+            error: FileError::TooSmall,
+        },
+        "Layer",
+    ),
+    (OpenError::Graph(GraphError::NoFiles), "Graph"),
+    (OpenError::OutOfMemory, "OutOfMemory"),
+];
 
 #[test]
 fn errors_of_openers_are_their_names(rt: HostRuntime) -> Result<(), Fail> {
-    let rows = [
-        (OpenError::NothingFound, "NothingFound"),
-        (OpenError::NotOpened, "NotOpened"),
-        (OpenError::Device, "Device"),
-        (OpenError::ChainNotText { line: 1 }, "ChainNotText"),
-        (
-            OpenError::Layer {
-                layer: 1,
-                error: FileError::TooSmall,
-            },
-            "Layer",
-        ),
-        (OpenError::Graph(GraphError::NoFiles), "Graph"),
-        (OpenError::OutOfMemory, "OutOfMemory"),
-    ];
-    Ok(compare_texts(&rt, rt.alloc(), &rows)?)
+    Ok(compare_texts(&rt, rt.alloc(), OPEN_ERRORS)?)
 }
+
+const LAYER_FAULTS: &[(LayerFault, &str)] = &[
+    (LayerFault::Checksum, "Checksum"),
+    (LayerFault::FileName, "FileName"),
+    (LayerFault::Fan { byte: 17 }, "Fan"),
+];
+
+const COMMIT_FAULTS: &[(CommitFault, &str)] = &[
+    (CommitFault::NullId, "NullId"),
+    (CommitFault::Order, "Order"),
+    (CommitFault::NullTree, "NullTree"),
+];
 
 #[test]
 fn faults_are_their_names(rt: HostRuntime) -> Result<(), Fail> {
-    let rows = [
-        (LayerFault::Checksum, "Checksum"),
-        (LayerFault::FileName, "FileName"),
-        (LayerFault::Fan { byte: 17 }, "Fan"),
-    ];
-    compare_texts(&rt, rt.alloc(), &rows)?;
-    let rows = [
-        (CommitFault::NullId, "NullId"),
-        (CommitFault::Order, "Order"),
-        (CommitFault::NullTree, "NullTree"),
-    ];
-    Ok(compare_texts(&rt, rt.alloc(), &rows)?)
+    compare_texts(&rt, rt.alloc(), LAYER_FAULTS)?;
+    Ok(compare_texts(&rt, rt.alloc(), COMMIT_FAULTS)?)
 }
+
+const POS: Position = Position(1);
+
+const VERIFY_ERRORS: &[(VerifyError<&str>, &str)] = &[
+    (VerifyError::TooManyFiles, "TooManyFiles"),
+    (VerifyError::BaseCount { layer: 1 }, "BaseCount"),
+    (VerifyError::BaseId { layer: 1, index: 0 }, "BaseId"),
+    (
+        VerifyError::Layer {
+            layer: 1,
+            fault: LayerFault::Checksum,
+        },
+        "Layer",
+    ),
+    (
+        VerifyError::Commit {
+            pos: POS,
+            fault: CommitFault::Order,
+        },
+        "Commit",
+    ),
+    (
+        VerifyError::Parent {
+            pos: POS,
+            error: ParentError::NoEdgeList,
+        },
+        "Parent",
+    ),
+    (
+        VerifyError::ParentOutOfRange {
+            pos: POS,
+            parent: POS,
+        },
+        "ParentOutOfRange",
+    ),
+    (
+        VerifyError::Generation {
+            pos: POS,
+            expected: 2,
+        },
+        "Generation",
+    ),
+    (
+        VerifyError::Processor {
+            pos: POS,
+            error: "no",
+        },
+        "Processor",
+    ),
+    (VerifyError::OutOfMemory, "OutOfMemory"),
+    (
+        VerifyError::DuplicateId {
+            pos: POS,
+            earlier: POS,
+        },
+        "DuplicateId",
+    ),
+];
 
 #[test]
 fn errors_of_a_graph_are_their_names(rt: HostRuntime) -> Result<(), Fail> {
-    let pos = Position(1);
-    let layer = 1;
-    let of_layer = LayerFault::Checksum;
-    let of_commit = CommitFault::Order;
-    let error = ParentError::NoEdgeList;
-    let rows: [(VerifyError<&str>, &str); 11] = [
-        (VerifyError::TooManyFiles, "TooManyFiles"),
-        (VerifyError::BaseCount { layer }, "BaseCount"),
-        (VerifyError::BaseId { layer, index: 0 }, "BaseId"),
-        (
-            VerifyError::Layer {
-                layer,
-                fault: of_layer,
-            },
-            "Layer",
-        ),
-        (
-            VerifyError::Commit {
-                pos,
-                fault: of_commit,
-            },
-            "Commit",
-        ),
-        (VerifyError::Parent { pos, error }, "Parent"),
-        (
-            VerifyError::ParentOutOfRange { pos, parent: pos },
-            "ParentOutOfRange",
-        ),
-        (VerifyError::Generation { pos, expected: 2 }, "Generation"),
-        (VerifyError::Processor { pos, error: "no" }, "Processor"),
-        (VerifyError::OutOfMemory, "OutOfMemory"),
-        (
-            VerifyError::DuplicateId { pos, earlier: pos },
-            "DuplicateId",
-        ),
-    ];
-    Ok(compare_texts(&rt, rt.alloc(), &rows)?)
+    Ok(compare_texts(&rt, rt.alloc(), VERIFY_ERRORS)?)
 }
+
+const IN_LAYER: file::Position = file::Position(1);
+
+const TRAVERSE_ERRORS: &[(TraverseError<&str>, &str)] = &[
+    (TraverseError::Checksum, "Checksum"),
+    (TraverseError::FileName, "FileName"),
+    (TraverseError::Fan { byte: 17 }, "Fan"),
+    (TraverseError::NullId { pos: IN_LAYER }, "NullId"),
+    (TraverseError::Order { pos: IN_LAYER }, "Order"),
+    (TraverseError::NullTree { pos: IN_LAYER }, "NullTree"),
+    (
+        TraverseError::Processor {
+            pos: IN_LAYER,
+            error: "no",
+        },
+        "Processor",
+    ),
+    (
+        TraverseError::Parent {
+            pos: IN_LAYER,
+            error: ParentError::NoEdgeList,
+        },
+        "Parent",
+    ),
+    (TraverseError::OutOfMemory, "OutOfMemory"),
+];
 
 #[test]
 fn errors_of_a_layer_are_their_names(rt: HostRuntime) -> Result<(), Fail> {
-    let pos = file::Position(1);
-    let rows: [(TraverseError<&str>, &str); 9] = [
-        (TraverseError::Checksum, "Checksum"),
-        (TraverseError::FileName, "FileName"),
-        (TraverseError::Fan { byte: 17 }, "Fan"),
-        (TraverseError::NullId { pos }, "NullId"),
-        (TraverseError::Order { pos }, "Order"),
-        (TraverseError::NullTree { pos }, "NullTree"),
-        (TraverseError::Processor { pos, error: "no" }, "Processor"),
-        (
-            TraverseError::Parent {
-                pos,
-                error: ParentError::NoEdgeList,
-            },
-            "Parent",
-        ),
-        (TraverseError::OutOfMemory, "OutOfMemory"),
-    ];
-    Ok(compare_texts(&rt, rt.alloc(), &rows)?)
+    Ok(compare_texts(&rt, rt.alloc(), TRAVERSE_ERRORS)?)
 }

@@ -34,44 +34,46 @@ fn checked(
 /// Why the check refuses a layer, and how often the processor was called.
 type Refusal = (Option<TraverseError<Refused>>, u32);
 
-/// The refusal of the layer of these bytes, at a path and with a processor that always answers
-/// this.
-fn refusal_of(
+/// Compares the refusal of a layer with a processor that always answers this.
+fn compare_answer(
+    rt: &impl Abort,
     alloc: Global,
-    bytes: &[u8],
-    path: &str,
+    file: &File,
     answer: Result<(), Refused>,
-) -> Result<Refusal, Fail> {
-    let file = opened(alloc, Vec::from_slice(alloc, bytes)?, path)?;
-    let (outcome, calls, _) = checked(alloc, &file, answer);
-    Ok((outcome.err(), calls))
+    want: &Refusal,
+) {
+    let (outcome, calls, _) = checked(alloc, file, answer);
+    assert!(rt; calls == want.1 && outcome.as_ref().err() == want.0.as_ref());
 }
 
 /// Compares the refusal of the layer of these bytes at a path, whose commits the processor accepts.
 fn compare_at(
     rt: &impl Abort,
     alloc: Global,
-    bytes: &[u8],
+    bytes: Vec<u8>,
     path: &str,
-    want: Refusal,
+    want: &Refusal,
 ) -> Result<(), Fail> {
-    assert_eq!(rt; refusal_of(alloc, bytes, path, Ok(()))?, want);
+    compare_answer(rt, alloc, &opened(alloc, bytes, path)?, Ok(()), want);
     Ok(())
 }
 
 /// The same at a path that names no checksum.
-fn compare(rt: &impl Abort, alloc: Global, bytes: &[u8], want: Refusal) -> Result<(), Fail> {
+fn compare(rt: &impl Abort, alloc: Global, bytes: Vec<u8>, want: &Refusal) -> Result<(), Fail> {
     compare_at(rt, alloc, bytes, "commit-graph", want)
 }
+
+const NULL_ID: &Refusal = &(Some(TraverseError::NullId { pos: Position(1) }), 1);
+
+const SAME_ID: &Refusal = &(Some(TraverseError::Order { pos: Position(1) }), 1);
 
 #[test]
 fn faults_of_the_commits(rt: HostRuntime) -> Result<(), Fail> {
     let alloc = rt.alloc();
-    let pos = Position(1);
     let bytes = layer(&rt, alloc, &[], &[(0x11, &[], 1), (0, &[], 1)])?;
-    compare(&rt, alloc, &bytes, (Some(TraverseError::NullId { pos }), 1))?;
+    compare(&rt, alloc, bytes, NULL_ID)?;
     let bytes = layer(&rt, alloc, &[], &[(0x11, &[], 1), (0x11, &[], 1)])?;
-    compare(&rt, alloc, &bytes, (Some(TraverseError::Order { pos }), 1))
+    compare(&rt, alloc, bytes, SAME_ID)
 }
 
 /// The diamond's file with the last bit of its checksum turned.
@@ -82,80 +84,117 @@ fn with_wrong_checksum(rt: &impl Abort, alloc: Global) -> Result<Vec<u8>, Fail> 
     Ok(bytes)
 }
 
+/// Where the diamond's file is damaged, the bytes there, and the refusal.
+const DAMAGED: &[(usize, &[u8], Refusal)] = &[
+    (124, &[0; 4], (Some(TraverseError::Fan { byte: 17 }), 0)),
+    (
+        1232,
+        &[0; 20],
+        (Some(TraverseError::NullTree { pos: Position(2) }), 2),
+    ),
+    (
+        1288,
+        b"\x70\0\0\0\0\0\0\x02",
+        (
+            Some(TraverseError::Parent {
+                pos: Position(3),
+                error: ParentError::SecondWithoutFirst,
+            }),
+            4,
+        ),
+    ),
+];
+
+/// Compares the refusals of damaged files.
+fn compare_damaged(
+    rt: &impl Abort,
+    alloc: Global,
+    rows: &[(usize, &[u8], Refusal)],
+) -> Result<(), Fail> {
+    for (from, bytes, want) in rows {
+        let bytes = damaged_diamond(rt, alloc, *from, bytes)?;
+        compare(rt, alloc, bytes, want)?;
+    }
+    Ok(())
+}
+
 #[test]
 fn faults_of_the_layer(rt: HostRuntime) -> Result<(), Fail> {
-    let alloc = rt.alloc();
-    let fan = TraverseError::Fan { byte: 17 };
-    let tree = TraverseError::NullTree { pos: Position(2) };
-    let (pos, error) = (Position(3), ParentError::SecondWithoutFirst);
-    let parent = TraverseError::Parent { pos, error };
-    let rows: [(usize, &[u8], Refusal); 3] = [
-        (124, &[0; 4], (Some(fan), 0)),
-        (1232, &[0; 20], (Some(tree), 2)),
-        (1288, b"\x70\0\0\0\0\0\0\x02", (Some(parent), 4)),
-    ];
-    for (from, bytes, want) in rows {
-        let bytes = damaged_diamond(&rt, alloc, from, bytes)?;
-        compare(&rt, alloc, &bytes, want)?;
-    }
-    let bytes = with_wrong_checksum(&rt, alloc)?;
-    compare(&rt, alloc, &bytes, (Some(TraverseError::Checksum), 0))
+    compare_damaged(&rt, rt.alloc(), DAMAGED)?;
+    let bytes = with_wrong_checksum(&rt, rt.alloc())?;
+    compare(&rt, rt.alloc(), bytes, &(Some(TraverseError::Checksum), 0))
 }
+
+const WRONG_PARENT: &Refusal = &(
+    Some(TraverseError::Parent {
+        pos: Position(0),
+        error: ParentError::SecondWithoutFirst,
+    }),
+    1,
+);
+
+const REFUSED_FIRST: &Refusal = &(
+    Some(TraverseError::Processor {
+        pos: Position(0),
+        error: Refused,
+    }),
+    1,
+);
 
 #[test]
 fn the_processor_comes_before_the_parents(rt: HostRuntime) -> Result<(), Fail> {
     let alloc = rt.alloc();
     let bytes = damaged_diamond(&rt, alloc, 1180, b"\x70\0\0\0\0\0\0\x07")?;
-    let pos = Position(0);
-    let error = ParentError::SecondWithoutFirst;
-    compare(
-        &rt,
-        alloc,
-        &bytes,
-        (Some(TraverseError::Parent { pos, error }), 1),
-    )?;
-    let error = Refused;
-    let want = (Some(TraverseError::Processor { pos, error }), 1);
-    assert_eq!(rt;
-        refusal_of(alloc, &bytes, "commit-graph", Err(error))?,
-        want
-    );
+    let file = opened(alloc, bytes, "commit-graph")?;
+    compare_answer(&rt, alloc, &file, Ok(()), WRONG_PARENT);
+    compare_answer(&rt, alloc, &file, Err(Refused), REFUSED_FIRST);
     Ok(())
 }
 
-/// Compares an outcome: the greatest and the least generation number, the most parents and the
-/// number of commits; and how many commits have each number of parents.
-fn compare_outcome(
-    rt: &impl Abort,
-    outcome: &Outcome,
-    want: (u32, u32, u32, u32),
-    counts: &[(u32, u32)],
-) {
+/// The greatest and the least generation number, the most parents and the number of commits.
+type Numbers = (u32, u32, u32, u32);
+
+/// Compares an outcome: its numbers, and how many commits have each number of parents.
+fn compare_outcome(rt: &impl Abort, outcome: &Outcome, want: Numbers, counts: &[(u32, u32)]) {
     let (greatest, least) = (outcome.max_generation, outcome.min_generation);
     let seen = (greatest, least, outcome.max_parents, outcome.num_commits);
-    assert_eq!(rt; seen, want);
-    assert_eq!(rt; outcome.parent_counts.len(), counts.len());
+    assert!(rt; seen == want && outcome.parent_counts.len() == counts.len());
     for (parents, count) in counts {
-        assert_eq!(rt; outcome.parent_counts.get(parents).copied(), Some(*count));
+        assert!(rt; outcome.parent_counts.get(parents) == Some(count));
     }
+}
+
+/// The commits of a layer and what the check says of it.
+type Right = (&'static [Row<'static>], Numbers, &'static [(u32, u32)]);
+
+const RIGHT: &[Right] = &[
+    (&[], (0, 0, 0, 0), &[]),
+    (DIAMOND, (3, 1, 2, 4), &[(0, 1), (1, 2), (2, 1)]),
+];
+
+/// Compares the outcomes of right layers.
+fn compare_right(rt: &impl Abort, alloc: Global, rows: &[Right]) -> Result<(), Fail> {
+    for (commits, want, counts) in rows {
+        let bytes = layer(rt, alloc, &[], commits)?;
+        let file = opened(alloc, bytes, "commit-graph")?;
+        let (outcome, calls, in_order) = checked(alloc, &file, Ok(()));
+        assert!(rt; in_order && calls as usize == commits.len());
+        let outcome = outcome?;
+        compare_outcome(rt, &outcome, *want, counts);
+        assert!(rt; outcome.try_clone()? == outcome);
+    }
+    Ok(())
 }
 
 #[test]
 fn right_layers_pass(rt: HostRuntime) -> Result<(), Fail> {
-    let rows: [(&[Row<'_>], (u32, u32, u32, u32), &[(u32, u32)]); 2] = [
-        (&[], (0, 0, 0, 0), &[]),
-        (DIAMOND, (3, 1, 2, 4), &[(0, 1), (1, 2), (2, 1)]),
-    ];
-    for (commits, want, counts) in rows {
-        let bytes = layer(&rt, rt.alloc(), &[], commits)?;
-        let file = opened(rt.alloc(), bytes, "commit-graph")?;
-        let (outcome, calls, in_order) = checked(rt.alloc(), &file, Ok(()));
-        assert!(rt; in_order && calls as usize == commits.len());
-        let outcome = outcome?;
-        compare_outcome(&rt, &outcome, want, counts);
-        assert_eq!(rt; outcome.try_clone()?, outcome);
-    }
-    Ok(())
+    compare_right(&rt, rt.alloc(), RIGHT)
+}
+
+/// The checksum of the layer of these bytes, in hexadecimal.
+fn checksum_of(alloc: Global, bytes: &[u8]) -> Result<String, Fail> {
+    let file = opened(alloc, Vec::from_slice(alloc, bytes)?, "")?;
+    Ok(file.checksum().to_string(alloc)?)
 }
 
 /// The parent fields that point to the first and to the second word of an extra edge list.
@@ -203,18 +242,28 @@ fn path_of(alloc: Global, folder: &str, checksum: &str, end: &str) -> Result<Str
     format!(in alloc; "{folder}graph-{checksum}.graph{end}")
 }
 
+/// Compares the outcome of the layer of these bytes at a path whose name is no fault.
+fn compare_good_name(rt: &impl Abort, alloc: Global, bytes: &[u8], path: &str) -> Result<(), Fail> {
+    compare_at(rt, alloc, Vec::from_slice(alloc, bytes)?, path, &(None, 4))
+}
+
+/// The same at paths with the layer's checksum, in capitals and in a folder.
+fn compare_names_of_checksum(rt: &impl Abort, alloc: Global, bytes: &[u8]) -> Result<(), Fail> {
+    let digits = checksum_of(alloc, bytes)?;
+    let capitals = digits.to_ascii_uppercase(alloc)?;
+    let upper = path_of(alloc, "", &capitals, "")?;
+    compare_good_name(rt, alloc, bytes, upper.as_str())?;
+    let lower = path_of(alloc, "x/", &digits, "/.")?;
+    compare_good_name(rt, alloc, bytes, lower.as_str())
+}
+
 #[test]
 fn names_of_files(rt: HostRuntime) -> Result<(), Fail> {
     let alloc = rt.alloc();
     let bytes = layer(&rt, alloc, &[], DIAMOND)?;
-    let file = opened(alloc, Vec::from_slice(alloc, &bytes)?, "")?;
-    let digits = file.checksum().to_string(alloc)?;
-    let capitals = digits.to_ascii_uppercase(alloc)?;
-    let upper = path_of(alloc, "", &capitals, "")?;
-    let lower = path_of(alloc, "x/", &digits, "/.")?;
-    for path in ["commit-graph", "graph-ab", upper.as_str(), lower.as_str()] {
-        compare_at(&rt, alloc, &bytes, path, (None, 4))?;
-    }
-    let fault = Some(TraverseError::FileName);
-    compare_at(&rt, alloc, &bytes, "x/graph-.graph", (fault, 0))
+    compare_good_name(&rt, alloc, &bytes, "commit-graph")?;
+    compare_good_name(&rt, alloc, &bytes, "graph-ab")?;
+    compare_names_of_checksum(&rt, alloc, &bytes)?;
+    let fault = (Some(TraverseError::FileName), 0);
+    compare_at(&rt, alloc, bytes, "x/graph-.graph", &fault)
 }

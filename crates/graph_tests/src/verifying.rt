@@ -95,12 +95,11 @@ fn compare_refusal(
     rt: &impl Abort,
     alloc: Global,
     graph: &Graph,
-    want: VerifyError<Refused>,
+    want: &VerifyError<Refused>,
     calls: usize,
 ) {
     let (answer, seen) = checked(alloc, graph, None);
-    assert_eq!(rt; answer.err(), Some(want));
-    assert_eq!(rt; seen.len(), calls);
+    assert!(rt; seen.len() == calls && answer.as_ref().err() == Some(want));
 }
 
 /// Compares the outcome of a right graph: its longest path and the counts of the numbers of
@@ -113,9 +112,19 @@ fn compare_outcome(
     longest: Option<u32>,
     counts: &[(u32, u32)],
 ) -> Result<Vec<u8>, Fail> {
+    let want = outcome(alloc, longest, counts)?;
     let (answer, seen) = checked(alloc, graph, None);
-    assert_eq!(rt; answer, Ok(outcome(alloc, longest, counts)?));
+    assert_eq!(rt; answer.as_ref().ok(), Some(&want));
     Ok(seen)
+}
+
+/// Compares the commits that the processor is called on, where it refuses the last of them, which
+/// is at this position.
+fn compare_calls(rt: &impl Abort, alloc: Global, graph: &Graph, pos: u32, calls: &[u8]) {
+    let (answer, seen) = checked(alloc, graph, calls.last().copied());
+    let (pos, error) = (Position(pos), Refused::Commit);
+    let refusal = VerifyError::Processor { pos, error };
+    assert!(rt; answer.as_ref().err() == Some(&refusal) && seen.as_slice() == calls);
 }
 
 pub const TEN: &[Row<'static>] = &[
@@ -138,36 +147,48 @@ pub const OCTOPUS: &[Row<'static>] = &[
     (0x44, &[0, 0, 2], 4),
 ];
 
-#[test]
-fn right_graphs_pass(rt: HostRuntime) -> Result<(), Fail> {
-    let alloc = rt.alloc();
-    let rows: [(&[Row<'_>], Option<u32>, &[(u32, u32)]); 8] = [
-        (&[], Some(0), &[]),
-        (DIAMOND, Some(2), &[(0, 1), (1, 2), (2, 1)]),
-        (OCTOPUS, Some(3), &[(0, 1), (1, 2), (3, 1)]),
-        (
-            &[(0x11, &[1], 2), (0x22, &[], 1)],
-            Some(1),
-            &[(0, 1), (1, 1)],
-        ),
-        (&[(0x11, &[0], MAX)], None, &[(1, 1)]),
-        (TEN, Some(9), &[(0, 1), (1, 9)]),
-        (&[(0x11, &[1], MAX), (0x22, &[0], MAX)], None, &[(1, 2)]),
-        (
-            &[(0x11, &[0], MAX), (0x22, &[0], MAX), (0x33, &[], 1)],
-            None,
-            &[(0, 1), (1, 2)],
-        ),
-    ];
+/// The commits of a graph of one layer, and its outcome.
+type Right = (&'static [Row<'static>], Option<u32>, &'static [(u32, u32)]);
+
+const RIGHT: &[Right] = &[
+    (&[], Some(0), &[]),
+    (DIAMOND, Some(2), &[(0, 1), (1, 2), (2, 1)]),
+    (OCTOPUS, Some(3), &[(0, 1), (1, 2), (3, 1)]),
+    (
+        &[(0x11, &[1], 2), (0x22, &[], 1)],
+        Some(1),
+        &[(0, 1), (1, 1)],
+    ),
+    (&[(0x11, &[0], MAX)], None, &[(1, 1)]),
+    (TEN, Some(9), &[(0, 1), (1, 9)]),
+    (&[(0x11, &[1], MAX), (0x22, &[0], MAX)], None, &[(1, 2)]),
+    (
+        &[(0x11, &[0], MAX), (0x22, &[0], MAX), (0x33, &[], 1)],
+        None,
+        &[(0, 1), (1, 2)],
+    ),
+];
+
+/// Whether these are the first bytes of the commits' ids.
+fn are_all(seen: &[u8], commits: &[Row<'_>]) -> bool {
+    seen.iter()
+        .copied()
+        .eq(commits.iter().map(|commit| commit.0))
+}
+
+/// Compares the outcomes of right graphs, where the processor is called on each commit, in order.
+fn compare_right(rt: &impl Abort, alloc: Global, rows: &[Right]) -> Result<(), Fail> {
     for (commits, longest, counts) in rows {
-        let graph = graph(&rt, alloc, &[commits])?;
-        let seen = compare_outcome(&rt, alloc, &graph, longest, counts)?;
-        assert_eq!(rt; seen.len(), commits.len());
-        for (commit, byte) in commits.iter().zip(&seen) {
-            assert_eq!(rt; commit.0, *byte);
-        }
+        let graph = graph(rt, alloc, &[*commits])?;
+        let seen = compare_outcome(rt, alloc, &graph, *longest, counts)?;
+        assert!(rt; are_all(&seen, commits));
     }
     Ok(())
+}
+
+#[test]
+fn right_graphs_pass(rt: HostRuntime) -> Result<(), Fail> {
+    compare_right(&rt, rt.alloc(), RIGHT)
 }
 
 #[test]
@@ -177,78 +198,106 @@ fn calls_are_in_the_order_of_the_graph(rt: HostRuntime) -> Result<(), Fail> {
     let upper: &[Row<'_>] = &[(0x11, &[4], 4), (0x22, &[0, 2, 4], 5), (0x55, &[0], 3)];
     let graph = graph(&rt, alloc, &[lower, upper])?;
     let calls: &[u8] = &[0x33, 0x44, 0x11, 0x22, 0x55];
-    let counts = [(0, 1), (1, 3), (3, 1)];
-    let seen = compare_outcome(&rt, alloc, &graph, Some(4), &counts)?;
-    assert_eq!(rt; seen.as_slice(), calls);
-    let (answer, seen) = checked(alloc, &graph, Some(0x55));
-    let (pos, error) = (Position(4), Refused::Commit);
-    assert_eq!(rt; answer, Err(VerifyError::Processor { pos, error }));
-    assert_eq!(rt; seen.as_slice(), calls);
+    compare_calls(&rt, alloc, &graph, 4, calls);
+    let seen = compare_outcome(&rt, alloc, &graph, Some(4), &[(0, 1), (1, 3), (3, 1)])?;
+    assert!(rt; seen.as_slice() == calls);
     Ok(())
 }
 
 #[test]
 fn a_refusal_of_the_processor_is_handed_back(rt: HostRuntime) -> Result<(), Fail> {
-    let (answer, seen) = checked(rt.alloc(), &graph(&rt, rt.alloc(), &[TEN])?, Some(0x33));
-    let (pos, error) = (Position(2), Refused::Commit);
-    assert_eq!(rt; answer, Err(VerifyError::Processor { pos, error }));
-    assert_eq!(rt; seen.as_slice(), [0x11, 0x22, 0x33].as_slice());
+    let graph = graph(&rt, rt.alloc(), &[TEN])?;
+    compare_calls(&rt, rt.alloc(), &graph, 2, &[0x11, 0x22, 0x33]);
+    Ok(())
+}
+
+/// The commits of a graph of one layer, the position that is refused, and the number wanted there.
+type Wrong = (&'static [Row<'static>], u32, u32);
+
+const WRONG: &[Wrong] = &[
+    (
+        &[
+            (0x11, &[], 1),
+            (0x22, &[0], 2),
+            (0x33, &[1], 3),
+            (0x44, &[0, 0, 2], 2),
+        ],
+        3,
+        4,
+    ),
+    (&[(0x11, &[], 0)], 0, 1),
+    (&[(0x11, &[0], 1)], 0, 2),
+    (
+        &[(0x11, &[1], MAX), (0x22, &[0], 1073741822)],
+        1,
+        1073741823,
+    ),
+    (&[(0x11, &[1], 5), (0x22, &[0], 5)], 0, 6),
+    (&[(0x11, &[], MAX)], 0, 1),
+];
+
+/// Compares the refusals of graphs with a wrong generation number.
+fn compare_wrong(rt: &impl Abort, alloc: Global, rows: &[Wrong]) -> Result<(), Fail> {
+    for (commits, place, expected) in rows {
+        let graph = graph(rt, alloc, &[*commits])?;
+        let (pos, expected) = (Position(*place), *expected);
+        let want = VerifyError::Generation { pos, expected };
+        compare_refusal(rt, alloc, &graph, &want, *place as usize);
+    }
     Ok(())
 }
 
 #[test]
 fn wrong_generation_numbers_are_refused(rt: HostRuntime) -> Result<(), Fail> {
-    let alloc = rt.alloc();
-    let rows: [(&[Row<'_>], u32, u32); 6] = [
-        (
-            &[
-                (0x11, &[], 1),
-                (0x22, &[0], 2),
-                (0x33, &[1], 3),
-                (0x44, &[0, 0, 2], 2),
-            ],
-            3,
-            4,
-        ),
-        (&[(0x11, &[], 0)], 0, 1),
-        (&[(0x11, &[0], 1)], 0, 2),
-        (
-            &[(0x11, &[1], MAX), (0x22, &[0], 1073741822)],
-            1,
-            1073741823,
-        ),
-        (&[(0x11, &[1], 5), (0x22, &[0], 5)], 0, 6),
-        (&[(0x11, &[], MAX)], 0, 1),
-    ];
-    for (commits, place, expected) in rows {
-        let graph = graph(&rt, alloc, &[commits])?;
-        let pos = Position(place);
-        let want = VerifyError::Generation { pos, expected };
-        compare_refusal(&rt, alloc, &graph, want, place as usize);
+    compare_wrong(&rt, rt.alloc(), WRONG)
+}
+
+/// Where the diamond's file is damaged, the bytes there, the refusal, and the number of calls.
+type Damaged = (usize, &'static [u8], VerifyError<Refused>, usize);
+
+const DAMAGED: &[Damaged] = &[
+    (
+        124,
+        &[0; 4],
+        VerifyError::Layer {
+            layer: 0,
+            fault: LayerFault::Fan { byte: 17 },
+        },
+        0,
+    ),
+    (
+        1232,
+        &[0; 20],
+        VerifyError::Commit {
+            pos: Position(2),
+            fault: CommitFault::NullTree,
+        },
+        2,
+    ),
+    (
+        1288,
+        b"\x70\0\0\0\0\0\0\x02",
+        VerifyError::Parent {
+            pos: Position(3),
+            error: ParentError::SecondWithoutFirst,
+        },
+        3,
+    ),
+];
+
+/// Compares the refusals of damaged files.
+fn compare_damaged(rt: &impl Abort, alloc: Global, rows: &[Damaged]) -> Result<(), Fail> {
+    for (from, bytes, want, calls) in rows {
+        let bytes = damaged_diamond(rt, alloc, *from, bytes)?;
+        let graph = graph_of_one(alloc, opened(alloc, bytes, "commit-graph")?)?;
+        compare_refusal(rt, alloc, &graph, want, *calls);
     }
     Ok(())
 }
 
 #[test]
 fn damaged_layers_are_refused(rt: HostRuntime) -> Result<(), Fail> {
-    let alloc = rt.alloc();
-    let (layer, fault) = (0, LayerFault::Fan { byte: 17 });
-    let fan = VerifyError::Layer { layer, fault };
-    let (pos, fault) = (Position(2), CommitFault::NullTree);
-    let tree = VerifyError::Commit { pos, fault };
-    let (pos, error) = (Position(3), ParentError::SecondWithoutFirst);
-    let parent = VerifyError::Parent { pos, error };
-    let rows: [(usize, &[u8], VerifyError<Refused>, usize); 3] = [
-        (124, &[0; 4], fan, 0),
-        (1232, &[0; 20], tree, 2),
-        (1288, b"\x70\0\0\0\0\0\0\x02", parent, 3),
-    ];
-    for (from, bytes, error, calls) in rows {
-        let bytes = damaged_diamond(&rt, alloc, from, bytes)?;
-        let graph = graph_of_one(alloc, opened(alloc, bytes, "commit-graph")?)?;
-        compare_refusal(&rt, alloc, &graph, error, calls);
-    }
-    Ok(())
+    compare_damaged(&rt, rt.alloc(), DAMAGED)
 }
 
 /// The parent fields that point to the first and to the second word of an extra edge list, and the
@@ -320,13 +369,8 @@ fn the_greatest_generation_stands_in_a_shared_edge_list(rt: HostRuntime) -> Resu
 fn a_base_too_many_is_refused(rt: HostRuntime) -> Result<(), Fail> {
     let file = file(&rt, rt.alloc(), &[ObjectId::from([0x33; 20])], &[])?;
     let graph = graph_of_one(rt.alloc(), file)?;
-    compare_refusal(
-        &rt,
-        rt.alloc(),
-        &graph,
-        VerifyError::BaseCount { layer: 0 },
-        0,
-    );
+    let want = VerifyError::BaseCount { layer: 0 };
+    compare_refusal(&rt, rt.alloc(), &graph, &want, 0);
     Ok(())
 }
 
@@ -336,19 +380,24 @@ fn a_parent_in_a_later_layer_is_refused(rt: HostRuntime) -> Result<(), Fail> {
     let graph = graph(&rt, rt.alloc(), &layers)?;
     let (pos, parent) = (Position(0), Position(1));
     let want = VerifyError::ParentOutOfRange { pos, parent };
-    compare_refusal(&rt, rt.alloc(), &graph, want, 0);
+    compare_refusal(&rt, rt.alloc(), &graph, &want, 0);
     Ok(())
+}
+
+/// The graph of 257 empty layers.
+fn too_many_layers(rt: &impl Abort, alloc: Global) -> Result<Graph, Fail> {
+    let mut files = Vec::new(alloc);
+    for _ in 0..257 {
+        files.push(file(rt, alloc, &[], &[])?)?;
+    }
+    Ok(Graph::new(alloc, files)?)
 }
 
 #[test]
 fn up_to_256_layers_pass(rt: HostRuntime) -> Result<(), Fail> {
     let alloc = rt.alloc();
-    let mut files = Vec::new(alloc);
-    for _ in 0..257 {
-        files.push(file(&rt, alloc, &[], &[])?)?;
-    }
-    let too_many = Graph::new(alloc, files)?;
-    compare_refusal(&rt, alloc, &too_many, VerifyError::TooManyFiles, 0);
+    let graph_of_257 = too_many_layers(&rt, alloc)?;
+    compare_refusal(&rt, alloc, &graph_of_257, &VerifyError::TooManyFiles, 0);
 
     let layers: [&[Row<'_>]; 256] = [&[]; 256];
     compare_outcome(&rt, alloc, &graph(&rt, alloc, &layers)?, Some(0), &[])?;
@@ -358,6 +407,6 @@ fn up_to_256_layers_pass(rt: HostRuntime) -> Result<(), Fail> {
 #[test]
 fn an_outcome_is_equal_to_its_clone(rt: HostRuntime) -> Result<(), Fail> {
     let outcome = outcome(rt.alloc(), Some(2), &[(0, 1), (1, 2), (2, 1)])?;
-    assert_eq!(rt; outcome.try_clone()?, outcome);
+    assert!(rt; outcome.try_clone()? == outcome);
     Ok(())
 }
