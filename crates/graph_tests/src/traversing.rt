@@ -219,20 +219,22 @@ fn commits_of_a_layer_share_an_edge_list(rt: HostRuntime) -> Result<(), Fail> {
     Ok(())
 }
 
+/// The second parent fields of the positions 2 and 3, the words of the list, and the position whose
+/// list runs out.
+const RUN_OUT: &[([u32; 2], [u32; 2], u32)] = &[
+    ([FIRST, FIRST], [0, 1], 2),
+    ([FIRST, SECOND], [0x8000_0000, 1], 3),
+    ([FIRST, 0x8000_0002], [0, 0x8000_0001], 3),
+];
+
 #[test]
 fn a_shared_edge_list_runs_out(rt: HostRuntime) -> Result<(), Fail> {
     let alloc = rt.alloc();
-    let error = ParentError::EdgeOverflow;
-    let rows: [([u32; 2], [u32; 2], u32); 3] = [
-        ([FIRST, FIRST], [0, 1], 2),
-        ([FIRST, SECOND], [0x8000_0000, 1], 3),
-        ([FIRST, 0x8000_0002], [0, 0x8000_0001], 3),
-    ];
-    for (fields, words, place) in rows {
-        let bytes = sharing(&rt, alloc, fields, words)?;
-        let pos = Position(place);
-        let want = Some(TraverseError::Parent { pos, error });
-        compare(&rt, alloc, &bytes, (want, place + 1))?;
+    for (fields, words, place) in RUN_OUT {
+        let bytes = sharing(&rt, alloc, *fields, *words)?;
+        let (pos, error) = (Position(*place), ParentError::EdgeOverflow);
+        let want = (Some(TraverseError::Parent { pos, error }), *place + 1);
+        compare(&rt, alloc, bytes, &want)?;
     }
     Ok(())
 }

@@ -327,29 +327,72 @@ fn commits_share_an_edge_list(rt: HostRuntime) -> Result<(), Fail> {
     Ok(())
 }
 
+/// The second parent fields of the positions 2 and 3, the words of the list, the refusal, and how
+/// many commits the processor is called on.
+const REFUSED_LISTS: &[([u32; 2], [u32; 2], VerifyError<Refused>, usize)] = &[
+    (
+        [FIRST, FIRST],
+        [0, 0x8000_0009],
+        VerifyError::ParentOutOfRange {
+            pos: Position(2),
+            parent: Position(9),
+        },
+        2,
+    ),
+    (
+        [SECOND, FIRST],
+        [9, LAST],
+        VerifyError::ParentOutOfRange {
+            pos: Position(3),
+            parent: Position(9),
+        },
+        3,
+    ),
+    (
+        [FIRST, FIRST],
+        [9, 1],
+        VerifyError::ParentOutOfRange {
+            pos: Position(2),
+            parent: Position(9),
+        },
+        2,
+    ),
+    (
+        [FIRST, FIRST],
+        [1, 9],
+        VerifyError::ParentOutOfRange {
+            pos: Position(2),
+            parent: Position(9),
+        },
+        2,
+    ),
+    (
+        [FIRST, FIRST],
+        [0, 1],
+        VerifyError::Parent {
+            pos: Position(2),
+            error: ParentError::EdgeOverflow,
+        },
+        2,
+    ),
+    (
+        [FIRST, PAST],
+        [0, LAST],
+        VerifyError::Parent {
+            pos: Position(3),
+            error: ParentError::EdgeOverflow,
+        },
+        3,
+    ),
+];
+
 #[test]
 fn a_word_of_a_shared_edge_list_is_refused(rt: HostRuntime) -> Result<(), Fail> {
     let alloc = rt.alloc();
-    let out_of_range = |pos: u32, parent: u32| {
-        let (pos, parent) = (Position(pos), Position(parent));
-        VerifyError::ParentOutOfRange { pos, parent }
-    };
-    let overflow = |pos: u32| {
-        let (pos, error) = (Position(pos), ParentError::EdgeOverflow);
-        VerifyError::Parent { pos, error }
-    };
-    let rows: [([u32; 2], [u32; 2], VerifyError<Refused>, usize); 6] = [
-        ([FIRST, FIRST], [0, 0x8000_0009], out_of_range(2, 9), 2),
-        ([SECOND, FIRST], [9, LAST], out_of_range(3, 9), 3),
-        ([FIRST, FIRST], [9, 1], out_of_range(2, 9), 2),
-        ([FIRST, FIRST], [1, 9], out_of_range(2, 9), 2),
-        ([FIRST, FIRST], [0, 1], overflow(2), 2),
-        ([FIRST, PAST], [0, LAST], overflow(3), 3),
-    ];
-    for (fields, words, want, calls) in rows {
-        let bytes = sharing(&rt, alloc, fields, words)?;
+    for (fields, words, want, calls) in REFUSED_LISTS {
+        let bytes = sharing(&rt, alloc, *fields, *words)?;
         let graph = graph_of_one(alloc, opened(alloc, bytes, "commit-graph")?)?;
-        compare_refusal(&rt, alloc, &graph, want, calls);
+        compare_refusal(&rt, alloc, &graph, want, *calls);
     }
     Ok(())
 }
@@ -361,7 +404,7 @@ fn the_greatest_generation_stands_in_a_shared_edge_list(rt: HostRuntime) -> Resu
     let graph = graph_of_one(alloc, opened(alloc, bytes, "commit-graph")?)?;
     let (pos, expected) = (Position(3), 5);
     let want = VerifyError::Generation { pos, expected };
-    compare_refusal(&rt, alloc, &graph, want, 3);
+    compare_refusal(&rt, alloc, &graph, &want, 3);
     Ok(())
 }
 
