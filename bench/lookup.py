@@ -194,8 +194,13 @@ def inputs():
     yield shared_layer(SHARED_COMMITS)
     yield shared_layer(2 * SHARED_COMMITS)
     yield layer_file(range(COMMITS), positions_of([range(COMMITS)]), [])
-    size = COMMITS // LAYERS
-    parts = [range(start, start + size) for start in range(0, COMMITS, size)]
+    yield from chain_files(LAYERS)
+
+
+def chain_files(layers):
+    """The bytes of the files of a chain of so many layers, the lowest first."""
+    size = -(-COMMITS // layers)
+    parts = [range(start, min(start + size, COMMITS)) for start in range(0, COMMITS, size)]
     positions = positions_of(parts)
     bases = []
     for part in parts:

@@ -1,17 +1,19 @@
 #!/usr/bin/env python3
-"""Measures whole processes: `graphtool list` and `graphtool verify`, and how `verify` grows.
+"""Measures whole processes: `graphtool list`, `verify` and `distinct`, and how `verify` grows.
 
 usage: python3 bench/processes.py FOLDER [NAME=PROGRAM ..]
 
 FOLDER keeps the files for further runs; making them takes some minutes, and the largest has 1.7 GB.
 The program that scripts/program gives is measured beside each PROGRAM, as one of an older state of
-this repository, and beside bench/lookup/baseline.rs: `PROGRAM list`, with the file as its input, and
-`PROGRAM verify PATH`, each where the program ends with 0. The programs take turns. A line a figure
+this repository, and beside bench/lookup/baseline.rs: `PROGRAM list`, with the file as its input,
+`PROGRAM verify PATH` and `PROGRAM distinct PATH`, each where the program ends with 0. The programs take
+turns. A line a figure
 and a program: the least processor time and the least elapsed time of all runs, the greatest memory,
 and the ratio of our processor time to the program's.
 
-The files are those of bench/lookup.py, one layer of a million commits and a chain of ten, and three
-layers whose parents stand at random positions, by bench/processes/random_layer.rs.
+The files are those of bench/lookup.py, one layer of a million commits and a chain of ten, the same
+commits in a chain of 256 layers, and three layers whose parents stand at random positions, by
+bench/processes/random_layer.rs.
 """
 
 import os
@@ -27,6 +29,7 @@ import lookup
 
 RUNS = 7
 LONG_RUNS = 3
+MOST_LAYERS = 256
 SIZES = [1_000_000, 10_000_000, 30_000_000]
 
 
@@ -48,10 +51,14 @@ def main(folder, *others):
     print("load     %.2f" % os.getloadavg()[0])
     print("%-22s %-10s %11s %11s %9s %10s" % ("figure", "program", "processor s", "elapsed s", "memory MB", "ours of it"))
     files = lookup.written_files(folder)
-    layer, chain = files[lookup.NAMES.index("layer")], chain_folder(folder, files[-lookup.LAYERS :])
+    layer = files[lookup.NAMES.index("layer")]
+    chain = chain_folder(folder, "commit-graphs", files[-lookup.LAYERS :])
+    long_chain = chain_folder(folder, "commit-graphs-of-%d" % MOST_LAYERS, long_chain_files(folder))
     measure("list", programs, ["list"], layer, RUNS)
     measure("verify, one layer", programs, ["verify", layer], None, RUNS)
-    measure("verify, ten layers", programs, ["verify", chain], None, RUNS)
+    for command in ("verify", "distinct"):
+        measure("%s, ten layers" % command, programs, [command, chain], None, RUNS)
+        measure("%s, %d layers" % (command, MOST_LAYERS), programs, [command, long_chain], None, RUNS)
     for size in SIZES:
         path = random_layer(folder, size)
         measure("verify, %d" % size, programs, ["verify", path], None, RUNS if size < 10_000_000 else LONG_RUNS)
@@ -89,9 +96,19 @@ def measured(command, source):
     return Run(usage.ru_utime + usage.ru_stime, elapsed, 1024 * usage.ru_maxrss)
 
 
-def chain_folder(folder, layers):
-    """The path of a folder that is a chain of these layers."""
-    chain = os.path.join(folder, "commit-graphs")
+def long_chain_files(folder):
+    """The paths of the layers of the longest chain that a graph may have."""
+    paths = [os.path.join(folder, "chain-of-%d-%d" % (MOST_LAYERS, layer)) for layer in range(MOST_LAYERS)]
+    if not all(os.path.exists(path) for path in paths):
+        for path, data in zip(paths, lookup.chain_files(MOST_LAYERS)):
+            with open(path, "wb") as file:
+                file.write(data)
+    return paths
+
+
+def chain_folder(folder, name, layers):
+    """The path of a folder of this name that is a chain of these layers."""
+    chain = os.path.join(folder, name)
     os.makedirs(chain, exist_ok=True)
     names = []
     for layer in layers:

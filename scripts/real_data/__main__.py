@@ -9,6 +9,8 @@ usage: python3 scripts/real_data PROGRAM [every-value]
 - `find`: where each commit stands, in files and chains that are named in every way.
 - `ancestor`: a shortest walk between each pair of commits, or that there is none, as
   `git merge-base --is-ancestor` says, and how many commits were visited.
+- `distinct`: the words of `verify`, and an id that was put into two layers or more, next to one another
+  and far apart.
 - each byte of three small files, changed to some other values, or with `every-value` to all of them, beside
   a slow reading of the file; two million runs then, which take more than half an hour.
 - surroundings that are hostile: streams, paths, chain files, and every amount of memory.
@@ -28,6 +30,7 @@ sys.path.insert(0, os.path.dirname(os.path.dirname(os.path.abspath(__file__))))
 from checks import (
     ancestor_checks,
     disk_checks,
+    distinct_checks,
     list_checks,
     path_checks,
     surroundings_checks,
@@ -54,6 +57,7 @@ def main(path, every_value=False):
             verify_checks.check_all(program, tally, new, differences)
             path_checks.check_all(program, tally, new, differences)
             ancestor_checks.check_all(program, tally, new)
+            distinct_checks.check_all(program, tally, new, differences)
             disk_checks.check_all(program, tally, new, differences)
     differences.check(tally)
     return tally.finish()

@@ -11,6 +11,8 @@ mod conditions;
 #[cfg(test)]
 mod damaged;
 #[cfg(test)]
+mod distinct;
+#[cfg(test)]
 mod finding;
 #[cfg(test)]
 mod fixtures;

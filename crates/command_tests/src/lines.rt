@@ -195,6 +195,13 @@ fn spells_each_refusal_of_a_check(rt: HostRuntime) -> Result<(), Fail> {
             Refusal::Verify(VerifyError::OutOfMemory),
             "refused verify 10",
         ),
+        (
+            Refusal::Verify(VerifyError::DuplicateId {
+                pos,
+                earlier: Position(0),
+            }),
+            "refused verify 11 position 1879048190 earlier 0",
+        ),
     ];
     Ok(compare_texts(&rt, rt.alloc(), &rows)?)
 }

@@ -1,23 +1,26 @@
 -- How the check of a graph goes over the points of one commit.
-use Rattle.std.proofs.Common.{◌≡◌, ℕ, ◌+◌, Bool, true, false, not, ◌==◌, List, [], ◌∷◌, map, min, Option, Some, None, option_map}
-use Rattle.std.proofs.Common.{Result, Ok, Err, nat_lt, eq-eqb, ne_eqb, refl, sym, ap, subst, ◌∙◌, arith}
-use Rattle.first_faults.specs.First.{◌when◌}
+use Rattle.std.proofs.Common.{◌≡◌, ℕ, ◌+◌, Bool, true, false, not, ◌==◌, if◌then◌else◌, List, [], ◌∷◌, map, take, min, Option}
+use Rattle.std.proofs.Common.{Some, None, option_map, Result, Ok, Err, nat_lt, eq-eqb, ne_eqb, refl, sym, ap, subst, ◌∙◌, arith}
+use Rattle.first_faults.specs.First.{◌when◌, ◌otherwise◌}
 use Rattle.graph_format.specs.Layer.{Layer, record_at}
-use Rattle.graph_layer.specs.Commit.{commit_layer, commit_pos}
+use Rattle.graph_layer.specs.Commit.{commit_pos}
 use Rattle.graph_format.specs.Parents.{position_of, items_of, parents_of}
-use Rattle.gix_commitgraph.specs.Graph.{start, stop}
-use Rattle.graph_format.specs.Faults.{commit_fault}
+use Rattle.gix_commitgraph.specs.Graph.{graph_ids, start, stop}
+use Rattle.graph_format.specs.Faults.{id_at}
+use Rattle.graph_format.specs.Lookup.{scan}
 use Rattle.graph_walks.specs.History.{Node, generation_at, parents_at}
 use Rattle.graph_format.specs.StoredHistory.{history_of}
 use Rattle.graph_walks.specs.Generations.{expected_generation}
 use Rattle.graph_walks.specs.Counts.{greatest}
 use Rattle.graph_format.specs.Points.{Point, check, call, first_some, refused, IsRefused, StopsAt, StopsBy, Passes}
-use Rattle.gix_commitgraph.specs.Verify.{item_refusal, parents_refusal, generation_refusal, commit_points, cause_of}
+use Rattle.gix_commitgraph.specs.Verify.{id_fault, tree_fault, ids_refusal, item_refusal, parents_refusal, generation_refusal}
+use Rattle.gix_commitgraph.specs.Verify.{commit_points, cause_of}
 use Rattle.gix_commitgraph.specs.LayerSpans.{IsSpan, IsInSpan}
 use Rattle.graph_format.specs.declared.Position.{Position}
 use Rattle.graph_layer.specs.declared.file.commit.Commit.{Commit}
 use Rattle.graph_format.specs.declared.parents.ParentError.{ParentError}
 use Rattle.gix_commitgraph.specs.declared.verify.VerifyError.{VerifyError}
+use Rattle.gix_commitgraph.specs.declared.verify.VerifyOptions.{VerifyOptions}
 use Rattle.gix_commitgraph.specs.declared.verify.VerifyError.TheVariants as error
 use Rattle.gix_commitgraph.specs.declared.verify.layer.LayerSpan.{LayerSpan}
 use Rattle.graph_format.proofs.PointLemmas.{Reaches, reached_start, reached_past_check, refused_at_check, reached_past_call}
@@ -48,6 +51,34 @@ cause_of-parents {E} p stop = first_some-holds (λ x. cause_of x ≡ refused x) 
     each (Ok q) x found = cause_of-when (not (nat_lt q.0 stop)) _ x refl found
     each (Err e) x found = let same : x ≡ error.Parent (position_of p) e = cc in rw same refl
 
+-- what one of two conditions names, each of which names no answer of the processor
+cause_of-otherwise : {E : Type 0} (o rest : Option (VerifyError E)) → ((x : VerifyError E) → o ≡ Some x → cause_of x ≡ refused x)
+    → ((x : VerifyError E) → rest ≡ Some x → cause_of x ≡ refused x)
+    → (x : VerifyError E) → (o otherwise rest) ≡ Some x → cause_of x ≡ refused x
+cause_of-otherwise None rest first second x found = second x found
+cause_of-otherwise (Some y) rest first second x found = first x found
+
+cause_of-mapped : {E A : Type 0} (f : A → VerifyError E) → ((a : A) → cause_of (f a) ≡ refused (f a))
+    → (o : Option A) (x : VerifyError E) → option_map f o ≡ Some x → cause_of x ≡ refused x
+cause_of-mapped f each None x found = cc
+cause_of-mapped f each (Some a) x found = let same : x ≡ f a = cc in rw same (each a)
+
+cause_of-asked : {E A : Type 0} (f : A → VerifyError E) → ((a : A) → cause_of (f a) ≡ refused (f a))
+    → (asked : Bool) (o : Option A) (x : VerifyError E) → (if asked then option_map f o else None) ≡ Some x
+    → cause_of x ≡ refused x
+cause_of-asked f each true o x found = cause_of-mapped f each o x found
+cause_of-asked f each false o x found = cc
+
+-- what is found at the ids is no answer of the processor
+cause_of-ids : {E : Type 0} (options : VerifyOptions) (layers : List Layer) (i : ℕ) (layer : Layer) (pos : ℕ) (x : VerifyError E)
+    → Some x ≡ ids_refusal options layers i layer pos → cause_of x ≡ refused x
+cause_of-ids {E} options layers i layer pos x found =
+    let p = position_of (start layers i + pos) in
+    cause_of-otherwise _ _ (cause_of-mapped (error.Commit p) (λ a. refl) (id_fault layer pos))
+    (cause_of-otherwise _ _ (cause_of-asked (λ (earlier : ℕ). error.DuplicateId p (position_of earlier)) (λ a. refl)
+    options.distinct_ids (scan (graph_ids (take i layers)) (id_at layer pos)))
+    (cause_of-mapped (error.Commit p) (λ a. refl) (tree_fault layer pos))) x (sym found)
+
 pub wrong_generation : {E : Type 0} (history : List Node) (p stored expected : ℕ) → stored ≡ generation_at history p
     → expected ≡ expected_generation history p
     → (stored ≡ expected → ⊥) → generation_refusal {E = E} history p ≡ Some (error.Generation (position_of p) expected)
@@ -72,33 +103,39 @@ unfolding expected_generation
 expected-is history p most more expected is_most is_more is = omega arith
 
 -- The commit at p of a layer, point by point.
-module _ {F E : Type 0} (step : F → ℕ → Result (Unit {0}) E → F → Type 0) (f : F) (layers : List Layer) (span : LayerSpan)
-    (commit : Commit) (p : ℕ) (is : IsSpan layers span) (at : IsInSpan span commit p) where
+module _ {F E : Type 0} (step : F → ℕ → Result (Unit {0}) E → F → Type 0) (f : F) (options : VerifyOptions) (layers : List Layer)
+    (span : LayerSpan) (commit : Commit) (p : ℕ) (is : IsSpan layers span) (at : IsInSpan span commit p) where
   abbrev points : List (Point (VerifyError E))
-  points = commit_points layers span.layer span.file.now (commit_pos commit)
+  points = commit_points options layers span.layer span.file.now (commit_pos commit)
 
   at_ids : Reaches step points f (
-      check (option_map (error.Commit (position_of p)) (commit_fault (commit_layer commit) (commit_pos commit)))
+      check (ids_refusal options layers span.layer span.file.now (commit_pos commit))
       ∷ check (parents_refusal layers span.layer span.file.now (commit_pos commit))
       ∷ check (generation_refusal (history_of layers) p)
       ∷ call p
       ∷ []) f
   at_ids =
       let here : start layers span.layer + commit_pos commit ≡ p = omega (arith, is.first, at.at) in
-      let from : ℕ → Layer → List (Point (VerifyError E)) = λ q layer.
-      check (option_map (error.Commit (position_of q)) (commit_fault layer (commit_pos commit)))
+      let from : ℕ → List (Point (VerifyError E)) = λ q.
+      check (ids_refusal options layers span.layer span.file.now (commit_pos commit))
       ∷ check (parents_refusal layers span.layer span.file.now (commit_pos commit))
       ∷ check (generation_refusal (history_of layers) q)
       ∷ call q
       ∷ [] in
       let P : List (Point (VerifyError E)) → Type 0 = λ rest. Reaches step points f rest f in
-      subst P (ap (λ (q : ℕ). from q span.file.now) here ∙ ap (from p) (sym at.layer)) (reached_start step points f)
+      subst P (ap from here) (reached_start step points f)
 
-  module _ (ids : None ≡ commit_fault (commit_layer commit) (commit_pos commit)) where
+  pub refused_by_ids : (x : VerifyError E) → Some x ≡ ids_refusal options layers span.layer span.file.now (commit_pos commit)
+      → StopsBy step points f f (cause_of x)
+  refused_by_ids x some =
+      rw (cause_of-ids options layers span.layer span.file.now (commit_pos commit) x some)
+      (refused_at_check step points f _ _ f x (sym some) at_ids)
+
+  module _ (ids : None ≡ ids_refusal {E = E} options layers span.layer span.file.now (commit_pos commit)) where
     at_parents : Reaches step points f
         (check (parents_refusal layers span.layer span.file.now (commit_pos commit)) ∷ check
         (generation_refusal (history_of layers) p) ∷ call p ∷ []) f
-    at_parents = reached_past_check step points f _ _ f (ap (option_map (error.Commit (position_of p))) (sym ids)) at_ids
+    at_parents = reached_past_check step points f _ _ f (sym ids) at_ids
 
     pub refused_by_parents : (x : VerifyError E) → Some x ≡ parents_refusal layers span.layer span.file.now (commit_pos commit)
         → StopsBy step points f f (cause_of x)

@@ -37,7 +37,7 @@ no_layer : Layer
 no_layer = record { kind = Sha1; bases = []; fan = []; ids = []; records = []; edges = None; checksum = []; body = []; path = [] }
 
 -- later layers start later
-start-later : (layers : List Layer) (i k : ℕ) → i ≤ k → start layers i ≤ start layers k
+pub start-later : (layers : List Layer) (i k : ℕ) → i ≤ k → start layers i ≤ start layers k
 unfolding start
 start-later layers i k h = omega (arith, sum_by-take-le size (take k layers) i, ap total (take-take i k layers h))
 

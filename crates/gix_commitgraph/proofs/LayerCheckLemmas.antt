@@ -19,6 +19,7 @@ use Rattle.gix_commitgraph.specs.Verify.{cause_of}
 use Rattle.gix_commitgraph.specs.LayerSpans.{IsInSpan}
 use Rattle.graph_layer.specs.declared.file.commit.Commit.{Commit}
 use Rattle.gix_commitgraph.specs.declared.verify.VerifyError.{VerifyError}
+use Rattle.gix_commitgraph.specs.declared.verify.VerifyOptions.{VerifyOptions}
 use Rattle.gix_commitgraph.specs.declared.verify.VerifyError.TheVariants as error
 use Rattle.gix_commitgraph.specs.declared.verify.layer.LayerSpan.{LayerSpan}
 use Rattle.graph_format.proofs.PointLemmas.{Reaches, reached_start, reached_past_check, refused_at_check, passed}
@@ -80,32 +81,35 @@ place-none layer q left is none = ⊎_elim
     (cases_lt q (length layer.ids))
 
 -- the points of the commits of a layer from the q-th on
-abbrev pub commits_from : {E : Type 0} → List Layer → ℕ → Layer → ℕ → List (Point (VerifyError E))
-commits_from layers i layer q = flat_map (commit_points layers i layer) (range_with_len q (length layer.ids - q))
+abbrev pub commits_from : {E : Type 0} → VerifyOptions → List Layer → ℕ → Layer → ℕ → List (Point (VerifyError E))
+commits_from options layers i layer q = flat_map (commit_points options layers i layer) (range_with_len q (length layer.ids - q))
 
-commits_from-next : {E : Type 0} (layers : List Layer) (i : ℕ) (layer : Layer) (q : ℕ) → q < length layer.ids
-    → commits_from {E = E} layers i layer q ≡ commit_points layers i layer q ++ commits_from layers i layer (q + 1)
-commits_from-next {E} layers i layer q within =
+commits_from-next : {E : Type 0} (options : VerifyOptions) (layers : List Layer) (i : ℕ) (layer : Layer) (q : ℕ)
+    → q < length layer.ids
+    → commits_from {E = E} options layers i layer q
+    ≡ commit_points options layers i layer q ++ commits_from options layers i layer (q + 1)
+commits_from-next {E} options layers i layer q within =
     let more : length layer.ids - q ≡ suc (length layer.ids - (q + 1)) = omega arith in
-    let from : ℕ → List (Point (VerifyError E)) = λ n. flat_map (commit_points layers i layer) (range_with_len q n) in
+    let from : ℕ → List (Point (VerifyError E)) = λ n. flat_map (commit_points options layers i layer) (range_with_len q n) in
     ap from more
 
-commits_from-end : {E : Type 0} (layers : List Layer) (i : ℕ) (layer : Layer) (q : ℕ) → length layer.ids ≤ q
-    → commits_from {E = E} layers i layer q ≡ []
-commits_from-end {E} layers i layer q past =
+commits_from-end : {E : Type 0} (options : VerifyOptions) (layers : List Layer) (i : ℕ) (layer : Layer) (q : ℕ)
+    → length layer.ids ≤ q → commits_from {E = E} options layers i layer q ≡ []
+commits_from-end {E} options layers i layer q past =
     let none : length layer.ids - q ≡ 0 = omega arith in
-    let from : ℕ → List (Point (VerifyError E)) = λ n. flat_map (commit_points layers i layer) (range_with_len q n) in
+    let from : ℕ → List (Point (VerifyError E)) = λ n. flat_map (commit_points options layers i layer) (range_with_len q n) in
     ap from none
 
 -- A layer, point by point.
-module _ {F E : Type 0} (processor : Mut F (Bor Commit × Unit {0}) (Result (Unit {0}) E)) (layers : List Layer) (span : LayerSpan)
-    (f : F) where
+module _ {F E : Type 0} (processor : Mut F (Bor Commit × Unit {0}) (Result (Unit {0}) E)) (options : VerifyOptions)
+    (layers : List Layer) (span : LayerSpan) (f : F) where
   abbrev here : List (Point (VerifyError E))
-  here = layer_points layers span.layer span.file.now
+  here = layer_points options layers span.layer span.file.now
 
   -- The check of the layer has come to its q-th commit.
   abbrev pub ReachesCommit : ℕ → F → Type 0
-  ReachesCommit q g = Reaches (CalledOn processor (InGraph layers)) here f (commits_from layers span.layer span.file.now q) g
+  ReachesCommit q g =
+      Reaches (CalledOn processor (InGraph layers)) here f (commits_from options layers span.layer span.file.now q) g
 
   pub refused_by_bases : (x : VerifyError E) → Some x ≡ base_ids_refusal layers span.layer span.file.now
       → StopsBy (CalledOn processor (InGraph layers)) here f f (cause_of x)
@@ -115,14 +119,14 @@ module _ {F E : Type 0} (processor : Mut F (Bor Commit × Unit {0}) (Result (Uni
 
   module _ (bases : None ≡ base_ids_refusal {E = E} layers span.layer span.file.now) where
     at_layer : Reaches (CalledOn processor (InGraph layers)) here f
-        (check (option_map (error.Layer span.layer) (layer_fault span.file.now)) ∷ commits_from layers span.layer span.file.now 0)
-        f
+        (check (option_map (error.Layer span.layer) (layer_fault span.file.now)) ∷ commits_from options layers span.layer
+        span.file.now 0) f
     at_layer =
         let all : length span.file.now.ids ≡ length span.file.now.ids - 0 = omega arith in
         let P : ℕ → Type 0 = λ n.
         Reaches (CalledOn processor (InGraph layers)) here f
         (check (option_map (error.Layer span.layer) (layer_fault span.file.now)) ∷ flat_map
-        (commit_points layers span.layer span.file.now) (range_with_len 0 n)) f in
+        (commit_points options layers span.layer span.file.now) (range_with_len 0 n)) f in
         subst P all (reached_past_check (CalledOn processor (InGraph layers)) here f _ _ f (sym bases) (reached_start _ here f))
 
     pub reached_first : None ≡ layer_fault span.file.now → ReachesCommit 0 f
@@ -133,29 +137,31 @@ module _ {F E : Type 0} (processor : Mut F (Bor Commit × Unit {0}) (Result (Uni
   module _ (q : ℕ) (commit : Commit) (is : commit_pos commit ≡ q) (within : q < length span.file.now.ids) (g h : F)
       (reached : ReachesCommit q g) where
     abbrev part : List (Point (VerifyError E))
-    part = commit_points layers span.layer span.file.now (commit_pos commit)
+    part = commit_points options layers span.layer span.file.now (commit_pos commit)
 
     at_commit : Reaches (CalledOn processor (InGraph layers)) here f
-        (part ++ commits_from layers span.layer span.file.now (q + 1)) g
+        (part ++ commits_from options layers span.layer span.file.now (q + 1)) g
     at_commit =
-        let same : commits_from {E = E} layers span.layer span.file.now q
-        ≡ part ++ commits_from layers span.layer span.file.now (q + 1) =
-        commits_from-next layers span.layer span.file.now q within
-        ∙ ap (λ (pos : ℕ). commit_points {E = E} layers span.layer span.file.now pos ++ commits_from layers span.layer
-        span.file.now (q + 1)) (sym is) in
+        let same : commits_from {E = E} options layers span.layer span.file.now q
+        ≡ part ++ commits_from options layers span.layer span.file.now (q + 1) =
+        commits_from-next options layers span.layer span.file.now q within
+        ∙ ap (λ (pos : ℕ). commit_points {E = E} options layers span.layer span.file.now pos ++ commits_from options layers
+        span.layer span.file.now (q + 1)) (sym is) in
         rw same at reached
 
     pub stops_at_commit : (s : Cause (VerifyError E) E) → StopsBy (CalledOn processor (InGraph layers)) part g h s
         → StopsBy (CalledOn processor (InGraph layers)) here f h s
-    stops_at_commit s r = stops_in_part _ _ f part (commits_from layers span.layer span.file.now (q + 1)) g h at_commit s r
+    stops_at_commit s r =
+        stops_in_part _ _ f part (commits_from options layers span.layer span.file.now (q + 1)) g h at_commit s r
 
     pub reached_next : Passes (CalledOn processor (InGraph layers)) part g h → ReachesCommit (q + 1) h
-    reached_next passes = reached_past_part _ _ f part (commits_from layers span.layer span.file.now (q + 1)) g h at_commit passes
+    reached_next passes =
+        reached_past_part _ _ f part (commits_from options layers span.layer span.file.now (q + 1)) g h at_commit passes
 
   -- behind the last commit the layer is passed
   pub layer_passed : (q : ℕ) (g : F) → length span.file.now.ids ≤ q → ReachesCommit q g
       → Passes (CalledOn processor (InGraph layers)) here f g
   layer_passed q g past reached =
       let P : List (Point (VerifyError E)) → Type 0 = λ rest. Reaches (CalledOn processor (InGraph layers)) here f rest g in
-      passed (CalledOn processor (InGraph layers)) here f g
-      (subst P (commits_from-end layers span.layer span.file.now q past) reached)
+      passed (CalledOn processor (InGraph layers)) here f g (subst P
+      (commits_from-end options layers span.layer span.file.now q past) reached)

@@ -23,3 +23,5 @@ pub mod GraphCallLemmas
 pub mod HeadlineLemmas
 pub mod GraphTallyLemmas
 pub mod LayerStartLemmas
+pub mod DuplicateLemmas
+pub mod DistinctLemmas

@@ -27,8 +27,12 @@ pub record Stats (layers : List Layer) (outcome : Outcome) : Type 0 where
 abbrev pub LookupsAreScans : List Layer → Type 0
 LookupsAreScans layers = (id : List ℕ) (answer : Option ℕ) → FoundIn layers id answer → answer ≡ scan (graph_ids layers) id
 
--- a refusal is that of a graph that is not right; the processor's own error and a failed allocation say nothing of the graph
+-- a refusal shows that this does not hold; the processor's own error and a failed allocation show nothing
+abbrev pub Disproves : {E : Type 0} → Type 0 → VerifyError E → Type 0
+Disproves P (error.Processor pos e) = ⊤
+Disproves P error.OutOfMemory = ⊤
+Disproves P x = ¬ P
+
+-- a refusal is that of a graph that is not right
 abbrev pub IsDeserved : {E : Type 0} → List Layer → VerifyError E → Type 0
-IsDeserved layers (error.Processor pos e) = ⊤
-IsDeserved layers error.OutOfMemory = ⊤
-IsDeserved layers x = ¬ Sound layers
+IsDeserved layers x = Disproves (Sound layers) x

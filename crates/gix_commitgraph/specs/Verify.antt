@@ -1,14 +1,15 @@
 -- what the check of a graph looks for, in its order, and what it answers
-use Rattle.std.specs.Prelude.{◌≡◌, ◌==◌, ◌+◌, ◌∷◌, [], ℕ, List, not, nat_lt, bytes_eq, slice_get, unwrap_or, length, map, Option}
-use Rattle.std.specs.Prelude.{Some, option_map, Result, Ok, Err}
+use Rattle.std.specs.Prelude.{◌≡◌, ◌==◌, ◌+◌, ◌∷◌, [], ℕ, List, false, not, if◌then◌else◌, nat_lt, bytes_eq, slice_get, unwrap_or}
+use Rattle.std.specs.Prelude.{length, map, take, Option, Some, None, option_map, Result, Ok, Err}
 use Rattle.std.specs.BTreeMap.{get, IsUnchanged}
 use Rattle.std.specs.List.{flat_map, range_with_len, enumerate_from}
 use Rattle.std.specs.Ordering.{nat_cmp}
 use Rattle.first_faults.specs.First.{◌when◌, ◌otherwise◌, first_below}
 use Rattle.graph_format.specs.Layer.{Layer, record_at}
 use Rattle.graph_format.specs.Parents.{position_of, parents_of, items_of}
-use Rattle.gix_commitgraph.specs.Graph.{start, stop}
-use Rattle.graph_format.specs.Faults.{layer_fault, commit_fault}
+use Rattle.graph_format.specs.Lookup.{scan}
+use Rattle.gix_commitgraph.specs.Graph.{graph_ids, start, stop}
+use Rattle.graph_format.specs.Faults.{layer_fault, is_null, id_at, is_out_of_order}
 use Rattle.graph_format.specs.Points.{Point, check, call, first_some, Cause, refused, by_processor, no_memory}
 use Rattle.graph_walks.specs.Counts.{count_of}
 use Rattle.graph_walks.specs.History.{Node, generation_at, generations, parent_numbers}
@@ -16,6 +17,9 @@ use Rattle.graph_format.specs.StoredHistory.{history_of}
 use Rattle.graph_walks.specs.Generations.{expected_generation, longest_path}
 use Rattle.graph_format.specs.declared.Position.{Position}
 use Rattle.graph_format.specs.declared.parents.ParentError.{ParentError}
+use Rattle.graph_format.specs.declared.fault.CommitFault.{CommitFault}
+use Rattle.graph_format.specs.declared.fault.CommitFault.TheVariants.{NullId, Order, NullTree}
+use Rattle.gix_commitgraph.specs.declared.verify.VerifyOptions.{VerifyOptions}
 use Rattle.gix_commitgraph.specs.declared.verify.VerifyError.{VerifyError}
 use Rattle.gix_commitgraph.specs.declared.verify.VerifyError.TheVariants as error
 use Rattle.gix_commitgraph.specs.declared.verify.Outcome.{Outcome}
@@ -27,6 +31,14 @@ base_at layer j = unwrap_or (slice_get layer.bases j) []
 -- the checksum of layer j, and no bytes where there is no such layer
 abbrev pub checksum_at : List Layer → ℕ → List ℕ
 checksum_at layers j = unwrap_or (slice_get (map (λ layer. layer.checksum) layers) j) []
+
+-- the id of the commit at a position is null, or is not above the one before it in the layer ("OID Lookup")
+abbrev pub id_fault : Layer → ℕ → Option CommitFault
+id_fault layer pos = NullId when is_null (id_at layer pos) otherwise Order when is_out_of_order layer pos
+
+-- the id of its root tree is null ("Commit Data")
+abbrev pub tree_fault : Layer → ℕ → Option CommitFault
+tree_fault layer pos = NullTree when is_null (record_at layer pos).tree
 
 module _ {E : Type 0} where
   -- the base id at place j of a layer that is to be layer i: the checksum of layer j
@@ -55,27 +67,45 @@ module _ {E : Type 0} where
       error.Generation (position_of p) (expected_generation history p)
       when not (generation_at history p == expected_generation history p)
 
+  -- the id of the commit at a position of layer i stands in an earlier layer too. The least position that holds it is named
+  abbrev pub duplicate_refusal : List Layer → ℕ → Layer → ℕ → Option (VerifyError E)
+  duplicate_refusal layers i layer pos =
+      option_map (λ earlier. error.DuplicateId (position_of (start layers i + pos)) (position_of earlier))
+      (scan (graph_ids (take i layers)) (id_at layer pos))
+
+  -- the ids of the commit at a position of layer i: its own, where the options ask for it that no earlier layer has it, and the
+  -- root tree's
+  abbrev pub ids_refusal : VerifyOptions → List Layer → ℕ → Layer → ℕ → Option (VerifyError E)
+  ids_refusal options layers i layer pos =
+      option_map (error.Commit (position_of (start layers i + pos))) (id_fault layer pos)
+      otherwise (if options.distinct_ids then duplicate_refusal layers i layer pos else None)
+      otherwise option_map (error.Commit (position_of (start layers i + pos))) (tree_fault layer pos)
+
   -- the commit at a position of layer i: its ids, its parents, its generation number, the processor
-  abbrev pub commit_points : List Layer → ℕ → Layer → ℕ → List (Point (VerifyError E))
-  commit_points layers i layer pos =
-      check (option_map (error.Commit (position_of (start layers i + pos))) (commit_fault layer pos))
+  abbrev pub commit_points : VerifyOptions → List Layer → ℕ → Layer → ℕ → List (Point (VerifyError E))
+  commit_points options layers i layer pos =
+      check (ids_refusal options layers i layer pos)
       ∷ check (parents_refusal layers i layer pos)
       ∷ check (generation_refusal (history_of layers) (start layers i + pos))
       ∷ call (start layers i + pos)
       ∷ []
 
   -- layer i: its base ids, the layer as a whole, and then each commit
-  abbrev pub layer_points : List Layer → ℕ → Layer → List (Point (VerifyError E))
-  layer_points layers i layer =
+  abbrev pub layer_points : VerifyOptions → List Layer → ℕ → Layer → List (Point (VerifyError E))
+  layer_points options layers i layer =
       check (base_ids_refusal layers i layer)
       ∷ check (option_map (error.Layer i) (layer_fault layer))
-      ∷ flat_map (commit_points layers i layer) (range_with_len 0 (length layer.ids))
+      ∷ flat_map (commit_points options layers i layer) (range_with_len 0 (length layer.ids))
 
   -- the number of layers, and then each layer
-  abbrev pub graph_points : List Layer → List (Point (VerifyError E))
-  graph_points layers =
+  abbrev pub points_with : VerifyOptions → List Layer → List (Point (VerifyError E))
+  points_with options layers =
       check (error.TooManyFiles when nat_lt 256 (length layers))
-      ∷ flat_map (λ e. layer_points layers e.0 e.1) (enumerate_from 0 layers)
+      ∷ flat_map (λ e. layer_points options layers e.0 e.1) (enumerate_from 0 layers)
+
+  -- where nothing is asked for besides
+  abbrev pub graph_points : List Layer → List (Point (VerifyError E))
+  graph_points layers = points_with (record { distinct_ids = false }) layers
 
   -- why the check stopped
   abbrev pub cause_of : VerifyError E → Cause (VerifyError E) E

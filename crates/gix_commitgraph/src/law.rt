@@ -2,6 +2,7 @@
 //! function does nothing, and its contract is the law.
 
 pub mod check;
+pub mod distinct;
 pub mod graph;
 pub mod layer;
 pub mod sound;

@@ -2,11 +2,12 @@
 
 mod commit;
 mod gather;
+mod ids;
 mod layer;
 mod lists;
 mod tally;
 
-ghost use Rattle.std.specs.Prelude.{IfOk, MatchResult};
+ghost use Rattle.std.specs.Prelude.{IfOk, IsTrue, MatchResult};
 
 use crate::Position;
 use crate::file::Commit;
@@ -20,6 +21,13 @@ use thiserror::Error;
 
 /// The greatest number of layers of a right graph.
 const MOST_LAYERS: usize = 256;
+
+/// What the check of a graph looks for besides what every right graph keeps.
+#[derive(Clone, Copy, Debug, PartialEq, Eq)]
+pub struct VerifyOptions {
+    /// That no id stands in two layers. Git's format does not forbid it.
+    pub distinct_ids: bool,
+}
 
 /// Why a graph is refused: the first of its checks that fails, in their order, or a failed
 /// allocation. Positions are those of the graph, and layers and base ids count from 0.
@@ -59,6 +67,10 @@ pub enum VerifyError<E> {
     /// An allocation failed.
     #[error("OutOfMemory")]
     OutOfMemory,
+    /// The id of the commit at this position stands at an earlier one too, in a layer below. It is
+    /// the least such position. Only a check whose options ask for distinct ids answers this.
+    #[error("DuplicateId")]
+    DuplicateId { pos: Position, earlier: Position },
 }
 
 impl<E> From<AllocError> for VerifyError<E> {
@@ -104,7 +116,8 @@ impl Graph {
     ghost use Rattle.graph_layer.specs.Called.{MayBeCalled, CalledOn};
     ghost use Rattle.gix_commitgraph.specs.InGraph.{InGraph};
     ghost use Rattle.graph_format.specs.StoredHistory.{history_of};
-    ghost use Rattle.gix_commitgraph.specs.Verify.{graph_points, cause_of, Summarizes};
+    ghost use Rattle.gix_commitgraph.specs.Verify.{graph_points, points_with, cause_of, Summarizes};
+    ghost use Rattle.gix_commitgraph.specs.Distinct.{IsSoundWith, IsDeservedWith, LookupsAreExact};
     ghost use Rattle.gix_commitgraph.specs.Graph.{IsGraph};
     ghost use Rattle.gix_commitgraph.specs.Sound.{Sound};
     ghost use Rattle.gix_commitgraph.specs.Headline.{Stats, LookupsAreScans, IsDeserved};
@@ -163,20 +176,65 @@ impl Graph {
         ensures statistics { IfOk result (Stats self.now) }
         ensures lookup { IfOk result (λ _. LookupsAreScans self.now) }
     {
-        self.verify_layers(alloc, processor)
+        let plain = VerifyOptions {
+            distinct_ids: false,
+        };
+        self.verify_layers(alloc, plain, processor)
     }
 
-    /// Checks the layers, from the lowest on. What its answer says of the graph as a whole is left
-    /// to `verify_integrity`.
-    fn verify_layers<'a, F, E>(
+    /// Checks the graph as [`Graph::verify_integrity`] does, and for what the options ask besides.
+    /// Without options the two are the same.
+    ///
+    /// # Errors
+    ///
+    /// Those of [`Graph::verify_integrity`], in the same order, and with `distinct_ids` one more:
+    ///
+    /// - `DuplicateId`: the commit's id stands in a layer below, at this position and at none
+    ///   before. It comes after `Commit` for the id, and before `Commit` for the root tree's.
+    pub fn verify_integrity_with<'a, F, E>(
         &'a self,
         alloc: Global,
+        options: VerifyOptions,
         processor: &mut F,
     ) -> Result<Outcome, VerifyError<E>>
     where
         F: FnMut(&Commit<'a>) -> Result<(), E>,
         requires { MayBeCalled F.FnMut (InGraph self.now) }
-        ensures agrees { Agrees (CalledOn F.FnMut (InGraph self.now)) (graph_points self.now)
+
+        // It is `Ok` exactly where no check fails and the processor accepts each commit, once and
+        // in order; else it names the first check that fails, or hands back the processor's error.
+        ensures agrees { Agrees (CalledOn F.FnMut (InGraph self.now)) (points_with options self.now)
+            processor.old processor.new cause_of result }
+        ensures outcome { IfOk result (Summarizes (history_of self.now)) }
+
+        // A graph that passes keeps all that is asked, and one that keeps it is refused only by the
+        // processor or because an allocation failed.
+        ensures sound { MatchResult result (λ _. IsSoundWith options self.now)
+            (IsDeservedWith options self.now) }
+
+        // In a graph that passes, the statistics are exact, and a lookup is a plain scan.
+        ensures statistics { IfOk result (Stats self.now) }
+        ensures lookup { IfOk result (λ _. LookupsAreScans self.now) }
+
+        // With distinct ids, a lookup answers a position exactly where it holds the id.
+        ensures distinct { IfOk result (λ _.
+            IsTrue options.distinct_ids → LookupsAreExact self.now) }
+    {
+        self.verify_layers(alloc, options, processor)
+    }
+
+    /// Checks the layers, from the lowest on. What its answer says of the graph as a whole is left
+    /// to its callers.
+    fn verify_layers<'a, F, E>(
+        &'a self,
+        alloc: Global,
+        options: VerifyOptions,
+        processor: &mut F,
+    ) -> Result<Outcome, VerifyError<E>>
+    where
+        F: FnMut(&Commit<'a>) -> Result<(), E>,
+        requires { MayBeCalled F.FnMut (InGraph self.now) }
+        ensures agrees { Agrees (CalledOn F.FnMut (InGraph self.now)) (points_with options self.now)
             processor.old processor.new cause_of result }
         ensures outcome { IfOk result (Summarizes (history_of self.now)) }
         ensures graph { IsGraph self.now }
@@ -188,7 +246,7 @@ impl Graph {
         let mut first = 0;
         for layer in 0..self.files.len() {
             let span = self.span_at(layer, first);
-            self.verify_layer(span, alloc, &mut tally, processor)?;
+            self.verify_layer(options, span, alloc, &mut tally, processor)?;
             first = span.stop;
         }
         Ok(tally.outcome()?)

@@ -9,5 +9,6 @@ pub mod List
 pub mod Report
 pub mod Opening
 pub mod Verify
+pub mod Distinct
 pub mod Find
 pub mod Ancestor

@@ -47,6 +47,7 @@ verify_text (check.ParentOutOfRange pos parent) = codes "7 position " ⧺ decima
 verify_text (check.Generation pos expected) = codes "8 position " ⧺ decimal pos.0 ⧺ codes " expected " ⧺ decimal expected
 verify_text (check.Processor pos error) = codes "9 position " ⧺ decimal pos.0
 verify_text check.OutOfMemory = codes "10"
+verify_text (check.DuplicateId pos earlier) = codes "11 position " ⧺ decimal pos.0 ⧺ codes " earlier " ⧺ decimal earlier.0
 
 -- why a command was refused
 abbrev pub refusal_text : Refusal → List ℕ

@@ -8,6 +8,7 @@
 mod ancestor;
 mod block;
 mod bytes;
+mod distinct;
 pub mod line;
 mod listing;
 mod numbers;

@@ -205,6 +205,9 @@ impl<E> fmt::Display for VerifyText<'_, E> {
             }
             VerifyError::Processor { pos, .. } => write!(f, "9 position {}", pos.0),
             VerifyError::OutOfMemory => write!(f, "10"),
+            VerifyError::DuplicateId { pos, earlier } => {
+                write!(f, "11 position {} earlier {}", pos.0, earlier.0)
+            }
         }
     }
 }

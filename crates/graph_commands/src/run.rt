@@ -11,6 +11,7 @@ ghost use Rattle.graph_commands.specs.Verify.{verify_status};
 
 pub use crate::ancestor::{Ancestry, run_ancestor};
 use crate::block::Block;
+pub use crate::distinct::run_distinct;
 use crate::line::write_line;
 use crate::listing::write_listing;
 use crate::refusal::Refusal;

@@ -15,6 +15,8 @@ mod commits;
 #[cfg(test)]
 mod disk;
 #[cfg(test)]
+mod distinct;
+#[cfg(test)]
 mod fixtures;
 #[cfg(test)]
 mod folders;

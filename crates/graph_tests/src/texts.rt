@@ -136,7 +136,7 @@ fn errors_of_a_graph_are_their_names(rt: HostRuntime) -> Result<(), Fail> {
     let of_layer = LayerFault::Checksum;
     let of_commit = CommitFault::Order;
     let error = ParentError::NoEdgeList;
-    let rows: [(VerifyError<&str>, &str); 10] = [
+    let rows: [(VerifyError<&str>, &str); 11] = [
         (VerifyError::TooManyFiles, "TooManyFiles"),
         (VerifyError::BaseCount { layer }, "BaseCount"),
         (VerifyError::BaseId { layer, index: 0 }, "BaseId"),
@@ -162,6 +162,10 @@ fn errors_of_a_graph_are_their_names(rt: HostRuntime) -> Result<(), Fail> {
         (VerifyError::Generation { pos, expected: 2 }, "Generation"),
         (VerifyError::Processor { pos, error: "no" }, "Processor"),
         (VerifyError::OutOfMemory, "OutOfMemory"),
+        (
+            VerifyError::DuplicateId { pos, earlier: pos },
+            "DuplicateId",
+        ),
     ];
     Ok(compare_texts(&rt, rt.alloc(), &rows)?)
 }

@@ -12,13 +12,16 @@ ghost use Rattle.std.specs.Prelude.{◌≡◌, MatchResult};
 mod tests;
 
 use graph_commands::line::write_line;
-use graph_commands::run::{WriteFailed, run_ancestor, run_find, run_list, run_verify};
+use graph_commands::run::{
+    WriteFailed, run_ancestor, run_distinct, run_find, run_list, run_verify,
+};
 use graph_folder::folder::Disk;
 use std::io::Write;
 use std::process::ExitCode;
 use std::{env, io};
 
-const USAGE: &str = "usage: graphtool list | verify PATH | find PATH HEX | ancestor PATH HEX HEX";
+const USAGE: &str = "usage: graphtool list | verify PATH | find PATH HEX | ancestor PATH HEX HEX \
+    | distinct PATH";
 
 const WRITE_FAILED: &str = "graphtool: the answer could not be written";
 
@@ -87,6 +90,10 @@ enum Command<'a> {
         first: &'a str,
         second: &'a str,
     },
+    // The graph at a path is to be checked, and that its ids are distinct.
+    Distinct {
+        path: &'a str,
+    },
 }
 
 impl<'a> Command<'a> {
@@ -108,6 +115,9 @@ impl<'a> Command<'a> {
                     second: second.as_str(),
                 })
             }
+            [_, name, path] if name.as_str() == "distinct" => Some(Command::Distinct {
+                path: path.as_str(),
+            }),
             _ => None,
         }
     }
@@ -126,6 +136,9 @@ impl<'a> Command<'a> {
                 first,
                 second,
             } => { run_ancestor(alloc, &mut Disk::new(rt), path, first, second, &mut writer) }
+            Command::Distinct { path } => {
+                run_distinct(alloc, &mut Disk::new(rt), path, &mut writer)
+            }
         }
     }
 }

@@ -63,5 +63,6 @@ fn of_a_graph<E>(error: &VerifyError<E>) {
             expected: _,
         } => {}
         Processor { pos: _, error: _ } | OutOfMemory => {}
+        DuplicateId { pos: _, earlier: _ } => {}
     }
 }

@@ -3,7 +3,7 @@
 use gix_commitgraph::file::commit::{Commit, ExtraEdge, ParentEdge, Parents};
 use gix_commitgraph::file::verify::{self, ChecksumMismatch};
 use gix_commitgraph::file::{self, BaseIds, Commits, File, Ids};
-use gix_commitgraph::law::{check, edges, graph, layer, lookup, sound, stats, walk};
+use gix_commitgraph::law::{check, distinct, edges, graph, layer, lookup, sound, stats, walk};
 use gix_commitgraph::opening::{open_chain_dir_in, open_file_in, open_in, open_info_dir_in};
 use gix_commitgraph::verify::Outcome;
 use gix_commitgraph::{

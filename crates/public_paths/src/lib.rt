@@ -3,6 +3,7 @@
 #![tactic(auto)]
 
 ghost use Rattle.std.specs.Prelude.{IfOk, MatchResult};
+ghost use Rattle.gix_commitgraph.specs.Distinct.{AreDistinct, LookupsAreExact};
 ghost use Rattle.gix_commitgraph.specs.Graph.{IsGraph};
 ghost use Rattle.gix_commitgraph.specs.Headline.{IsDeserved, LookupsAreScans, Stats};
 ghost use Rattle.gix_commitgraph.specs.OpenAlways.{IsFromPath};
@@ -14,7 +15,7 @@ mod items;
 
 use gix_commitgraph::file::Commit;
 use gix_commitgraph::opening::OpenError;
-use gix_commitgraph::verify::{Outcome, VerifyError};
+use gix_commitgraph::verify::{Outcome, VerifyError, VerifyOptions};
 use gix_commitgraph::{Graph, at};
 use std::alloc::Global;
 use std::convert::Infallible;
@@ -35,4 +36,14 @@ pub fn check(alloc: Global, graph: &Graph) -> Result<Outcome, VerifyError<Infall
     ensures lookups { IfOk result (λ _. LookupsAreScans graph.now) }
 {
     graph.verify_integrity(alloc, &mut |_: &Commit<'_>| Ok(()))
+}
+
+/// Checks a graph, and that its ids are distinct.
+pub fn check_distinct(alloc: Global, graph: &Graph) -> Result<Outcome, VerifyError<Infallible>>
+    ensures distinct { IfOk result (λ _. AreDistinct graph.now) }
+    ensures lookups { IfOk result (λ _. LookupsAreExact graph.now) }
+{
+    let options = VerifyOptions { distinct_ids: true };
+    let outcome = graph.verify_integrity_with(alloc, options, &mut |_: &Commit<'_>| Ok(()))?;
+    Ok(outcome)
 }

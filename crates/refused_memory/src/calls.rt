@@ -3,8 +3,9 @@
 use crate::stage::Stage;
 use gix_commitgraph::file::Commit;
 use gix_commitgraph::opening::{open_chain_dir_in, open_file_in, open_in, open_info_dir_in};
+use gix_commitgraph::verify::VerifyOptions;
 use gix_commitgraph::{File, Graph, at};
-use graph_commands::run::{run_find, run_list, run_verify};
+use graph_commands::run::{run_distinct, run_find, run_list, run_verify};
 use graph_folder::folder::{Folder, Memory};
 use graph_vectors::build;
 use std::alloc::Global;
@@ -28,9 +29,10 @@ pub fn call(rt: &HostRuntime, alloc: Global, name: &[u8], stage: &mut Stage) -> 
         }
         b"build" => told_build(rt, alloc, stage),
         b"traverse" => traverse(rt, alloc, stage),
-        b"verify_integrity" => verify_integrity(rt, alloc, stage),
+        b"verify_integrity" => verify_integrity(rt, alloc, false, stage),
+        b"verify_integrity_with" => verify_integrity(rt, alloc, true, stage),
         b"put_file" | b"put_dir" => put(rt, alloc, name, stage),
-        b"run_list" | b"run_verify" | b"run_verify_info" | b"run_find" => {
+        b"run_list" | b"run_verify" | b"run_verify_info" | b"run_distinct" | b"run_find" => {
             run(rt, alloc, name, stage)
         }
         _ => open(rt, alloc, name, stage),
@@ -68,20 +70,31 @@ fn traverse(rt: &HostRuntime, alloc: Global, stage: &Stage) -> io::Result<()> {
     println!(rt; "{copied:?}")
 }
 
-/// Checks a graph, then copies what the check counted. Each has a line.
-fn verify_integrity(rt: &HostRuntime, alloc: Global, stage: &Stage) -> io::Result<()> {
+/// Checks a graph, also for distinct ids or not, then copies what the check counted. Each has a
+/// line.
+fn verify_integrity(
+    rt: &HostRuntime,
+    alloc: Global,
+    distinct_ids: bool,
+    stage: &Stage,
+) -> io::Result<()> {
     let mut calls = 0u32;
-    let answer = stage.graph.verify_integrity(
-        alloc,
-        &mut |commit: &Commit<'_>| -> Result<(), Infallible> {
-            calls = if u32::from(commit.id().first_byte()) == calls.saturating_add(1) {
-                calls.saturating_add(1)
-            } else {
-                u32::MAX
-            };
-            Ok(())
-        },
-    );
+    let mut accept = |commit: &Commit<'_>| -> Result<(), Infallible> {
+        calls = if u32::from(commit.id().first_byte()) == calls.saturating_add(1) {
+            calls.saturating_add(1)
+        } else {
+            u32::MAX
+        };
+        Ok(())
+    };
+    let answer = if distinct_ids {
+        let options = VerifyOptions { distinct_ids };
+        stage
+            .graph
+            .verify_integrity_with(alloc, options, &mut accept)
+    } else {
+        stage.graph.verify_integrity(alloc, &mut accept)
+    };
     let commits = answer.as_ref().map(|outcome| outcome.num_commits);
     println!(rt; "{commits:?} after {calls} calls")?;
     let Ok(outcome) = answer else {
@@ -111,6 +124,7 @@ fn run(rt: &HostRuntime, alloc: Global, name: &[u8], stage: &mut Stage) -> io::R
         b"run_list" => run_list(alloc, &mut stage.bytes.as_slice(), out),
         b"run_verify" => run_verify(alloc, memory, "chain", out),
         b"run_verify_info" => run_verify(alloc, memory, "info", out),
+        b"run_distinct" => run_distinct(alloc, memory, "chain", out),
         _ => run_find(alloc, memory, "chain", HEX, out),
     };
     println!(rt; "{answer:?}")?;

@@ -47,6 +47,10 @@ class Program:
         """The answer to `verify` of a path."""
         return self.run("verify", path, stdin=subprocess.DEVNULL, **streams)
 
+    def distinct(self, path, **streams):
+        """The answer to `distinct` of a path."""
+        return self.run("distinct", path, stdin=subprocess.DEVNULL, **streams)
+
     def find(self, path, commit, **streams):
         """The answer to `find` of an id at a path."""
         return self.run("find", path, commit, stdin=subprocess.DEVNULL, **streams)

@@ -126,6 +126,7 @@ def check_small_stack(program, tally, repository):
     for command, answer, right in (
         ("list", program.run("list", input=layer, **small), text),
         ("verify", program.verify(path, **small), verified(words)),
+        ("distinct", program.distinct(path, **small), verified(words)),
         ("find", program.find(path, commit, **small), line),
     ):
         tally.check("%s, %s with a small stack" % (repository.object_format, command), judge.same(right, answer))

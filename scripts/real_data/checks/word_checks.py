@@ -9,7 +9,7 @@ from checks.list_checks import check_family
 from damage import mutations
 from expected import judge
 
-USAGE = "usage: graphtool list | verify PATH | find PATH HEX | ancestor PATH HEX HEX\n"
+USAGE = "usage: graphtool list | verify PATH | find PATH HEX | ancestor PATH HEX HEX | distinct PATH\n"
 """What the program writes on standard error where its words are no command."""
 
 FAILED_WRITE = "graphtool: the answer could not be written\n"
@@ -22,6 +22,7 @@ OTHER_WORDS = [
     *(["verify"], ["verify", ".", "."], ["verify", b"\xff"], ["VERIFY", "."], ["check", "."], ["verify ", "."]),
     *(["find"], ["find", "."], ["find", ".", ID, ""], ["Find", ".", ID], ["lookup", ".", ID], ["verify", ".", ID]),
     *(["ancestor", ".", ID], ["ancestor", ".", ID, ID, ID], ["find", ".", ID, ID], ["ancestors", ".", ID, ID]),
+    *(["distinct"], ["distinct", ".", "."], ["distinct", b"\xff"], ["Distinct", "."]),
     *(["find", b"\xff", ID], ["find", ".", b"\xff" * 40], [".", "find", ID], [".", ID, "find"]),
 ]
 """Words that are no command: too few, too many, others, or no text."""
@@ -65,7 +66,7 @@ def check_streams(program, tally):
 
 def check_paths_beyond(program, tally):
     """Files that cannot be read or are larger than the memory, and output that cannot be written."""
-    commands = {"verify": program.verify, "find": partial(program.find, commit=ID)}
+    commands = {"verify": program.verify, "distinct": program.distinct, "find": partial(program.find, commit=ID)}
     for command, run in commands.items():
         with tempfile.TemporaryDirectory() as folder:
             path = os.path.join(folder, "commit-graph")

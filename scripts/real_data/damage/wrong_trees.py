@@ -57,13 +57,17 @@ class Right:
 
     def rebuilt(self, number, content):
         """The tree of a chain with other bytes of a layer; all checksums, names and base ids are right."""
+        return chain(self.rebuilt_layers(number, content))
+
+    def rebuilt_layers(self, number, content):
+        """The layers of that chain."""
         layers = [*self.layers[:number], Layer("", content).sealed(self.object_format).renamed(self.object_format)]
         for layer in self.layers[number + 1 :]:
             base_ids = b"".join(bytes.fromhex(below.name) for below in layers)
             place = Outline(layer.content, self.object_format).chunks["BASE"]
             rebased = layer.edited(place.start, base_ids)
             layers.append(rebased.sealed(self.object_format).renamed(self.object_format))
-        return chain(layers)
+        return layers
 
 
 def all_wrong(right):

@@ -26,6 +26,7 @@ BY_SIZE = "Git divides the file's size by the length of a line with an id, and r
 BY_BASES = "Git knows a layer by the base ids of the layers above, and none is above the last"
 OWN_TRAILER = "past the end of its list Git finds the file's checksum, and that is the base id it looks for"
 LENGTHS = "Git does not check the lengths of these chunks"
+TWICE = "the format lets an id stand in two layers; `distinct` alone asks for it"
 ELSEWHERE = "Git looks into the alternates too; here all layers are read from the chain's own folder"
 
 LISTED = {
@@ -79,6 +80,7 @@ LISTED = {
         ],
         (WARNED, IN_PART),
     ),
+    "a commit in two layers, for distinct": (FINDS, TWICE),
     "a layer with a wrong number of bases": (FINDS, UNASKED),
     "a layer with a list of bases that is too long": (FINDS, UNASKED),
     "the last layer under another name": (FINDS, BY_BASES),

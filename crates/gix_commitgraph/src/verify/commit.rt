@@ -1,15 +1,14 @@
 //! The check of one commit of a graph.
 
-ghost use Rattle.std.specs.Prelude.{◌≡◌, ◌<◌, length, IfOk, IfSome};
+ghost use Rattle.std.specs.Prelude.{◌≡◌, ◌<◌, All, length, take, IfOk, IfSome};
 ghost use Rattle.std.specs.Result.{result_err};
 ghost use Rattle.std.specs.Fn.{TakesAt};
 
 use crate::file::{self, Commit};
 use crate::graph::Graph;
-use crate::verify::VerifyError;
 use crate::verify::layer::LayerSpan;
+use crate::verify::{VerifyError, VerifyOptions};
 use crate::{GENERATION_NUMBER_MAX, Position};
-use graph_layer::check::commit_fault;
 
 /// The number of a commit's parents, and the greatest of their generation numbers.
 #[derive(Clone, Copy)]
@@ -28,12 +27,14 @@ impl Graph {
     ghost use Rattle.gix_commitgraph.specs.InGraph.{InGraph};
     ghost use Rattle.gix_commitgraph.specs.Verify.{parents_refusal, commit_points, cause_of};
     ghost use Rattle.gix_commitgraph.specs.Tallies.{ParentsTally, IsGathered};
+    ghost use Rattle.gix_commitgraph.specs.GraphLaw.{IsOrdered};
     ghost use Rattle.gix_commitgraph.specs.LayerSpans.{IsSpan, IsInSpan};
 
     /// One commit: its ids, its parents, its generation number, the processor. The answer is the
     /// number of its parents. They are decoded where nothing was gathered of them.
     pub(super) fn verify_commit<'a, F, E>(
         &'a self,
+        options: VerifyOptions,
         span: LayerSpan<'a>,
         commit: &Commit<'a>,
         pos: Position,
@@ -45,16 +46,16 @@ impl Graph {
         requires span { IsSpan self.now span }
         requires commit { IsInSpan span commit.now pos.0 }
         requires gathered { IfSome gathered (IsGathered self.now span (commit_pos commit.now)) }
+        requires below { All IsOrdered (take span.layer self.now) }
         requires callable { (state : F) → TakesAt F.FnMut state commit.now }
         ensures agrees { Agrees (CalledOn F.FnMut (InGraph self.now))
-            (commit_points self.now span.entry.layer span.entry.file.now (commit_pos commit.now))
+            (commit_points options self.now span.entry.layer span.entry.file.now
+            (commit_pos commit.now))
             processor.old processor.new cause_of result }
         ensures parents { IfOk result (λ parents.
             parents ≡ length (parents_at (history_of self.now) pos.0)) }
     {
-        if let Some(fault) = commit_fault(commit) {
-            return Err(VerifyError::Commit { pos, fault });
-        }
+        self.check_ids(options, span, commit, pos)?;
         let parents = self.tally_parents(span, commit, pos, gathered)?;
         let expected = parents
             .max_generation

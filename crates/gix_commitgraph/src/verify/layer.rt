@@ -1,14 +1,14 @@
 //! The check of one layer of a graph.
 
-ghost use Rattle.std.specs.Prelude.{◌≡◌, ◌+◌, ◌<◌, length, take, IfOk, OnOk};
+ghost use Rattle.std.specs.Prelude.{◌≡◌, ◌+◌, ◌<◌, All, length, take, IfOk, OnOk};
 ghost use Rattle.std.specs.Result.{result_err};
 
 use crate::Position;
 use crate::file::{Commit, File};
 use crate::graph::Graph;
-use crate::verify::VerifyError;
 use crate::verify::gather::NOTHING;
 use crate::verify::tally::Tally;
+use crate::verify::{VerifyError, VerifyOptions};
 use graph_layer::check::{base_id_at, layer_fault};
 use std::alloc::Global;
 
@@ -31,6 +31,7 @@ impl Graph {
     ghost use Rattle.gix_commitgraph.specs.InGraph.{InGraph};
     ghost use Rattle.gix_commitgraph.specs.Verify.{base_ids_refusal, layer_points, cause_of};
     ghost use Rattle.gix_commitgraph.specs.Tallies.{Tallies};
+    ghost use Rattle.gix_commitgraph.specs.GraphLaw.{IsOrdered};
     ghost use Rattle.gix_commitgraph.specs.LayerSpans.{IsSpan};
 
     /// The layer of this number; `first` commits stand before it.
@@ -50,9 +51,11 @@ impl Graph {
         }
     }
 
-    /// One layer: its base ids, the layer as a whole, and then each commit.
+    /// One layer: its base ids, the layer as a whole, and then each commit. Those below it have
+    /// passed, so that their ids ascend under exact fans.
     pub(super) fn verify_layer<'a, F, E>(
         &'a self,
+        options: VerifyOptions,
         span: LayerSpan<'a>,
         alloc: Global,
         tally: &mut Tally,
@@ -61,10 +64,11 @@ impl Graph {
     where
         F: FnMut(&Commit<'a>) -> Result<(), E>,
         requires span { IsSpan self.now span }
+        requires below { All IsOrdered (take span.layer self.now) }
         requires callable { MayBeCalled F.FnMut (InGraph self.now) }
         requires tally { Tallies (take span.first (history_of self.now)) tally.old }
         ensures agrees { Agrees (CalledOn F.FnMut (InGraph self.now))
-            (layer_points self.now span.entry.layer span.entry.file.now)
+            (layer_points options self.now span.entry.layer span.entry.file.now)
             processor.old processor.new cause_of result }
         ensures tally { OnOk result
             (Tallies (take span.entry.stop (history_of self.now)) tally.new) }
@@ -82,7 +86,7 @@ impl Graph {
             let place = commit.position().0;
             let gathered = self.gathered(span, &tallies, place, &mut block);
             let pos = Position(span.first + place);
-            let parents = self.verify_commit(span, &commit, pos, gathered, processor)?;
+            let parents = self.verify_commit(options, span, &commit, pos, gathered, processor)?;
             tally.add(commit.generation(), parents)?;
         }
         Ok(())

@@ -49,7 +49,7 @@ fn command_line(alloc: Global, words: &[&str]) -> Result<Vec<String>, AllocError
 #[test]
 fn reads_the_words_of_each_command(rt: HostRuntime) -> Result<(), Fail> {
     let alloc = rt.alloc();
-    let rows: [(&[&str], Command<'_>); 6] = [
+    let rows: [(&[&str], Command<'_>); 7] = [
         (&["list"], Command::List),
         (&["verify", "a path"], Command::Verify { path: "a path" }),
         (&["verify", ""], Command::Verify { path: "" }),
@@ -75,6 +75,7 @@ fn reads_the_words_of_each_command(rt: HostRuntime) -> Result<(), Fail> {
                 second: "c",
             },
         ),
+        (&["distinct", "a"], Command::Distinct { path: "a" }),
     ];
     for (words, want) in rows {
         let line = command_line(alloc, words)?;
@@ -83,13 +84,13 @@ fn reads_the_words_of_each_command(rt: HostRuntime) -> Result<(), Fail> {
     Ok(())
 }
 
-const USAGE_LINE: &str =
-    "usage: graphtool list | verify PATH | find PATH HEX | ancestor PATH HEX HEX\n";
+const USAGE_LINE: &str = "usage: graphtool list | verify PATH | find PATH HEX \
+    | ancestor PATH HEX HEX | distinct PATH\n";
 
 #[test]
 fn other_words_are_no_command(rt: HostRuntime) -> Result<(), Fail> {
     let alloc = rt.alloc();
-    let rows: [&[&str]; 15] = [
+    let rows: [&[&str]; 17] = [
         &[],
         &[""],
         &["List"],
@@ -104,6 +105,8 @@ fn other_words_are_no_command(rt: HostRuntime) -> Result<(), Fail> {
         &["g", "h", "find"],
         &["ancestor", "g", "h"],
         &["ancestor", "g", "h", "i", "j"],
+        &["distinct"],
+        &["distinct", "g", "h"],
         &["--help"],
     ];
     for words in rows {

@@ -1,15 +1,18 @@
+use Rattle.std.proofs.Common.{false, refl}
 use Rattle.gix_commitgraph.proofs.HeadlineLemmas.{judged, right_stats, right_lookups}
 use Rattle.gix_commitgraph.proofs.graph.Graph.verify_integrity.Goals as goal
 
 pub returns-clause-sound : goal.returns-clause-sound
 returns-clause-sound g c =
-    judged _ c.args.self.now _ _ c.verify_layers.ensures.graph.opened c.verify_layers.result c.verify_layers.ensures.agrees
+    judged _ (record { distinct_ids = false }) c.args.self.now _ _ c.verify_layers.ensures.graph.opened c.verify_layers.result
+    refl c.verify_layers.ensures.agrees
 
 pub returns-clause-statistics : goal.returns-clause-statistics
 returns-clause-statistics g c =
-    right_stats _ c.args.self.now _ _ c.verify_layers.ensures.graph.opened c.verify_layers.result c.verify_layers.ensures.agrees
-    c.verify_layers.ensures.outcome
+    right_stats _ (record { distinct_ids = false }) c.args.self.now _ _ c.verify_layers.ensures.graph.opened
+    c.verify_layers.result c.verify_layers.ensures.agrees c.verify_layers.ensures.outcome
 
 pub returns-clause-lookup : goal.returns-clause-lookup
 returns-clause-lookup g c =
-    right_lookups _ c.args.self.now _ _ c.verify_layers.ensures.graph.opened c.verify_layers.result c.verify_layers.ensures.agrees
+    right_lookups _ (record { distinct_ids = false }) c.args.self.now _ _ c.verify_layers.ensures.graph.opened
+    c.verify_layers.result c.verify_layers.ensures.agrees

@@ -15,11 +15,13 @@ use Rattle.gix_commitgraph.proofs.graph.Graph.verify_layer.Goals as goal
 pub returns-in_err-check_bases-clause-agrees : goal.returns-in_err-check_bases-clause-agrees
 returns-in_err-check_bases-clause-agrees g c =
     let handed = err_from_is_err_and c.from_residual.result c.from_residual.ensures.1 in
-    rw (handed.1, handed.2) (refused_by_bases g.F.FnMut c.args.self.now c.args.span _ _ c.in_err-check_bases.ensures)
+    rw (handed.1, handed.2) (refused_by_bases g.F.FnMut c.args.options c.args.self.now c.args.span _ _
+    c.in_err-check_bases.ensures)
 
 pub returns-in_err-tallies-clause-agrees : goal.returns-in_err-tallies-clause-agrees
 returns-in_err-tallies-clause-agrees g c =
-    let first = reached_first g.F.FnMut c.args.self.now c.args.span _ c.in_ok-check_bases.ensures c.in_default.ensures in
+    let first =
+    reached_first g.F.FnMut c.args.options c.args.self.now c.args.span _ c.in_ok-check_bases.ensures c.in_default.ensures in
     let no_memory = err_from_is_err_and c.from_residual-in_err-tallies.result c.from_residual-in_err-tallies.ensures.1 in
     rw (no_memory.1, no_memory.2) (ran_out _ _ _ _ _ first)
 
@@ -27,7 +29,7 @@ pub loop-commit-init : goal.loop-commit-init
 loop-commit-init g c = record {
   left = ap commits_left c.into_iter-commit-iterator.ensures.into_iter_gives ∙ c.iter_commits-commit-items.ensures;
   within = omega arith;
-  reached = reached_first g.F.FnMut c.args.self.now c.args.span _ c.in_ok-check_bases.ensures c.in_default.ensures;
+  reached = reached_first g.F.FnMut c.args.options c.args.self.now c.args.span _ c.in_ok-check_bases.ensures c.in_default.ensures;
   tally = rw add-zero c.requires.tally;
   block = λ not_first. absurd (not_first (omega arith));
 }
@@ -62,7 +64,7 @@ verify_commit-requires g c κs =
     _ _ c.loop-commit.invariant.left c.in-Some-commit.ensures.steps c.position-place.ensures.value refl in
     let stands = span-commit c.args.self.now c.args.span c.in-Some-commit.commit _ c.requires.span this.in_span in
     let known = rw c.position-place.ensures.value at c.gathered-gathered.ensures.result in
-    (search rules, (c.requires.span, (this.in_span, (known, λ state. c.requires.callable state _ _ stands))))
+    (search rules, (c.requires.span, (this.in_span, (known, (c.requires.below, λ state. c.requires.callable state _ _ stands)))))
 
 pub returns-in_err-parents-clause-agrees : goal.returns-in_err-parents-clause-agrees
 returns-in_err-parents-clause-agrees g c =
@@ -71,8 +73,8 @@ returns-in_err-parents-clause-agrees g c =
     _ _ c.loop-commit.invariant.left c.in-Some-commit.ensures.steps c.position-place.ensures.value refl in
     let handed = err_from_is_err_and c.from_residual-in_err-parents.result c.from_residual-in_err-parents.ensures.1 in
     rw (handed.1, handed.2)
-    (stops_at_commit g.F.FnMut c.args.self.now c.args.span _ (length c.loop-commit.yielded) c.in-Some-commit.commit this.pos
-    this.below _ _ c.loop-commit.invariant.reached _ c.in_err-parents.ensures.agrees)
+    (stops_at_commit g.F.FnMut c.args.options c.args.self.now c.args.span _ (length c.loop-commit.yielded) c.in-Some-commit.commit
+    this.pos this.below _ _ c.loop-commit.invariant.reached _ c.in_err-parents.ensures.agrees)
 
 pub add-requires : goal.add-requires
 add-requires g c =
@@ -90,8 +92,8 @@ returns-in_err-add-clause-agrees g c =
     turn c.args.span c.in-Some-commit.commit (length c.loop-commit.yielded) (c.args.span.first + c.position-place.result.0) _
     _ _ c.loop-commit.invariant.left c.in-Some-commit.ensures.steps c.position-place.ensures.value refl in
     let next =
-    reached_next g.F.FnMut c.args.self.now c.args.span _ (length c.loop-commit.yielded) c.in-Some-commit.commit this.pos
-    this.below _ _ c.loop-commit.invariant.reached c.in_ok-parents.ensures.agrees in
+    reached_next g.F.FnMut c.args.options c.args.self.now c.args.span _ (length c.loop-commit.yielded) c.in-Some-commit.commit
+    this.pos this.below _ _ c.loop-commit.invariant.reached c.in_ok-parents.ensures.agrees in
     let no_memory = err_from_is_err_and c.from_residual-in_err-add.result c.from_residual-in_err-add.ensures.1 in
     rw (no_memory.1, no_memory.2) (ran_out _ _ _ _ _ next)
 
@@ -106,8 +108,8 @@ loop-commit-preserved g c =
     length_push c.loop-commit.yielded c.in-Some-commit.commit in
     let stands = span-commit c.args.self.now c.args.span c.in-Some-commit.commit _ c.requires.span this.in_span in
     let next =
-    reached_next g.F.FnMut c.args.self.now c.args.span _ (length c.loop-commit.yielded) c.in-Some-commit.commit this.pos
-    this.below _ _ c.loop-commit.invariant.reached c.in_ok-parents.ensures.agrees in
+    reached_next g.F.FnMut c.args.options c.args.self.now c.args.span _ (length c.loop-commit.yielded) c.in-Some-commit.commit
+    this.pos this.below _ _ c.loop-commit.invariant.reached c.in_ok-parents.ensures.agrees in
     let added =
     c.in_ok-add.ensures _ (node_at (layer_and_position c.in-Some-commit.commit)) c.loop-commit.invariant.tally
     c.generation.ensures
@@ -126,7 +128,7 @@ loop-commit-preserved g c =
 
 pub returns-clause-agrees : goal.returns-clause-agrees
 returns-clause-agrees g c =
-    layer_passed g.F.FnMut c.args.self.now c.args.span _ (length c.loop-commit.yielded) _
+    layer_passed g.F.FnMut c.args.options c.args.self.now c.args.span _ (length c.loop-commit.yielded) _
     (place-none c.args.span.file.now (length c.loop-commit.yielded) _ c.loop-commit.invariant.left c.in-None.ensures.steps.0)
     c.loop-commit.invariant.reached
 

@@ -1,10 +1,14 @@
-use Rattle.std.proofs.Common.{◌≡◌, ◌≤◌, ℕ, length, take, sym, ap, subst, ◌∙◌, arith}
+use Rattle.std.proofs.Common.{◌≡◌, ◌≤◌, ℕ, All, Some, length, take, slice_get, sym, ap, subst, ◌∙◌, arith, rules}
+use Rattle.std.proofs.lemmas.List.Elements.{All-more}
+use Rattle.std.proofs.lemmas.Option.{slice_get_within, get_or_from_slice_get}
 use Rattle.std.proofs.lemmas.Result.{err_from_is_err_and}
 use Rattle.graph_format.proofs.PointLemmas.{ran_out}
 use Rattle.gix_commitgraph.specs.Graph.{stop, IsGraph}
 use Rattle.graph_format.specs.StoredHistory.{history_of}
 use Rattle.gix_commitgraph.proofs.GraphHistoryLemmas.{take-all}
 use Rattle.gix_commitgraph.proofs.LayerListLemmas.{start-none}
+use Rattle.gix_commitgraph.specs.GraphLaw.{IsOrdered}
+use Rattle.gix_commitgraph.proofs.SoundLemmas.{ordered-passed}
 use Rattle.gix_commitgraph.proofs.GraphCheckLemmas.{reached_layers, stops_in_layer, reached_next_layer, graph_passed}
 use Rattle.gix_commitgraph.proofs.graph.Graph.verify_layers.Goals as goal
 
@@ -13,28 +17,55 @@ loop-layer-init g c =
     let few : length c.args.self.now ≤ 256 =
     omega (arith, c.len.ensures, c.self.inside.files.ok.0, ap length c.self.view_is, c.if-len-gt-MOST_LAYERS.false) in
     record {
-      reached = reached_layers g.F.FnMut c.args.self.now _ few;
+      reached = reached_layers g.F.FnMut c.args.options c.args.self.now _ few;
       first = sym (start-none c.args.self.now);
+      ordered = λ k d h. absurd (omega arith);
       tally = c.new-tally.ensures;
     }
+
+pub verify_layer-requires : goal.verify_layer-requires
+verify_layer-requires g c κs =
+    let below : All IsOrdered (take c.span_at-span.result.layer c.args.self.now) =
+    rw c.span_at-span.ensures.layer c.loop-layer.invariant.ordered in (
+      search rules,
+      (
+        c.span_at-span.ensures.span,
+        (
+          below,
+          (
+            c.requires,
+            rw c.span_at-span.ensures.first
+                c.loop-layer.invariant.tally,
+          ),
+        ),
+      ),
+    )
 
 pub returns-in_err-verify_layer-clause-agrees : goal.returns-in_err-verify_layer-clause-agrees
 returns-in_err-verify_layer-clause-agrees g c =
     let handed = err_from_is_err_and c.from_residual.result c.from_residual.ensures.1 in
     rw (handed.1, handed.2)
-    (stops_in_layer g.F.FnMut c.args.self.now _ c.loop-layer.layer c.span_at-span.result.file.now
+    (stops_in_layer g.F.FnMut c.args.options c.args.self.now _ c.loop-layer.layer c.span_at-span.result.file.now
     (rw c.span_at-span.ensures.layer at c.span_at-span.ensures.span.there) _ _ c.loop-layer.invariant.reached _
     (rw c.span_at-span.ensures.layer at c.in_err-verify_layer.ensures.agrees))
 
 pub loop-layer-preserved : goal.loop-layer-preserved
-loop-layer-preserved g c = record {
-  reached =
-      reached_next_layer g.F.FnMut c.args.self.now _ c.loop-layer.layer c.span_at-span.result.file.now
-      (rw c.span_at-span.ensures.layer at c.span_at-span.ensures.span.there) _ _ c.loop-layer.invariant.reached
-      (rw c.span_at-span.ensures.layer at c.in_ok-verify_layer.ensures.agrees);
-  first = c.span_at-span.ensures.span.stop ∙ ap (stop c.args.self.now) c.span_at-span.ensures.layer;
-  tally = c.in_ok-verify_layer.ensures.tally;
-}
+loop-layer-preserved g c =
+    let layers = c.args.self.now in
+    let at = c.loop-layer.layer in
+    let file = c.span_at-span.result.file.now in
+    let there : slice_get layers at ≡ Some file = rw c.span_at-span.ensures.layer at c.span_at-span.ensures.span.there in
+    let passes = rw c.span_at-span.ensures.layer at c.in_ok-verify_layer.ensures.agrees in
+    let graph : IsGraph layers = subst IsGraph c.self.view_is c.self.invariant.graph in
+    let ordered = ordered-passed c.args.options layers at file graph.opened there passes.no_fault in
+    record {
+      reached = reached_next_layer g.F.FnMut c.args.options layers _ at file there _ _ c.loop-layer.invariant.reached passes;
+      first = c.span_at-span.ensures.span.stop ∙ ap (stop layers) c.span_at-span.ensures.layer;
+      ordered =
+          All-more IsOrdered layers at file (slice_get_within layers at file there) c.loop-layer.invariant.ordered
+          (subst IsOrdered (sym (get_or_from_slice_get layers at file file there)) ordered);
+      tally = c.in_ok-verify_layer.ensures.tally;
+    }
 
 pub returns-in_err-outcome-clause-agrees : goal.returns-in_err-outcome-clause-agrees
 returns-in_err-outcome-clause-agrees g c =
@@ -45,7 +76,7 @@ pub returns-clause-agrees : goal.returns-clause-agrees
 returns-clause-agrees g c =
     let past : length c.args.self.now ≤ c.loop-layer.layer =
     omega (arith, c.len-layer-end.ensures, c.self.inside.files.ok.0, ap length c.self.view_is, c.loop-layer-test.false) in
-    graph_passed g.F.FnMut c.args.self.now _ c.loop-layer.layer _ past c.loop-layer.invariant.reached
+    graph_passed g.F.FnMut c.args.options c.args.self.now _ c.loop-layer.layer _ past c.loop-layer.invariant.reached
 
 pub returns-clause-outcome : goal.returns-clause-outcome
 returns-clause-outcome g c =

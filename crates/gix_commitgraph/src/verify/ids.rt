@@ -1,0 +1,99 @@
+//! The check of the ids of one commit of a graph.
+
+ghost use Rattle.std.specs.Prelude.{◌≡◌, ◌≤◌, All, length, take, option_map, None};
+ghost use Rattle.std.specs.Prelude.{if◌then◌else◌};
+ghost use Rattle.std.specs.Result.{result_err};
+ghost use Rattle.gix_hash_core.specs.Oid.{oid_bytes};
+
+use crate::Position;
+use crate::file::Commit;
+use crate::graph::Graph;
+use crate::verify::layer::LayerSpan;
+use crate::verify::{CommitFault, VerifyError, VerifyOptions};
+use gix_hash_core::oid;
+use graph_layer::check::commit_fault;
+
+impl Graph {
+    ghost use Rattle.graph_format.specs.Lookup.{scan};
+    ghost use Rattle.graph_layer.specs.Commit.{commit_pos};
+    ghost use Rattle.gix_commitgraph.specs.Graph.{graph_ids};
+    ghost use Rattle.gix_commitgraph.specs.GraphLaw.{IsOrdered};
+    ghost use Rattle.gix_commitgraph.specs.GraphLookup.{position_number};
+    ghost use Rattle.gix_commitgraph.specs.LayerSpans.{IsSpan, IsInSpan};
+    ghost use Rattle.gix_commitgraph.specs.Verify.{duplicate_refusal, ids_refusal};
+
+    /// The id of a commit, whether it stands in a layer below if that is asked, and the id of its
+    /// root tree.
+    pub(super) fn check_ids<E>(
+        &self,
+        options: VerifyOptions,
+        span: LayerSpan<'_>,
+        commit: &Commit<'_>,
+        pos: Position,
+    ) -> Result<(), VerifyError<E>>
+        requires span { IsSpan self.now span }
+        requires commit { IsInSpan span commit.now pos.0 }
+        requires below { All IsOrdered (take span.layer self.now) }
+        ensures { result_err result
+            ≡ ids_refusal options self.now span.entry.layer span.entry.file.now
+            (commit_pos commit.now) }
+    {
+        match commit_fault(commit) {
+            None => self.check_distinct(options, span, commit, pos),
+            Some(CommitFault::NullTree) => {
+                self.check_distinct(options, span, commit, pos)?;
+                let fault = CommitFault::NullTree;
+                Err(VerifyError::Commit { pos, fault })
+            }
+            Some(CommitFault::Order) => {
+                let fault = CommitFault::Order;
+                Err(VerifyError::Commit { pos, fault })
+            }
+            Some(CommitFault::NullId) => {
+                let fault = CommitFault::NullId;
+                Err(VerifyError::Commit { pos, fault })
+            }
+        }
+    }
+
+    /// Whether the id of a commit stands in a layer below, if that is asked.
+    fn check_distinct<E>(
+        &self,
+        options: VerifyOptions,
+        span: LayerSpan<'_>,
+        commit: &Commit<'_>,
+        pos: Position,
+    ) -> Result<(), VerifyError<E>>
+        requires span { IsSpan self.now span }
+        requires commit { IsInSpan span commit.now pos.0 }
+        requires below { All IsOrdered (take span.layer self.now) }
+        ensures { result_err result ≡ (if options.distinct_ids
+            then duplicate_refusal self.now span.entry.layer span.entry.file.now
+            (commit_pos commit.now)
+            else None) }
+    {
+        if !options.distinct_ids {
+            return Ok(());
+        }
+        match self.find_below(commit.id(), span.layer) {
+            Some(earlier) => Err(VerifyError::DuplicateId { pos, earlier }),
+            None => Ok(()),
+        }
+    }
+
+    /// The least position of an id in the layers below this one. They are ordered, so that a lookup
+    /// in each is a plain scan.
+    fn find_below(&self, id: oid<'_>, layer: usize) -> Option<Position>
+        requires layer { layer ≤ length self.now }
+        requires below { All IsOrdered (take layer self.now) }
+        ensures { option_map (λ pos. pos.0) result
+            ≡ scan (graph_ids (take layer self.now)) (oid_bytes id.entry) }
+    {
+        for below in 0..layer {
+            if let Some(place) = self.files[below].lookup(id) {
+                return Some(Position(self.starts[below] + place.0));
+            }
+        }
+        None
+    }
+}
