@@ -17,6 +17,6 @@ pub record IsTallied (history : List Node) (stop : ℕ) (parents : DecodedParent
   pub count : tally.count ≡ length parents.positions
   pub max_generation : tally.max_generation ≡ greatest (map (generation_at history) (map (λ q. q.0) parents.positions))
 
--- The tallies of the words of a layer's extra edge list, each of the parents that are listed from its word on, where there is one.
+-- The tallies of the words of a layer's extra edge list: where there is one, of the parents that are listed from its word on.
 abbrev pub AreTallied : List Layer → LayerSpan → List (Option ParentTally) → Type 0
 AreTallied layers span tallies = AreListed (IsTallied (history_of layers) span.stop) span.file.now.edges tallies

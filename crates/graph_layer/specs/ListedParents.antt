@@ -3,7 +3,7 @@ use Rattle.std.specs.Prelude.{◌≡◌, ℕ, List, Option, None, IfSome, length
 use Rattle.graph_format.specs.Parents.{DecodedParents, second_parents}
 use Rattle.graph_format.specs.declared.parents.ParentEdge.TheVariants.{ExtraEdgeIndex}
 
--- For each word of a layer's extra edge list: where something is told, it is true of the parents that are listed from this word on.
+-- What is told of the words of a layer's extra edge list: where something is, it is true of the parents from its word on.
 abbrev pub AreListed : {T : Type 0} → (DecodedParents → T → Type 0) → Option (List ℕ) → List (Option T) → Type 0
 AreListed IsTrue edges told =
     (index : ℕ) → IfSome (slice_index_or told index None) (IsTrue (second_parents (ExtraEdgeIndex index) edges))

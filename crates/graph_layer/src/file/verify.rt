@@ -150,8 +150,8 @@ impl<'a> Commit<'a> {
     ghost use Rattle.graph_layer.specs.Traverse.{commit_points, cause_of};
     ghost use Rattle.graph_layer.specs.ListedParents.{AreListed, IsCounted};
 
-    /// Checks the commit's ids, calls the processor on it, and decodes its parents, by the counts of
-    /// its layer's extra edge list. The answer is the number of its parents.
+    /// Checks the commit's ids, calls the processor on it, and decodes its parents, by what was
+    /// counted in the extra edge list of its layer. The answer is the number of its parents.
     fn check<F, E>(
         &self,
         counts: &[Option<u32>],

@@ -11,8 +11,8 @@ use std::alloc::{AllocError, Global};
 impl File {
     ghost use Rattle.graph_layer.specs.ListedParents.{AreListed, IsCounted};
 
-    /// For each word of the extra edge list, the number of parents that are listed from it on, where
-    /// they can be decoded. Memory is asked for only where there are words.
+    /// For each word of the extra edge list, the number of the parents that are listed from it on,
+    /// where they can be decoded. Memory is asked for only where there are words.
     pub(super) fn count_lists(&self, alloc: Global) -> Result<Vec<Option<u32>>, AllocError>
         requires { IfSome self.now.edges (λ chunk. length chunk / 4 ≤ 4294967294) }
         ensures { IfOk result (λ counts. AreListed IsCounted self.now.edges counts.items) }

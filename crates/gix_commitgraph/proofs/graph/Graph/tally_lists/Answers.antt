@@ -20,8 +20,8 @@ with_parent-listed-requires-clause-few c =
     let before = c.loop-word.invariant in
     let all : c.into_iter-word-iterator.result.iter.rest.now ≡ c.in-Some.words.now = cc in
     tallied_few (history_of c.args.self.now) c.args.span.stop (listed before.passed) c.loop-word.listed before.last
-    (passed_few (IsTallied (history_of c.args.self.now) c.args.span.stop) c.args.span.file.now.edges _ _ c.loop-word.listed _ before
-    (ap Some all ∙ c.in-Some.ensures) (span-opened c.args.self.now c.args.span c.requires).few_edges)
+    (passed_few (IsTallied (history_of c.args.self.now) c.args.span.stop) c.args.span.file.now.edges _ _ c.loop-word.listed _
+    before (ap Some all ∙ c.in-Some.ensures) (span-opened c.args.self.now c.args.span c.requires).few_edges)
 
 pub loop-word-preserved : goal.loop-word-preserved
 loop-word-preserved c =
@@ -31,7 +31,8 @@ loop-word-preserved c =
     IfSome tally (IsTallied history c.args.span.stop (extra_parent edge (listed before.passed))) in
     let told : P (extra_edge_of c.in-Some-word.word.now) c.match-from_raw.listed =
     elim c.match-from_raw.branch [
-      | in-Internal w ↦ rw (w.listed-is, ← w.in-Internal.ensures) (w.with_parent-listed.ensures (listed before.passed) before.last)
+      | in-Internal w ↦
+          rw (w.listed-is, ← w.in-Internal.ensures) (w.with_parent-listed.ensures (listed before.passed) before.last)
       | in-Last w ↦
           rw (w.listed-is, ← w.in-Last.ensures)
           (w.with_parent-listed-in-Last.ensures no_parents (no_parents_tallied history c.args.span.stop))
