@@ -16,9 +16,9 @@ returns c =
     let entries = c.args.map.entries in
     let empty = c.in_ok-hashed.hashed in
     let all : OnOk c.extend.result ((k : ℕ) → hash.get nat_eq c.extend.new.self k ≡ tree.get nat_cmp c.args.map k) =
-      fact_from_extend (λ p. p) c.extend.result c.extend.ensures.ran (λ it b. YieldsList-from_rest entries (search rules))
-      (λ xs e h k. h.0 k ∙ ap (λ pairs. update_all nat_eq (hash.get nat_eq empty) pairs k) (sym (map-id xs) ∙ e)
-      ∙ ap (λ pairs. update_all nat_eq (λ other. lookup (nat_eq other) pairs) entries k) c.in_ok-hashed.ensures.empty
-      ∙ update_all_none (eq_by_cmp_equiv nat_cmp_total) nat_eq (λ x y. sym (unsigned_tied x y)) entries k
-      (IsDistinct-from_sorted nat_cmp (tree.keys c.args.map) c.len.ensures.ordered))
+    fact_from_extend (λ p. p) c.extend.result c.extend.ensures.ran (λ it b. YieldsList-from_rest entries (search rules))
+    (λ xs e h k. h.0 k ∙ ap (λ pairs. update_all nat_eq (hash.get nat_eq empty) pairs k) (sym (map-id xs) ∙ e)
+    ∙ ap (λ pairs. update_all nat_eq (λ other. lookup (nat_eq other) pairs) entries k) c.in_ok-hashed.ensures.empty
+    ∙ update_all_none (eq_by_cmp_equiv nat_cmp_total) nat_eq (λ x y. sym (unsigned_tied x y)) entries k
+    (IsDistinct-from_sorted nat_cmp (tree.keys c.args.map) c.len.ensures.ordered))
     in search rules
