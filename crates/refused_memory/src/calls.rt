@@ -30,8 +30,8 @@ pub fn call(rt: &HostRuntime, alloc: Global, name: &[u8], stage: &mut Stage) -> 
         }
         b"build" => told_build(rt, alloc, stage),
         b"traverse" => traverse(rt, alloc, stage),
-        b"verify_integrity" => verify_integrity(rt, alloc, false, stage),
-        b"verify_integrity_with" => verify_integrity(rt, alloc, true, stage),
+        b"verify_integrity" => verify_integrity(rt, alloc, false, &stage.graph),
+        b"verify_integrity_with" => verify_integrity(rt, alloc, true, &stage.line),
         b"put_file" | b"put_dir" => put(rt, alloc, name, stage),
         b"ancestor_walk" => ancestor_walk(rt, alloc, &stage.line),
         b"run_list"
@@ -81,7 +81,7 @@ fn verify_integrity(
     rt: &HostRuntime,
     alloc: Global,
     distinct_ids: bool,
-    stage: &Stage,
+    graph: &Graph,
 ) -> io::Result<()> {
     let mut calls = 0u32;
     let mut accept = |commit: &Commit<'_>| -> Result<(), Infallible> {
@@ -94,11 +94,9 @@ fn verify_integrity(
     };
     let answer = if distinct_ids {
         let options = VerifyOptions { distinct_ids };
-        stage
-            .graph
-            .verify_integrity_with(alloc, options, &mut accept)
+        graph.verify_integrity_with(alloc, options, &mut accept)
     } else {
-        stage.graph.verify_integrity(alloc, &mut accept)
+        graph.verify_integrity(alloc, &mut accept)
     };
     let commits = answer.as_ref().map(|outcome| outcome.num_commits);
     println!(rt; "{commits:?} after {calls} calls")?;

@@ -24,7 +24,7 @@ pub struct Stage {
     pub layers: Vec<File>,
     /// The graph of the same layers.
     pub graph: Graph,
-    /// The graph of a layer of ten commits in a line.
+    /// The graph of a layer of ten commits in a line, the last of which has its parent three times.
     pub line: Graph,
     /// The file `f`, and the folders `chain`, `info` and `damaged`: that of the chain, an info
     /// folder with the chain, and one with a damaged file beside the chain.
@@ -110,7 +110,7 @@ fn layers(alloc: Global, chain: &[Vec<u8>]) -> Result<Vec<File>> {
     Ok(layers)
 }
 
-/// The graph of a layer of ten commits in a line.
+/// The graph of a layer of ten commits in a line, the last of which has its parent three times.
 fn line(alloc: Global) -> Result<Graph> {
     let rows: [Row<'_>; 10] = [
         (1, &[], 1),
@@ -122,7 +122,7 @@ fn line(alloc: Global) -> Result<Graph> {
         (7, &[5], 7),
         (8, &[6], 8),
         (9, &[7], 9),
-        (10, &[8], 10),
+        (10, &[8, 8, 8], 10),
     ];
     let bytes = file(alloc, &plan(alloc, &[], &rows)?)?;
     Ok(Graph::new(alloc, layers(alloc, slice::from_ref(&bytes))?)?)
