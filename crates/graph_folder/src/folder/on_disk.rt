@@ -3,7 +3,8 @@
 ghost use Rattle.std.specs.Prelude.{◌≡◌, None, IsOk};
 ghost use Rattle.graph_folder.specs.Failures.{failures_after};
 
-use super::{Folder, ReadError, read_all};
+use super::whole::read_expected;
+use super::{Folder, ReadError};
 use std::alloc::{AllocError, Global};
 use std::fs;
 use std::fs::OpenFile;
@@ -27,10 +28,12 @@ impl<'r, R: Files> Disk<'r, R> {
     /// All bytes of the file at the path. A host may open a folder as it opens a file.
     fn read_file(&self, alloc: Global, path: &str) -> Result<Vec<u8>, ReadError> {
         let mut file = fs::open(self.rt, path).map_err(|_| ReadError::NotOpened)?;
-        if file.metadata().is_ok_and(|metadata| metadata.is_dir()) {
-            return Err(ReadError::NotOpened);
-        }
-        read_all(alloc, &mut file)
+        let expected = match file.metadata() {
+            Ok(metadata) if metadata.is_dir() => return Err(ReadError::NotOpened),
+            Ok(metadata) => usize::try_from(metadata.len()).unwrap_or(usize::MAX),
+            Err(_) => 0,
+        };
+        read_expected(alloc, &mut file, expected)
     }
 }
 

@@ -18,19 +18,39 @@ pub fn read_all<R: Read>(alloc: Global, reader: &mut R) -> Result<Vec<u8>, ReadE
     ensures end { OnOk result (IsAtEnd (R.remaining reader.new)) }
     ensures opened { IfErr result (λ error. error ≢ ReadError.NotOpened) }
 {
-    let mut piece = vec![in alloc; 0; PIECE].map_err(|_| ReadError::OutOfMemory)?;
-    read_by(alloc, reader, &mut piece)
+    read_expected(alloc, reader, 0)
 }
 
-/// All bytes of the reader to its end, as `read_all` answers them, each read into this piece.
-fn read_by<R: Read>(alloc: Global, reader: &mut R, piece: &mut [u8]) -> Result<Vec<u8>, ReadError>
+/// All bytes of the reader to its end, as `read_all` answers them, with room from the start for as
+/// many as are expected.
+pub(super) fn read_expected<R: Read>(
+    alloc: Global,
+    reader: &mut R,
+    expected: usize,
+) -> Result<Vec<u8>, ReadError>
+    ensures bytes { IfOk result (λ bytes.
+        IfSome (R.remaining reader.old) (λ all. bytes.items ≡ all)) }
+    ensures end { OnOk result (IsAtEnd (R.remaining reader.new)) }
+    ensures opened { IfErr result (λ error. error ≢ ReadError.NotOpened) }
+{
+    let mut piece = vec![in alloc; 0; PIECE].map_err(|_| ReadError::OutOfMemory)?;
+    read_by(alloc, reader, expected, &mut piece)
+}
+
+/// All bytes of the reader to its end, as `read_expected` answers them, each read into this piece.
+fn read_by<R: Read>(
+    alloc: Global,
+    reader: &mut R,
+    expected: usize,
+    piece: &mut [u8],
+) -> Result<Vec<u8>, ReadError>
     requires { 0 < length piece.old }
     ensures bytes { IfOk result (λ bytes.
         IfSome (R.remaining reader.old) (λ all. bytes.items ≡ all)) }
     ensures end { OnOk result (IsAtEnd (R.remaining reader.new)) }
     ensures opened { IfErr result (λ error. error ≢ ReadError.NotOpened) }
 {
-    let mut bytes = Vec::new(alloc);
+    let mut bytes = Vec::with_capacity(alloc, expected).map_err(|_| ReadError::OutOfMemory)?;
     loop {
         let count = reader.read(piece).map_err(|_| ReadError::Device)?;
         if count == 0 {
