@@ -1,5 +1,4 @@
 pub mod PlaceLemmas
-pub mod PathLemmas
 pub mod QueueLemmas
 pub mod StepLemmas
 pub mod ShortestWalkLemmas

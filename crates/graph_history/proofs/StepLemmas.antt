@@ -13,7 +13,7 @@ use Rattle.graph_history.specs.Answer.{numbers_of}
 use Rattle.graph_history.specs.Commits.{parent_items}
 use Rattle.graph_history.specs.Queue.{Queued, mark_of, with_marks, commit_in, child_in, IsQueue, ChildrenUpTo, Extends}
 use Rattle.graph_history.specs.Queue.{QueuedFrom, QueuesParents, Depth}
-use Rattle.graph_history.proofs.PathLemmas.{Path}
+use Rattle.graph_walks.proofs.WalkPathLemmas.{Path}
 use Rattle.graph_history.proofs.QueueLemmas.{not_queued, queue_push, extends_push, children_push, queued_push, commit_extends}
 use Rattle.graph_history.proofs.QueueLemmas.{queued_extends, with_marks-queued}
 
