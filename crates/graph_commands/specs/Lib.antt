@@ -9,6 +9,5 @@ pub mod List
 pub mod Report
 pub mod Opening
 pub mod Verify
-pub mod Distinct
 pub mod Find
 pub mod Ancestor

@@ -8,7 +8,6 @@
 mod ancestor;
 mod block;
 mod bytes;
-mod distinct;
 pub mod line;
 mod listing;
 mod numbers;

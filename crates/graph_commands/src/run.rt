@@ -6,18 +6,17 @@ ghost use Rattle.graph_commands.specs.Answer.{WritesAnswer, WritesRefusal};
 ghost use Rattle.graph_commands.specs.Opening.{MayOpen};
 ghost use Rattle.graph_commands.specs.List.{MayList, list_text, list_status};
 ghost use Rattle.graph_commands.specs.Find.{MayBeFound, MayFind, find_text, find_status};
-ghost use Rattle.graph_commands.specs.Verify.{Passes, Fails, MayPass, MayVerify, verify_text};
-ghost use Rattle.graph_commands.specs.Verify.{verify_status};
+ghost use Rattle.graph_commands.specs.Verify.{Passes, Fails, MayPass, MayCheck, MayVerify};
+ghost use Rattle.graph_commands.specs.Verify.{MayVerifyDistinct, verify_text, verify_status};
 
 pub use crate::ancestor::{Ancestry, run_ancestor};
 use crate::block::Block;
-pub use crate::distinct::run_distinct;
 use crate::line::write_line;
 use crate::listing::write_listing;
 use crate::refusal::Refusal;
 use crate::report::{Found, write_outcome};
 use gix_commitgraph::opening::open_in;
-use gix_commitgraph::verify::{Outcome, VerifyError};
+use gix_commitgraph::verify::{Outcome, VerifyError, VerifyOptions};
 use gix_commitgraph::{File, FileError, Graph, file};
 use gix_hash_core::{ObjectId, oid};
 use graph_folder::folder::{Folder, read_all};
@@ -94,7 +93,49 @@ pub fn run_verify<T: Folder, W: Write>(
         (W.contents writer.old) (W.contents writer.new)) }
     ensures tree { T.tree folder.new ≡ T.tree folder.old }
 {
-    match verify(alloc, folder, path) {
+    let plain = VerifyOptions {
+        distinct_ids: false,
+    };
+    run_check(alloc, folder, path, plain, writer)
+}
+
+/// Checks the graph that the path opens, and that no id stands in two of its layers. It writes
+/// the statistics of its commits, or one line that says why the graph is refused. The answer is the
+/// exit status. `WriteFailed` comes where the writer fails.
+pub fn run_distinct<T: Folder, W: Write>(
+    alloc: Global,
+    folder: &mut T,
+    path: &str,
+    writer: &mut W,
+) -> Result<u8, WriteFailed>
+    ensures written { IfOk result (WritesAnswer verify_text verify_status
+        (MayVerifyDistinct
+        (MayOpen (T.tree folder.old) path.now (T.failure_count folder.old)
+        (T.failure_count folder.new)))
+        (W.contents writer.old) (W.contents writer.new)) }
+    ensures tree { T.tree folder.new ≡ T.tree folder.old }
+{
+    let distinct = VerifyOptions { distinct_ids: true };
+    run_check(alloc, folder, path, distinct, writer)
+}
+
+/// Checks the graph that the path opens by the options, and writes what was found, or why it is
+/// refused.
+fn run_check<T: Folder, W: Write>(
+    alloc: Global,
+    folder: &mut T,
+    path: &str,
+    options: VerifyOptions,
+    writer: &mut W,
+) -> Result<u8, WriteFailed>
+    ensures written { IfOk result (WritesAnswer verify_text verify_status
+        (MayCheck options
+        (MayOpen (T.tree folder.old) path.now (T.failure_count folder.old)
+        (T.failure_count folder.new)))
+        (W.contents writer.old) (W.contents writer.new)) }
+    ensures tree { T.tree folder.new ≡ T.tree folder.old }
+{
+    match open_and_check(alloc, folder, path, options) {
         Ok(outcome) => {
             write_outcome(writer, &outcome)?;
             Ok(DONE)
@@ -103,28 +144,37 @@ pub fn run_verify<T: Folder, W: Write>(
     }
 }
 
-/// The statistics of the graph that the path opens, once it is checked.
-fn verify<T: Folder>(alloc: Global, folder: &mut T, path: &str) -> Result<Outcome, Refusal>
+/// The statistics of the graph that the path opens, once it is checked by the options.
+fn open_and_check<T: Folder>(
+    alloc: Global,
+    folder: &mut T,
+    path: &str,
+    options: VerifyOptions,
+) -> Result<Outcome, Refusal>
     ensures passed { IfOk result
-        (MayPass (MayOpen (T.tree folder.old) path.now (T.failure_count folder.old)
+        (MayPass options (MayOpen (T.tree folder.old) path.now (T.failure_count folder.old)
         (T.failure_count folder.new))) }
     ensures refused { IfErr result (λ refusal.
-        MayVerify
+        MayCheck options
         (MayOpen (T.tree folder.old) path.now (T.failure_count folder.old)
         (T.failure_count folder.new)) (Err refusal)) }
     ensures tree { T.tree folder.new ≡ T.tree folder.old }
 {
     let graph = open_in(alloc, folder, path)?;
-    let outcome = check(alloc, &graph)?;
+    let outcome = check(alloc, &graph, options)?;
     Ok(outcome)
 }
 
-/// Checks the graph, accepting each commit.
-fn check(alloc: Global, graph: &Graph) -> Result<Outcome, VerifyError<Infallible>>
-    ensures passed { IfOk result (Passes graph.now) }
-    ensures refused { IfErr result (Fails graph.now) }
+/// Checks the graph by the options, accepting each commit.
+fn check(
+    alloc: Global,
+    graph: &Graph,
+    options: VerifyOptions,
+) -> Result<Outcome, VerifyError<Infallible>>
+    ensures passed { IfOk result (Passes options graph.now) }
+    ensures refused { IfErr result (Fails options graph.now) }
 {
-    graph.verify_integrity(alloc, &mut |_: &file::Commit<'_>| Ok(()))
+    graph.verify_integrity_with(alloc, options, &mut |_: &file::Commit<'_>| Ok(()))
 }
 
 /// Looks up the commit with an id, given in hexadecimal digits of either case, in the graph that
