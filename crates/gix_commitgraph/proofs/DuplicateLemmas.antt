@@ -75,7 +75,7 @@ module _ {E : Type 0} where
   parted-by : (null order rootless : Bool) (p : Position) (asked : Option (VerifyError E))
       → (option_map (error.Commit p) (NullId when null otherwise Order when order) otherwise asked otherwise option_map
       (error.Commit p) (NullTree when rootless))
-      ≡ parted p asked (NullId when null otherwise Order when order otherwise NullTree when rootless)
+      ≡ parted p asked ((NullId when null otherwise Order when order) otherwise NullTree when rootless)
   parted-by true order rootless p asked = refl
   parted-by false true rootless p asked = refl
   parted-by false false true p asked = refl
@@ -132,8 +132,8 @@ module _ {E : Type 0} where
       ∙ ids-answered options layers i layer own pos p (Some fault) asked same is_p is refl
 
   parted-none : (null order rootless : Bool) (p : Position) (asked : Option (VerifyError E))
-      → (parted p asked (NullId when null otherwise Order when order otherwise NullTree when rootless) ≡ None)
-      ↔ (((NullId when null otherwise Order when order otherwise NullTree when rootless) ≡ None) × (asked ≡ None))
+      → (parted p asked ((NullId when null otherwise Order when order) otherwise NullTree when rootless) ≡ None)
+      ↔ ((((NullId when null otherwise Order when order) otherwise NullTree when rootless) ≡ None) × (asked ≡ None))
   parted-none true order rootless p asked = (λ h. cc, λ h. cc)
   parted-none false true rootless p asked = (λ h. cc, λ h. cc)
   parted-none false false true p None = (λ h. cc, λ h. cc)
