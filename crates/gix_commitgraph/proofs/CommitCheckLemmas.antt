@@ -6,14 +6,14 @@ use Rattle.graph_format.specs.Layer.{Layer, record_at}
 use Rattle.graph_layer.specs.Commit.{commit_pos}
 use Rattle.graph_format.specs.Parents.{position_of, items_of, parents_of}
 use Rattle.gix_commitgraph.specs.Graph.{graph_ids, start, stop}
-use Rattle.graph_format.specs.Faults.{id_at}
+use Rattle.graph_format.specs.Faults.{id_at, id_fault, tree_fault}
 use Rattle.graph_format.specs.Lookup.{scan}
 use Rattle.graph_walks.specs.History.{Node, generation_at, parents_at}
 use Rattle.graph_format.specs.StoredHistory.{history_of}
 use Rattle.graph_walks.specs.Generations.{expected_generation}
 use Rattle.graph_walks.specs.Counts.{greatest}
 use Rattle.graph_format.specs.Points.{Point, check, call, first_some, refused, IsRefused, StopsAt, StopsBy, Passes}
-use Rattle.gix_commitgraph.specs.Verify.{id_fault, tree_fault, ids_refusal, item_refusal, parents_refusal, generation_refusal}
+use Rattle.gix_commitgraph.specs.Verify.{ids_refusal, item_refusal, parents_refusal, generation_refusal}
 use Rattle.gix_commitgraph.specs.Verify.{commit_points, cause_of}
 use Rattle.gix_commitgraph.specs.LayerSpans.{IsSpan, IsInSpan}
 use Rattle.graph_format.specs.declared.Position.{Position}

@@ -75,7 +75,7 @@ module _ {E : Type 0} where
   parted-by : (null order rootless : Bool) (p : Position) (asked : Option (VerifyError E))
       → (option_map (error.Commit p) (NullId when null otherwise Order when order) otherwise asked otherwise option_map
       (error.Commit p) (NullTree when rootless))
-      ≡ parted p asked (NullId when null otherwise Order when order otherwise NullTree when rootless)
+      ≡ parted p asked ((NullId when null otherwise Order when order) otherwise NullTree when rootless)
   parted-by true order rootless p asked = refl
   parted-by false true rootless p asked = refl
   parted-by false false true p asked = refl
@@ -115,9 +115,25 @@ module _ {E : Type 0} where
       ap (λ (o : Option (VerifyError E)). parted (position_of p) o fault) answered ∙ sym
       (ids-checked options layers i layer own pos p fault same is_p is)
 
+  parted-named : (p : Position) (asked : Option (VerifyError E)) (fault : CommitFault) → (fault ≡ NullTree → None ≡ asked)
+      → Some (error.Commit p fault) ≡ parted p asked (Some fault)
+  parted-named p asked NullId missed = refl
+  parted-named p asked Order missed = refl
+  parted-named p asked NullTree missed = rw (← missed refl) refl
+
+  -- a fault is named, if it is not that of the root tree or if nothing was answered where this is asked
+  pub fault-answered : (options : VerifyOptions) (layers : List Layer) (i : ℕ) (layer own : Layer) (pos p : ℕ)
+      (fault : CommitFault) → own ≡ layer → p ≡ start layers i + pos → Some fault ≡ commit_fault own pos
+      → (fault ≡ NullTree → None ≡ (if options.distinct_ids then duplicate_refusal {E = E} layers i layer pos else None))
+      → Some (error.Commit (position_of p) fault) ≡ ids_refusal {E = E} options layers i layer pos
+  fault-answered options layers i layer own pos p fault same is_p is missed =
+      let asked : Option (VerifyError E) = (if options.distinct_ids then duplicate_refusal layers i layer pos else None) in
+      parted-named (position_of p) asked fault missed
+      ∙ ids-answered options layers i layer own pos p (Some fault) asked same is_p is refl
+
   parted-none : (null order rootless : Bool) (p : Position) (asked : Option (VerifyError E))
-      → (parted p asked (NullId when null otherwise Order when order otherwise NullTree when rootless) ≡ None)
-      ↔ (((NullId when null otherwise Order when order otherwise NullTree when rootless) ≡ None) × (asked ≡ None))
+      → (parted p asked ((NullId when null otherwise Order when order) otherwise NullTree when rootless) ≡ None)
+      ↔ ((((NullId when null otherwise Order when order) otherwise NullTree when rootless) ≡ None) × (asked ≡ None))
   parted-none true order rootless p asked = (λ h. cc, λ h. cc)
   parted-none false true rootless p asked = (λ h. cc, λ h. cc)
   parted-none false false true p None = (λ h. cc, λ h. cc)

@@ -9,7 +9,7 @@ use Rattle.graph_format.specs.Layer.{Layer, record_at}
 use Rattle.graph_format.specs.Parents.{position_of, parents_of, items_of}
 use Rattle.graph_format.specs.Lookup.{scan}
 use Rattle.gix_commitgraph.specs.Graph.{graph_ids, start, stop}
-use Rattle.graph_format.specs.Faults.{layer_fault, is_null, id_at, is_out_of_order}
+use Rattle.graph_format.specs.Faults.{layer_fault, id_at, id_fault, tree_fault}
 use Rattle.graph_format.specs.Points.{Point, check, call, first_some, Cause, refused, by_processor, no_memory}
 use Rattle.graph_walks.specs.Counts.{count_of}
 use Rattle.graph_walks.specs.History.{Node, generation_at, generations, parent_numbers}
@@ -17,8 +17,6 @@ use Rattle.graph_format.specs.StoredHistory.{history_of}
 use Rattle.graph_walks.specs.Generations.{expected_generation, longest_path}
 use Rattle.graph_format.specs.declared.Position.{Position}
 use Rattle.graph_format.specs.declared.parents.ParentError.{ParentError}
-use Rattle.graph_format.specs.declared.fault.CommitFault.{CommitFault}
-use Rattle.graph_format.specs.declared.fault.CommitFault.TheVariants.{NullId, Order, NullTree}
 use Rattle.gix_commitgraph.specs.declared.verify.VerifyOptions.{VerifyOptions}
 use Rattle.gix_commitgraph.specs.declared.verify.VerifyError.{VerifyError}
 use Rattle.gix_commitgraph.specs.declared.verify.VerifyError.TheVariants as error
@@ -31,14 +29,6 @@ base_at layer j = unwrap_or (slice_get layer.bases j) []
 -- the checksum of layer j, and no bytes where there is no such layer
 abbrev pub checksum_at : List Layer → ℕ → List ℕ
 checksum_at layers j = unwrap_or (slice_get (map (λ layer. layer.checksum) layers) j) []
-
--- the id of the commit at a position is null, or is not above the one before it in the layer ("OID Lookup")
-abbrev pub id_fault : Layer → ℕ → Option CommitFault
-id_fault layer pos = NullId when is_null (id_at layer pos) otherwise Order when is_out_of_order layer pos
-
--- the id of its root tree is null ("Commit Data")
-abbrev pub tree_fault : Layer → ℕ → Option CommitFault
-tree_fault layer pos = NullTree when is_null (record_at layer pos).tree
 
 module _ {E : Type 0} where
   -- the base id at place j of a layer that is to be layer i: the checksum of layer j

@@ -79,17 +79,17 @@ commit_fault-iff : (layer : Layer) (pos : ℕ) → (commit_fault layer pos ≡ N
 unfolding commit_fault
 commit_fault-iff layer pos = (
   λ h.
-      let id = otherwise-none _ _ h in
-      let ordered = otherwise-none _ _ id.1 in
+      let both = otherwise-none _ _ h in
+      let id = otherwise-none _ _ both.0 in
       record {
         id = (not_null-iff (id_at layer pos)).0 (when-none _ _ id.0);
-        ordered = (in_order-iff layer pos).0 (when-none _ _ ordered.0);
-        tree = (not_null-iff (record_at layer pos).tree).0 (when-none _ _ ordered.1);
+        ordered = (in_order-iff layer pos).0 (when-none _ _ id.1);
+        tree = (not_null-iff (record_at layer pos).tree).0 (when-none _ _ both.1);
       },
   λ right.
-      option_or-none _ _ (then_some-false _ _ ((not_null-iff (id_at layer pos)).1 right.id))
-      (option_or-none _ _ (then_some-false _ _ ((in_order-iff layer pos).1 right.ordered))
-      (then_some-false _ _ ((not_null-iff (record_at layer pos).tree).1 right.tree))),
+      option_or-none _ _ (option_or-none _ _ (then_some-false _ _ ((not_null-iff (id_at layer pos)).1 right.id))
+      (then_some-false _ _ ((in_order-iff layer pos).1 right.ordered)))
+      (then_some-false _ _ ((not_null-iff (record_at layer pos).tree).1 right.tree)),
 )
 
 -- neighbours in order are all in order

@@ -44,6 +44,6 @@ null_tree-at layer pos tree b at h = rw (← at) (sym (same_from_decides b (is_n
 -- the first fault, by what the tests say
 pub commit_fault-by : (layer : Layer) (pos : ℕ) (null disordered null_tree : Bool)
     → is_null (id_at layer pos) ≡ null → is_out_of_order layer pos ≡ disordered → is_null (record_at layer pos).tree ≡ null_tree
-    → (NullId when null otherwise Order when disordered otherwise NullTree when null_tree) ≡ commit_fault layer pos
+    → ((NullId when null otherwise Order when disordered) otherwise NullTree when null_tree) ≡ commit_fault layer pos
 unfolding commit_fault
 commit_fault-by layer pos null disordered null_tree h k l = rw (h, k, l) refl

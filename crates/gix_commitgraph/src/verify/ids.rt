@@ -40,17 +40,10 @@ impl Graph {
     {
         match commit_fault(commit) {
             None => self.check_distinct(options, span, commit, pos),
-            Some(CommitFault::NullTree) => {
-                self.check_distinct(options, span, commit, pos)?;
-                let fault = CommitFault::NullTree;
-                Err(VerifyError::Commit { pos, fault })
-            }
-            Some(CommitFault::Order) => {
-                let fault = CommitFault::Order;
-                Err(VerifyError::Commit { pos, fault })
-            }
-            Some(CommitFault::NullId) => {
-                let fault = CommitFault::NullId;
+            Some(fault) => {
+                if matches!(fault, CommitFault::NullTree) {
+                    self.check_distinct(options, span, commit, pos)?;
+                }
                 Err(VerifyError::Commit { pos, fault })
             }
         }
