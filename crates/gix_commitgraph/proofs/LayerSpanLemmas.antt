@@ -16,7 +16,8 @@ use Rattle.graph_layer.specs.declared.file.commit.Commit.{Commit}
 use Rattle.gix_commitgraph.specs.declared.verify.layer.LayerSpan.{LayerSpan}
 use Rattle.gix_commitgraph.proofs.LayerListLemmas.{size, start-more, start-fits, graph_commits-counted}
 use Rattle.gix_commitgraph.proofs.GraphHistoryLemmas.{node_at, generation-at, parents-at, take-history}
-use Rattle.graph_layer.proofs.ParentItemLemmas.{numbers_of, numbers-parents, parents-few}
+use Rattle.graph_layer.proofs.ParentCountLemmas.{both-few}
+use Rattle.graph_layer.proofs.ParentItemLemmas.{numbers_of, numbers-parents}
 
 -- where a layer ends
 pub span-stop : (layers : List Layer) (span : LayerSpan) → IsSpan layers span → span.stop ≡ span.first + size span.file.now
@@ -59,7 +60,7 @@ pub numbers-few : (layers : List Layer) (span : LayerSpan) (commit : Commit) (p 
 numbers-few layers span commit p is at =
     let opened : IsOpened (commit_layer commit) = subst IsOpened (sym at.layer) (span-opened layers span is) in
     let few =
-    parents-few (edge_of (commit_record commit).parent1) (edge_of (commit_record commit).parent2) (commit_layer commit).edges
+    both-few (edge_of (commit_record commit).parent1) (edge_of (commit_record commit).parent2) (commit_layer commit).edges
     opened.few_edges in
     omega (
       arith,

@@ -91,7 +91,8 @@ second-few (ExtraEdgeIndex index) None few = lit≤ tt
 second-few (ExtraEdgeIndex index) (Some bytes) few =
     omega (arith, listed-few (drop index (words bytes)), length-drop index (words bytes), length-words bytes, few)
 
-both-few : (first second : ParentEdge) (edges : Option (List ℕ)) → HasFew edges
+-- nor are those of both fields more than 32 bits hold
+pub both-few : (first second : ParentEdge) (edges : Option (List ℕ)) → HasFew edges
     → length (both_parents first second edges).positions < 2 ^ 32
 both-few edge.None edge.None edges few = lit< tt
 both-few edge.None (GraphPosition pos) edges few = lit< tt
