@@ -1,6 +1,6 @@
 -- What the check of a commit's ids finds, and the search of its id in the layers below.
 use Rattle.std.proofs.Common.{◌≡◌, ℕ, ◌+◌, ◌<◌, ◌≤◌, Bool, true, false, if◌then◌else◌, List, [], length, unwrap_or, take}
-use Rattle.std.proofs.Common.{slice_get, All, Option, Some, None, option_map, refl, sym, ap, ◌∙◌, arith}
+use Rattle.std.proofs.Common.{slice_get, Option, Some, None, option_map, refl, sym, ap, ◌∙◌, arith}
 use Rattle.std.specs.Prelude.{◌↔◌}
 use Rattle.std.proofs.lemmas.List.{take-take, length-take-le, get_or-take}
 use Rattle.std.proofs.lemmas.Option.{slice_get-get_or, get_or_from_slice_get}
@@ -13,12 +13,11 @@ use Rattle.graph_format.specs.declared.Position.{Position}
 use Rattle.graph_format.specs.declared.fault.CommitFault.{CommitFault}
 use Rattle.graph_format.specs.declared.fault.CommitFault.TheVariants.{NullId, Order, NullTree}
 use Rattle.gix_commitgraph.specs.Graph.{graph_ids, total, start}
-use Rattle.gix_commitgraph.specs.GraphLaw.{IsOrdered}
+use Rattle.gix_commitgraph.specs.GraphLookup.{FoundIn}
 use Rattle.gix_commitgraph.specs.Verify.{duplicate_refusal, ids_refusal}
 use Rattle.gix_commitgraph.specs.declared.verify.VerifyError.{VerifyError}
 use Rattle.gix_commitgraph.specs.declared.verify.VerifyError.TheVariants as error
 use Rattle.gix_commitgraph.specs.declared.verify.VerifyOptions.{VerifyOptions}
-use Rattle.gix_commitgraph.proofs.GraphLemmas.{scanned}
 use Rattle.gix_commitgraph.proofs.GraphLookupLemmas.{IsMissed, found_in-counted, found_in-none}
 
 -- a layer among the lowest ones, and where it starts
@@ -34,20 +33,17 @@ unfolding start
 start-take layers n i h = ap total (take-take i n layers h)
 
 -- the lowest layers are searched up to the first that finds the id
-pub found-below : (layers : List Layer) (n at first pos : ℕ) (layer : Layer) (id : List ℕ) → n ≤ length layers
-    → All IsOrdered (take n layers) → at < n
+pub found-below : (layers : List Layer) (n at first pos : ℕ) (layer : Layer) (id : List ℕ) → n ≤ length layers → at < n
     → IsMissed (take n layers) id at → slice_get layers at ≡ Some layer → first ≡ start layers at → Found layer id (Some pos)
-    → Some (first + pos) ≡ scan (graph_ids (take n layers)) id
-found-below layers n at first pos layer id long ordered below missed here is_first found =
-    scanned (take n layers) ordered id (Some (first + pos))
-    (found_in-counted (take n layers) id at first pos layer (is_first ∙ sym (start-take layers n at (omega arith))) missed
-    (take-layer layers n at layer long below here) found)
+    → FoundIn (take n layers) id (Some (first + pos))
+found-below layers n at first pos layer id long below missed here is_first found =
+    found_in-counted (take n layers) id at first pos layer (is_first ∙ sym (start-take layers n at (omega arith))) missed
+    (take-layer layers n at layer long below here) found
 
-pub none-below : (layers : List Layer) (n at : ℕ) (id : List ℕ) → n ≤ length layers → All IsOrdered (take n layers) → n ≤ at
-    → IsMissed (take n layers) id at → None ≡ scan (graph_ids (take n layers)) id
-none-below layers n at id long ordered past missed =
-    scanned (take n layers) ordered id None (found_in-none (take n layers) id at missed
-    (omega (arith, length-take-le n layers long)))
+pub none-below : (layers : List Layer) (n at : ℕ) (id : List ℕ) → n ≤ length layers → n ≤ at → IsMissed (take n layers) id at
+    → FoundIn (take n layers) id None
+none-below layers n at id long past missed =
+    found_in-none (take n layers) id at missed (omega (arith, length-take-le n layers long))
 
 -- the id of a commit that is seen by its layer
 pub id-told : (own layer : Layer) (pos : ℕ) (id : List ℕ) → own ≡ layer → slice_get own.ids pos ≡ Some id → id_at layer pos ≡ id

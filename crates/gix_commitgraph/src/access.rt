@@ -1,7 +1,7 @@
 //! Accessors of a graph.
 
 ghost use Rattle.std.specs.Prelude.{◌≡◌, ◌+◌, ◌^◌, ◌<◌, ◌≤◌, All, length, slice_get, option_map};
-ghost use Rattle.std.specs.Prelude.{Some, IfSome};
+ghost use Rattle.std.specs.Prelude.{Some, IfSome, take};
 ghost use Rattle.gix_hash_core.specs.Oid.{oid_bytes};
 ghost use Rattle.graph_layer.specs.Commit.{commit_layer, commit_pos, layer_and_position};
 ghost use Rattle.gix_commitgraph.specs.Graph.{IsGraph, graph_ids, graph_commits, start, stop};
@@ -18,10 +18,10 @@ use gix_hash_core::{Kind, oid};
 
 /// Where an id was found: the layer, how many commits stand before it, and the position there.
 #[derive(Clone, Copy)]
-struct LookupByIdResult<'a> {
-    file: &'a File,
-    start: u32,
-    pos: file::Position,
+pub(crate) struct LookupByIdResult<'a> {
+    pub(crate) file: &'a File,
+    pub(crate) start: u32,
+    pub(crate) pos: file::Position,
 }
 
 impl Graph {
@@ -89,7 +89,7 @@ impl Graph {
         ensures holds { IfSome result (λ pos.
             slice_get (graph_ids self.now) pos.0 ≡ Some (oid_bytes id.entry)) }
     {
-        let found = self.find(id)?;
+        let found = self.find(id, self.files.len())?;
         Some(Position(found.start + found.pos.0))
     }
 
@@ -99,7 +99,7 @@ impl Graph {
         ensures holds { IfSome result (λ commit.
             slice_get (commit_layer commit).ids (commit_pos commit) ≡ Some (oid_bytes id.entry)) }
     {
-        let found = self.find(id)?;
+        let found = self.find(id, self.files.len())?;
         Some(found.file.commit_at(found.pos))
     }
 
@@ -143,9 +143,10 @@ impl Graph {
         (&self.files[layer], place)
     }
 
-    /// The first layer that finds an id, and where.
-    fn find(&self, id: oid<'_>) -> Option<LookupByIdResult<'_>>
-        ensures found { FoundIn self.now (oid_bytes id.entry)
+    /// The first layer below this one that finds an id, and where.
+    pub(crate) fn find(&self, id: oid<'_>, layer: usize) -> Option<LookupByIdResult<'_>>
+        requires layer { layer ≤ length self.now }
+        ensures found { FoundIn (take layer self.now) (oid_bytes id.entry)
             (option_map (λ f. f.start + f.pos.0) result) }
         ensures commit { IfSome result (λ f.
             slice_get (graph_commits self.now) (f.start + f.pos.0) ≡ Some (f.file.now, f.pos.0)) }
@@ -156,11 +157,11 @@ impl Graph {
         ensures within { IfSome result (λ f. f.pos.0 < length f.file.now.ids) }
         ensures few { IfSome result (λ f. f.start + f.pos.0 < 2 ^ 32) }
     {
-        let mut start = 0;
-        for file in &self.files {
-            match file.lookup(id) {
-                Some(pos) => return Some(LookupByIdResult { file, start, pos }),
-                None => start += file.num_commits(),
+        for below in 0..layer {
+            let file = &self.files[below];
+            if let Some(pos) = file.lookup(id) {
+                let start = self.starts[below];
+                return Some(LookupByIdResult { file, start, pos });
             }
         }
         None

@@ -82,11 +82,7 @@ impl Graph {
         ensures { option_map (λ pos. pos.0) result
             ≡ scan (graph_ids (take layer self.now)) (oid_bytes id.entry) }
     {
-        for below in 0..layer {
-            if let Some(place) = self.files[below].lookup(id) {
-                return Some(Position(self.starts[below] + place.0));
-            }
-        }
-        None
+        let found = self.find(id, layer)?;
+        Some(Position(found.start + found.pos.0))
     }
 }
