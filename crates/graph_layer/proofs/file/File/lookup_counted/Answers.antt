@@ -61,6 +61,9 @@ returns-in-Equal-clause-most c =
       digits-lower (c.loop-low.high - c.loop-low.low) 0 (omega arith) (omega arith),
     ))
 
+pub returns-in-Equal-clause-least : goal.returns-in-Equal-clause-least
+returns-in-Equal-clause-least c = omega arith
+
 pub loop-low-preserved : goal.loop-low-preserved
 loop-low-preserved c = record {
   stands = stands_within-upper _ _ _ _ _ _ c.loop-low.invariant.stands c.id_bytes_at-other.ensures.id (sym c.in-Greater.ensures);
