@@ -145,7 +145,7 @@ fn run(rt: &HostRuntime, alloc: Global, name: &[u8], stage: &mut Stage) -> io::R
         b"run_verify_info" => run_verify(alloc, memory, "info", out),
         b"run_distinct" => run_distinct(alloc, memory, "chain", out),
         b"run_find" => run_find(alloc, memory, "chain", SECOND, out),
-        _ => run_ancestor(alloc, memory, "chain", THIRD, FIRST, out),
+        _ => run_ancestor(alloc, memory, "chain", SECOND, FIRST, out),
     };
     println!(rt; "{answer:?}")?;
     io::writer(rt).write_all(out)
@@ -156,9 +156,6 @@ const FIRST: &str = "0101010101010101010101010101010101010101";
 
 /// The id of the second.
 const SECOND: &str = "0202020202020202020202020202020202020202";
-
-/// The id of the third.
-const THIRD: &str = "0303030303030303030303030303030303030303";
 
 /// Opens by a path in memory, or on disk.
 fn open(rt: &HostRuntime, alloc: Global, name: &[u8], stage: &mut Stage) -> io::Result<()> {

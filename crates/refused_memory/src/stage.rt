@@ -20,7 +20,7 @@ pub struct Stage {
     pub path: String,
     /// The layer of that file.
     pub layer: File,
-    /// The layers of a chain of three, each of one commit.
+    /// The layers of a chain of two, each of one commit.
     pub layers: Vec<File>,
     /// The graph of the same layers.
     pub graph: Graph,
@@ -89,11 +89,11 @@ fn opened(alloc: Global, bytes: &[u8]) -> Result<File> {
     Ok(File::new(alloc, Vec::from_slice(alloc, bytes)?, path)?)
 }
 
-/// The files of a chain of three layers of one commit, each on the one before.
+/// The files of a chain of two layers of one commit, the second on the first.
 fn chain(alloc: Global) -> Result<Vec<Vec<u8>>> {
     let mut files = Vec::new(alloc);
     let mut checksums = Vec::new(alloc);
-    let rows: [Row<'_>; 3] = [(1, &[], 1), (2, &[0], 2), (3, &[1, 0], 3)];
+    let rows: [Row<'_>; 2] = [(1, &[], 1), (2, &[0], 2)];
     for row in rows {
         let bytes = file(alloc, &plan(alloc, &checksums, &[row])?)?;
         checksums.push(opened(alloc, &bytes)?.checksum().to_owned())?;

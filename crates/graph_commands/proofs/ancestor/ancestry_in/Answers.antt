@@ -1,5 +1,5 @@
 -- A position that holds an id is one of the graph's.
-use Rattle.std.proofs.Common.{arith}
+use Rattle.std.proofs.Common.{arith, rules}
 use Rattle.std.proofs.lemmas.List.Concat.{length-flat_map}
 use Rattle.std.proofs.lemmas.Option.{slice_get_within}
 use Rattle.gix_hash_core.specs.Oid.{oid_bytes}
@@ -26,3 +26,6 @@ ancestor_walk-requires-clause-to c =
       slice_get_within (graph_ids layers) c.in-Some-lookup.to.0 (oid_bytes c.args.second) c.in-Some-lookup.ensures.holds,
       length-flat_map (λ (layer : Layer). layer.ids) layers,
     ))
+
+pub returns-in_default-lookup : goal.returns-in_default-lookup
+returns-in_default-lookup c = search rules

@@ -1,4 +1,4 @@
-use Rattle.std.proofs.Common.{false, refl}
+use Rattle.std.proofs.Common.{false, refl, rules}
 use Rattle.gix_commitgraph.proofs.HeadlineLemmas.{judged, right_stats, right_lookups}
 use Rattle.gix_commitgraph.proofs.graph.Graph.verify_integrity.Goals as goal
 
@@ -16,3 +16,6 @@ pub returns-clause-lookup : goal.returns-clause-lookup
 returns-clause-lookup g c =
     right_lookups _ (record { distinct_ids = false }) c.args.self.now _ _ c.verify_layers.ensures.graph.opened
     c.verify_layers.result c.verify_layers.ensures.agrees
+
+pub returns-clause-agrees : goal.returns-clause-agrees
+returns-clause-agrees g c = search rules

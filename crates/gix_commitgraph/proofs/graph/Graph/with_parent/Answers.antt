@@ -1,4 +1,4 @@
-use Rattle.std.proofs.Common.{◌≡◌, max, refl, arith}
+use Rattle.std.proofs.Common.{arith, max, refl, rules, ◌≡◌}
 use Rattle.graph_format.specs.StoredHistory.{history_of}
 use Rattle.graph_walks.specs.History.{generation_at}
 use Rattle.gix_commitgraph.proofs.EdgeListLemmas.{one_before}
@@ -10,3 +10,6 @@ returns c = λ parents known.
     omega (arith, c.max.ensures, c.generation_at.ensures) in
     one_before (history_of c.args.self.now) c.args.span.stop parents c.args.pos c.in_ok-others.others _
     (rw c.in_ok-others.was at known) c.if-pos-span.false refl most
+
+pub returns-then-pos-span : goal.returns-then-pos-span
+returns-then-pos-span c = search rules
