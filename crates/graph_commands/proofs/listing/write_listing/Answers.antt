@@ -1,6 +1,5 @@
 -- The lines of all positions are those of all commits.
-use Rattle.std.proofs.lemmas.Grind.{common_steps}
-use Rattle.std.proofs.Common.{ap, append_assoc, arith, map, subst, ◌++◌, ◌∙◌, ◌≡◌}
+use Rattle.std.proofs.Common.{◌≡◌, ◌++◌, map, ap, ◌∙◌, subst, append_assoc}
 use Rattle.std.specs.List.{flat_map}
 use Rattle.std.specs.Io.KnownBytes.{Appends}
 use Rattle.std.proofs.lemmas.Iterator.Consumers.{YieldsList-from_first, YieldsList-end}
@@ -28,6 +27,3 @@ returns g c =
     rw lines (append_assoc (layer_line layer) (flat_map base_line layer.bases) (commit_lines layer)) in
     appends_written c.write_out.result _ _ _ c.args.block.now _ _ c.requires (subst (Appends _ _) all c.loop-commit.invariant)
     c.write_out.ensures.written
-
-pub loop-base-preserved : goal.loop-base-preserved
-loop-base-preserved g c = grind (arith, common_steps)
