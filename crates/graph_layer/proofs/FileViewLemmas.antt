@@ -1,24 +1,23 @@
 -- what an opened file's fields say of its layer
 use Rattle.std.proofs.Common.{◌≡◌, ℕ, ◌+◌, ◌-◌, ◌*◌, ◌/◌, ◌<◌, ◌≤◌, List, [], map, length, drop, Option, Some, None, unwrap_or}
-use Rattle.std.proofs.Common.{option_map, IsSomeAnd, MatchOption, slice_range, slice_get, slice_index, refl, sym, ap, subst, ◌∙◌}
+use Rattle.std.proofs.Common.{option_map, IsSomeAnd, MatchOption, slice_range, slice_get, slice_index, sym, ap, subst, ◌∙◌}
 use Rattle.std.proofs.Common.{arith, length-drop, lit<}
 use Rattle.std.proofs.lemmas.List.{length-map, take_rest, take-append-drop}
 use Rattle.std.proofs.lemmas.Nat.{row_fits_turned}
 use Rattle.std.proofs.Math.Nat.{mul_comm}
-use Rattle.std.proofs.lemmas.Option.{same_Some, slice_get-map}
+use Rattle.std.proofs.lemmas.Option.{slice_get-map}
 use Rattle.gix_hash_core.specs.declared.kind.Kind.{Kind}
 use Rattle.gix_hash_core.specs.declared.kind.Kind.TheVariants.{Sha1, Sha256}
 use Rattle.gix_hash_core.specs.Kind.{id_len}
 use Rattle.graph_format.specs.Format.{Record, record_of, record_len, part, commits_of, table_of, chunk_of, pieces, ids_id}
-use Rattle.graph_format.specs.Format.{records_id, edges_id, bases_id}
+use Rattle.graph_format.specs.Format.{records_id, bases_id}
 use Rattle.graph_format.specs.Layer.{Layer, IsLayer, decoded_layer, record_at, no_record, bytes_of}
-use Rattle.graph_layer.specs.Layout.{IsLayout}
-use Rattle.graph_layer.specs.ChunkRanges.{start_of, IsAt, IsChunkRange, ArePieces}
-use Rattle.graph_layer.specs.declared.file.init.layout.Layout.{Layout}
-use Rattle.graph_layer.specs.declared.file.init.chunks.ChunkRange.{ChunkRange}
-use Rattle.graph_format.proofs.AcceptedFileLemmas.{accepted}
+use Rattle.graph_layout.specs.Layout.{IsLayout}
+use Rattle.graph_layout.specs.ChunkRanges.{start_of, IsAt, IsChunkRange, ArePieces}
+use Rattle.graph_layout.specs.declared.layout.Layout.{Layout}
+use Rattle.graph_layout.specs.declared.chunks.ChunkRange.{ChunkRange}
+use Rattle.graph_layout.proofs.LayoutLemmas.{is-layer, view-kind, view-edges}
 use Rattle.graph_format.proofs.PieceLemmas.{length-slice_range}
-use Rattle.graph_format.proofs.RefusalStepLemmas.{refusal-none}
 use Rattle.graph_format.proofs.PieceLemmas.{slice_range-slice_range, pieces-at, length-pieces}
 
 -- so many pieces fill a chunk of so many times the piece
@@ -48,16 +47,6 @@ pieces-lie bytes start end size count in_file long order quotient =
           (slice_range-slice_range bytes start end (size * i) (size * i + size) (omega (arith, fits, long, order)))
           ∙ ap (λ (n : ℕ). Some (slice_range bytes (start + size * i) n)) (omega arith);
     }
-
--- the layer of bytes that are not refused is theirs
-is-layer : (bytes path : List ℕ) (layout : Layout) (layer : Layer) → IsLayout bytes layout → decoded_layer bytes path ≡ layer
-    → IsLayer bytes path layer
-is-layer bytes path layout layer kept view = let P : Layer → Type 0 = λ l. IsLayer bytes path l in
-    subst P view (accepted bytes path (refusal-none bytes kept.none))
-
-pub view-kind : (bytes path : List ℕ) (layout : Layout) (layer : Layer) → IsLayout bytes layout → decoded_layer bytes path ≡ layer
-    → layout.kind ≡ layer.kind
-view-kind bytes path layout layer kept view = same_Some _ _ (sym kept.kind ∙ (is-layer bytes path layout layer kept view).kind)
 
 pub view-path : (bytes path : List ℕ) (layout : Layout) (layer : Layer) → IsLayout bytes layout → decoded_layer bytes path ≡ layer
     → path ≡ layer.path
@@ -247,36 +236,6 @@ view-tree-fits bytes path layout layer i size n kept view k e is =
     let same : size * i ≡ (id_len layer.kind + 16) * i = ap (λ (m : ℕ). m * i) e in
     omega (arith, fits, same, is)
 
--- the records are those of their chunk
-chunk-records : (kind : Kind) (bytes : List ℕ) (place : ChunkRange) (commits : ℕ) (records : List Record)
-    → IsAt bytes records_id place
-    → IsSomeAnd (chunk_of bytes records_id) (λ chunk. (length chunk ≡ record_len kind * commits)
-    × (records ≡ map (record_of kind) (pieces (record_len kind) chunk)))
-    → records ≡ map (record_of kind) (pieces (record_len kind) (slice_range bytes place.start place.end))
-chunk-records kind bytes place commits records at h = (rw at.chunk at h).1
-
-pub view-decoded : (bytes path : List ℕ) (layout : Layout) → IsLayout bytes layout
-    → map (record_of layout.kind)
-    (pieces (record_len layout.kind) (slice_range bytes layout.chunks.records.start layout.chunks.records.end))
-    ≡ (decoded_layer bytes path).records
-view-decoded bytes path layout kept =
-    let layer = decoded_layer bytes path in
-    let is = is-layer bytes path layout layer kept refl in
-    let chunk = slice_range bytes layout.chunks.records.start layout.chunks.records.end in
-    ap (λ (kind : Kind). map (record_of kind) (pieces (record_len kind) chunk)) (view-kind bytes path layout layer kept refl)
-    ∙ sym (chunk-records layer.kind bytes layout.chunks.records (commits_of layer.fan) layer.records kept.chunks.records
-    is.records)
-
-edges-lie : (bytes : List ℕ) (place : Option ChunkRange) → IsChunkRange bytes edges_id place
-    → option_map (λ p. slice_range bytes p.start p.end) place ≡ chunk_of bytes edges_id
-edges-lie bytes None h = sym h
-edges-lie bytes (Some place) h = sym h.chunk
-
-pub view-edges : (bytes path : List ℕ) (layout : Layout) (layer : Layer) → IsLayout bytes layout
-    → decoded_layer bytes path ≡ layer → option_map (λ p. slice_range bytes p.start p.end) layout.chunks.edges ≡ layer.edges
-view-edges bytes path layout layer kept view = edges-lie bytes layout.chunks.edges kept.chunks.edges
-    ∙ sym (is-layer bytes path layout layer kept view).edges
-
 bases-lie : (kind : Kind) (count : ℕ) (bytes : List ℕ) (place : Option ChunkRange) (bases : List (List ℕ))
     → IsChunkRange bytes bases_id place
     → MatchOption (chunk_of bytes bases_id) ((count ≡ 0) × (bases ≡ [])) (λ chunk. (length chunk ≡ id_len kind * count)
@@ -345,7 +304,6 @@ view-layer bytes path layout layer kept view =
 
 pub ruleset view_laws = (
   view-layer,
-  view-decoded,
   view-checksum,
   view-checksum-in_file,
   view-bytes,

@@ -1,12 +1,8 @@
 pub mod ChecksumLemmas
-pub mod ChunkLemmas
-pub mod ChunkSizeLemmas
-pub mod DecodedRecordLemmas
 pub mod ListedParentLemmas
 pub mod ParentBoundLemmas
 pub mod FileViewLemmas
 pub mod ElementLemmas
-pub mod FanLemmas
 pub mod BucketLemmas
 pub mod AscendingIdLemmas
 pub mod SearchLemmas

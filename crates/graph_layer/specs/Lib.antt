@@ -19,9 +19,6 @@ pub use Rattle.graph_format.specs.NameRule
 pub use Rattle.graph_format.specs.StoredHistory
 pub use Rattle.graph_format.specs.Faults
 pub use Rattle.graph_format.specs.RightLayer
-pub mod ChunkRanges
-pub mod Layout
-pub mod DecodedRecords
 pub mod Commit
 pub mod RemainingParents
 pub mod Remaining

@@ -11,7 +11,8 @@ pub mod verify;
 pub use access::{BaseIds, Commits, Ids};
 pub use commit::Commit;
 pub use graph_format::file::Position;
-use init::{Layout, Records};
+use graph_layout::layout::Layout;
+use graph_layout::records::Records;
 use std::fmt;
 use std::marker::Model;
 

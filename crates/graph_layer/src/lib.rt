@@ -6,5 +6,4 @@ pub mod check;
 pub mod counts;
 pub mod file;
 pub mod law;
-mod numbers;
 pub mod opening;

@@ -8,9 +8,9 @@ ghost use Rattle.graph_format.specs.Format.{words, commits_of};
 ghost use Rattle.graph_format.specs.Layer.{IsLayer, record_at, bytes_of};
 ghost use Rattle.graph_layer.specs.Commit.{commit_layer, commit_pos};
 
-use crate::file::init::{record_len, start_of};
 use crate::file::{Commit, File, Position};
 use gix_hash_core::{Kind, oid};
+use graph_layout::chunks::{record_len, start_of};
 
 /// The id of this kind that begins at an offset.
 fn id_from(bytes: &[u8], start: usize, kind: Kind) -> oid<'_>

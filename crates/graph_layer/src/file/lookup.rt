@@ -9,10 +9,10 @@ ghost use Rattle.gix_hash_core.specs.Oid.{oid_bytes};
 ghost use Rattle.graph_format.specs.Lookup.{Found, file_position_number, bucket_start, bucket_size};
 ghost use Rattle.graph_format.specs.Lookup.{digits};
 
-use crate::file::init::fan_at;
 use crate::file::{File, Position};
-use crate::numbers::long_at;
 use gix_hash_core::oid;
+use graph_layout::fan::fan_at;
+use graph_layout::numbers::long_at;
 use std::cmp::Ordering;
 
 /// How two ids compare. Their first eight bytes, which hardly ever agree, are compared as numbers.

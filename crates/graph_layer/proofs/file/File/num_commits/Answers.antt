@@ -1,0 +1,11 @@
+use Rattle.graph_layer.proofs.FileViewLemmas.{commits-ids, commits-records, commits-fan}
+use Rattle.graph_layer.proofs.file.File.num_commits.Goals as goal
+
+pub returns-clause-ids : goal.returns-clause-ids
+returns-clause-ids c = commits-ids _ _ _ _ c.self.invariant.layout c.self.view_is
+
+pub returns-clause-records : goal.returns-clause-records
+returns-clause-records c = commits-records _ _ _ _ c.self.invariant.layout c.self.view_is
+
+pub returns-clause-fan : goal.returns-clause-fan
+returns-clause-fan c = commits-fan _ _ _ _ c.self.invariant.layout c.self.view_is
