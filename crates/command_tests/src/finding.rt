@@ -1,21 +1,23 @@
-use crate::fixtures::{DIAMOND, built, put_chain, with_file, writer};
-use crate::verifying::verify;
+use crate::fixtures::{DIAMOND, built, hex_of, put_chain, with_commits, writer};
+use crate::verifying::expect_verify;
 use gix_hash_core::ObjectId;
 use graph_commands::run::{WriteFailed, run_find};
 use graph_folder::folder::{Folder, Memory};
 use std::alloc::Global;
-use std::test::Fail;
+use std::process::Abort;
 
-/// The status of `find` and what it writes.
-pub fn find<T: Folder>(
+/// Asserts the status of `find`, and what it writes.
+pub fn expect_find<T: Folder>(
+    rt: &impl Abort,
     alloc: Global,
     folder: &mut T,
-    path: &str,
-    hex: &str,
-) -> Result<(u8, String), Fail> {
+    (path, hex): (&str, &str),
+    (status, want): (u8, &str),
+) {
     let mut out = writer(alloc, usize::MAX, None);
-    let status = run_find(alloc, folder, path, hex, &mut out)?;
-    Ok((status, String::from_utf8(out.bytes)?))
+    let answer = run_find(alloc, folder, path, hex, &mut out);
+    assert_eq!(rt; answer.expect(rt, "a status"), status);
+    assert_eq!(rt; out.text(), want);
 }
 
 /// Forty times a digit.
@@ -28,118 +30,130 @@ const ZS: &str = "zzzzzzzzzzzzzzzzzzzzzzzzzzzzzzzzzzzzzzzz";
 /// Sixty-four times a digit.
 const LONG_FOURS: &str = "4444444444444444444444444444444444444444444444444444444444444444";
 
-#[test]
-fn finds_a_commit(rt: HostRuntime) -> Result<(), Fail> {
-    let alloc = rt.alloc();
-    let mut folder = with_file(alloc, "g", built(&rt, alloc, &[], DIAMOND)?)?;
-    let rows = [
-        ("g", FOURS, 0, "position 3 generation 3 time 7\n"),
-        ("g", FIVES, 1, "none\n"),
-        ("g", LONG_FOURS, 1, "none\n"),
-        ("g", ZS, 2, "refused id 2\n"),
-        ("nothing", ZS, 2, "refused id 2\n"),
-        ("g", "zz", 2, "refused id 1\n"),
-        ("g", "", 2, "refused id 1\n"),
-        ("nothing", "", 2, "refused id 1\n"),
-        ("nothing", FOURS, 1, "refused open 1\n"),
-    ];
-    for (path, hex, status, want) in rows {
-        let answer = find(alloc, &mut folder, path, hex)?;
-        assert_eq!(rt; answer.0, status);
-        assert_eq!(rt; answer.1.as_str(), want);
-    }
-    Ok(())
-}
+/// Paths and texts of ids, each with the status of `find` and what it writes.
+const SEARCHES: &[(&str, &str, u8, &str)] = &[
+    ("g", FOURS, 0, "position 3 generation 3 time 7\n"),
+    ("g", FIVES, 1, "none\n"),
+    ("g", LONG_FOURS, 1, "none\n"),
+    ("g", ZS, 2, "refused id 2\n"),
+    ("nothing", ZS, 2, "refused id 2\n"),
+    ("g", "zz", 2, "refused id 1\n"),
+    ("g", "", 2, "refused id 1\n"),
+    ("nothing", "", 2, "refused id 1\n"),
+    ("nothing", FOURS, 1, "refused open 1\n"),
+];
 
 #[test]
-fn a_text_that_is_no_id_opens_nothing(rt: HostRuntime) -> Result<(), Fail> {
+fn finds_a_commit(rt: HostRuntime) {
     let alloc = rt.alloc();
-    let mut folder = with_file(alloc, "g", built(&rt, alloc, &[], DIAMOND)?)?;
+    let mut folder = with_commits(&rt, alloc, "g", DIAMOND);
+    for (path, hex, status, want) in SEARCHES {
+        expect_find(&rt, alloc, &mut folder, (path, hex), (*status, want));
+    }
+}
+
+/// The texts that are no ids, each with the line that refuses it.
+const NO_IDS: &[(&str, &str)] = &[(ZS, "refused id 2\n"), ("", "refused id 1\n")];
+
+#[test]
+fn a_text_that_is_no_id_opens_nothing(rt: HostRuntime) {
+    let alloc = rt.alloc();
+    let mut folder = with_commits(&rt, alloc, "g", DIAMOND);
     folder.fail_read(0);
-    for (hex, want) in [(ZS, "refused id 2\n"), ("", "refused id 1\n")] {
-        let answer = find(alloc, &mut folder, "g", hex)?;
-        assert_eq!(rt; answer.1.as_str(), want);
+    for (hex, want) in NO_IDS {
+        expect_find(&rt, alloc, &mut folder, ("g", hex), (2, want));
         assert_eq!(rt; folder.failures(), 0);
     }
-    let answer = verify(alloc, &mut folder, "g")?;
-    assert_eq!(rt; answer.1.as_str(), "refused open 3\n");
+    expect_verify(&rt, alloc, &mut folder, "g", (1, "refused open 3\n"));
     assert_eq!(rt; folder.failures(), 1);
-    Ok(())
 }
 
+const CASES: &[&str] = &[
+    "abababababababababababababababababababab",
+    "ABABABABABABABABABABABABABABABABABABABAB",
+    "aBAbabABabababababababababababababababAB",
+];
+
 #[test]
-fn digits_are_of_either_case(rt: HostRuntime) -> Result<(), Fail> {
+fn digits_are_of_either_case(rt: HostRuntime) {
     let alloc = rt.alloc();
-    let mut folder = with_file(alloc, "g", built(&rt, alloc, &[], &[(0xab, &[], 9)])?)?;
-    for hex in [
-        "abababababababababababababababababababab",
-        "ABABABABABABABABABABABABABABABABABABABAB",
-        "aBAbabABabababababababababababababababAB",
-    ] {
-        let answer = find(alloc, &mut folder, "g", hex)?;
-        assert_eq!(rt; answer.0, 0);
-        assert_eq!(rt; answer.1.as_str(), "position 0 generation 9 time 7\n");
+    let mut folder = with_commits(&rt, alloc, "g", &[(0xab, &[], 9)]);
+    for hex in CASES {
+        let want = (0, "position 0 generation 9 time 7\n");
+        expect_find(&rt, alloc, &mut folder, ("g", hex), want);
     }
-    Ok(())
 }
 
+/// The bytes that ids repeat, each with the status of `find` and what it writes.
+const IN_A_CHAIN: &[(u8, u8, &str)] = &[
+    (0x11, 0, "position 0 generation 1 time 7\n"),
+    (0x33, 0, "position 1 generation 2 time 7\n"),
+    (0x44, 0, "position 3 generation 6 time 7\n"),
+    (0x55, 0, "position 4 generation 7 time 7\n"),
+    (0x66, 1, "none\n"),
+];
+
 #[test]
-fn finds_a_commit_in_a_chain(rt: HostRuntime) -> Result<(), Fail> {
+fn finds_a_commit_in_a_chain(rt: HostRuntime) {
     let alloc = rt.alloc();
-    let lower = built(&rt, alloc, &[], &[(0x11, &[], 1), (0x33, &[0], 2)])?;
+    let lower = built(&rt, alloc, &[], &[(0x11, &[], 1), (0x33, &[0], 2)]);
     let base = ObjectId::from([0xab; 20]);
     let rows = [(0x33, [].as_slice(), 5), (0x44, &[0], 6), (0x55, &[1], 7)];
-    let upper = built(&rt, alloc, &[base], &rows)?;
+    let upper = built(&rt, alloc, &[base], &rows);
     let mut folder = Memory::new(alloc);
-    put_chain(alloc, &mut folder, "graphs", &[&lower, &upper])?;
-    let rows = [
-        (0x11, 0, "position 0 generation 1 time 7\n"),
-        (0x33, 0, "position 1 generation 2 time 7\n"),
-        (0x44, 0, "position 3 generation 6 time 7\n"),
-        (0x55, 0, "position 4 generation 7 time 7\n"),
-        (0x66, 1, "none\n"),
-    ];
-    for (id, status, want) in rows {
-        let hex = ObjectId::from([id; 20]).to_string(alloc)?;
-        let answer = find(alloc, &mut folder, "graphs", hex.as_str())?;
-        assert_eq!(rt; answer.0, status);
-        assert_eq!(rt; answer.1.as_str(), want);
+    put_chain(&rt, alloc, &mut folder, "graphs", &[&lower, &upper]);
+    for (id, status, want) in IN_A_CHAIN {
+        let hex = hex_of(&rt, alloc, *id);
+        expect_find(
+            &rt,
+            alloc,
+            &mut folder,
+            ("graphs", hex.as_str()),
+            (*status, want),
+        );
     }
-    Ok(())
+}
+
+/// Asserts that a search writes its line at once, and nothing where that write fails.
+fn expect_one_write(rt: &impl Abort, alloc: Global, folder: &mut Memory, hex: &str) {
+    let mut whole = writer(alloc, usize::MAX, None);
+    assert!(rt; run_find(alloc, folder, "g", hex, &mut whole).is_ok());
+    assert_eq!(rt; whole.writes, 1);
+    let mut out = writer(alloc, usize::MAX, Some(0));
+    let answer = run_find(alloc, folder, "g", hex, &mut out);
+    assert!(rt; matches!(answer, Err(WriteFailed)));
+    assert_eq!(rt; out.bytes.len(), 0);
 }
 
 #[test]
-fn writes_the_line_of_a_search_at_once(rt: HostRuntime) -> Result<(), Fail> {
+fn writes_the_line_of_a_search_at_once(rt: HostRuntime) {
     let alloc = rt.alloc();
-    let mut folder = with_file(alloc, "g", built(&rt, alloc, &[], DIAMOND)?)?;
+    let mut folder = with_commits(&rt, alloc, "g", DIAMOND);
     for hex in [FOURS, FIVES, ZS] {
-        let mut whole = writer(alloc, usize::MAX, None);
-        run_find(alloc, &mut folder, "g", hex, &mut whole)?;
-        assert_eq!(rt; whole.writes, 1);
-        let mut out = writer(alloc, usize::MAX, Some(0));
-        let answer = run_find(alloc, &mut folder, "g", hex, &mut out);
-        assert_eq!(rt; answer, Err(WriteFailed));
-        assert_eq!(rt; out.bytes.len(), 0);
+        expect_one_write(&rt, alloc, &mut folder, hex);
     }
-    Ok(())
+}
+
+/// Asserts the status of a search, and the answer to each of its writes that fails.
+fn try_writes(rt: &impl Abort, alloc: Global, folder: &mut Memory, hex: &str, status: u8) {
+    let mut whole = writer(alloc, 5, None);
+    let answer = run_find(alloc, folder, "g", hex, &mut whole);
+    assert_eq!(rt; answer.expect(rt, "a status"), status);
+    for write in 0..whole.writes {
+        let mut out = writer(alloc, 5, Some(write));
+        let answer = run_find(alloc, folder, "g", hex, &mut out);
+        assert!(rt; matches!(answer, Err(WriteFailed)));
+    }
+    let mut out = writer(alloc, 5, Some(whole.writes));
+    let answer = run_find(alloc, folder, "g", hex, &mut out);
+    assert_eq!(rt; answer.expect(rt, "a status"), status);
 }
 
 #[test]
-fn reports_each_write_of_a_search_that_fails(rt: HostRuntime) -> Result<(), Fail> {
+fn reports_each_write_of_a_search_that_fails(rt: HostRuntime) {
     let alloc = rt.alloc();
-    let mut folder = with_file(alloc, "g", built(&rt, alloc, &[], DIAMOND)?)?;
-    for (hex, status) in [(FOURS, 0), (FIVES, 1), (ZS, 2)] {
-        let mut whole = writer(alloc, 5, None);
-        let answer = run_find(alloc, &mut folder, "g", hex, &mut whole);
-        assert_eq!(rt; answer, Ok(status));
-        for write in 0..whole.writes {
-            let mut out = writer(alloc, 5, Some(write));
-            let answer = run_find(alloc, &mut folder, "g", hex, &mut out);
-            assert_eq!(rt; answer, Err(WriteFailed));
-        }
-        let mut out = writer(alloc, 5, Some(whole.writes));
-        let answer = run_find(alloc, &mut folder, "g", hex, &mut out);
-        assert_eq!(rt; answer, Ok(status));
-    }
-    Ok(())
+    let mut folder = with_commits(&rt, alloc, "g", DIAMOND);
+    try_writes(&rt, alloc, &mut folder, FOURS, 0);
+    try_writes(&rt, alloc, &mut folder, FIVES, 1);
+    try_writes(&rt, alloc, &mut folder, ZS, 2);
 }

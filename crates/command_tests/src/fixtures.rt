@@ -9,7 +9,6 @@ use std::fmt::Display;
 use std::io;
 use std::io::{ErrorKind, Read, Write};
 use std::process::Abort;
-use std::test::Fail;
 
 /// A reader that gives at most so many bytes a read, and whose read of this number fails.
 #[derive(Drop)]
@@ -41,6 +40,13 @@ pub(super) struct Sink {
     most: usize,
     fails_at: Option<usize>,
     pub(super) writes: usize,
+}
+
+impl Sink {
+    /// What was written, as a text.
+    pub(super) fn text(&self) -> &str {
+        str::from_utf8(&self.bytes).unwrap_or("no text")
+    }
 }
 
 impl Write for Sink {
@@ -89,13 +95,8 @@ pub(super) const DIAMOND: &[Row<'static>] = &[
     (0x44, &[1, 2], 3),
 ];
 
-/// The bytes of a SHA-1 file of these commits over these base layers. Each commit has the time 7.
-pub(super) fn built(
-    rt: &impl Abort,
-    alloc: Global,
-    bases: &[ObjectId],
-    rows: &[Row<'_>],
-) -> Result<Vec<u8>, AllocError> {
+/// What a layer of these commits over these base layers is to say. Each commit has the time 7.
+fn planned(alloc: Global, bases: &[ObjectId], rows: &[Row<'_>]) -> Result<LayerPlan, AllocError> {
     let mut commits = Vec::new(alloc);
     for (id, parents, generation) in rows {
         commits.push(PlanCommit {
@@ -106,26 +107,31 @@ pub(super) fn built(
             time: 7,
         })?;
     }
-    let plan = LayerPlan {
+    Ok(LayerPlan {
         kind: Kind::Sha1,
         bases: Vec::from_slice(alloc, bases)?,
         commits,
-    };
+    })
+}
+
+/// The bytes of a SHA-1 file of these commits over these base layers.
+pub(super) fn built(
+    rt: &impl Abort,
+    alloc: Global,
+    bases: &[ObjectId],
+    rows: &[Row<'_>],
+) -> Vec<u8> {
+    let plan = planned(alloc, bases, rows).expect(rt, "memory for a plan");
     assert!(rt; plan.is_buildable());
-    build(alloc, &plan)
+    build(alloc, &plan).expect(rt, "memory for a file")
 }
 
 /// Compares the text of each value with the one beside it.
-pub(super) fn compare_texts<T: Display>(
-    rt: &impl Abort,
-    alloc: Global,
-    rows: &[(T, &str)],
-) -> Result<(), AllocError> {
+pub(super) fn compare_texts<T: Display>(rt: &impl Abort, alloc: Global, rows: &[(T, &str)]) {
     for (value, want) in rows {
-        let text = value.to_string(alloc)?;
+        let text = value.to_string(alloc).expect(rt, "memory for a text");
         assert_eq!(rt; text.as_str(), *want);
     }
-    Ok(())
 }
 
 /// The checksum of a SHA-1 file.
@@ -134,30 +140,80 @@ pub(super) fn checksum_of(bytes: &[u8]) -> ObjectId {
     digest(Kind::Sha1, &bytes[..end])
 }
 
+/// The text of the id that repeats a byte.
+pub(super) fn hex_of(rt: &impl Abort, alloc: Global, byte: u8) -> String {
+    let hex = ObjectId::from([byte; 20]).to_string(alloc);
+    hex.expect(rt, "memory for an id")
+}
+
+/// The bytes, once more.
+pub(super) fn copied(rt: &impl Abort, alloc: Global, bytes: &[u8]) -> Vec<u8> {
+    Vec::from_slice(alloc, bytes).expect(rt, "memory for a file")
+}
+
+/// The text, in memory of its own.
+pub(super) fn owned(rt: &impl Abort, alloc: Global, text: &str) -> String {
+    String::from_str(alloc, text).expect(rt, "memory for a path")
+}
+
+/// Puts a file into a folder in memory.
+pub(super) fn put_file(
+    rt: &impl Abort,
+    alloc: Global,
+    memory: &mut Memory,
+    path: &str,
+    bytes: Vec<u8>,
+) {
+    let put = memory.put_file(owned(rt, alloc, path), bytes);
+    put.expect(rt, "memory for a file");
+}
+
+/// Puts a folder into a folder in memory.
+pub(super) fn put_dir(rt: &impl Abort, alloc: Global, memory: &mut Memory, path: &str) {
+    let put = memory.put_dir(owned(rt, alloc, path));
+    put.expect(rt, "memory for a folder");
+}
+
 /// A folder in memory with one file.
-pub(super) fn with_file(alloc: Global, path: &str, bytes: Vec<u8>) -> Result<Memory, Fail> {
+pub(super) fn with_file(rt: &impl Abort, alloc: Global, path: &str, bytes: Vec<u8>) -> Memory {
     let mut memory = Memory::new(alloc);
-    memory.put_file(String::from_str(alloc, path)?, bytes)?;
-    Ok(memory)
+    put_file(rt, alloc, &mut memory, path, bytes);
+    memory
+}
+
+/// A folder in memory with a file of these commits, which has no base layers.
+pub(super) fn with_commits(rt: &impl Abort, alloc: Global, path: &str, rows: &[Row<'_>]) -> Memory {
+    with_file(rt, alloc, path, built(rt, alloc, &[], rows))
 }
 
 /// Adds the files of a chain in a folder: each layer as the file that is named after its checksum,
 /// and the chain file with the lines of these layers.
 pub(super) fn put_chain(
+    rt: &impl Abort,
     alloc: Global,
     memory: &mut Memory,
     folder: &str,
     layers: &[&[u8]],
-) -> Result<(), Fail> {
+) {
+    let put = put_layers(alloc, memory, folder, layers);
+    put.expect(rt, "memory for a chain");
+}
+
+fn put_layers(
+    alloc: Global,
+    memory: &mut Memory,
+    folder: &str,
+    layers: &[&[u8]],
+) -> Result<(), AllocError> {
     let mut chain = String::new(alloc);
     for layer in layers {
         let checksum = checksum_of(layer);
-        writeln!(chain, "{checksum}")?;
         let path = format!(in alloc; "{folder}/graph-{checksum}.graph")?;
         memory.put_file(path, Vec::from_slice(alloc, *layer)?)?;
+        let line = format!(in alloc; "{checksum}\n")?;
+        chain.push_str(line.as_str())?;
     }
     memory.put_dir(String::from_str(alloc, folder)?)?;
     let path = format!(in alloc; "{folder}/commit-graph-chain")?;
-    memory.put_file(path, chain.into_bytes())?;
-    Ok(())
+    memory.put_file(path, chain.into_bytes())
 }

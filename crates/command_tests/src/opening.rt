@@ -1,12 +1,11 @@
 ghost use Rattle.std.specs.Prelude.{None};
 
-use crate::finding::find;
-use crate::fixtures::{DIAMOND, built, put_chain, with_file};
-use crate::verifying::verify;
+use crate::finding::expect_find;
+use crate::fixtures::{DIAMOND, built, copied, put_chain, put_dir, put_file, with_commits};
+use crate::verifying::expect_verify;
 use graph_folder::folder::{Folder, Memory, ReadError};
 use std::alloc::{AllocError, Global};
 use std::process::Abort;
-use std::test::Fail;
 
 /// Some id.
 const HEX: &str = "1111111111111111111111111111111111111111";
@@ -17,119 +16,123 @@ const DIAMOND_OK: &str = "ok commits 4 longest 2\n\
     parents 2 commits 1\n";
 
 /// An info folder `i` with a chain of the diamond alone.
-fn info_folder(rt: &impl Abort, alloc: Global) -> Result<Memory, Fail> {
+fn info_folder(rt: &impl Abort, alloc: Global) -> Memory {
     let mut memory = Memory::new(alloc);
-    let layer = built(rt, alloc, &[], DIAMOND)?;
-    put_chain(alloc, &mut memory, "i/commit-graphs", &[&layer])?;
-    memory.put_dir(String::from_str(alloc, "i")?)?;
-    Ok(memory)
+    let layer = built(rt, alloc, &[], DIAMOND);
+    put_chain(rt, alloc, &mut memory, "i/commit-graphs", &[&layer]);
+    put_dir(rt, alloc, &mut memory, "i");
+    memory
 }
 
-#[test]
-fn tells_why_nothing_was_opened(rt: HostRuntime) -> Result<(), Fail> {
-    let alloc = rt.alloc();
-    let lower = built(&rt, alloc, &[], DIAMOND)?;
+/// Files that do not open, or that name others which do not.
+const DAMAGED: &[(&str, &[u8])] = &[
+    ("bytes/commit-graph-chain", b"\xff\n"),
+    ("later/commit-graph-chain", b"\n\xff"),
+    ("missing/commit-graph-chain", b"ab"),
+    ("small", &[0; 1099]),
+];
+
+/// A folder with damaged files and chains.
+fn damaged_folder(rt: &impl Abort, alloc: Global) -> Memory {
     let mut folder = Memory::new(alloc);
-    put_chain(alloc, &mut folder, "short", &[&lower, &[0; 1099]])?;
-    put_chain(alloc, &mut folder, "empty", &[])?;
-    for (path, bytes) in [
-        ("bytes/commit-graph-chain", b"\xff\n".as_slice()),
-        ("later/commit-graph-chain", b"\n\xff"),
-        ("missing/commit-graph-chain", b"ab"),
-        ("later/graph-.graph", lower.as_slice()),
-        ("small", &[0; 1099]),
-    ] {
-        folder.put_file(
-            String::from_str(alloc, path)?,
-            Vec::from_slice(alloc, bytes)?,
-        )?;
+    let lower = built(rt, alloc, &[], DIAMOND);
+    put_chain(rt, alloc, &mut folder, "short", &[&lower, &[0; 1099]]);
+    put_chain(rt, alloc, &mut folder, "empty", &[]);
+    put_file(rt, alloc, &mut folder, "later/graph-.graph", lower);
+    for (path, bytes) in DAMAGED {
+        put_file(rt, alloc, &mut folder, path, copied(rt, alloc, bytes));
     }
     for path in ["info", "bytes", "later", "missing"] {
-        folder.put_dir(String::from_str(alloc, path)?)?;
+        put_dir(rt, alloc, &mut folder, path);
     }
-    let rows = [
-        ("nothing", "refused open 1\n"),
-        ("", "refused open 1\n"),
-        ("info", "refused open 2\n"),
-        ("missing", "refused open 2\n"),
-        ("bytes", "refused open 4 line 0\n"),
-        ("later", "refused open 4 line 1\n"),
-        ("small", "refused open 5 layer 0 file 1\n"),
-        ("short", "refused open 5 layer 1 file 1\n"),
-        ("empty", "refused open 6 graph 1\n"),
-    ];
-    for (path, want) in rows {
-        for answer in [
-            verify(alloc, &mut folder, path)?,
-            find(alloc, &mut folder, path, HEX)?,
-        ] {
-            assert_eq!(rt; answer.0, 1);
-            assert_eq!(rt; answer.1.as_str(), want);
-        }
+    folder
+}
+
+/// Paths in that folder, with what `verify` and `find` write.
+const UNOPENED: &[(&str, &str)] = &[
+    ("nothing", "refused open 1\n"),
+    ("", "refused open 1\n"),
+    ("info", "refused open 2\n"),
+    ("missing", "refused open 2\n"),
+    ("bytes", "refused open 4 line 0\n"),
+    ("later", "refused open 4 line 1\n"),
+    ("small", "refused open 5 layer 0 file 1\n"),
+    ("short", "refused open 5 layer 1 file 1\n"),
+    ("empty", "refused open 6 graph 1\n"),
+];
+
+#[test]
+fn tells_why_nothing_was_opened(rt: HostRuntime) {
+    let alloc = rt.alloc();
+    let mut folder = damaged_folder(&rt, alloc);
+    for (path, want) in UNOPENED {
+        expect_verify(&rt, alloc, &mut folder, path, (1, want));
+        expect_find(&rt, alloc, &mut folder, (path, HEX), (1, want));
     }
-    Ok(())
 }
 
 #[test]
-fn opens_by_each_kind_of_path(rt: HostRuntime) -> Result<(), Fail> {
+fn opens_by_each_kind_of_path(rt: HostRuntime) {
     let alloc = rt.alloc();
-    let mut folder = info_folder(&rt, alloc)?;
+    let mut folder = info_folder(&rt, alloc);
     for path in ["i", "i/", "i/commit-graphs", "i/commit-graphs/"] {
-        folder.put_dir(String::from_str(alloc, path)?)?;
-        let answer = verify(alloc, &mut folder, path)?;
-        assert_eq!(rt; answer.0, 0);
-        assert_eq!(rt; answer.1.as_str(), DIAMOND_OK);
+        put_dir(&rt, alloc, &mut folder, path);
+        expect_verify(&rt, alloc, &mut folder, path, (0, DIAMOND_OK));
     }
-    Ok(())
 }
 
 #[test]
-fn a_good_file_goes_before_a_chain(rt: HostRuntime) -> Result<(), Fail> {
+fn a_good_file_goes_before_a_chain(rt: HostRuntime) {
     let alloc = rt.alloc();
-    let mut folder = info_folder(&rt, alloc)?;
-    let damaged = Vec::from_slice(alloc, &[0; 1099])?;
-    folder.put_file(String::from_str(alloc, "i/commit-graph")?, damaged)?;
-    let answer = verify(alloc, &mut folder, "i")?;
-    assert_eq!(rt; answer.1.as_str(), DIAMOND_OK);
-    let single = built(&rt, alloc, &[], &[])?;
-    folder.put_file(String::from_str(alloc, "i/commit-graph")?, single)?;
-    let answer = verify(alloc, &mut folder, "i")?;
-    assert_eq!(rt; answer.1.as_str(), "ok commits 0 longest 0\n");
-    Ok(())
+    let mut folder = info_folder(&rt, alloc);
+    let damaged = copied(&rt, alloc, &[0; 1099]);
+    put_file(&rt, alloc, &mut folder, "i/commit-graph", damaged);
+    expect_verify(&rt, alloc, &mut folder, "i", (0, DIAMOND_OK));
+    let single = built(&rt, alloc, &[], &[]);
+    put_file(&rt, alloc, &mut folder, "i/commit-graph", single);
+    expect_verify(
+        &rt,
+        alloc,
+        &mut folder,
+        "i",
+        (0, "ok commits 0 longest 0\n"),
+    );
 }
 
+/// A path, and the number of a read that fails on the way to its graph. The info folder's own file
+/// is not there, so its first read is none of the chain's.
+const FAILED_READS: &[(&str, u32, bool)] = &[
+    ("i", 0, false),
+    ("i", 1, true),
+    ("i", 2, true),
+    ("i/commit-graphs", 0, true),
+    ("i/commit-graphs", 1, true),
+];
+
+const FOUND: &str = "position 0 generation 1 time 7\n";
+
+const DEVICE: (u8, &str) = (1, "refused open 3\n");
+
 #[test]
-fn reports_each_read_of_a_graph_that_fails(rt: HostRuntime) -> Result<(), Fail> {
+fn reports_each_read_of_a_graph_that_fails(rt: HostRuntime) {
     let alloc = rt.alloc();
-    let found = "position 0 generation 1 time 7\n";
-    let device = "refused open 3\n";
-    // The info folder's own file is not there, so the first read is none of the chain's.
-    for (path, read, failed) in [
-        ("i", 0, false),
-        ("i", 1, true),
-        ("i", 2, true),
-        ("i/commit-graphs", 0, true),
-        ("i/commit-graphs", 1, true),
-    ] {
-        let mut folder = info_folder(&rt, alloc)?;
-        folder.fail_read(read);
-        let answer = verify(alloc, &mut folder, path)?;
-        assert_eq!(rt; answer.1.as_str(), if failed { device } else { DIAMOND_OK });
+    for (path, read, failed) in FAILED_READS {
+        let mut folder = info_folder(&rt, alloc);
+        folder.fail_read(*read);
+        let want = if *failed { DEVICE } else { (0, DIAMOND_OK) };
+        expect_verify(&rt, alloc, &mut folder, path, want);
         assert_eq!(rt; folder.failures(), 1);
-        folder.fail_read(read);
-        let answer = find(alloc, &mut folder, path, HEX)?;
-        assert_eq!(rt; answer.1.as_str(), if failed { device } else { found });
+        folder.fail_read(*read);
+        let want = if *failed { DEVICE } else { (0, FOUND) };
+        expect_find(&rt, alloc, &mut folder, (path, HEX), want);
         assert_eq!(rt; folder.failures(), 2);
     }
-    let mut folder = with_file(alloc, "g", built(&rt, alloc, &[], DIAMOND)?)?;
+    let mut folder = with_commits(&rt, alloc, "g", DIAMOND);
     folder.fail_read(0);
-    let answer = verify(alloc, &mut folder, "g")?;
-    assert_eq!(rt; answer.1.as_str(), device);
+    expect_verify(&rt, alloc, &mut folder, "g", DEVICE);
     assert_eq!(rt; folder.failures(), 1);
-    let answer = verify(alloc, &mut folder, "g")?;
-    assert_eq!(rt; answer.1.as_str(), DIAMOND_OK);
+    expect_verify(&rt, alloc, &mut folder, "g", (0, DIAMOND_OK));
     assert_eq!(rt; folder.failures(), 1);
-    Ok(())
 }
 
 /// A folder whose reads run out of memory from one of them on.
@@ -166,21 +169,18 @@ impl Folder for Refuses {
 }
 
 #[test]
-fn reports_each_read_that_runs_out_of_memory(rt: HostRuntime) -> Result<(), Fail> {
+fn reports_each_read_that_runs_out_of_memory(rt: HostRuntime) {
     let alloc = rt.alloc();
-    let want = "refused open 7\n";
+    let want = (1, "refused open 7\n");
     for (path, reads) in [("i", 3), ("i/commit-graphs", 2)] {
         for read in 0..reads {
             let mut folder = Refuses {
-                memory: info_folder(&rt, alloc)?,
+                memory: info_folder(&rt, alloc),
                 reads_before_refusal: read,
             };
-            let answer = verify(alloc, &mut folder, path)?;
-            assert_eq!(rt; answer.1.as_str(), want);
+            expect_verify(&rt, alloc, &mut folder, path, want);
             folder.reads_before_refusal = read;
-            let answer = find(alloc, &mut folder, path, HEX)?;
-            assert_eq!(rt; answer.1.as_str(), want);
+            expect_find(&rt, alloc, &mut folder, (path, HEX), want);
         }
     }
-    Ok(())
 }

@@ -1,13 +1,12 @@
 ghost use Rattle.std.specs.Prelude.{None};
 
-use crate::finding::find;
-use crate::fixtures::{built, checksum_of, put_chain};
-use crate::verifying::verify;
+use crate::finding::expect_find;
+use crate::fixtures::{built, checksum_of, copied, put_chain, put_dir, put_file};
+use crate::verifying::expect_verify;
 use gix_commitgraph::opening::{OpenError, open_chain_dir_in, open_in, open_info_dir_in};
 use graph_folder::folder::{Folder, Memory, ReadError};
 use std::alloc::{AllocError, Global};
 use std::process::Abort;
-use std::test::Fail;
 
 /// A folder in memory. One of its calls, by its number from 0, finds no memory left.
 #[derive(Drop)]
@@ -57,23 +56,21 @@ impl Folder for RefusesOne {
 
 /// An info folder `info` with a chain of three layers in it, and another, `damaged`, with a damaged
 /// file beside the same chain.
-fn folders(rt: &impl Abort, alloc: Global) -> Result<Memory, Fail> {
-    let lowest = built(rt, alloc, &[], &[(0x11, &[], 1)])?;
-    let mut bases = vec![in alloc; checksum_of(&lowest)]?;
-    let middle = built(rt, alloc, &bases, &[(0x22, &[0], 2)])?;
-    bases.push(checksum_of(&middle))?;
-    let highest = built(rt, alloc, &bases, &[(0x33, &[1, 0], 3)])?;
+fn folders(rt: &impl Abort, alloc: Global) -> Memory {
+    let lowest = built(rt, alloc, &[], &[(0x11, &[], 1)]);
+    let below = checksum_of(&lowest);
+    let middle = built(rt, alloc, &[below], &[(0x22, &[0], 2)]);
+    let bases = [below, checksum_of(&middle)];
+    let highest = built(rt, alloc, &bases, &[(0x33, &[1, 0], 3)]);
+    let layers: [&[u8]; 3] = [&lowest, &middle, &highest];
     let mut memory = Memory::new(alloc);
-    for (info, graphs) in [
-        ("info", "info/commit-graphs"),
-        ("damaged", "damaged/commit-graphs"),
-    ] {
-        memory.put_dir(String::from_str(alloc, info)?)?;
-        put_chain(alloc, &mut memory, graphs, &[&lowest, &middle, &highest])?;
-    }
-    let damaged = Vec::from_slice(alloc, &[0; 1099])?;
-    memory.put_file(String::from_str(alloc, "damaged/commit-graph")?, damaged)?;
-    Ok(memory)
+    put_dir(rt, alloc, &mut memory, "info");
+    put_chain(rt, alloc, &mut memory, "info/commit-graphs", &layers);
+    put_dir(rt, alloc, &mut memory, "damaged");
+    put_chain(rt, alloc, &mut memory, "damaged/commit-graphs", &layers);
+    let damaged = copied(rt, alloc, &[0; 1099]);
+    put_file(rt, alloc, &mut memory, "damaged/commit-graph", damaged);
+    memory
 }
 
 const CHECKED: &str = "ok commits 3 longest 2\n\
@@ -85,80 +82,70 @@ const HEX: &str = "3333333333333333333333333333333333333333";
 
 const FOUND: &str = "position 2 generation 3 time 7\n";
 
-#[test]
-fn each_call_of_a_folder_may_find_no_memory(rt: HostRuntime) -> Result<(), Fail> {
-    let alloc = rt.alloc();
-    let mut folder = RefusesOne {
-        memory: folders(&rt, alloc)?,
+/// These folders, of which no call finds no memory.
+fn refusing(rt: &impl Abort, alloc: Global) -> RefusesOne {
+    RefusesOne {
+        memory: folders(rt, alloc),
         calls: 0,
         refused: u32::MAX,
-    };
+    }
+}
+
+#[test]
+fn each_call_of_a_folder_may_find_no_memory(rt: HostRuntime) {
+    let alloc = rt.alloc();
+    let mut folder = refusing(&rt, alloc);
     for path in ["info/commit-graphs", "info", "damaged"] {
         folder.calls = 0;
         folder.refused = u32::MAX;
-        assert_eq!(rt; open_in(alloc, &mut folder, path)?.num_commits(), 3);
+        let graph = open_in(alloc, &mut folder, path).expect(&rt, "a graph");
+        assert_eq!(rt; graph.num_commits(), 3);
         for call in 0..folder.calls {
             folder.calls = 0;
             folder.refused = call;
             let answer = open_in(alloc, &mut folder, path);
-            assert_eq!(rt; answer.err(), Some(OpenError::OutOfMemory));
+            assert!(rt; matches!(answer, Err(OpenError::OutOfMemory)));
             assert_eq!(rt; folder.calls, call.saturating_add(1));
         }
     }
-    Ok(())
 }
 
+const NO_MEMORY: (u8, &str) = (1, "refused open 7\n");
+
 #[test]
-fn a_command_may_find_no_memory_at_each_call(rt: HostRuntime) -> Result<(), Fail> {
+fn a_command_may_find_no_memory_at_each_call(rt: HostRuntime) {
     let alloc = rt.alloc();
-    let mut folder = RefusesOne {
-        memory: folders(&rt, alloc)?,
-        calls: 0,
-        refused: u32::MAX,
-    };
+    let mut folder = refusing(&rt, alloc);
     for path in ["info", "damaged"] {
         folder.calls = 0;
         folder.refused = u32::MAX;
-        assert_eq!(rt; verify(alloc, &mut folder, path)?.1.as_str(), CHECKED);
-        assert_eq!(rt; find(alloc, &mut folder, path, HEX)?.1.as_str(), FOUND);
+        expect_verify(&rt, alloc, &mut folder, path, (0, CHECKED));
+        expect_find(&rt, alloc, &mut folder, (path, HEX), (0, FOUND));
         for call in 0..folder.calls / 2 {
             folder.calls = 0;
             folder.refused = call;
-            let text = verify(alloc, &mut folder, path)?.1;
-            assert_eq!(rt; text.as_str(), "refused open 7\n");
+            expect_verify(&rt, alloc, &mut folder, path, NO_MEMORY);
             folder.calls = 0;
-            let text = find(alloc, &mut folder, path, HEX)?.1;
-            assert_eq!(rt; text.as_str(), "refused open 7\n");
+            expect_find(&rt, alloc, &mut folder, (path, HEX), NO_MEMORY);
         }
     }
-    Ok(())
 }
 
 #[test]
-fn each_read_of_a_chain_may_fail(rt: HostRuntime) -> Result<(), Fail> {
+fn each_read_of_a_chain_may_fail(rt: HostRuntime) {
     let alloc = rt.alloc();
-    let mut memory = folders(&rt, alloc)?;
+    let mut memory = folders(&rt, alloc);
     for read in 0..=4u32 {
         memory.fail_read(read);
-        let chain = open_chain_dir_in(alloc, &mut memory, "info/commit-graphs").err();
-        assert_eq!(rt;
-            chain,
-            if read < 4 {
-                Some(OpenError::Device)
-            } else {
-                None
-            }
-        );
+        let chain = open_chain_dir_in(alloc, &mut memory, "info/commit-graphs");
+        match chain {
+            Ok(_) => assert!(rt; read == 4),
+            Err(error) => assert!(rt; read < 4 && matches!(error, OpenError::Device)),
+        }
         memory.fail_read(read);
-        let info = open_info_dir_in(alloc, &mut memory, "info").err();
-        assert_eq!(rt;
-            info,
-            if read > 0 {
-                Some(OpenError::Device)
-            } else {
-                None
-            }
-        );
+        match open_info_dir_in(alloc, &mut memory, "info") {
+            Ok(_) => assert!(rt; read == 0),
+            Err(error) => assert!(rt; read > 0 && matches!(error, OpenError::Device)),
+        }
     }
-    Ok(())
 }

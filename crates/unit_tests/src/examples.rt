@@ -1,6 +1,6 @@
 use gix_commitgraph::opening::OpenError;
 use gix_commitgraph::verify::{CommitFault, VerifyError};
-use gix_commitgraph::{FileError, Position};
+use gix_commitgraph::{FileError, Graph, Position};
 use gix_hash_core::{IdError, Kind, ObjectId};
 use graph_uses::ancestry::parents_of;
 use graph_uses::checked::{check, open_checked};
@@ -9,10 +9,10 @@ use graph_uses::in_memory::open_bytes;
 use graph_uses::query::parents_at_path;
 use graph_uses::reaching::reaches;
 use graph_vectors::{LayerPlan, PlanCommit, build};
-use std::alloc::Global;
+use std::alloc::{AllocError, Global};
 use std::fs;
 use std::process::Abort;
-use std::test::Fail;
+use std::rt::Files;
 
 /// A commit: the byte that its id repeats, its parents and its generation number.
 type Row<'a> = (u8, &'a [u32], u32);
@@ -39,8 +39,8 @@ const FOURS: &str = "4444444444444444444444444444444444444444";
 
 const FIVES: &str = "5555555555555555555555555555555555555555";
 
-/// The bytes of a file of these commits, each of which was made at 1700000000.
-fn file_of(rt: &impl Abort, alloc: Global, rows: &[Row<'_>]) -> Result<Vec<u8>, Fail> {
+/// What a file of these commits is to say, each of which was made at 1700000000.
+fn planned(alloc: Global, rows: &[Row<'_>]) -> Result<LayerPlan, AllocError> {
     let mut commits = Vec::new(alloc);
     for (id, parents, generation) in rows {
         commits.push(PlanCommit {
@@ -51,55 +51,70 @@ fn file_of(rt: &impl Abort, alloc: Global, rows: &[Row<'_>]) -> Result<Vec<u8>, 
             time: 1700000000,
         })?;
     }
-    let plan = LayerPlan {
+    Ok(LayerPlan {
         kind: Kind::Sha1,
         bases: Vec::new(alloc),
         commits,
-    };
+    })
+}
+
+/// The bytes of a file of these commits.
+fn file_of(rt: &impl Abort, alloc: Global, rows: &[Row<'_>]) -> Vec<u8> {
+    let plan = planned(alloc, rows).expect(rt, "memory for a plan");
     assert!(rt; plan.is_buildable());
-    Ok(build(alloc, &plan)?)
+    build(alloc, &plan).expect(rt, "memory for a file")
+}
+
+/// The graph of a file of these commits.
+fn graph_of(rt: &impl Abort, alloc: Global, rows: &[Row<'_>]) -> Graph {
+    open_bytes(alloc, file_of(rt, alloc, rows)).expect(rt, "a graph")
 }
 
 #[test]
-fn opens_bytes_in_memory(rt: HostRuntime) -> Result<(), Fail> {
+fn opens_bytes_in_memory(rt: HostRuntime) {
     let alloc = rt.alloc();
-    let graph = open_bytes(alloc, file_of(&rt, alloc, DIAMOND)?)?;
+    let graph = graph_of(&rt, alloc, DIAMOND);
     assert_eq!(rt; graph.num_commits(), 4);
-    let too_short = Err(OpenError::Layer {
-        layer: 0,
-        error: FileError::TooSmall,
-    });
-    let refused = open_bytes(alloc, Vec::new(alloc)).map(|graph| graph.num_commits());
-    assert_eq!(rt; refused, too_short);
-    Ok(())
+    let refused = open_bytes(alloc, Vec::new(alloc));
+    assert!(rt;
+        matches!(
+            refused,
+            Err(OpenError::Layer {
+                layer: 0,
+                error: FileError::TooSmall,
+            })
+        )
+    );
 }
 
 #[test]
-fn checks_a_graph(rt: HostRuntime) -> Result<(), Fail> {
+fn checks_a_graph(rt: HostRuntime) {
     let alloc = rt.alloc();
-    let right = open_bytes(alloc, file_of(&rt, alloc, DIAMOND)?)?;
-    let outcome = check(alloc, &right)?;
+    let right = graph_of(&rt, alloc, DIAMOND);
+    let outcome = check(alloc, &right).expect(&rt, "a right graph");
     assert_eq!(rt; outcome.num_commits, 4);
     assert_eq!(rt; outcome.longest_path_length, Some(2));
     assert_eq!(rt; outcome.parent_counts.get(&1), Some(&2));
-    let wrong = open_bytes(alloc, file_of(&rt, alloc, TWICE)?)?;
-    let fault = VerifyError::Commit {
-        pos: Position(2),
-        fault: CommitFault::Order,
-    };
-    assert_eq!(rt; check(alloc, &wrong), Err(fault));
-    Ok(())
+    let wrong = graph_of(&rt, alloc, TWICE);
+    let answer = check(alloc, &wrong);
+    assert!(rt;
+        matches!(
+            answer,
+            Err(VerifyError::Commit {
+                pos: Position(2),
+                fault: CommitFault::Order,
+            })
+        )
+    );
 }
 
 #[test]
-fn finds_commits_in_a_graph_that_was_not_checked(rt: HostRuntime) -> Result<(), Fail> {
-    let alloc = rt.alloc();
-    let graph = open_bytes(alloc, file_of(&rt, alloc, DIAMOND)?)?;
+fn finds_commits_in_a_graph_that_was_not_checked(rt: HostRuntime) {
+    let graph = graph_of(&rt, rt.alloc(), DIAMOND);
     let threes = ObjectId::from([0x33; 20]);
     assert_eq!(rt; time_of(&graph, threes.as_oid()), Some(1700000000));
     let fives = ObjectId::from([0x55; 20]);
     assert_eq!(rt; time_of(&graph, fives.as_oid()), None);
-    Ok(())
 }
 
 const RIGHT: &str = "graph_uses_test_right";
@@ -107,70 +122,73 @@ const RIGHT: &str = "graph_uses_test_right";
 const WRONG: &str = "graph_uses_test_wrong";
 
 #[test]
-fn asks_a_graph_on_disk(rt: HostRuntime) -> Result<(), Fail> {
+fn asks_a_graph_on_disk(rt: HostRuntime) {
     let alloc = rt.alloc();
-    fs::write(&rt, RIGHT, file_of(&rt, alloc, DIAMOND)?.as_slice())?;
-    let graph = open_checked(&rt, alloc, RIGHT)?;
-    assert_eq!(rt; find(&graph, THREES)?, Some(Position(2)));
-    assert_eq!(rt; find(&graph, FIVES)?, None);
-    assert_eq!(rt; find(&graph, "33"), Err(IdError::Length));
-    let parents = parents_at_path(&rt, alloc, RIGHT, FOURS)?;
-    assert_eq!(rt;
-        parents.as_deref(),
-        Some([Position(1), Position(2)].as_slice())
-    );
-    assert_eq!(rt; parents_at_path(&rt, alloc, RIGHT, FIVES)?, None);
-    fs::remove_file(&rt, RIGHT)?;
-    Ok(())
+    let bytes = file_of(&rt, alloc, DIAMOND);
+    fs::write(&rt, RIGHT, bytes.as_slice()).expect(&rt, "a file");
+    let graph = open_checked(&rt, alloc, RIGHT).expect(&rt, "a right graph");
+    assert!(rt; matches!(find(&graph, THREES), Ok(Some(Position(2)))));
+    assert!(rt; matches!(find(&graph, FIVES), Ok(None)));
+    assert!(rt; matches!(find(&graph, "33"), Err(IdError::Length)));
+    let parents = parents_at_path(&rt, alloc, RIGHT, FOURS).expect(&rt, "an answer");
+    let want = [Position(1), Position(2)];
+    assert!(rt; parents.as_deref() == Some(want.as_slice()));
+    let parents = parents_at_path(&rt, alloc, RIGHT, FIVES).expect(&rt, "an answer");
+    assert!(rt; parents.is_none());
+    fs::remove_file(&rt, RIGHT).expect(&rt, "no file");
 }
 
-#[test]
-fn says_why_there_is_no_answer(rt: HostRuntime) -> Result<(), Fail> {
-    let alloc = rt.alloc();
-    fs::write(&rt, WRONG, file_of(&rt, alloc, TWICE)?.as_slice())?;
-    for (path, want) in [
-        (
-            "graph_uses_test_missing",
-            "the graph was not opened: NothingFound",
-        ),
-        (WRONG, "the graph failed its check: Commit"),
-    ] {
-        match parents_at_path(&rt, alloc, path, FOURS) {
-            Ok(_) => panic!(rt; "{path} has an answer"),
-            Err(error) => assert_eq!(rt; error.to_string(alloc)?.as_str(), want),
+/// Asserts why there is no answer for a path.
+fn expect_refusal<R: Files + Abort>(rt: &R, alloc: Global, path: &str, want: &str) {
+    match parents_at_path(rt, alloc, path, FOURS) {
+        Ok(_) => panic!(rt; "{path} has an answer"),
+        Err(error) => {
+            let text = error.to_string(alloc).expect(rt, "memory for a text");
+            assert_eq!(rt; text.as_str(), want);
         }
     }
-    fs::remove_file(&rt, WRONG)?;
-    Ok(())
 }
 
 #[test]
-fn gives_parents(rt: HostRuntime) -> Result<(), Fail> {
+fn says_why_there_is_no_answer(rt: HostRuntime) {
     let alloc = rt.alloc();
-    let graph = open_bytes(alloc, file_of(&rt, alloc, DIAMOND)?)?;
-    check(alloc, &graph)?;
-    for (pos, want) in [(0, [].as_slice()), (2, &[0]), (3, &[1, 2])] {
-        assert!(rt; pos < graph.num_commits());
-        let mut got = Vec::new(alloc);
-        for parent in parents_of(alloc, &graph, Position(pos))? {
-            got.push(parent.0)?;
-        }
-        assert_eq!(rt; got.as_slice(), want, "at {pos}");
+    let bytes = file_of(&rt, alloc, TWICE);
+    fs::write(&rt, WRONG, bytes.as_slice()).expect(&rt, "a file");
+    let missing = "the graph was not opened: NothingFound";
+    expect_refusal(&rt, alloc, "graph_uses_test_missing", missing);
+    expect_refusal(&rt, alloc, WRONG, "the graph failed its check: Commit");
+    fs::remove_file(&rt, WRONG).expect(&rt, "no file");
+}
+
+/// Positions of the diamond's commits, with those of their parents.
+const PARENTS: &[(u32, &[Position])] = &[
+    (0, &[]),
+    (2, &[Position(0)]),
+    (3, &[Position(1), Position(2)]),
+];
+
+#[test]
+fn gives_parents(rt: HostRuntime) {
+    let alloc = rt.alloc();
+    let graph = graph_of(&rt, alloc, DIAMOND);
+    let _outcome = check(alloc, &graph).expect(&rt, "a right graph");
+    for (pos, want) in PARENTS {
+        assert!(rt; *pos < graph.num_commits());
+        let parents = parents_of(alloc, &graph, Position(*pos)).expect(&rt, "parents");
+        assert_eq!(rt; parents.as_slice(), *want, "at {pos}");
     }
-    Ok(())
 }
 
 #[test]
-fn asks_for_ancestors(rt: HostRuntime) -> Result<(), Fail> {
+fn asks_for_ancestors(rt: HostRuntime) {
     let alloc = rt.alloc();
-    let graph = open_bytes(alloc, file_of(&rt, alloc, DIAMOND)?)?;
+    let graph = graph_of(&rt, alloc, DIAMOND);
     for (from, to, want) in [(3, 0, true), (1, 2, false), (2, 2, true), (0, 3, false)] {
         assert!(rt; from < graph.num_commits() && to < graph.num_commits());
-        let found = reaches(alloc, &graph, Position(from), Position(to))?;
-        assert_eq!(rt; found, want, "from {from} to {to}");
+        let found = reaches(alloc, &graph, Position(from), Position(to));
+        assert_eq!(rt; found.expect(&rt, "an answer"), want, "from {from} to {to}");
     }
-    let wrong = open_bytes(alloc, file_of(&rt, alloc, TWICE)?)?;
+    let wrong = graph_of(&rt, alloc, TWICE);
     assert!(rt; wrong.num_commits() > 3);
     assert!(rt; reaches(alloc, &wrong, Position(3), Position(0)).is_err());
-    Ok(())
 }

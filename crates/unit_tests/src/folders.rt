@@ -2,7 +2,7 @@ use graph_folder::chain::Lines;
 use graph_folder::folder::{Disk, Folder, Memory, ReadError, read_all};
 use std::alloc::{AllocError, Global};
 use std::io::{ErrorKind, Read};
-use std::test::Fail;
+use std::process::Abort;
 use std::{fs, io};
 
 /// A reader that gives at most so many bytes a read, and whose read of this number fails.
@@ -36,79 +36,97 @@ fn reader(rest: &[u8], most: usize, fails_at: Option<usize>) -> Source<'_> {
 }
 
 #[test]
-fn reads_to_the_end(rt: HostRuntime) -> Result<(), Fail> {
+fn reads_to_the_end(rt: HostRuntime) {
     let alloc = rt.alloc();
     let text = b"ten bytes.".as_slice();
     for most in [1, 3, 10, 11] {
-        let read = read_all(alloc, &mut reader(text, most, None))?;
+        let read = read_all(alloc, &mut reader(text, most, None)).expect(&rt, "all bytes");
         assert_eq!(rt; read.as_slice(), text);
     }
     for read in 0..=4 {
         let failed = read_all(alloc, &mut reader(text, 3, Some(read)));
-        assert_eq!(rt; failed, Err(ReadError::Device));
+        assert!(rt; matches!(failed, Err(ReadError::Device)));
     }
-    Ok(())
 }
+
+/// Texts, with their lines.
+const TEXTS: &[(&[u8], &[&[u8]])] = &[
+    (b"aa\r\n\nbb", &[b"aa", b"", b"bb"]),
+    (b"", &[]),
+    (b"a\r", &[b"a\r"]),
+    (b"\xff\n", &[b"\xff"]),
+    (b"\n", &[b""]),
+    (b"\r\r\n", &[b"\r"]),
+    (b"\r\n\r", &[b"", b"\r"]),
+    (b"a\rb\n\n", &[b"a\rb", b""]),
+];
 
 #[test]
 fn cuts_lines(rt: HostRuntime) {
-    let rows: [(&[u8], &[&[u8]]); 8] = [
-        (b"aa\r\n\nbb", &[b"aa", b"", b"bb"]),
-        (b"", &[]),
-        (b"a\r", &[b"a\r"]),
-        (b"\xff\n", &[b"\xff"]),
-        (b"\n", &[b""]),
-        (b"\r\r\n", &[b"\r"]),
-        (b"\r\n\r", &[b"", b"\r"]),
-        (b"a\rb\n\n", &[b"a\rb", b""]),
-    ];
-    for (text, want) in rows {
+    for (text, want) in TEXTS {
         let mut lines = Lines::new(text);
-        for line in want {
+        for line in *want {
             assert_eq!(rt; lines.next(), Some(*line));
         }
-        assert_eq!(rt; lines.next(), None);
-        assert_eq!(rt; lines.next(), None);
+        assert!(rt; lines.next().is_none());
+        assert!(rt; lines.next().is_none());
     }
 }
 
-fn text(alloc: Global, text: &str) -> Result<String, AllocError> {
-    String::from_str(alloc, text)
+/// A folder `a` in memory with the file `a/b`, which was put twice.
+fn old_and_new(alloc: Global) -> Result<Memory, AllocError> {
+    let mut memory = Memory::new(alloc);
+    memory.put_dir(String::from_str(alloc, "a")?)?;
+    memory.put_file(String::from_str(alloc, "a/b")?, b"old".to_vec(alloc)?)?;
+    memory.put_file(String::from_str(alloc, "a/b")?, b"new".to_vec(alloc)?)?;
+    Ok(memory)
+}
+
+/// Asserts whether a file and whether a folder stands at a path.
+fn expect_kind<T: Folder>(
+    rt: &impl Abort,
+    alloc: Global,
+    folder: &mut T,
+    path: &str,
+    (is_file, is_dir): (bool, bool),
+) {
+    let file = folder.is_file(alloc, path).expect(rt, "an answer");
+    assert_eq!(rt; file, is_file);
+    let dir = folder.is_dir(alloc, path).expect(rt, "an answer");
+    assert_eq!(rt; dir, is_dir);
+}
+
+/// Asserts what a read of the folder answers, and how many reads failed so far.
+fn expect_read(
+    rt: &impl Abort,
+    alloc: Global,
+    memory: &mut Memory,
+    path: &str,
+    (want, failures): (Result<&[u8], ReadError>, u64),
+) {
+    match (memory.read(alloc, path), want) {
+        (Ok(bytes), Ok(want)) => assert_eq!(rt; bytes.as_slice(), want),
+        (Err(error), Err(want)) => assert!(rt; error == want, "{path}"),
+        _ => panic!(rt; "{path}"),
+    }
+    assert_eq!(rt; memory.failures(), failures);
 }
 
 #[test]
-fn keeps_files_in_memory(rt: HostRuntime) -> Result<(), Fail> {
+fn keeps_files_in_memory(rt: HostRuntime) {
     let alloc = rt.alloc();
-    let mut memory = Memory::new(alloc);
-    memory.put_dir(text(alloc, "a")?)?;
-    memory.put_file(text(alloc, "a/b")?, b"old".to_vec(alloc)?)?;
-    memory.put_file(text(alloc, "a/b")?, b"new".to_vec(alloc)?)?;
-    for (path, is_file, is_dir) in [
-        ("a", false, true),
-        ("a/b", true, false),
-        ("a/", false, false),
-        ("", false, false),
-    ] {
-        assert_eq!(rt; memory.is_file(alloc, path), Ok(is_file));
-        assert_eq!(rt; memory.is_dir(alloc, path), Ok(is_dir));
-    }
+    let mut memory = old_and_new(alloc).expect(&rt, "memory for a folder");
+    expect_kind(&rt, alloc, &mut memory, "a", (false, true));
+    expect_kind(&rt, alloc, &mut memory, "a/b", (true, false));
+    expect_kind(&rt, alloc, &mut memory, "a/", (false, false));
+    expect_kind(&rt, alloc, &mut memory, "", (false, false));
     memory.fail_read(0);
     memory.fail_read(2);
-    for (path, want, failures) in [
-        ("a/b", Ok(b"new".as_slice()), 0),
-        ("a", Err(ReadError::NotOpened), 0),
-        ("a/b", Err(ReadError::Device), 1),
-        ("c", Err(ReadError::NotOpened), 1),
-        ("a/b", Ok(b"new".as_slice()), 1),
-    ] {
-        let answer = memory.read(alloc, path);
-        assert_eq!(rt;
-            answer.as_ref().map(|bytes| bytes.as_slice()),
-            want.as_ref().map(|bytes| *bytes)
-        );
-        assert_eq!(rt; memory.failures(), failures);
-    }
-    Ok(())
+    expect_read(&rt, alloc, &mut memory, "a/b", (Ok(b"new"), 0));
+    expect_read(&rt, alloc, &mut memory, "a", (Err(ReadError::NotOpened), 0));
+    expect_read(&rt, alloc, &mut memory, "a/b", (Err(ReadError::Device), 1));
+    expect_read(&rt, alloc, &mut memory, "c", (Err(ReadError::NotOpened), 1));
+    expect_read(&rt, alloc, &mut memory, "a/b", (Ok(b"new"), 1));
 }
 
 const FOLDER: &str = "graph_folder_test";
@@ -117,47 +135,52 @@ const FILE: &str = "graph_folder_test/file";
 
 const MISSING: &str = "graph_folder_test/missing";
 
-#[test]
-fn reads_from_disk(rt: HostRuntime) -> Result<(), Fail> {
-    let alloc = rt.alloc();
-    let _ = fs::remove_dir_all(&rt, FOLDER);
-    fs::create_dir(&rt, FOLDER)?;
-    let mut disk = Disk::new(&rt);
-    // Each file is written over the one before it.
-    for len in [0u32, 1, 3_000_000, 2] {
-        let mut bytes = Vec::new(alloc);
-        for i in 0..len {
-            bytes.push((i % 251) as u8)?;
-        }
-        fs::write(&rt, FILE, bytes.as_slice())?;
-        assert!(rt; disk.read(alloc, FILE)? == bytes, "{len} bytes");
+/// So many bytes, which repeat the numbers from 0 to 250.
+fn numbers(alloc: Global, len: u32) -> Result<Vec<u8>, AllocError> {
+    let mut bytes = Vec::new(alloc);
+    for i in 0..len {
+        bytes.push((i % 251) as u8)?;
     }
-    for (path, is_file, is_dir) in [
-        (FOLDER, false, true),
-        (FILE, true, false),
-        (MISSING, false, false),
-    ] {
-        assert_eq!(rt; disk.is_file(alloc, path), Ok(is_file));
-        assert_eq!(rt; disk.is_dir(alloc, path), Ok(is_dir));
-    }
-    for path in [FOLDER, MISSING] {
-        assert_eq!(rt; disk.read(alloc, path), Err(ReadError::NotOpened));
-    }
-    assert_eq!(rt; disk.failures(), 0);
-    fs::remove_dir_all(&rt, FOLDER)?;
-    Ok(())
+    Ok(bytes)
 }
 
 #[test]
-fn tells_errors_by_their_names(rt: HostRuntime) -> Result<(), Fail> {
+fn reads_from_disk(rt: HostRuntime) {
     let alloc = rt.alloc();
-    for (error, want) in [
-        (ReadError::NotOpened, "NotOpened"),
-        (ReadError::Device, "Device"),
-        (ReadError::OutOfMemory, "OutOfMemory"),
-    ] {
-        assert_eq!(rt; error.to_string(alloc)?.as_str(), want);
-        assert_eq!(rt; format!(in alloc; "{error:?}")?.as_str(), want);
+    let _ = fs::remove_dir_all(&rt, FOLDER);
+    fs::create_dir(&rt, FOLDER).expect(&rt, "a folder");
+    let mut disk = Disk::new(&rt);
+    // Each file is written over the one before it.
+    for len in [0u32, 1, 3_000_000, 2] {
+        let bytes = numbers(alloc, len).expect(&rt, "memory for a file");
+        fs::write(&rt, FILE, bytes.as_slice()).expect(&rt, "a file");
+        let read = disk.read(alloc, FILE).expect(&rt, "a file");
+        assert!(rt; read.as_slice() == bytes.as_slice(), "{len} bytes");
     }
-    Ok(())
+    expect_kind(&rt, alloc, &mut disk, FOLDER, (false, true));
+    expect_kind(&rt, alloc, &mut disk, FILE, (true, false));
+    expect_kind(&rt, alloc, &mut disk, MISSING, (false, false));
+    for path in [FOLDER, MISSING] {
+        let answer = disk.read(alloc, path);
+        assert!(rt; matches!(answer, Err(ReadError::NotOpened)));
+    }
+    assert_eq!(rt; disk.failures(), 0);
+    fs::remove_dir_all(&rt, FOLDER).expect(&rt, "no folder");
+}
+
+/// Errors, with their names.
+const ERRORS: &[(ReadError, &str)] = &[
+    (ReadError::NotOpened, "NotOpened"),
+    (ReadError::Device, "Device"),
+    (ReadError::OutOfMemory, "OutOfMemory"),
+];
+
+#[test]
+fn tells_errors_by_their_names(rt: HostRuntime) {
+    for (error, want) in ERRORS {
+        let text = error.to_string(rt.alloc()).expect(&rt, "memory for a text");
+        assert_eq!(rt; text.as_str(), *want);
+        let text = format!(in rt.alloc(); "{error:?}").expect(&rt, "memory for a text");
+        assert_eq!(rt; text.as_str(), *want);
+    }
 }
