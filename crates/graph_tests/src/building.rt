@@ -1,9 +1,10 @@
-use crate::fixtures::{DIAMOND, Row, bare, built, layer, opened, planned};
-use gix_commitgraph::file;
+use crate::fixtures::{
+    DIAMOND, Row, bare, built, layer, only_commit, opened, planned, planned_commit,
+};
+use gix_commitgraph::file::Commit;
 use gix_hash_core::{Kind, ObjectId};
-use std::alloc::{AllocError, Global};
+use std::alloc::Global;
 use std::process::Abort;
-use std::test::Fail;
 
 /// Whether these bytes stand there.
 fn has_at(file: &[u8], at: usize, bytes: &[u8]) -> bool {
@@ -29,20 +30,15 @@ const SIZES: &[(&[Row<'static>], usize)] = &[
 ];
 
 /// Compares the sizes of files.
-fn compare_sizes(
-    rt: &impl Abort,
-    alloc: Global,
-    rows: &[(&[Row<'_>], usize)],
-) -> Result<(), AllocError> {
+fn compare_sizes(rt: &impl Abort, alloc: Global, rows: &[(&[Row<'_>], usize)]) {
     for (commits, size) in rows {
-        assert_eq!(rt; layer(rt, alloc, &[], commits)?.len(), *size);
+        assert!(rt; layer(rt, alloc, &[], commits).len() == *size);
     }
-    Ok(())
 }
 
 #[test]
-fn files_have_their_sizes(rt: HostRuntime) -> Result<(), Fail> {
-    Ok(compare_sizes(&rt, rt.alloc(), SIZES)?)
+fn files_have_their_sizes(rt: HostRuntime) {
+    compare_sizes(&rt, rt.alloc(), SIZES);
 }
 
 /// Compares the size of the file of these commits, and some of its bytes, each with its place.
@@ -52,13 +48,12 @@ fn compare_bytes(
     commits: &[Row<'_>],
     size: usize,
     bytes: &[(usize, &[u8])],
-) -> Result<(), Fail> {
-    let file = layer(rt, alloc, &[], commits)?;
-    assert_eq!(rt; file.len(), size);
+) {
+    let file = layer(rt, alloc, &[], commits);
+    assert!(rt; file.len() == size);
     for (at, bytes) in bytes {
         assert!(rt; has_at(&file, *at, bytes), "at {at}");
     }
-    Ok(())
 }
 
 const FIVE_THREE_TWO: &[(usize, &[u8])] = &[
@@ -77,49 +72,57 @@ const TWO_LISTS: &[(usize, &[u8])] = &[
 ];
 
 #[test]
-fn extra_words_stand_in_their_places(rt: HostRuntime) -> Result<(), Fail> {
+fn extra_words_stand_in_their_places(rt: HostRuntime) {
     let rows: &[Row<'_>] = &[(0x11, &[5, 3, 2], 1)];
-    compare_bytes(&rt, rt.alloc(), rows, 1176, FIVE_THREE_TWO)?;
+    compare_bytes(&rt, rt.alloc(), rows, 1176, FIVE_THREE_TWO);
     let rows: &[Row<'_>] = &[(0x11, &[9, 8, 7, 6], 1), (0x22, &[1, 2, 3], 1)];
-    compare_bytes(&rt, rt.alloc(), rows, 1244, TWO_LISTS)
+    compare_bytes(&rt, rt.alloc(), rows, 1244, TWO_LISTS);
 }
 
 #[test]
-fn base_ids_follow_the_records(rt: HostRuntime) -> Result<(), Fail> {
-    let plan = bare(rt.alloc(), Kind::Sha256, &[ObjectId::from([0x33; 32])])?;
-    let bytes = built(&rt, rt.alloc(), &plan)?;
+fn base_ids_follow_the_records(rt: HostRuntime) {
+    let alloc = rt.alloc();
+    let base = ObjectId::from([0x33; 32]);
+    let bytes = built(&rt, alloc, &bare(&rt, alloc, Kind::Sha256, &[base]));
     assert!(rt; bytes.len() == 1156);
     assert!(rt; has_at(&bytes, 44, b"BASE\0\0\0\0\0\0\x04\x44"));
     assert!(rt; has_at(&bytes, 1092, &[0x33; 32]));
-    let file = opened(rt.alloc(), bytes, "")?;
+    let file = opened(&rt, alloc, bytes, "");
     assert!(rt; file.object_hash() == Kind::Sha256 && file.base_graph_count() == 1);
-    Ok(())
 }
 
-#[test]
-fn a_built_file_opens_as_planned(rt: HostRuntime) -> Result<(), Fail> {
-    let mut plan = planned(rt.alloc(), &[], &[(0x11, &[5, 3, 2], 1)])?;
-    for commit in &mut plan.commits {
-        commit.time = 17179869183;
-    }
-    let bytes = built(&rt, rt.alloc(), &plan)?;
-    assert!(rt; has_at(&bytes, 1140, b"\0\0\0\x07\xff\xff\xff\xff"));
-    let file = opened(rt.alloc(), bytes, "")?;
-    assert!(rt; file.num_commits() == 1);
-    let commit = file.commit_at(file::Position(0));
+/// The file of one commit whose time is the greatest.
+fn latest(rt: &impl Abort, alloc: Global) -> Vec<u8> {
+    let id = ObjectId::from([0x11; 20]);
+    let mut commit = planned_commit(rt, alloc, id, &[5, 3, 2], 1);
+    commit.time = 17179869183;
+    let mut plan = bare(rt, alloc, Kind::Sha1, &[]);
+    plan.commits.push(commit).expect(rt, "memory");
+    built(rt, alloc, &plan)
+}
+
+/// Compares what a commit says with its plan.
+fn compare_latest(rt: &impl Abort, commit: &Commit<'_>) {
     assert!(rt; commit.id().to_owned() == ObjectId::from([0x11; 20]));
     assert!(rt; commit.root_tree_id().to_owned() == ObjectId::from([0x99; 20]));
     assert!(rt; commit.generation() == 1 && commit.committer_timestamp() == 17179869183);
-    Ok(())
 }
 
 #[test]
-fn plans_that_no_file_can_say(rt: HostRuntime) -> Result<(), Fail> {
-    let mut plan = planned(rt.alloc(), &[], &[(0x11, &[0x6fffffff], 1)])?;
+fn a_built_file_opens_as_planned(rt: HostRuntime) {
+    let alloc = rt.alloc();
+    let bytes = latest(&rt, alloc);
+    assert!(rt; has_at(&bytes, 1140, b"\0\0\0\x07\xff\xff\xff\xff"));
+    let file = opened(&rt, alloc, bytes, "");
+    compare_latest(&rt, &only_commit(&rt, &file));
+}
+
+#[test]
+fn plans_that_no_file_can_say(rt: HostRuntime) {
+    let mut plan = planned(&rt, rt.alloc(), &[], &[(0x11, &[0x6fffffff], 1)]);
     assert!(rt; plan.is_buildable());
     plan.kind = Kind::Sha256;
     assert!(rt; !plan.is_buildable());
-    let plan = planned(rt.alloc(), &[], &[(0x11, &[0x70000000], 1)])?;
+    let plan = planned(&rt, rt.alloc(), &[], &[(0x11, &[0x70000000], 1)]);
     assert!(rt; !plan.is_buildable());
-    Ok(())
 }

@@ -1,9 +1,8 @@
-use crate::fixtures::{compare_texts, one_commit, opened};
-use gix_commitgraph::file;
+use crate::fixtures::{compare_text, compare_texts, layer_of_one, only_commit};
+use gix_commitgraph::file::Commit;
 use gix_commitgraph::file::commit::{ExtraEdge, ParentEdge, ParentError};
-use std::alloc::{AllocError, Global};
+use std::alloc::Global;
 use std::process::Abort;
-use std::test::Fail;
 
 /// Words of four bytes, and what they say among the parents and in the extra edge list.
 const WORDS: &[(u32, &str)] = &[
@@ -21,18 +20,17 @@ const WORDS: &[(u32, &str)] = &[
 ];
 
 /// Compares what words say.
-fn compare_words(rt: &impl Abort, alloc: Global, rows: &[(u32, &str)]) -> Result<(), AllocError> {
+fn compare_words(rt: &impl Abort, alloc: Global, rows: &[(u32, &str)]) {
     for (raw, want) in rows {
         let (as_parent, as_extra) = (ParentEdge::from_raw(*raw), ExtraEdge::from_raw(*raw));
-        let text = format!(in alloc; "{as_parent:?}, {as_extra:?}")?;
-        assert_eq!(rt; text.as_str(), *want);
+        let text = format!(in alloc; "{as_parent:?}, {as_extra:?}").expect(rt, "memory");
+        compare_text(rt, text.as_str(), want);
     }
-    Ok(())
 }
 
 #[test]
-fn reads_edges(rt: HostRuntime) -> Result<(), Fail> {
-    Ok(compare_words(&rt, rt.alloc(), WORDS)?)
+fn reads_edges(rt: HostRuntime) {
+    compare_words(&rt, rt.alloc(), WORDS);
 }
 
 const PARENT_ERRORS: &[(ParentError, &str)] = &[
@@ -43,22 +41,17 @@ const PARENT_ERRORS: &[(ParentError, &str)] = &[
 ];
 
 /// Compares the debug texts of errors.
-fn compare_debug_texts(
-    rt: &impl Abort,
-    alloc: Global,
-    rows: &[(ParentError, &str)],
-) -> Result<(), AllocError> {
+fn compare_debug_texts(rt: &impl Abort, alloc: Global, rows: &[(ParentError, &str)]) {
     for (error, want) in rows {
-        let text = format!(in alloc; "{error:?}")?;
-        assert_eq!(rt; text.as_str(), *want);
+        let text = format!(in alloc; "{error:?}").expect(rt, "memory");
+        compare_text(rt, text.as_str(), want);
     }
-    Ok(())
 }
 
 #[test]
-fn shows_why_parents_cannot_be_decoded(rt: HostRuntime) -> Result<(), Fail> {
-    compare_debug_texts(&rt, rt.alloc(), PARENT_ERRORS)?;
-    Ok(compare_texts(&rt, rt.alloc(), PARENT_ERRORS)?)
+fn shows_why_parents_cannot_be_decoded(rt: HostRuntime) {
+    compare_debug_texts(&rt, rt.alloc(), PARENT_ERRORS);
+    compare_texts(&rt, rt.alloc(), PARENT_ERRORS);
 }
 
 /// The fields of a commit without parents, whose generation number is 1 and whose time is 0.
@@ -76,19 +69,17 @@ const COMMITS: &[(&[u8; 16], &str)] = &[
 ];
 
 /// Compares the debug texts of commits with these fields.
-fn compare_shown(rt: &impl Abort, alloc: Global, rows: &[(&[u8; 16], &str)]) -> Result<(), Fail> {
+fn compare_shown(rt: &impl Abort, alloc: Global, rows: &[(&[u8; 16], &str)]) {
     for (fields, want) in rows {
-        let file = opened(alloc, one_commit(alloc, fields, None)?, "-")?;
-        assert!(rt; file.num_commits() == 1);
-        let shown = format!(in alloc; "{:?}", file.commit_at(file::Position(0)))?;
-        assert_eq!(rt; shown.as_str(), *want);
+        let file = layer_of_one(rt, alloc, fields, None, "-");
+        let shown = format!(in alloc; "{:?}", only_commit(rt, &file)).expect(rt, "memory");
+        compare_text(rt, shown.as_str(), want);
     }
-    Ok(())
 }
 
 #[test]
-fn shows_commits(rt: HostRuntime) -> Result<(), Fail> {
-    compare_shown(&rt, rt.alloc(), COMMITS)
+fn shows_commits(rt: HostRuntime) {
+    compare_shown(&rt, rt.alloc(), COMMITS);
 }
 
 /// The fields of a commit, its file's path, and whether it is the commit of ROOT at the path a.
@@ -101,20 +92,17 @@ const COMPARED: &[(&[u8; 16], &str, bool)] = &[
 fn compare_with(
     rt: &impl Abort,
     alloc: Global,
-    commit: &file::Commit<'_>,
+    commit: &Commit<'_>,
     rows: &[(&[u8; 16], &str, bool)],
-) -> Result<(), Fail> {
+) {
     for (fields, path, equal) in rows {
-        let other = opened(alloc, one_commit(alloc, fields, None)?, path)?;
-        assert!(rt; other.num_commits() == 1);
-        assert!(rt; (*commit == other.commit_at(file::Position(0))) == *equal);
+        let other = layer_of_one(rt, alloc, fields, None, path);
+        assert!(rt; (*commit == only_commit(rt, &other)) == *equal);
     }
-    Ok(())
 }
 
 #[test]
-fn compares_commits(rt: HostRuntime) -> Result<(), Fail> {
-    let one = opened(rt.alloc(), one_commit(rt.alloc(), ROOT, None)?, "a")?;
-    assert!(rt; one.num_commits() == 1);
-    compare_with(&rt, rt.alloc(), &one.commit_at(file::Position(0)), COMPARED)
+fn compares_commits(rt: HostRuntime) {
+    let one = layer_of_one(&rt, rt.alloc(), ROOT, None, "a");
+    compare_with(&rt, rt.alloc(), &only_commit(&rt, &one), COMPARED);
 }

@@ -1,108 +1,121 @@
-use crate::fixtures::{DIAMOND, Row, layer};
+use crate::fixtures::{DIAMOND, Row, compare_text, layer};
 use gix_commitgraph::opening::OpenError;
 use gix_commitgraph::{File, Graph, at};
 use gix_hash_core::ObjectId;
-use std::alloc::{AllocError, Global};
+use std::alloc::Global;
 use std::fs;
 use std::process::Abort;
 use std::rt::Files;
-use std::test::Fail;
 
 const TOP: &str = "graph_vectors_disk_test";
 
-fn write<R: Files>(rt: &R, alloc: Global, name: &str, bytes: &[u8]) -> Result<(), Fail> {
-    let path = format!(in alloc; "{TOP}/{name}")?;
-    fs::write(rt, path.as_str(), bytes)?;
-    Ok(())
+fn path_of(rt: &impl Abort, alloc: Global, name: &str) -> String {
+    format!(in alloc; "{TOP}/{name}").expect(rt, "memory")
+}
+
+fn write<R: Files + Abort>(rt: &R, alloc: Global, name: &str, bytes: &[u8]) {
+    let path = path_of(rt, alloc, name);
+    fs::write(rt, path.as_str(), bytes).expect(rt, "a file");
+}
+
+/// Writes a layer on these bases, named after its checksum, which is answered.
+fn write_layer<R: Files + Abort>(
+    rt: &R,
+    alloc: Global,
+    bases: &[ObjectId],
+    rows: &[Row<'_>],
+) -> ObjectId {
+    let bytes = layer(rt, alloc, bases, rows);
+    let checksum = ObjectId::from(*bytes.last_chunk::<20>().expect(rt, "a trailer"));
+    let name = format!(in alloc; "info/commit-graphs/graph-{checksum}.graph");
+    write(rt, alloc, name.expect(rt, "memory").as_str(), &bytes);
+    checksum
 }
 
 /// Writes the chain of these layers, whose files are named after their checksums.
-fn write_chain<R: Files + Abort>(rt: &R, alloc: Global, layers: &[&[Row<'_>]]) -> Result<(), Fail> {
+fn write_chain<R: Files + Abort>(rt: &R, alloc: Global, layers: &[&[Row<'_>]]) {
     let mut checksums = Vec::new(alloc);
     let mut lines = String::new(alloc);
     for rows in layers {
-        let bytes = layer(rt, alloc, &checksums, rows)?;
-        let trailer = bytes.last_chunk::<20>().ok_or("a trailer")?;
-        let checksum = ObjectId::from(*trailer);
-        let name = format!(in alloc; "info/commit-graphs/graph-{checksum}.graph")?;
-        write(rt, alloc, name.as_str(), &bytes)?;
-        let line = format!(in alloc; "{checksum}\n")?;
-        lines.push_str(&line)?;
-        checksums.push(checksum)?;
+        let checksum = write_layer(rt, alloc, &checksums, rows);
+        let line = format!(in alloc; "{checksum}\n").expect(rt, "memory");
+        lines.push_str(&line).expect(rt, "memory");
+        checksums.push(checksum).expect(rt, "memory");
     }
     let name = "info/commit-graphs/commit-graph-chain";
-    write(rt, alloc, name, lines.as_bytes())
+    write(rt, alloc, name, lines.as_bytes());
 }
+
+const FOLDERS: &[&str] = &["", "info", "info/commit-graphs"];
+
+/// Layers of single files, and their commits.
+const LAYERS: &[(&str, &[Row<'static>])] = &[
+    ("file", DIAMOND),
+    ("info/commit-graph", &[(0x11, &[], 1)]),
+];
+
+/// A file that is too short, and one of the least size that has no signature.
+const SHORT: &[u8] = &[0; 1099];
+
+const NO_SIGNATURE: &[u8] = &[0; 1100];
+
+/// The layers of a chain.
+const CHAIN: &[&[Row<'static>]] = &[
+    &[(0x11, &[], 1), (0x22, &[0], 2)],
+    &[(0x22, &[1], 3), (0x33, &[2], 4), (0x44, &[3], 5)],
+];
 
 /// Writes the diamond, two damaged files, and an info folder with a file of one commit and a chain
 /// of five.
-fn write_all<R: Files + Abort>(rt: &R, alloc: Global) -> Result<(), Fail> {
-    for name in ["", "info", "info/commit-graphs"] {
-        let path = format!(in alloc; "{TOP}/{name}")?;
-        fs::create_dir(rt, path.as_str())?;
+fn write_all<R: Files + Abort>(rt: &R, alloc: Global) {
+    for name in FOLDERS {
+        let path = path_of(rt, alloc, name);
+        fs::create_dir(rt, path.as_str()).expect(rt, "a folder");
     }
-    let one: &[Row<'_>] = &[(0x11, &[], 1)];
-    for (name, rows) in [("file", DIAMOND), ("info/commit-graph", one)] {
-        write(rt, alloc, name, &layer(rt, alloc, &[], rows)?)?;
+    for (name, rows) in LAYERS {
+        write(rt, alloc, name, &layer(rt, alloc, &[], rows));
     }
-    let damaged: [(&str, &[u8]); 2] = [("short", &[0; 1099]), ("signature", &[0; 1100])];
-    for (name, bytes) in damaged {
-        write(rt, alloc, name, bytes)?;
-    }
-    let lower: &[Row<'_>] = &[(0x11, &[], 1), (0x22, &[0], 2)];
-    let upper: &[Row<'_>] = &[(0x22, &[1], 3), (0x33, &[2], 4), (0x44, &[3], 5)];
-    write_chain(rt, alloc, &[lower, upper])
+    write(rt, alloc, "short", SHORT);
+    write(rt, alloc, "signature", NO_SIGNATURE);
+    write_chain(rt, alloc, CHAIN);
 }
 
-/// The number of commits that an opener found, or its refusal.
-fn text_of(alloc: Global, answer: &Result<u32, OpenError>) -> Result<String, AllocError> {
-    match answer {
+/// Adds to a text the number of commits that an opener found, or its refusal.
+fn tell(rt: &impl Abort, text: &mut String, alloc: Global, answer: Result<u32, OpenError>) {
+    let told = match answer {
         Ok(commits) => format!(in alloc; "{commits} | "),
         Err(error) => format!(in alloc; "{error:?} | "),
-    }
+    };
+    let told = told.expect(rt, "memory");
+    text.push_str(&told).expect(rt, "memory");
 }
 
-/// Adds to a text the number of commits of a graph that was opened, or the refusal.
-fn tell(
-    text: &mut String,
-    alloc: Global,
-    answer: Result<Graph, OpenError>,
-) -> Result<(), AllocError> {
-    let answer = answer.map(|graph| graph.num_commits());
-    text.push_str(&text_of(alloc, &answer)?)
+/// The same of a graph that was opened, or its refusal.
+fn tell_graph(rt: &impl Abort, text: &mut String, alloc: Global, answer: Result<Graph, OpenError>) {
+    tell(rt, text, alloc, answer.map(|graph| graph.num_commits()));
 }
 
 /// The number of commits that each opener finds at a path, or its refusal: both that take any path,
 /// that of a file, of an info folder and of a chain folder, and that of a layer alone.
-fn answers<R: Files>(rt: &R, alloc: Global, name: &str) -> Result<String, AllocError> {
-    let path = format!(in alloc; "{TOP}/{name}")?;
-    let path = path.as_str();
+fn answers<R: Files + Abort>(rt: &R, alloc: Global, path: &str) -> String {
     let mut text = String::new(alloc);
-    tell(&mut text, alloc, at(rt, alloc, path))?;
-    tell(&mut text, alloc, Graph::at(rt, alloc, path))?;
-    tell(&mut text, alloc, Graph::from_file(rt, alloc, path))?;
-    tell(&mut text, alloc, Graph::from_info_dir(rt, alloc, path))?;
-    tell(
-        &mut text,
-        alloc,
-        Graph::from_commit_graphs_dir(rt, alloc, path),
-    )?;
+    tell_graph(rt, &mut text, alloc, at(rt, alloc, path));
+    tell_graph(rt, &mut text, alloc, Graph::at(rt, alloc, path));
+    tell_graph(rt, &mut text, alloc, Graph::from_file(rt, alloc, path));
+    tell_graph(rt, &mut text, alloc, Graph::from_info_dir(rt, alloc, path));
+    let chain = Graph::from_commit_graphs_dir(rt, alloc, path);
+    tell_graph(rt, &mut text, alloc, chain);
     let layer = File::at(rt, alloc, path).map(|file| file.num_commits());
-    text.push_str(&text_of(alloc, &layer)?)?;
-    Ok(text)
+    tell(rt, &mut text, alloc, layer);
+    text
 }
 
 /// Compares what the openers answer at paths.
-fn compare_answers<R: Files + Abort>(
-    rt: &R,
-    alloc: Global,
-    rows: &[(&str, &str)],
-) -> Result<(), AllocError> {
+fn compare_answers<R: Files + Abort>(rt: &R, alloc: Global, rows: &[(&str, &str)]) {
     for (name, want) in rows {
-        let answers = answers(rt, alloc, name)?;
-        assert_eq!(rt; answers.as_str(), *want, "{name}");
+        let path = path_of(rt, alloc, name);
+        compare_text(rt, answers(rt, alloc, path.as_str()).as_str(), want);
     }
-    Ok(())
 }
 
 /// Names, and what the openers answer there.
@@ -137,13 +150,12 @@ const WITH_DAMAGED_FILE: &[(&str, &str)] = &[(
 )];
 
 #[test]
-fn each_opener_at_each_kind_of_path(rt: HostRuntime) -> Result<(), Fail> {
+fn each_opener_at_each_kind_of_path(rt: HostRuntime) {
     let alloc = rt.alloc();
     let _ = fs::remove_dir_all(&rt, TOP);
-    write_all(&rt, alloc)?;
-    compare_answers(&rt, alloc, ANSWERS)?;
-    write(&rt, alloc, "info/commit-graph", &[0; 1099])?;
-    compare_answers(&rt, alloc, WITH_DAMAGED_FILE)?;
-    fs::remove_dir_all(&rt, TOP)?;
-    Ok(())
+    write_all(&rt, alloc);
+    compare_answers(&rt, alloc, ANSWERS);
+    write(&rt, alloc, "info/commit-graph", SHORT);
+    compare_answers(&rt, alloc, WITH_DAMAGED_FILE);
+    fs::remove_dir_all(&rt, TOP).expect(&rt, "a folder");
 }

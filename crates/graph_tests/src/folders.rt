@@ -4,47 +4,50 @@ use gix_commitgraph::opening::{
 };
 use gix_commitgraph::{FileError, Graph, GraphError};
 use graph_folder::folder::{Folder, Memory};
-use std::alloc::{AllocError, Global};
+use std::alloc::Global;
 use std::process::Abort;
-use std::test::Fail;
 
-fn root(rt: &impl Abort, alloc: Global, byte: u8) -> Result<Vec<u8>, AllocError> {
+fn root(rt: &impl Abort, alloc: Global, byte: u8) -> Vec<u8> {
     layer(rt, alloc, &[], &[(byte, &[], 1)])
 }
 
-fn put(memory: &mut Memory, alloc: Global, path: &str, bytes: Vec<u8>) -> Result<(), AllocError> {
-    memory.put_file(String::from_str(alloc, path)?, bytes)
+fn put(rt: &impl Abort, memory: &mut Memory, alloc: Global, path: &str, bytes: Vec<u8>) {
+    let path = String::from_str(alloc, path).expect(rt, "memory");
+    memory.put_file(path, bytes).expect(rt, "memory");
 }
 
-fn put_text(memory: &mut Memory, alloc: Global, path: &str, text: &[u8]) -> Result<(), AllocError> {
-    put(memory, alloc, path, Vec::from_slice(alloc, text)?)
+fn put_text(rt: &impl Abort, memory: &mut Memory, alloc: Global, path: &str, text: &[u8]) {
+    let text = Vec::from_slice(alloc, text).expect(rt, "memory");
+    put(rt, memory, alloc, path, text);
 }
+
+fn put_dir(rt: &impl Abort, memory: &mut Memory, alloc: Global, path: &str) {
+    let path = String::from_str(alloc, path).expect(rt, "memory");
+    memory.put_dir(path).expect(rt, "memory");
+}
+
+/// The names of the layers of a chain, and the byte that each one's only id consists of.
+const LAYERS: &[(&str, u8)] = &[("aa", 3), ("", 2), ("bb", 1)];
 
 /// Puts a chain of three layers there. Each has one commit, whose id consists of the byte 3, 2 or
 /// 1.
-fn put_chain(
-    rt: &impl Abort,
-    memory: &mut Memory,
-    alloc: Global,
-    folder: &str,
-) -> Result<(), AllocError> {
-    memory.put_dir(String::from_str(alloc, folder)?)?;
-    let chain = format!(in alloc; "{folder}/commit-graph-chain")?;
-    put_text(memory, alloc, chain.as_str(), b"aa\r\n\nbb")?;
-    for (name, byte) in [("aa", 3), ("", 2), ("bb", 1)] {
-        let path = format!(in alloc; "{folder}/graph-{name}.graph")?;
-        put(memory, alloc, path.as_str(), root(rt, alloc, byte)?)?;
+fn put_chain(rt: &impl Abort, memory: &mut Memory, alloc: Global, folder: &str) {
+    put_dir(rt, memory, alloc, folder);
+    let chain = format!(in alloc; "{folder}/commit-graph-chain").expect(rt, "memory");
+    put_text(rt, memory, alloc, chain.as_str(), b"aa\r\n\nbb");
+    for (name, byte) in LAYERS {
+        let path = format!(in alloc; "{folder}/graph-{name}.graph").expect(rt, "memory");
+        put(rt, memory, alloc, path.as_str(), root(rt, alloc, *byte));
     }
-    Ok(())
 }
 
 /// An info folder with a damaged file and a good chain.
-fn info_folder(rt: &impl Abort, alloc: Global) -> Result<Memory, AllocError> {
+fn info_folder(rt: &impl Abort, alloc: Global) -> Memory {
     let mut memory = Memory::new(alloc);
-    memory.put_dir(String::from_str(alloc, "i")?)?;
-    put_text(&mut memory, alloc, "i/commit-graph", &[0; 1099])?;
-    put_chain(rt, &mut memory, alloc, "i/commit-graphs")?;
-    Ok(memory)
+    put_dir(rt, &mut memory, alloc, "i");
+    put_text(rt, &mut memory, alloc, "i/commit-graph", &[0; 1099]);
+    put_chain(rt, &mut memory, alloc, "i/commit-graphs");
+    memory
 }
 
 /// Asserts that an opener answers a graph of so many commits, or this refusal.
@@ -70,35 +73,29 @@ const CHAINS: &[Chain] = &[
     (b"bb\naa\n", &[1, 3]),
 ];
 
+/// Compares the commits of a graph that was opened.
+fn compare_chain(rt: &impl Abort, answer: Result<Graph, OpenError>, want: &[u8]) {
+    let graph = answer.expect(rt, "a graph");
+    assert!(rt; has_first_bytes(&graph, want));
+}
+
 /// Compares the commits of the graphs of chains, by either opener.
-fn compare_chains(
-    rt: &impl Abort,
-    alloc: Global,
-    memory: &mut Memory,
-    rows: &[Chain],
-) -> Result<(), Fail> {
+fn compare_chains(rt: &impl Abort, alloc: Global, memory: &mut Memory, rows: &[Chain]) {
     for (chain, want) in rows {
-        put_text(memory, alloc, "c/commit-graph-chain", chain)?;
-        let graph = open_chain_dir_in(alloc, memory, "c")?;
-        assert!(rt; has_first_bytes(&graph, want));
-        let graph = open_in(alloc, memory, "c")?;
-        assert!(rt; has_first_bytes(&graph, want));
+        put_text(rt, memory, alloc, "c/commit-graph-chain", chain);
+        compare_chain(rt, open_chain_dir_in(alloc, memory, "c"), want);
+        compare_chain(rt, open_in(alloc, memory, "c"), want);
     }
-    Ok(())
 }
 
 #[test]
-fn a_chain_has_the_layers_of_its_lines(rt: HostRuntime) -> Result<(), Fail> {
+fn a_chain_has_the_layers_of_its_lines(rt: HostRuntime) {
     let alloc = rt.alloc();
     let mut memory = Memory::new(alloc);
-    put_chain(&rt, &mut memory, alloc, "c")?;
-    put(
-        &mut memory,
-        alloc,
-        "c/graph-a\r.graph",
-        root(&rt, alloc, 4)?,
-    )?;
-    compare_chains(&rt, alloc, &mut memory, CHAINS)
+    put_chain(&rt, &mut memory, alloc, "c");
+    let fourth = root(&rt, alloc, 4);
+    put(&rt, &mut memory, alloc, "c/graph-a\r.graph", fourth);
+    compare_chains(&rt, alloc, &mut memory, CHAINS);
 }
 
 /// A chain file, and its refusal.
@@ -124,63 +121,65 @@ fn compare_refused_chains(
     alloc: Global,
     memory: &mut Memory,
     rows: &[RefusedChain],
-) -> Result<(), Fail> {
+) {
     for (text, want) in rows {
-        put_text(memory, alloc, "c/commit-graph-chain", text)?;
+        put_text(rt, memory, alloc, "c/commit-graph-chain", text);
         assert_answer(rt, open_in(alloc, memory, "c"), want);
     }
-    Ok(())
 }
 
 #[test]
-fn chains_are_refused(rt: HostRuntime) -> Result<(), Fail> {
+fn chains_are_refused(rt: HostRuntime) {
     let alloc = rt.alloc();
     let mut memory = Memory::new(alloc);
-    put_chain(&rt, &mut memory, alloc, "c")?;
-    put_text(&mut memory, alloc, "c/graph-.graph", &[0; 1099])?;
-    compare_refused_chains(&rt, alloc, &mut memory, REFUSED_CHAINS)?;
+    put_chain(&rt, &mut memory, alloc, "c");
+    put_text(&rt, &mut memory, alloc, "c/graph-.graph", &[0; 1099]);
+    compare_refused_chains(&rt, alloc, &mut memory, REFUSED_CHAINS);
     assert!(rt; memory.failures() == 0);
-    Ok(())
 }
 
+const NOTHING_FOUND: &Result<u32, OpenError> = &Err(OpenError::NothingFound);
+
+const NOT_OPENED: &Result<u32, OpenError> = &Err(OpenError::NotOpened);
+
 #[test]
-fn what_does_not_stand_there_is_not_opened(rt: HostRuntime) -> Result<(), Fail> {
+fn what_does_not_stand_there_is_not_opened(rt: HostRuntime) {
     let alloc = rt.alloc();
     let mut memory = Memory::new(alloc);
-    let (nothing, refused) = (Err(OpenError::NothingFound), Err(OpenError::NotOpened));
-    assert_answer(&rt, open_in(alloc, &mut memory, "i"), &nothing);
-    memory.put_dir(String::from_str(alloc, "i")?)?;
-    assert_answer(&rt, open_in(alloc, &mut memory, "i"), &refused);
-    assert_answer(&rt, open_info_dir_in(alloc, &mut memory, "i"), &refused);
-    assert_answer(&rt, open_file_in(alloc, &mut memory, "i"), &refused);
-    Ok(())
+    assert_answer(&rt, open_in(alloc, &mut memory, "i"), NOTHING_FOUND);
+    put_dir(&rt, &mut memory, alloc, "i");
+    assert_answer(&rt, open_in(alloc, &mut memory, "i"), NOT_OPENED);
+    assert_answer(&rt, open_info_dir_in(alloc, &mut memory, "i"), NOT_OPENED);
+    assert_answer(&rt, open_file_in(alloc, &mut memory, "i"), NOT_OPENED);
 }
 
 #[test]
-fn a_damaged_file_leaves_the_chain(rt: HostRuntime) -> Result<(), Fail> {
+fn a_damaged_file_leaves_the_chain(rt: HostRuntime) {
     let alloc = rt.alloc();
-    let mut memory = info_folder(&rt, alloc)?;
+    let mut memory = info_folder(&rt, alloc);
     assert_answer(&rt, open_info_dir_in(alloc, &mut memory, "i"), &Ok(3));
     assert_answer(&rt, open_in(alloc, &mut memory, "i"), &Ok(3));
-    let file = layer(&rt, alloc, &[], DIAMOND)?;
-    put(&mut memory, alloc, "i/commit-graph", file)?;
+    let file = layer(&rt, alloc, &[], DIAMOND);
+    put(&rt, &mut memory, alloc, "i/commit-graph", file);
     assert_answer(&rt, open_info_dir_in(alloc, &mut memory, "i"), &Ok(4));
     assert_answer(&rt, open_in(alloc, &mut memory, "i"), &Ok(4));
-    Ok(())
 }
 
+const TOO_SMALL: &Result<u32, OpenError> = &Err(OpenError::Layer {
+    layer: 0,
+    error: FileError::TooSmall,
+});
+
 #[test]
-fn a_file_is_opened_alone(rt: HostRuntime) -> Result<(), Fail> {
+fn a_file_is_opened_alone(rt: HostRuntime) {
     let alloc = rt.alloc();
-    let mut memory = info_folder(&rt, alloc)?;
-    let (layer, error) = (0, FileError::TooSmall);
+    let mut memory = info_folder(&rt, alloc);
     let damaged = open_file_in(alloc, &mut memory, "i/commit-graph");
-    assert_answer(&rt, damaged, &Err(OpenError::Layer { layer, error }));
+    assert_answer(&rt, damaged, TOO_SMALL);
     memory.fail_read(0);
     let failed = open_file_in(alloc, &mut memory, "i/commit-graphs/graph-aa.graph");
     assert_answer(&rt, failed, &Err(OpenError::Device));
     assert!(rt; memory.failures() == 1);
-    Ok(())
 }
 
 /// The number of the read that fails, what opening an info folder then answers, and how many reads
@@ -197,19 +196,18 @@ const FAILED_READS: &[FailedRead] = &[
 ];
 
 /// Compares the answers where a read fails.
-fn compare_failed_reads(rt: &impl Abort, alloc: Global, rows: &[FailedRead]) -> Result<(), Fail> {
+fn compare_failed_reads(rt: &impl Abort, alloc: Global, rows: &[FailedRead]) {
     for (read, want, failures) in rows {
-        let mut memory = info_folder(rt, alloc)?;
+        let mut memory = info_folder(rt, alloc);
         memory.fail_read(*read);
         assert_answer(rt, open_info_dir_in(alloc, &mut memory, "i"), want);
         assert!(rt; memory.failures() == *failures, "read {read}");
     }
-    Ok(())
 }
 
 #[test]
-fn a_failed_read_is_device(rt: HostRuntime) -> Result<(), Fail> {
-    compare_failed_reads(&rt, rt.alloc(), FAILED_READS)
+fn a_failed_read_is_device(rt: HostRuntime) {
+    compare_failed_reads(&rt, rt.alloc(), FAILED_READS);
 }
 
 const REFUSED_AFTER_FAILED_READ: &[RefusedChain] = &[
@@ -226,46 +224,40 @@ const REFUSED_AFTER_FAILED_READ: &[RefusedChain] = &[
 ];
 
 /// An info folder with this chain, in which one layer is too short and the first read fails.
-fn with_failed_read(rt: &impl Abort, alloc: Global, chain: &[u8]) -> Result<Memory, AllocError> {
-    let mut memory = info_folder(rt, alloc)?;
+fn with_failed_read(rt: &impl Abort, alloc: Global, chain: &[u8]) -> Memory {
+    let mut memory = info_folder(rt, alloc);
     let path = "i/commit-graphs/commit-graph-chain";
-    put_text(&mut memory, alloc, path, chain)?;
+    put_text(rt, &mut memory, alloc, path, chain);
     let path = "i/commit-graphs/graph-short.graph";
-    put_text(&mut memory, alloc, path, &[0; 1099])?;
+    put_text(rt, &mut memory, alloc, path, &[0; 1099]);
     memory.fail_read(0);
-    Ok(memory)
+    memory
 }
 
 /// Compares the refusals of chains after a failed read.
-fn compare_after_failed_read(
-    rt: &impl Abort,
-    alloc: Global,
-    rows: &[RefusedChain],
-) -> Result<(), Fail> {
+fn compare_after_failed_read(rt: &impl Abort, alloc: Global, rows: &[RefusedChain]) {
     for (chain, want) in rows {
-        let mut memory = with_failed_read(rt, alloc, chain)?;
+        let mut memory = with_failed_read(rt, alloc, chain);
         assert_answer(rt, open_info_dir_in(alloc, &mut memory, "i"), want);
         assert!(rt; memory.failures() == 1);
     }
-    Ok(())
 }
 
 #[test]
-fn a_refused_chain_decides_after_a_failed_read(rt: HostRuntime) -> Result<(), Fail> {
-    compare_after_failed_read(&rt, rt.alloc(), REFUSED_AFTER_FAILED_READ)
+fn a_refused_chain_decides_after_a_failed_read(rt: HostRuntime) {
+    compare_after_failed_read(&rt, rt.alloc(), REFUSED_AFTER_FAILED_READ);
 }
 
 #[test]
-fn running_out_of_memory_is_no_damage(rt: HostRuntime) -> Result<(), Fail> {
+fn running_out_of_memory_is_no_damage(rt: HostRuntime) {
     let alloc = rt.alloc();
     for read in 0..5u32 {
         let mut folder = Refusing {
-            memory: info_folder(&rt, alloc)?,
+            memory: info_folder(&rt, alloc),
             reads_before: read,
         };
         let answer = open_info_dir_in(alloc, &mut folder, "i");
         assert_answer(&rt, answer, &Err(OpenError::OutOfMemory));
         assert!(rt; folder.failures() == 0, "read {read}");
     }
-    Ok(())
 }

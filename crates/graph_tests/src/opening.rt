@@ -1,36 +1,40 @@
-use crate::fixtures::{END, opened, words, written};
+use crate::fixtures::{END, opened, try_open, words, written};
 use gix_chunk_core::ChunkError;
-use gix_commitgraph::{File, FileError};
+use gix_commitgraph::FileError;
 use gix_hash_core::Kind;
 use std::alloc::Global;
 use std::process::Abort;
-use std::test::Fail;
 
 /// An entry of a table of chunks: an id, and where its chunk begins.
 type Entry = (&'static [u8; 4], u64);
 
-/// What opening answers to a file of this header, these entries of its table, and so many bytes 0.
-fn open(
+/// A file of this header, these entries of its table, and so many bytes 0.
+fn with_zeros(
+    rt: &impl Abort,
     alloc: Global,
     header: &[u8; 8],
     entries: &[Entry],
     zeros: usize,
-) -> Result<Result<File, FileError>, Fail> {
-    let rest = vec![in alloc; 0; zeros]?;
-    let bytes = written(alloc, header, entries, &[&rest])?;
-    Ok(opened(alloc, bytes, ""))
+) -> Vec<u8> {
+    let rest = vec![in alloc; 0; zeros].expect(rt, "memory");
+    written(rt, alloc, header, entries, &[&rest])
+}
+
+/// Compares the refusal of a file.
+fn compare_refusal(rt: &impl Abort, alloc: Global, bytes: Vec<u8>, want: &FileError) {
+    let answer = try_open(rt, alloc, bytes, "");
+    assert!(rt; matches!(&answer, Err(error) if error == want));
 }
 
 /// A header, the entries of a table, the number of bytes 0 after it, and the refusal of that file.
 type Refused = (&'static [u8; 8], &'static [Entry], usize, FileError);
 
 /// Compares the refusals of some files.
-fn compare(rt: &impl Abort, alloc: Global, rows: &[Refused]) -> Result<(), Fail> {
+fn compare(rt: &impl Abort, alloc: Global, rows: &[Refused]) {
     for (header, entries, zeros, want) in rows {
-        let answer = open(alloc, header, entries, *zeros)?;
-        assert_eq!(rt; answer.as_ref().err(), Some(want));
+        let bytes = with_zeros(rt, alloc, header, entries, *zeros);
+        compare_refusal(rt, alloc, bytes, want);
     }
-    Ok(())
 }
 
 /// The header of a SHA-1 file of three chunks.
@@ -43,13 +47,13 @@ const ENTRIES: &[Entry] = &[(b"OIDF", 56), (b"OIDL", 1080), (b"CDAT", 1080), (EN
 type Empty = (&'static [u8; 8], &'static [Entry], usize, Kind);
 
 /// Opens files without commits, and compares their kinds.
-fn compare_empty(rt: &impl Abort, alloc: Global, rows: &[Empty]) -> Result<(), Fail> {
+fn compare_empty(rt: &impl Abort, alloc: Global, rows: &[Empty]) {
     for (header, entries, zeros, kind) in rows {
-        let file = open(alloc, header, entries, *zeros)??;
+        let bytes = with_zeros(rt, alloc, header, entries, *zeros);
+        let file = opened(rt, alloc, bytes, "");
         assert!(rt; file.num_commits() == 0 && file.object_hash() == *kind);
         assert!(rt; file.iter_commits().next().is_none());
     }
-    Ok(())
 }
 
 const LEAST: &[Empty] = &[
@@ -58,10 +62,10 @@ const LEAST: &[Empty] = &[
 ];
 
 #[test]
-fn the_least_files(rt: HostRuntime) -> Result<(), Fail> {
-    let short = opened(rt.alloc(), vec![in rt.alloc(); 0; 1099]?, "");
-    assert!(rt; short.as_ref().err() == Some(&FileError::TooSmall));
-    compare_empty(&rt, rt.alloc(), LEAST)
+fn the_least_files(rt: HostRuntime) {
+    let short = vec![in rt.alloc(); 0; 1099].expect(&rt, "memory");
+    compare_refusal(&rt, rt.alloc(), short, &FileError::TooSmall);
+    compare_empty(&rt, rt.alloc(), LEAST);
 }
 
 const MORE_CHUNKS: &[Empty] = &[
@@ -92,8 +96,8 @@ const MORE_CHUNKS: &[Empty] = &[
 ];
 
 #[test]
-fn chunks_that_may_stand_there(rt: HostRuntime) -> Result<(), Fail> {
-    compare_empty(&rt, rt.alloc(), MORE_CHUNKS)
+fn chunks_that_may_stand_there(rt: HostRuntime) {
+    compare_empty(&rt, rt.alloc(), MORE_CHUNKS);
 }
 
 const REFUSED_HEADERS: &[Refused] = &[
@@ -115,8 +119,8 @@ const REFUSED_HEADERS: &[Refused] = &[
 ];
 
 #[test]
-fn refused_headers(rt: HostRuntime) -> Result<(), Fail> {
-    compare(&rt, rt.alloc(), REFUSED_HEADERS)
+fn refused_headers(rt: HostRuntime) {
+    compare(&rt, rt.alloc(), REFUSED_HEADERS);
 }
 
 const DAMAGED_TABLES: &[Refused] = &[
@@ -159,8 +163,8 @@ const DAMAGED_TABLES: &[Refused] = &[
 ];
 
 #[test]
-fn damaged_chunk_tables(rt: HostRuntime) -> Result<(), Fail> {
-    compare(&rt, rt.alloc(), DAMAGED_TABLES)
+fn damaged_chunk_tables(rt: HostRuntime) {
+    compare(&rt, rt.alloc(), DAMAGED_TABLES);
 }
 
 const MISSING_CHUNKS: &[Refused] = &[
@@ -185,8 +189,8 @@ const MISSING_CHUNKS: &[Refused] = &[
 ];
 
 #[test]
-fn chunks_that_are_missing(rt: HostRuntime) -> Result<(), Fail> {
-    compare(&rt, rt.alloc(), MISSING_CHUNKS)
+fn chunks_that_are_missing(rt: HostRuntime) {
+    compare(&rt, rt.alloc(), MISSING_CHUNKS);
 }
 
 const WRONG_SIZES: &[Refused] = &[
@@ -229,8 +233,8 @@ const WRONG_SIZES: &[Refused] = &[
 ];
 
 #[test]
-fn chunks_of_a_wrong_size(rt: HostRuntime) -> Result<(), Fail> {
-    compare(&rt, rt.alloc(), WRONG_SIZES)
+fn chunks_of_a_wrong_size(rt: HostRuntime) {
+    compare(&rt, rt.alloc(), WRONG_SIZES);
 }
 
 const WRONG_BASES: &[Refused] = &[
@@ -261,19 +265,17 @@ const WRONG_BASES: &[Refused] = &[
 ];
 
 #[test]
-fn base_ids_of_a_wrong_size(rt: HostRuntime) -> Result<(), Fail> {
-    compare(&rt, rt.alloc(), WRONG_BASES)
+fn base_ids_of_a_wrong_size(rt: HostRuntime) {
+    compare(&rt, rt.alloc(), WRONG_BASES);
 }
 
 #[test]
-fn a_falling_fan(rt: HostRuntime) -> Result<(), Fail> {
+fn a_falling_fan(rt: HostRuntime) {
     let mut fan = [2; 256];
     fan[..4].copy_from_slice(&[0; 4]);
     fan[5] = 1;
-    let fan = words(rt.alloc(), &fan)?;
+    let fan = words(&rt, rt.alloc(), &fan);
     let entries = [(b"OIDF", 56), (b"OIDL", 1080), (b"CDAT", 1120), (END, 1192)];
-    let bytes = written(rt.alloc(), THREE, &entries, &[&fan, &[0; 132]])?;
-    let refusal = opened(rt.alloc(), bytes, "").err();
-    assert!(rt; refusal == Some(FileError::FanFalls { at: 5 }));
-    Ok(())
+    let bytes = written(&rt, rt.alloc(), THREE, &entries, &[&fan, &[0; 132]]);
+    compare_refusal(&rt, rt.alloc(), bytes, &FileError::FanFalls { at: 5 });
 }

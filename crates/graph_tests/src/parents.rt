@@ -1,15 +1,14 @@
 ghost use Rattle.std.specs.Iterator.{IsFinite};
 
-use crate::fixtures::{one_commit, opened};
+use crate::fixtures::{compare_text, layer_of_one, only_commit};
+use gix_commitgraph::Position;
 use gix_commitgraph::file::commit::ParentError;
-use gix_commitgraph::{Position, file};
-use std::alloc::Global;
+use std::alloc::{AllocError, Global};
 use std::process::Abort;
-use std::test::Fail;
 
 /// The hint before each item, and the items. It calls the trait's `next`, where a call on a
 /// `Parents` would be one of its own `next`.
-fn walked<I>(alloc: Global, parents: &mut I) -> Result<String, Fail>
+fn walked<I>(alloc: Global, parents: &mut I) -> Result<String, AllocError>
 where
     I: Iterator<Item = Result<Position, ParentError>>,
     requires can { I.can_next parents.now }
@@ -19,11 +18,11 @@ where
     for _ in 0..5 {
         let hint = parents.size_hint();
         let item = match parents.next() {
-            Some(Ok(Position(parent))) => format!(in alloc; "{hint:?} {parent}, ")?,
-            Some(Err(error)) => format!(in alloc; "{hint:?} {error}, ")?,
-            None => return Ok(format!(in alloc; "{text}{hint:?}")?),
+            Some(Ok(Position(parent))) => format!(in alloc; "{hint:?} {parent}, "),
+            Some(Err(error)) => format!(in alloc; "{hint:?} {error}, "),
+            None => return format!(in alloc; "{text}{hint:?}"),
         };
-        text.push_str(&item)?;
+        text.push_str(&item?)?;
     }
     Ok(text)
 }
@@ -44,44 +43,39 @@ const DATES: &[(&[u8; 16], u32, u64)] = &[
 ];
 
 /// Compares the generation numbers and the times of commits.
-fn compare_dates(
-    rt: &impl Abort,
-    alloc: Global,
-    rows: &[(&[u8; 16], u32, u64)],
-) -> Result<(), Fail> {
+fn compare_dates(rt: &impl Abort, alloc: Global, rows: &[(&[u8; 16], u32, u64)]) {
     for (fields, generation, time) in rows {
-        let file = opened(alloc, one_commit(alloc, fields, None)?, "")?;
-        assert!(rt; file.num_commits() == 1);
-        let commit = file.commit_at(file::Position(0));
+        let file = layer_of_one(rt, alloc, fields, None, "");
+        let commit = only_commit(rt, &file);
         assert!(rt; commit.generation() == *generation && commit.committer_timestamp() == *time);
     }
-    Ok(())
 }
 
 #[test]
-fn generations_and_times(rt: HostRuntime) -> Result<(), Fail> {
-    compare_dates(&rt, rt.alloc(), DATES)
+fn generations_and_times(rt: HostRuntime) {
+    compare_dates(&rt, rt.alloc(), DATES);
 }
 
 /// The hints and the items of a commit's parents, as `walked` writes them.
-fn parents_of(alloc: Global, fields: &[u8; 16], edges: Option<&[u8]>) -> Result<String, Fail> {
-    let file = opened(alloc, one_commit(alloc, fields, edges)?, "")?;
-    if file.num_commits() != 1 {
-        return Err(Fail::new("the file has one commit"));
-    }
-    walked(alloc, &mut file.commit_at(file::Position(0)).iter_parents())
+fn parents_of(
+    rt: &impl Abort,
+    alloc: Global,
+    fields: &[u8; 16],
+    edges: Option<&[u8]>,
+) -> Result<String, AllocError> {
+    let file = layer_of_one(rt, alloc, fields, edges, "");
+    walked(alloc, &mut only_commit(rt, &file).iter_parents())
 }
 
 /// The fields of a commit, its extra edge list, and its parents, as `walked` writes them.
 type Listed = (&'static [u8; 16], Option<&'static [u8]>, &'static str);
 
 /// Compares the parents of commits.
-fn compare_parents(rt: &impl Abort, alloc: Global, rows: &[Listed]) -> Result<(), Fail> {
+fn compare_parents(rt: &impl Abort, alloc: Global, rows: &[Listed]) {
     for (fields, edges, want) in rows {
-        let parents = parents_of(alloc, fields, *edges)?;
-        assert_eq!(rt; parents.as_str(), *want);
+        let parents = parents_of(rt, alloc, fields, *edges).expect(rt, "memory");
+        compare_text(rt, parents.as_str(), want);
     }
-    Ok(())
 }
 
 const WITHOUT_LIST: &[Listed] = &[
@@ -113,8 +107,8 @@ const WITHOUT_LIST: &[Listed] = &[
 ];
 
 #[test]
-fn parents_of_one_commit(rt: HostRuntime) -> Result<(), Fail> {
-    compare_parents(&rt, rt.alloc(), WITHOUT_LIST)
+fn parents_of_one_commit(rt: HostRuntime) {
+    compare_parents(&rt, rt.alloc(), WITHOUT_LIST);
 }
 
 /// The fields of a commit with the parent 5, whose other parents begin at the list's first word.
@@ -145,8 +139,8 @@ const WITH_LIST: &[Listed] = &[
 ];
 
 #[test]
-fn parents_in_the_extra_edge_list(rt: HostRuntime) -> Result<(), Fail> {
-    compare_parents(&rt, rt.alloc(), WITH_LIST)
+fn parents_in_the_extra_edge_list(rt: HostRuntime) {
+    compare_parents(&rt, rt.alloc(), WITH_LIST);
 }
 
 const RUNS_OUT: &str = "(2, None) 5, (1, None) EdgeOverflow, (0, Some(0))";
@@ -158,8 +152,8 @@ const SHORT_LISTS: &[Listed] = &[
 ];
 
 #[test]
-fn an_extra_edge_list_runs_out(rt: HostRuntime) -> Result<(), Fail> {
-    compare_parents(&rt, rt.alloc(), SHORT_LISTS)
+fn an_extra_edge_list_runs_out(rt: HostRuntime) {
+    compare_parents(&rt, rt.alloc(), SHORT_LISTS);
 }
 
 /// The fields of a commit, and its first parent.
@@ -178,16 +172,14 @@ const FIRST_PARENTS: &[First] = &[
 ];
 
 /// Compares the first parents of commits with an empty extra edge list.
-fn compare_first_parents(rt: &impl Abort, alloc: Global, rows: &[First]) -> Result<(), Fail> {
+fn compare_first_parents(rt: &impl Abort, alloc: Global, rows: &[First]) {
     for (fields, want) in rows {
-        let file = opened(alloc, one_commit(alloc, fields, Some(b""))?, "")?;
-        assert!(rt; file.num_commits() == 1);
-        assert_eq!(rt; file.commit_at(file::Position(0)).parent1(), *want);
+        let file = layer_of_one(rt, alloc, fields, Some(b""), "");
+        assert_eq!(rt; only_commit(rt, &file).parent1(), *want);
     }
-    Ok(())
 }
 
 #[test]
-fn the_first_parent(rt: HostRuntime) -> Result<(), Fail> {
-    compare_first_parents(&rt, rt.alloc(), FIRST_PARENTS)
+fn the_first_parent(rt: HostRuntime) {
+    compare_first_parents(&rt, rt.alloc(), FIRST_PARENTS);
 }

@@ -1,16 +1,14 @@
-use crate::fixtures::{compare_texts, layer, opened};
+use crate::fixtures::{compare_text, compare_texts, layer, opened};
 use gix_chunk_core::ChunkError;
 use gix_commitgraph::file::commit::ParentError;
 use gix_commitgraph::file::verify::TraverseError;
 use gix_commitgraph::opening::OpenError;
 use gix_commitgraph::verify::{CommitFault, LayerFault, VerifyError};
 use gix_commitgraph::{FileError, GraphError, Position, file};
-use std::alloc::{AllocError, Global};
+use std::alloc::Global;
 use std::collections::{BTreeSet, HashSet};
-use std::fmt::Debug;
 use std::hash::Hash;
 use std::process::Abort;
-use std::test::Fail;
 
 const FILE_ERRORS: &[(FileError, &str)] = &[
     (FileError::TooSmall, "TooSmall"),
@@ -36,75 +34,70 @@ const FILE_ERRORS: &[(FileError, &str)] = &[
 ];
 
 #[test]
-fn errors_are_their_names(rt: HostRuntime) -> Result<(), Fail> {
-    Ok(compare_texts(&rt, rt.alloc(), FILE_ERRORS)?)
+fn errors_are_their_names(rt: HostRuntime) {
+    compare_texts(&rt, rt.alloc(), FILE_ERRORS);
 }
 
 #[test]
-fn positions_are_padded_numbers(rt: HostRuntime) -> Result<(), Fail> {
+fn positions_are_padded_numbers(rt: HostRuntime) {
     let (in_graph, in_layer) = (Position(42), file::Position(7));
     let text = format!(in rt.alloc();
         "{in_graph}|{in_graph:>5}|{in_graph:*<4}|{in_layer}|{in_layer:03}"
-    )?;
-    assert_eq!(rt; text.as_str(), "42|   42|42**|7|007");
-    let text = format!(in rt.alloc(); "{in_graph:?} {in_layer:?}")?;
-    assert_eq!(rt; text.as_str(), "Position(42) Position(7)");
-    Ok(())
+    );
+    let text = text.expect(&rt, "memory");
+    compare_text(&rt, text.as_str(), "42|   42|42**|7|007");
+    let text = format!(in rt.alloc(); "{in_graph:?} {in_layer:?}").expect(&rt, "memory");
+    compare_text(&rt, text.as_str(), "Position(42) Position(7)");
 }
 
 #[test]
-fn a_file_shows_its_path(rt: HostRuntime) -> Result<(), Fail> {
-    let bytes = layer(&rt, rt.alloc(), &[], &[])?;
-    let file = opened(rt.alloc(), bytes, "a \"graph\"")?;
+fn a_file_shows_its_path(rt: HostRuntime) {
+    let bytes = layer(&rt, rt.alloc(), &[], &[]);
+    let file = opened(&rt, rt.alloc(), bytes, "a \"graph\"");
     let want = r#"File(""a \"graph\""")"#;
-    assert_eq!(rt; format!(in rt.alloc(); "{file:?}")?.as_str(), want);
-    assert_eq!(rt; format!(in rt.alloc(); "{file:#?}")?.as_str(), want);
-    Ok(())
+    let text = format!(in rt.alloc(); "{file:?}").expect(&rt, "memory");
+    compare_text(&rt, text.as_str(), want);
+    let text = format!(in rt.alloc(); "{file:#?}").expect(&rt, "memory");
+    compare_text(&rt, text.as_str(), want);
 }
 
 /// The values in order, each once, as a set by hash tells them apart.
-fn sorted_set<T: Ord + Hash + Copy>(alloc: Global, values: &[T]) -> Result<Vec<T>, AllocError> {
+fn sorted_set<T: Ord + Hash + Copy>(rt: &impl Abort, alloc: Global, values: &[T]) -> Vec<T> {
     let mut set = HashSet::new(alloc);
     let mut sorted = Vec::new(alloc);
     for value in values {
-        if set.insert(*value)? {
-            sorted.push(*value)?;
+        if set.insert(*value).expect(rt, "memory") {
+            sorted.push(*value).expect(rt, "memory");
         }
     }
-    sorted.sort()?;
-    Ok(sorted)
+    sorted.sort().expect(rt, "memory");
+    sorted
 }
 
 /// Whether a set by order has these values, in this order.
-fn are_in_set<T: Ord + Copy>(alloc: Global, values: &[T], want: &[T]) -> Result<bool, AllocError> {
+fn are_in_set<T: Ord + Copy>(rt: &impl Abort, alloc: Global, values: &[T], want: &[T]) -> bool {
     let mut set = BTreeSet::new(alloc);
     for value in values {
-        set.insert(*value)?;
+        set.insert(*value).expect(rt, "memory");
     }
-    Ok(set.iter().eq(want.iter()))
+    set.iter().eq(want.iter())
 }
 
 /// Compares the values in order, each once, with these.
-fn compare_sets<T: Ord + Hash + Copy + Debug>(
-    rt: &impl Abort,
-    alloc: Global,
-    values: &[T],
-    want: &[T],
-) -> Result<(), Fail> {
-    let sorted = sorted_set(alloc, values)?;
-    assert_eq!(rt; sorted.as_slice(), want);
-    assert!(rt; are_in_set(alloc, values, want)?);
-    Ok(())
+fn compare_sets<T: Ord + Hash + Copy>(rt: &impl Abort, alloc: Global, values: &[T], want: &[T]) {
+    let sorted = sorted_set(rt, alloc, values);
+    assert!(rt; sorted.as_slice() == want);
+    assert!(rt; are_in_set(rt, alloc, values, want));
 }
 
 #[test]
-fn positions_are_sorted_and_put_into_sets(rt: HostRuntime) -> Result<(), Fail> {
+fn positions_are_sorted_and_put_into_sets(rt: HostRuntime) {
     let in_graph = [Position(256), Position(3), Position(256), Position(1)];
     let sorted = [Position(1), Position(3), Position(256)];
-    compare_sets(&rt, rt.alloc(), &in_graph, &sorted)?;
+    compare_sets(&rt, rt.alloc(), &in_graph, &sorted);
     let in_layer = [file::Position(256), file::Position(3), file::Position(3)];
     let sorted = [file::Position(3), file::Position(256)];
-    compare_sets(&rt, rt.alloc(), &in_layer, &sorted)
+    compare_sets(&rt, rt.alloc(), &in_layer, &sorted);
 }
 
 const OPEN_ERRORS: &[(OpenError, &str)] = &[
@@ -124,8 +117,8 @@ const OPEN_ERRORS: &[(OpenError, &str)] = &[
 ];
 
 #[test]
-fn errors_of_openers_are_their_names(rt: HostRuntime) -> Result<(), Fail> {
-    Ok(compare_texts(&rt, rt.alloc(), OPEN_ERRORS)?)
+fn errors_of_openers_are_their_names(rt: HostRuntime) {
+    compare_texts(&rt, rt.alloc(), OPEN_ERRORS);
 }
 
 const LAYER_FAULTS: &[(LayerFault, &str)] = &[
@@ -141,9 +134,9 @@ const COMMIT_FAULTS: &[(CommitFault, &str)] = &[
 ];
 
 #[test]
-fn faults_are_their_names(rt: HostRuntime) -> Result<(), Fail> {
-    compare_texts(&rt, rt.alloc(), LAYER_FAULTS)?;
-    Ok(compare_texts(&rt, rt.alloc(), COMMIT_FAULTS)?)
+fn faults_are_their_names(rt: HostRuntime) {
+    compare_texts(&rt, rt.alloc(), LAYER_FAULTS);
+    compare_texts(&rt, rt.alloc(), COMMIT_FAULTS);
 }
 
 const POS: Position = Position(1);
@@ -205,8 +198,8 @@ const VERIFY_ERRORS: &[(VerifyError<&str>, &str)] = &[
 ];
 
 #[test]
-fn errors_of_a_graph_are_their_names(rt: HostRuntime) -> Result<(), Fail> {
-    Ok(compare_texts(&rt, rt.alloc(), VERIFY_ERRORS)?)
+fn errors_of_a_graph_are_their_names(rt: HostRuntime) {
+    compare_texts(&rt, rt.alloc(), VERIFY_ERRORS);
 }
 
 const IN_LAYER: file::Position = file::Position(1);
@@ -236,6 +229,6 @@ const TRAVERSE_ERRORS: &[(TraverseError<&str>, &str)] = &[
 ];
 
 #[test]
-fn errors_of_a_layer_are_their_names(rt: HostRuntime) -> Result<(), Fail> {
-    Ok(compare_texts(&rt, rt.alloc(), TRAVERSE_ERRORS)?)
+fn errors_of_a_layer_are_their_names(rt: HostRuntime) {
+    compare_texts(&rt, rt.alloc(), TRAVERSE_ERRORS);
 }

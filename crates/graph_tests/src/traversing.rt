@@ -5,7 +5,6 @@ use gix_commitgraph::file::verify::{Outcome, TraverseError};
 use gix_commitgraph::file::{Commit, Position};
 use std::alloc::{AllocError, Global};
 use std::process::Abort;
-use std::test::Fail;
 
 /// The error of a processor that refuses.
 #[derive(Clone, Copy, Debug, PartialEq, Eq)]
@@ -47,20 +46,14 @@ fn compare_answer(
 }
 
 /// Compares the refusal of the layer of these bytes at a path, whose commits the processor accepts.
-fn compare_at(
-    rt: &impl Abort,
-    alloc: Global,
-    bytes: Vec<u8>,
-    path: &str,
-    want: &Refusal,
-) -> Result<(), Fail> {
-    compare_answer(rt, alloc, &opened(alloc, bytes, path)?, Ok(()), want);
-    Ok(())
+fn compare_at(rt: &impl Abort, alloc: Global, bytes: Vec<u8>, path: &str, want: &Refusal) {
+    let file = opened(rt, alloc, bytes, path);
+    compare_answer(rt, alloc, &file, Ok(()), want);
 }
 
 /// The same at a path that names no checksum.
-fn compare(rt: &impl Abort, alloc: Global, bytes: Vec<u8>, want: &Refusal) -> Result<(), Fail> {
-    compare_at(rt, alloc, bytes, "commit-graph", want)
+fn compare(rt: &impl Abort, alloc: Global, bytes: Vec<u8>, want: &Refusal) {
+    compare_at(rt, alloc, bytes, "commit-graph", want);
 }
 
 const NULL_ID: &Refusal = &(Some(TraverseError::NullId { pos: Position(1) }), 1);
@@ -68,20 +61,20 @@ const NULL_ID: &Refusal = &(Some(TraverseError::NullId { pos: Position(1) }), 1)
 const SAME_ID: &Refusal = &(Some(TraverseError::Order { pos: Position(1) }), 1);
 
 #[test]
-fn faults_of_the_commits(rt: HostRuntime) -> Result<(), Fail> {
+fn faults_of_the_commits(rt: HostRuntime) {
     let alloc = rt.alloc();
-    let bytes = layer(&rt, alloc, &[], &[(0x11, &[], 1), (0, &[], 1)])?;
-    compare(&rt, alloc, bytes, NULL_ID)?;
-    let bytes = layer(&rt, alloc, &[], &[(0x11, &[], 1), (0x11, &[], 1)])?;
-    compare(&rt, alloc, bytes, SAME_ID)
+    let bytes = layer(&rt, alloc, &[], &[(0x11, &[], 1), (0, &[], 1)]);
+    compare(&rt, alloc, bytes, NULL_ID);
+    let bytes = layer(&rt, alloc, &[], &[(0x11, &[], 1), (0x11, &[], 1)]);
+    compare(&rt, alloc, bytes, SAME_ID);
 }
 
 /// The diamond's file with the last bit of its checksum turned.
-fn with_wrong_checksum(rt: &impl Abort, alloc: Global) -> Result<Vec<u8>, Fail> {
-    let mut bytes = layer(rt, alloc, &[], DIAMOND)?;
-    assert_eq!(rt; bytes.len(), 1324);
+fn with_wrong_checksum(rt: &impl Abort, alloc: Global) -> Vec<u8> {
+    let mut bytes = layer(rt, alloc, &[], DIAMOND);
+    assert!(rt; bytes.len() == 1324);
     bytes[1323] ^= 1;
-    Ok(bytes)
+    bytes
 }
 
 /// Where the diamond's file is damaged, the bytes there, and the refusal.
@@ -106,23 +99,18 @@ const DAMAGED: &[(usize, &[u8], Refusal)] = &[
 ];
 
 /// Compares the refusals of damaged files.
-fn compare_damaged(
-    rt: &impl Abort,
-    alloc: Global,
-    rows: &[(usize, &[u8], Refusal)],
-) -> Result<(), Fail> {
+fn compare_damaged(rt: &impl Abort, alloc: Global, rows: &[(usize, &[u8], Refusal)]) {
     for (from, bytes, want) in rows {
-        let bytes = damaged_diamond(rt, alloc, *from, bytes)?;
-        compare(rt, alloc, bytes, want)?;
+        let bytes = damaged_diamond(rt, alloc, *from, bytes);
+        compare(rt, alloc, bytes, want);
     }
-    Ok(())
 }
 
 #[test]
-fn faults_of_the_layer(rt: HostRuntime) -> Result<(), Fail> {
-    compare_damaged(&rt, rt.alloc(), DAMAGED)?;
-    let bytes = with_wrong_checksum(&rt, rt.alloc())?;
-    compare(&rt, rt.alloc(), bytes, &(Some(TraverseError::Checksum), 0))
+fn faults_of_the_layer(rt: HostRuntime) {
+    compare_damaged(&rt, rt.alloc(), DAMAGED);
+    let bytes = with_wrong_checksum(&rt, rt.alloc());
+    compare(&rt, rt.alloc(), bytes, &(Some(TraverseError::Checksum), 0));
 }
 
 const WRONG_PARENT: &Refusal = &(
@@ -142,13 +130,12 @@ const REFUSED_FIRST: &Refusal = &(
 );
 
 #[test]
-fn the_processor_comes_before_the_parents(rt: HostRuntime) -> Result<(), Fail> {
+fn the_processor_comes_before_the_parents(rt: HostRuntime) {
     let alloc = rt.alloc();
-    let bytes = damaged_diamond(&rt, alloc, 1180, b"\x70\0\0\0\0\0\0\x07")?;
-    let file = opened(alloc, bytes, "commit-graph")?;
+    let bytes = damaged_diamond(&rt, alloc, 1180, b"\x70\0\0\0\0\0\0\x07");
+    let file = opened(&rt, alloc, bytes, "commit-graph");
     compare_answer(&rt, alloc, &file, Ok(()), WRONG_PARENT);
     compare_answer(&rt, alloc, &file, Err(Refused), REFUSED_FIRST);
-    Ok(())
 }
 
 /// The greatest and the least generation number, the most parents and the number of commits.
@@ -156,11 +143,13 @@ type Numbers = (u32, u32, u32, u32);
 
 /// Compares an outcome: its numbers, and how many commits have each number of parents.
 fn compare_outcome(rt: &impl Abort, outcome: &Outcome, want: Numbers, counts: &[(u32, u32)]) {
-    let (greatest, least) = (outcome.max_generation, outcome.min_generation);
-    let seen = (greatest, least, outcome.max_parents, outcome.num_commits);
-    assert!(rt; seen == want && outcome.parent_counts.len() == counts.len());
+    let (greatest, least, most_parents, commits) = want;
+    assert!(rt; outcome.max_generation == greatest && outcome.min_generation == least);
+    assert!(rt; outcome.max_parents == most_parents && outcome.num_commits == commits);
+    assert!(rt; outcome.parent_counts.len() == counts.len());
     for (parents, count) in counts {
-        assert!(rt; outcome.parent_counts.get(parents) == Some(count));
+        let seen = outcome.parent_counts.get(parents);
+        assert!(rt; matches!(seen, Some(seen) if seen == count));
     }
 }
 
@@ -173,28 +162,28 @@ const RIGHT: &[Right] = &[
 ];
 
 /// Compares the outcomes of right layers.
-fn compare_right(rt: &impl Abort, alloc: Global, rows: &[Right]) -> Result<(), Fail> {
+fn compare_right(rt: &impl Abort, alloc: Global, rows: &[Right]) {
     for (commits, want, counts) in rows {
-        let bytes = layer(rt, alloc, &[], commits)?;
-        let file = opened(alloc, bytes, "commit-graph")?;
+        let bytes = layer(rt, alloc, &[], commits);
+        let file = opened(rt, alloc, bytes, "commit-graph");
         let (outcome, calls, in_order) = checked(alloc, &file, Ok(()));
         assert!(rt; in_order && calls as usize == commits.len());
-        let outcome = outcome?;
+        let outcome = outcome.expect(rt, "a right layer");
         compare_outcome(rt, &outcome, *want, counts);
-        assert!(rt; outcome.try_clone()? == outcome);
+        assert!(rt; outcome.try_clone().expect(rt, "memory") == outcome);
     }
-    Ok(())
 }
 
 #[test]
-fn right_layers_pass(rt: HostRuntime) -> Result<(), Fail> {
-    compare_right(&rt, rt.alloc(), RIGHT)
+fn right_layers_pass(rt: HostRuntime) {
+    compare_right(&rt, rt.alloc(), RIGHT);
 }
 
 /// The checksum of the layer of these bytes, in hexadecimal.
-fn checksum_of(alloc: Global, bytes: &[u8]) -> Result<String, Fail> {
-    let file = opened(alloc, Vec::from_slice(alloc, bytes)?, "")?;
-    Ok(file.checksum().to_string(alloc)?)
+fn checksum_of(rt: &impl Abort, alloc: Global, bytes: &[u8]) -> String {
+    let bytes = Vec::from_slice(alloc, bytes).expect(rt, "memory");
+    let file = opened(rt, alloc, bytes, "");
+    file.checksum().to_string(alloc).expect(rt, "memory")
 }
 
 /// The parent fields that point to the first and to the second word of an extra edge list.
@@ -202,21 +191,24 @@ const FIRST: u32 = 0x8000_0000;
 
 const SECOND: u32 = 0x8000_0001;
 
+/// The second parent fields of the positions 2 and 3, and how many commits have each number of
+/// parents.
+const SHARED: &[([u32; 2], &[(u32, u32)])] = &[
+    ([FIRST, FIRST], &[(0, 1), (1, 1), (3, 2)]),
+    ([FIRST, SECOND], &[(0, 1), (1, 1), (2, 1), (3, 1)]),
+    ([SECOND, FIRST], &[(0, 1), (1, 1), (2, 1), (3, 1)]),
+];
+
 #[test]
-fn commits_of_a_layer_share_an_edge_list(rt: HostRuntime) -> Result<(), Fail> {
+fn commits_of_a_layer_share_an_edge_list(rt: HostRuntime) {
     let alloc = rt.alloc();
-    let rows: [([u32; 2], &[(u32, u32)]); 3] = [
-        ([FIRST, FIRST], &[(0, 1), (1, 1), (3, 2)]),
-        ([FIRST, SECOND], &[(0, 1), (1, 1), (2, 1), (3, 1)]),
-        ([SECOND, FIRST], &[(0, 1), (1, 1), (2, 1), (3, 1)]),
-    ];
-    for (fields, counts) in rows {
-        let bytes = sharing(&rt, alloc, fields, [9, 0x8000_0009])?;
-        let file = opened(alloc, bytes, "commit-graph")?;
+    for (fields, counts) in SHARED {
+        let bytes = sharing(&rt, alloc, *fields, [9, 0x8000_0009]);
+        let file = opened(&rt, alloc, bytes, "commit-graph");
         let (outcome, _, _) = checked(alloc, &file, Ok(()));
-        compare_outcome(&rt, &outcome?, (4, 1, 3, 4), counts);
+        let outcome = outcome.expect(&rt, "a right layer");
+        compare_outcome(&rt, &outcome, (4, 1, 3, 4), counts);
     }
-    Ok(())
 }
 
 /// The second parent fields of the positions 2 and 3, the words of the list, and the position whose
@@ -228,15 +220,14 @@ const RUN_OUT: &[([u32; 2], [u32; 2], u32)] = &[
 ];
 
 #[test]
-fn a_shared_edge_list_runs_out(rt: HostRuntime) -> Result<(), Fail> {
+fn a_shared_edge_list_runs_out(rt: HostRuntime) {
     let alloc = rt.alloc();
     for (fields, words, place) in RUN_OUT {
-        let bytes = sharing(&rt, alloc, *fields, *words)?;
+        let bytes = sharing(&rt, alloc, *fields, *words);
         let (pos, error) = (Position(*place), ParentError::EdgeOverflow);
         let want = (Some(TraverseError::Parent { pos, error }), *place + 1);
-        compare(&rt, alloc, bytes, &want)?;
+        compare(&rt, alloc, bytes, &want);
     }
-    Ok(())
 }
 
 /// A path that ends with the name of a layer of this checksum, and what follows the name.
@@ -245,27 +236,28 @@ fn path_of(alloc: Global, folder: &str, checksum: &str, end: &str) -> Result<Str
 }
 
 /// Compares the outcome of the layer of these bytes at a path whose name is no fault.
-fn compare_good_name(rt: &impl Abort, alloc: Global, bytes: &[u8], path: &str) -> Result<(), Fail> {
-    compare_at(rt, alloc, Vec::from_slice(alloc, bytes)?, path, &(None, 4))
+fn compare_good_name(rt: &impl Abort, alloc: Global, bytes: &[u8], path: &str) {
+    let bytes = Vec::from_slice(alloc, bytes).expect(rt, "memory");
+    compare_at(rt, alloc, bytes, path, &(None, 4));
 }
 
 /// The same at paths with the layer's checksum, in capitals and in a folder.
-fn compare_names_of_checksum(rt: &impl Abort, alloc: Global, bytes: &[u8]) -> Result<(), Fail> {
-    let digits = checksum_of(alloc, bytes)?;
-    let capitals = digits.to_ascii_uppercase(alloc)?;
-    let upper = path_of(alloc, "", &capitals, "")?;
-    compare_good_name(rt, alloc, bytes, upper.as_str())?;
-    let lower = path_of(alloc, "x/", &digits, "/.")?;
-    compare_good_name(rt, alloc, bytes, lower.as_str())
+fn compare_names_of_checksum(rt: &impl Abort, alloc: Global, bytes: &[u8]) {
+    let digits = checksum_of(rt, alloc, bytes);
+    let capitals = digits.to_ascii_uppercase(alloc).expect(rt, "memory");
+    let upper = path_of(alloc, "", &capitals, "").expect(rt, "memory");
+    compare_good_name(rt, alloc, bytes, upper.as_str());
+    let lower = path_of(alloc, "x/", &digits, "/.").expect(rt, "memory");
+    compare_good_name(rt, alloc, bytes, lower.as_str());
 }
 
 #[test]
-fn names_of_files(rt: HostRuntime) -> Result<(), Fail> {
+fn names_of_files(rt: HostRuntime) {
     let alloc = rt.alloc();
-    let bytes = layer(&rt, alloc, &[], DIAMOND)?;
-    compare_good_name(&rt, alloc, &bytes, "commit-graph")?;
-    compare_good_name(&rt, alloc, &bytes, "graph-ab")?;
-    compare_names_of_checksum(&rt, alloc, &bytes)?;
+    let bytes = layer(&rt, alloc, &[], DIAMOND);
+    compare_good_name(&rt, alloc, &bytes, "commit-graph");
+    compare_good_name(&rt, alloc, &bytes, "graph-ab");
+    compare_names_of_checksum(&rt, alloc, &bytes);
     let fault = (Some(TraverseError::FileName), 0);
-    compare_at(&rt, alloc, bytes, "x/graph-.graph", &fault)
+    compare_at(&rt, alloc, bytes, "x/graph-.graph", &fault);
 }

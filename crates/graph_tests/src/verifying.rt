@@ -7,37 +7,37 @@ use gix_hash_core::ObjectId;
 use std::alloc::{AllocError, Global};
 use std::collections::BTreeMap;
 use std::process::Abort;
-use std::test::Fail;
 
 const MAX: u32 = GENERATION_NUMBER_MAX;
 
 /// The SHA-1 layer of these commits on these bases, under a name that no chain gives.
-fn file(
-    rt: &impl Abort,
-    alloc: Global,
-    bases: &[ObjectId],
-    rows: &[Row<'_>],
-) -> Result<File, Fail> {
-    Ok(opened(alloc, layer(rt, alloc, bases, rows)?, "commit-graph")?)
+fn file(rt: &impl Abort, alloc: Global, bases: &[ObjectId], rows: &[Row<'_>]) -> File {
+    opened(rt, alloc, layer(rt, alloc, bases, rows), "commit-graph")
 }
 
 /// The graph of one such layer for each of these lists of commits, with the right bases.
-pub fn graph(rt: &impl Abort, alloc: Global, layers: &[&[Row<'_>]]) -> Result<Graph, Fail> {
+pub fn graph(rt: &impl Abort, alloc: Global, layers: &[&[Row<'_>]]) -> Graph {
     let mut files = Vec::new(alloc);
     let mut checksums = Vec::new(alloc);
     for rows in layers {
-        let file = file(rt, alloc, &checksums, rows)?;
-        checksums.push(file.checksum().to_owned())?;
-        files.push(file)?;
+        let file = file(rt, alloc, &checksums, rows);
+        checksums
+            .push(file.checksum().to_owned())
+            .expect(rt, "memory");
+        files.push(file).expect(rt, "memory");
     }
-    Ok(Graph::new(alloc, files)?)
+    Graph::new(alloc, files).expect(rt, "a graph")
 }
 
-/// The graph of this one layer.
-fn graph_of_one(alloc: Global, file: File) -> Result<Graph, Fail> {
-    let mut files = Vec::new(alloc);
-    files.push(file)?;
-    Ok(Graph::new(alloc, files)?)
+/// The graph of these layers.
+pub fn graph_of<const N: usize>(rt: &impl Abort, alloc: Global, files: [File; N]) -> Graph {
+    let files = Vec::from_array(alloc, files).expect(rt, "memory");
+    Graph::new(alloc, files).expect(rt, "a graph")
+}
+
+/// The graph of the one layer of these bytes.
+fn graph_of_one(rt: &impl Abort, alloc: Global, bytes: Vec<u8>) -> Graph {
+    graph_of(rt, alloc, [opened(rt, alloc, bytes, "commit-graph")])
 }
 
 /// The outcome with this longest path and these counts: numbers of parents, each with the number of
@@ -99,7 +99,8 @@ fn compare_refusal(
     calls: usize,
 ) {
     let (answer, seen) = checked(alloc, graph, None);
-    assert!(rt; seen.len() == calls && answer.as_ref().err() == Some(want));
+    assert!(rt; seen.len() == calls);
+    assert!(rt; matches!(&answer, Err(error) if error == want));
 }
 
 /// Compares the outcome of a right graph: its longest path and the counts of the numbers of
@@ -111,11 +112,11 @@ fn compare_outcome(
     graph: &Graph,
     longest: Option<u32>,
     counts: &[(u32, u32)],
-) -> Result<Vec<u8>, Fail> {
-    let want = outcome(alloc, longest, counts)?;
+) -> Vec<u8> {
+    let want = outcome(alloc, longest, counts).expect(rt, "memory");
     let (answer, seen) = checked(alloc, graph, None);
-    assert_eq!(rt; answer.as_ref().ok(), Some(&want));
-    Ok(seen)
+    assert!(rt; matches!(&answer, Ok(outcome) if *outcome == want));
+    seen
 }
 
 /// Compares the commits that the processor is called on, where it refuses the last of them, which
@@ -123,8 +124,9 @@ fn compare_outcome(
 fn compare_calls(rt: &impl Abort, alloc: Global, graph: &Graph, pos: u32, calls: &[u8]) {
     let (answer, seen) = checked(alloc, graph, calls.last().copied());
     let (pos, error) = (Position(pos), Refused::Commit);
-    let refusal = VerifyError::Processor { pos, error };
-    assert!(rt; answer.as_ref().err() == Some(&refusal) && seen.as_slice() == calls);
+    let want = VerifyError::Processor { pos, error };
+    assert!(rt; matches!(&answer, Err(error) if *error == want));
+    assert!(rt; seen.as_slice() == calls);
 }
 
 pub const TEN: &[Row<'static>] = &[
@@ -177,38 +179,35 @@ fn are_all(seen: &[u8], commits: &[Row<'_>]) -> bool {
 }
 
 /// Compares the outcomes of right graphs, where the processor is called on each commit, in order.
-fn compare_right(rt: &impl Abort, alloc: Global, rows: &[Right]) -> Result<(), Fail> {
+fn compare_right(rt: &impl Abort, alloc: Global, rows: &[Right]) {
     for (commits, longest, counts) in rows {
-        let graph = graph(rt, alloc, &[*commits])?;
-        let seen = compare_outcome(rt, alloc, &graph, *longest, counts)?;
+        let graph = graph(rt, alloc, &[*commits]);
+        let seen = compare_outcome(rt, alloc, &graph, *longest, counts);
         assert!(rt; are_all(&seen, commits));
     }
-    Ok(())
 }
 
 #[test]
-fn right_graphs_pass(rt: HostRuntime) -> Result<(), Fail> {
-    compare_right(&rt, rt.alloc(), RIGHT)
+fn right_graphs_pass(rt: HostRuntime) {
+    compare_right(&rt, rt.alloc(), RIGHT);
 }
 
 #[test]
-fn calls_are_in_the_order_of_the_graph(rt: HostRuntime) -> Result<(), Fail> {
+fn calls_are_in_the_order_of_the_graph(rt: HostRuntime) {
     let alloc = rt.alloc();
     let lower: &[Row<'_>] = &[(0x33, &[1], 2), (0x44, &[], 1)];
     let upper: &[Row<'_>] = &[(0x11, &[4], 4), (0x22, &[0, 2, 4], 5), (0x55, &[0], 3)];
-    let graph = graph(&rt, alloc, &[lower, upper])?;
+    let graph = graph(&rt, alloc, &[lower, upper]);
     let calls: &[u8] = &[0x33, 0x44, 0x11, 0x22, 0x55];
     compare_calls(&rt, alloc, &graph, 4, calls);
-    let seen = compare_outcome(&rt, alloc, &graph, Some(4), &[(0, 1), (1, 3), (3, 1)])?;
+    let seen = compare_outcome(&rt, alloc, &graph, Some(4), &[(0, 1), (1, 3), (3, 1)]);
     assert!(rt; seen.as_slice() == calls);
-    Ok(())
 }
 
 #[test]
-fn a_refusal_of_the_processor_is_handed_back(rt: HostRuntime) -> Result<(), Fail> {
-    let graph = graph(&rt, rt.alloc(), &[TEN])?;
+fn a_refusal_of_the_processor_is_handed_back(rt: HostRuntime) {
+    let graph = graph(&rt, rt.alloc(), &[TEN]);
     compare_calls(&rt, rt.alloc(), &graph, 2, &[0x11, 0x22, 0x33]);
-    Ok(())
 }
 
 /// The commits of a graph of one layer, the position that is refused, and the number wanted there.
@@ -237,19 +236,18 @@ const WRONG: &[Wrong] = &[
 ];
 
 /// Compares the refusals of graphs with a wrong generation number.
-fn compare_wrong(rt: &impl Abort, alloc: Global, rows: &[Wrong]) -> Result<(), Fail> {
+fn compare_wrong(rt: &impl Abort, alloc: Global, rows: &[Wrong]) {
     for (commits, place, expected) in rows {
-        let graph = graph(rt, alloc, &[*commits])?;
+        let graph = graph(rt, alloc, &[*commits]);
         let (pos, expected) = (Position(*place), *expected);
         let want = VerifyError::Generation { pos, expected };
         compare_refusal(rt, alloc, &graph, &want, *place as usize);
     }
-    Ok(())
 }
 
 #[test]
-fn wrong_generation_numbers_are_refused(rt: HostRuntime) -> Result<(), Fail> {
-    compare_wrong(&rt, rt.alloc(), WRONG)
+fn wrong_generation_numbers_are_refused(rt: HostRuntime) {
+    compare_wrong(&rt, rt.alloc(), WRONG);
 }
 
 /// Where the diamond's file is damaged, the bytes there, the refusal, and the number of calls.
@@ -286,18 +284,17 @@ const DAMAGED: &[Damaged] = &[
 ];
 
 /// Compares the refusals of damaged files.
-fn compare_damaged(rt: &impl Abort, alloc: Global, rows: &[Damaged]) -> Result<(), Fail> {
+fn compare_damaged(rt: &impl Abort, alloc: Global, rows: &[Damaged]) {
     for (from, bytes, want, calls) in rows {
-        let bytes = damaged_diamond(rt, alloc, *from, bytes)?;
-        let graph = graph_of_one(alloc, opened(alloc, bytes, "commit-graph")?)?;
+        let bytes = damaged_diamond(rt, alloc, *from, bytes);
+        let graph = graph_of_one(rt, alloc, bytes);
         compare_refusal(rt, alloc, &graph, want, *calls);
     }
-    Ok(())
 }
 
 #[test]
-fn damaged_layers_are_refused(rt: HostRuntime) -> Result<(), Fail> {
-    compare_damaged(&rt, rt.alloc(), DAMAGED)
+fn damaged_layers_are_refused(rt: HostRuntime) {
+    compare_damaged(&rt, rt.alloc(), DAMAGED);
 }
 
 /// The parent fields that point to the first and to the second word of an extra edge list, and the
@@ -311,20 +308,22 @@ const PAST: u32 = 0x8000_0002;
 /// A last parent, at position 1.
 const LAST: u32 = 0x8000_0001;
 
+/// The second parent fields of the positions 2 and 3, and how many commits have each number of
+/// parents.
+const SHARED: &[([u32; 2], &[(u32, u32)])] = &[
+    ([FIRST, FIRST], &[(0, 1), (1, 1), (3, 2)]),
+    ([FIRST, SECOND], &[(0, 1), (1, 1), (2, 1), (3, 1)]),
+    ([SECOND, FIRST], &[(0, 1), (1, 1), (2, 1), (3, 1)]),
+];
+
 #[test]
-fn commits_share_an_edge_list(rt: HostRuntime) -> Result<(), Fail> {
+fn commits_share_an_edge_list(rt: HostRuntime) {
     let alloc = rt.alloc();
-    let rows: [([u32; 2], &[(u32, u32)]); 3] = [
-        ([FIRST, FIRST], &[(0, 1), (1, 1), (3, 2)]),
-        ([FIRST, SECOND], &[(0, 1), (1, 1), (2, 1), (3, 1)]),
-        ([SECOND, FIRST], &[(0, 1), (1, 1), (2, 1), (3, 1)]),
-    ];
-    for (fields, counts) in rows {
-        let bytes = sharing(&rt, alloc, fields, [0, LAST])?;
-        let graph = graph_of_one(alloc, opened(alloc, bytes, "commit-graph")?)?;
-        compare_outcome(&rt, alloc, &graph, Some(3), counts)?;
+    for (fields, counts) in SHARED {
+        let bytes = sharing(&rt, alloc, *fields, [0, LAST]);
+        let graph = graph_of_one(&rt, alloc, bytes);
+        compare_outcome(&rt, alloc, &graph, Some(3), counts);
     }
-    Ok(())
 }
 
 /// The second parent fields of the positions 2 and 3, the words of the list, the refusal, and how
@@ -387,69 +386,63 @@ const REFUSED_LISTS: &[([u32; 2], [u32; 2], VerifyError<Refused>, usize)] = &[
 ];
 
 #[test]
-fn a_word_of_a_shared_edge_list_is_refused(rt: HostRuntime) -> Result<(), Fail> {
+fn a_word_of_a_shared_edge_list_is_refused(rt: HostRuntime) {
     let alloc = rt.alloc();
     for (fields, words, want, calls) in REFUSED_LISTS {
-        let bytes = sharing(&rt, alloc, *fields, *words)?;
-        let graph = graph_of_one(alloc, opened(alloc, bytes, "commit-graph")?)?;
+        let graph = graph_of_one(&rt, alloc, sharing(&rt, alloc, *fields, *words));
         compare_refusal(&rt, alloc, &graph, want, *calls);
     }
-    Ok(())
 }
 
 #[test]
-fn the_greatest_generation_stands_in_a_shared_edge_list(rt: HostRuntime) -> Result<(), Fail> {
+fn the_greatest_generation_stands_in_a_shared_edge_list(rt: HostRuntime) {
     let alloc = rt.alloc();
-    let bytes = sharing(&rt, alloc, [SECOND, FIRST], [3, LAST])?;
-    let graph = graph_of_one(alloc, opened(alloc, bytes, "commit-graph")?)?;
+    let bytes = sharing(&rt, alloc, [SECOND, FIRST], [3, LAST]);
+    let graph = graph_of_one(&rt, alloc, bytes);
     let (pos, expected) = (Position(3), 5);
     let want = VerifyError::Generation { pos, expected };
     compare_refusal(&rt, alloc, &graph, &want, 3);
-    Ok(())
 }
 
 #[test]
-fn a_base_too_many_is_refused(rt: HostRuntime) -> Result<(), Fail> {
-    let file = file(&rt, rt.alloc(), &[ObjectId::from([0x33; 20])], &[])?;
-    let graph = graph_of_one(rt.alloc(), file)?;
+fn a_base_too_many_is_refused(rt: HostRuntime) {
+    let file = file(&rt, rt.alloc(), &[ObjectId::from([0x33; 20])], &[]);
+    let graph = graph_of(&rt, rt.alloc(), [file]);
     let want = VerifyError::BaseCount { layer: 0 };
     compare_refusal(&rt, rt.alloc(), &graph, &want, 0);
-    Ok(())
 }
 
 #[test]
-fn a_parent_in_a_later_layer_is_refused(rt: HostRuntime) -> Result<(), Fail> {
+fn a_parent_in_a_later_layer_is_refused(rt: HostRuntime) {
     let layers: [&[Row<'_>]; 2] = [&[(0x11, &[1], 2)], &[(0x22, &[], 1)]];
-    let graph = graph(&rt, rt.alloc(), &layers)?;
+    let graph = graph(&rt, rt.alloc(), &layers);
     let (pos, parent) = (Position(0), Position(1));
     let want = VerifyError::ParentOutOfRange { pos, parent };
     compare_refusal(&rt, rt.alloc(), &graph, &want, 0);
-    Ok(())
 }
 
 /// The graph of 257 empty layers.
-fn too_many_layers(rt: &impl Abort, alloc: Global) -> Result<Graph, Fail> {
+fn too_many_layers(rt: &impl Abort, alloc: Global) -> Graph {
     let mut files = Vec::new(alloc);
     for _ in 0..257 {
-        files.push(file(rt, alloc, &[], &[])?)?;
+        files.push(file(rt, alloc, &[], &[])).expect(rt, "memory");
     }
-    Ok(Graph::new(alloc, files)?)
+    Graph::new(alloc, files).expect(rt, "a graph")
 }
 
 #[test]
-fn up_to_256_layers_pass(rt: HostRuntime) -> Result<(), Fail> {
+fn up_to_256_layers_pass(rt: HostRuntime) {
     let alloc = rt.alloc();
-    let graph_of_257 = too_many_layers(&rt, alloc)?;
+    let graph_of_257 = too_many_layers(&rt, alloc);
     compare_refusal(&rt, alloc, &graph_of_257, &VerifyError::TooManyFiles, 0);
 
     let layers: [&[Row<'_>]; 256] = [&[]; 256];
-    compare_outcome(&rt, alloc, &graph(&rt, alloc, &layers)?, Some(0), &[])?;
-    Ok(())
+    let graph = graph(&rt, alloc, &layers);
+    compare_outcome(&rt, alloc, &graph, Some(0), &[]);
 }
 
 #[test]
-fn an_outcome_is_equal_to_its_clone(rt: HostRuntime) -> Result<(), Fail> {
-    let outcome = outcome(rt.alloc(), Some(2), &[(0, 1), (1, 2), (2, 1)])?;
-    assert!(rt; outcome.try_clone()? == outcome);
-    Ok(())
+fn an_outcome_is_equal_to_its_clone(rt: HostRuntime) {
+    let right = outcome(rt.alloc(), Some(2), &[(0, 1), (1, 2), (2, 1)]).expect(&rt, "memory");
+    assert!(rt; right.try_clone().expect(&rt, "memory") == right);
 }
