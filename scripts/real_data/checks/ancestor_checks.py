@@ -1,8 +1,13 @@
-"""Checks `ancestor`: each pair of commits, in a file and in a chain, beside `git merge-base --is-ancestor`."""
+"""Checks `ancestor`: each pair of commits, in a file and in a chain, beside `git merge-base --is-ancestor`.
+
+And the two cases in which the answers differ: an id in two layers, and commits whose parents Git replaces.
+"""
 
 import itertools
 
 from checks.runs import check_runs
+from damage import trees
+from damage.layer import big_endian, contents, exact_fan, with_chunks
 from expected import judge
 from expected.walks import Walks
 from histories import shapes
@@ -14,6 +19,8 @@ def check_all(program, tally, new):
     """The checks of walks to ancestors; a new repository comes from a function of its name."""
     check_file(program, tally, new("ancestors in a file"))
     check_chain(program, tally, new("ancestors in a chain"))
+    check_id_in_two_layers(program, tally, new("ancestors by an id in two layers"))
+    check_replaced_parents(program, tally, new("ancestors by replaced parents"))
 
 
 def check_file(program, tally, repository):
@@ -52,3 +59,71 @@ def check_pairs(program, tally, repository, name, walks):
     pairs = list(itertools.product(walks.words, repeat=2))
     runs = [(lambda pair=pair: answer(pair), lambda answers, pair=pair: complaint(pair, answers)) for pair in pairs]
     check_runs(tally, "%s, ancestor, each pair of %s" % (repository.object_format, name), runs)
+
+
+def check_id_in_two_layers(program, tally, repository):
+    """Three commits in a line, the second of them in both layers of a chain, and the third on its later position.
+
+    `verify` and Git pass the chain. An id is looked up at its first position, to which no walk leads here.
+    """
+    root, middle, tip = ids = repository.add(shapes.linear(3))
+    trees.lay_out(repository.info_path(), with_middle_in_both(repository, ids))
+    position = sorted([root, middle]).index(middle)
+    later = 2 + sorted([middle, tip]).index(middle)
+    title, path = "%s, an id in two layers" % repository.object_format, repository.info_path()
+    passed = judge.verdict("ok commits 4 longest 2\nparents 0 commits 1\nparents 1 commits 3\n", program.verify(path))
+    tally.check(title + ", verified", passed)
+    tally.check(title + ", passed by Git", complaint_of((0, False), repository.git_verdict()))
+    refused = judge.verdict("refused verify 11 position %d earlier %d\n" % (later, position), program.distinct(path))
+    tally.check(title + ", its ids distinct", refused)
+    tally.check(title + ", the tip reaches it, as Git says", complaint_of(True, repository.reaches(tip, middle)))
+    nothing = judge.exactly(1, "none\nvisits 2\n", "", program.ancestor(path, tip, middle))
+    tally.check(title + ", no walk to its first position", nothing)
+    walk = "walk %d %d %d\nvisits 3\n" % (5 - later, later, 1 - position)
+    tally.check(title + ", a walk by its later one", judge.exactly(0, walk, "", program.ancestor(path, tip, root)))
+
+
+def with_middle_in_both(repository, ids):
+    """The tree of a chain of the first two commits in a line, and of the last two."""
+    root, middle, tip = ids
+    kind, size = repository.object_format, len(bytes.fromhex(root))
+    for last in (middle, tip):
+        repository.write_graph("--split=no-merge", tips=[last], generation_version=1)
+    lower, upper = [trees.Layer(checksum, content) for checksum, content in repository.chain()]
+    at = sorted([root, middle]).index(middle) * (size + 16)
+    middle_record = dict(contents(lower.content, kind))[b"CDAT"][at : at + size + 16]
+    chunks = dict(contents(upper.content, kind))
+    on_middle = big_endian(2 + sorted([middle, tip]).index(middle), 4)
+    tip_record = chunks[b"CDAT"][:size] + on_middle + chunks[b"CDAT"][size + 4 :]
+    records = {middle: middle_record, tip: tip_record}
+    both = [bytes.fromhex(commit) for commit in sorted(records)]
+    chunks[b"OIDF"] = b"".join(big_endian(count, 4) for count in exact_fan(both))
+    chunks[b"OIDL"], chunks[b"CDAT"] = b"".join(both), b"".join(records[commit.hex()] for commit in both)
+    content = with_chunks(upper.content, kind, list(chunks.items()))
+    return trees.chain([lower, trees.Layer("", content).renamed(kind)])
+
+
+def check_replaced_parents(program, tally, repository):
+    """A tip that `git replace --graft` takes off its parent, and puts on a root that is none of its ancestors.
+
+    The commit-graph has the parents that stand in the commits, and so has Git where it replaces none.
+    """
+    root, tip, other = repository.add(shapes.ticking([[], [0], []]))
+    repository.write_graph()
+    place, path = sorted([root, tip, other]).index, repository.graph_path()
+    answers = {
+        root: (0, "walk %d %d\nvisits 2\n" % (place(tip), place(root))),
+        other: (1, "none\nvisits 2\n"),
+    }
+    for name, graft, reached in (("as it was made", [], root), ("replaced", [tip, other], other)):
+        if graft:
+            repository.git("replace", "--graft", *graft)
+        for second, (status, text) in answers.items():
+            title = "%s, a tip %s, ancestor %d" % (repository.object_format, name, place(second))
+            tally.check(title + ", as Git says", complaint_of(second == reached, repository.reaches(tip, second)))
+            tally.check(title, judge.exactly(status, text, "", program.ancestor(path, tip, second)))
+
+
+def complaint_of(expected, seen):
+    """A complaint where something else is seen than is expected, or None."""
+    return None if seen == expected else "%s, expected %s" % (seen, expected)
