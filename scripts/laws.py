@@ -5,6 +5,7 @@ import re
 EXPORTER = "gix_commitgraph"
 """The crate that re-exports the laws of those below it. They are named by its paths."""
 
+PUBLIC_PATHS = "crates/public_paths/src/"
 FILE = re.compile(r"crates/\w+/src/(.*/)?law(/.*)?\.rt")
 LAW = re.compile(r"^pub fn (\w+)", re.MULTILINE)
 PUBLIC = re.compile(r"^pub mod law;", re.MULTILINE)
@@ -26,6 +27,14 @@ def paths(texts):
     exported = set(re.findall(r"^pub use (\w+)::law", "".join(texts[path] for path in files_of(texts, EXPORTER)), re.MULTILINE))
     crates = {path.split("/")[1] for path, text in texts.items() if path.endswith("/src/lib.rt") and PUBLIC.search(text)}
     return {crate: set(paths_in(texts, crate, "law")) for crate in crates - exported}
+
+
+def not_exported(texts):
+    """The laws of the crate that re-exports the others which its crate of public paths does not name."""
+    named = set(re.findall(r"\w+", "".join(text for path, text in texts.items() if path.startswith(PUBLIC_PATHS))))
+    for path in sorted(paths(texts)[EXPORTER]):
+        if path.split("::")[-1] not in named:
+            yield path
 
 
 def files_of(texts, crate):

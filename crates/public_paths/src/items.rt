@@ -3,7 +3,36 @@
 use gix_commitgraph::file::commit::{Commit, ExtraEdge, ParentEdge, Parents};
 use gix_commitgraph::file::verify::{self, ChecksumMismatch};
 use gix_commitgraph::file::{self, BaseIds, Commits, File, Ids};
-use gix_commitgraph::law::{check, distinct, edges, graph, layer, lookup, sound, stats, walk};
+use gix_commitgraph::law::check::{
+    a_check_of_a_graph_calls_on_each_position_once, a_check_of_a_layer_calls_on_each_position_once,
+};
+use gix_commitgraph::law::distinct::distinct_ids_are_without_fault;
+use gix_commitgraph::law::edges::each_edge_list_ends_or_runs_out;
+use gix_commitgraph::law::graph::{
+    a_lookup_in_ordered_layers_is_a_scan, a_position_is_a_place_in_its_layer,
+    a_position_lies_in_one_layer, layers_are_refused_or_make_a_graph, the_commits_of_layers_add_up,
+    the_history_of_a_graph_is_that_of_its_layers,
+};
+use gix_commitgraph::law::layer::{
+    a_layer_without_fault_is_right, the_test_of_a_name_is_the_rule,
+};
+use gix_commitgraph::law::lookup::{a_scan_answers_the_first_position, digits_are_binary_digits};
+use gix_commitgraph::law::sound::{
+    a_graph_without_fault_is_right, a_lookup_in_a_right_graph_is_a_scan,
+    a_right_graph_is_without_fault, the_longest_path_of_a_right_graph_is_its_longest_walk,
+};
+use gix_commitgraph::law::stats::{
+    the_parent_counts_of_a_graph_add_up, the_parent_counts_of_a_layer_add_up,
+};
+use gix_commitgraph::law::walk::{
+    cycles_are_at_the_cap, generations_fall_along_walks, generations_never_rise_along_walks,
+    generations_that_count_walks_are_local, greatest_generation_is_the_longest_walk,
+    local_generations_count_walks, the_cap_is_this_number,
+};
+use gix_commitgraph::law::{
+    bytes_fall_into_pieces, each_is_answered, each_is_refused_or_read, falling_fans_are_named,
+    limits_are_these_numbers, positions_are_ordered_by_their_numbers,
+};
 use gix_commitgraph::opening::{open_chain_dir_in, open_file_in, open_in, open_info_dir_in};
 use gix_commitgraph::verify::Outcome;
 use gix_commitgraph::{

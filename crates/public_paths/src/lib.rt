@@ -1,5 +1,6 @@
-//! Names every public path of `gix_commitgraph` from a crate that uses that crate alone, and cites
-//! definitions of its contracts: this compiles only where each of them is there.
+//! Names the public paths of `gix_commitgraph`, each law among them, from a crate that uses that
+//! crate alone, and cites definitions of its contracts: this compiles only where all of them are
+//! there.
 #![tactic(auto)]
 
 ghost use Rattle.std.specs.Prelude.{IfOk, MatchResult};
