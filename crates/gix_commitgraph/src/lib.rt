@@ -3,8 +3,10 @@
 //! A [`File`] is one layer of a commit-graph, opened from its bytes. It is opened exactly where the
 //! bytes have the written format; else a [`FileError`] names the first rule that they break. A
 //! [`Graph`] is a list of such layers, the lowest first. [`Graph::verify_integrity`] checks whether
-//! it is right, and the openers of the module [`opening`] open one by its path. Everything is read
-//! in place: only opening, and the statistics of a check, can run out of memory.
+//! it is right, and the openers of the module [`opening`] open one by its path.
+//!
+//! Opening decodes the commits, and a check keeps counts: both allocate, as does copying a check's
+//! outcome, and can answer that memory ran out. Accessors, iterators and lookups allocate nothing.
 #![tactic(auto)]
 
 ghost use Rattle.std.specs.Prelude.{Some, IfOk, IfErr};

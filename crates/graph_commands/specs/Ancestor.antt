@@ -20,9 +20,8 @@ use Rattle.graph_commands.specs.declared.refusal.Refusal.TheVariants.{Id, Read, 
 use Rattle.graph_commands.specs.Refusal.{refusal_text, refusal_status}
 use Rattle.graph_commands.specs.Text.{◌⧺◌, newline}
 
--- what a query between the commits with two ids may find in a right graph: the first of the ids that is not there, by an answer
--- to
--- its lookup; else an answer to the query between the positions where the ids are
+-- what a query between the commits with two ids may find in a right graph: the first of the ids that is not there, by an
+-- answer to its lookup; else an answer to the query between the positions where the ids are
 abbrev pub MayFindBetween : List Layer → List ℕ → List ℕ → Ancestry → Type 0
 MayFindBetween layers first second FirstUnknown = FoundIn layers first None
 MayFindBetween layers first second SecondUnknown = (from : ℕ) × FoundIn layers first (Some from) × FoundIn layers second None
@@ -52,9 +51,8 @@ MayAnswerOpened first second MayOpen answer =
 abbrev pub SpellNoIds : List ℕ → List ℕ → IdError → Type 0
 SpellNoIds first second error = SpellsNone first error ⊎ ((a : List ℕ) × SpellsId first a × SpellsNone second error)
 
--- what `ancestor` may answer for the texts of two ids, where the opener may answer so. For a text that is no id the folder is
--- left
--- as it was: nothing is opened
+-- what `ancestor` may answer for the texts of two ids, given what the opener may answer. For a text that is no id the folder
+-- is left as it was: nothing is opened
 abbrev pub MayRelate : List ℕ → List ℕ → Type 0 → (Result (List Layer) OpenError → Type 0) → Result Ancestry Refusal → Type 0
 MayRelate first second IsLeftAlone MayOpen (Err (Id error)) = SpellNoIds first second error × IsLeftAlone
 MayRelate first second IsLeftAlone MayOpen (Err (Open error)) =

@@ -11,7 +11,7 @@ use Rattle.graph_format.specs.declared.parents.ParentError.{ParentError}
 use Rattle.graph_format.specs.declared.parents.ParentError.TheVariants.{SecondWithoutFirst, FirstIsEdgeIndex, NoEdgeList}
 use Rattle.graph_format.specs.declared.parents.ParentError.TheVariants.{EdgeOverflow}
 
--- the commit at this place of the graph
+-- a number as a position in the graph
 abbrev pub position_of : ℕ → Position
 position_of n = record { 0 = n }
 
@@ -28,7 +28,7 @@ abbrev pub extra_edge_of : ℕ → ExtraEdge
 extra_edge_of word =
     if nat_lt word 0x80000000 then extra.Internal (position_of word) else extra.Last (position_of (word - 0x80000000))
 
--- DecodedParents in their order, and the fault that comes after them, if one does.
+-- The parents, in order, and the fault that ends them, if there is one.
 pub record DecodedParents : Type 0 where
   pub positions : List Position
   pub fault : Option ParentError
@@ -49,7 +49,7 @@ abbrev pub extra_parent : ExtraEdge → DecodedParents → DecodedParents
 extra_parent (extra.Internal pos) rest = followed_by pos rest
 extra_parent (extra.Last pos) rest = followed_by pos no_parents
 
--- the parents that words list, up to and with the last one; where the words run out before it, that is the fault
+-- the parents that words list, up to and including the last one; where the words run out before it, that is the fault
 abbrev pub listed : List ℕ → DecodedParents
 listed [] = faulty EdgeOverflow
 listed (word ∷ rest) = extra_parent (extra_edge_of word) (listed rest)

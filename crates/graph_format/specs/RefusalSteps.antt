@@ -1,5 +1,5 @@
--- The conditions that refuse bytes, in the groups in which they are checked. For private contracts alone: `proofs/Grouped`
--- proves that together they are `refusal`.
+-- The conditions that refuse bytes, in the groups in which the crate `graph_layout` checks them. `RefusalStepLemmas` proves
+-- that together they are `refusal`.
 use Rattle.std.specs.Prelude.{ℕ, ◌-◌, not, ◌&&◌, List, length, take, slice_index, Option, option_map, is_none, nat_lt, ◌==◌}
 use Rattle.std.specs.Prelude.{bytes_eq}
 use Rattle.first_faults.specs.First.{◌when◌, ◌otherwise◌}
