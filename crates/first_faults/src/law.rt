@@ -1,10 +1,10 @@
-//! What holds of all conditions.
+//! The law of the first fault.
 
 ghost use Rattle.std.specs.Prelude.{◌≡◌, ◌<◌, ◌↔◌, ℕ, Option, Some, None};
 ghost use Rattle.first_faults.specs.First.{first_below, IsLeastGiving};
 
-/// What a function first gives below a number is what it gives at the least number below it where
-/// it gives anything.
+/// Of the conditions at the numbers below `n`, the one at the least number that gives a fault is
+/// the first; where none gives one, there is no first.
 #[tactic(auto, using(crate::proofs::FirstLemmas::least_laws))]
 pub fn first_is_at_the_least_number<T>()
     ensures some { (f : ℕ → Option T) (n : ℕ) (x : T)

@@ -4,7 +4,7 @@ use Rattle.std.specs.Prelude.{find}
 use Rattle.std.specs.List.{range_with_len}
 use Rattle.gix_chunk_core.specs.Entry.{entry_at, end_id}
 
--- A chunk, and the part of the file that it has: from its start up to, without, its end.
+-- A chunk, and the part of the file that it has: from its start up to but not including its end.
 pub record Chunk : Type 0 where
   pub id : List ℕ
   pub start : ℕ

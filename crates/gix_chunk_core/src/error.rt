@@ -10,7 +10,7 @@ use thiserror::Error;
 /// [`Index::from_bytes`]: crate::Index::from_bytes
 #[derive(Clone, Copy, Debug, PartialEq, Eq, Error)]
 pub enum ChunkError {
-    /// The table is to have no chunk.
+    /// The number of chunks is 0.
     #[error("NoChunks")]
     NoChunks,
     /// The table does not end within the file.
@@ -28,7 +28,7 @@ pub enum ChunkError {
     /// An entry's offset is less than that of the entry before it.
     #[error("Falling")]
     Falling { entry: usize },
-    /// The last entry has this id, and not the id 0, which ends a table.
+    /// The last entry has this id, in place of the id 0, which ends a table.
     #[error("NoEnd")]
     NoEnd { id: [u8; 4] },
 }

@@ -175,8 +175,8 @@ impl<'a> Index<'a> {
         }
     }
 
-    /// Where the chunk with this id stands in the file, from its first byte up to, without, its
-    /// end. `None` where no chunk has the id, as with the id 0, which ends the table.
+    /// Where the chunk with this id stands in the file, from its first byte up to but not including
+    /// its end. `None` where no chunk has the id, as with the id 0, which ends the table.
     #[tactic(auto, using(crate::proofs::RangeLemmas::range_laws, crate::proofs::TableLemmas::place_laws))]
     pub fn range_by_id(&self, id: [u8; 4]) -> Option<Range<usize>>
         ensures place { option_map (λ range. (range.start, range.end)) result

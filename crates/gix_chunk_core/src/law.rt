@@ -1,4 +1,4 @@
-//! What holds of all bytes.
+//! Laws of the table of chunks.
 
 ghost use Rattle.std.specs.Prelude.{◌≡◌, ◌<◌, ◌≤◌, ◌↔◌, ℕ, List, length, Option, Some, None};
 ghost use Rattle.std.specs.Prelude.{Contains};
@@ -16,8 +16,8 @@ pub fn tables_are_read_or_refused()
         → Chunks bytes at count table → Chunks bytes at count other → table ≡ other }
 {}
 
-/// In a table that bytes have, an id is found where exactly the chunk with that id lies, which is
-/// within the bytes, and the id 0 is never found.
+/// In the table of chunks of some bytes, what is found for an id is where the chunk with that id
+/// lies, within the bytes; and the id 0 is never found.
 #[tactic(auto, using(crate::proofs::TableLemmas::found_laws))]
 pub fn chunks_are_found_by_id()
     ensures found { (bytes : List ℕ) (at count : ℕ) (table : Table) (id : List ℕ) (start end : ℕ)

@@ -1,4 +1,4 @@
--- what the words of a graph mean
+-- what the definitions of graphs mean
 use Rattle.std.specs.Prelude.{◌≡◌, ◌≢◌, ℕ, ◌+◌, ◌-◌, ◌<◌, ◌≤◌, List, [], All, length, slice_get, Option, Some, MatchOption}
 use Rattle.graph_format.specs.Layer.{Layer}
 use Rattle.graph_format.specs.Order.{AreAscending, IsExactFan}

@@ -1,4 +1,4 @@
--- where the commits stand on which the check of a graph calls
+-- where a commit stands on which the check of a graph calls the processor
 use Rattle.std.specs.Prelude.{◌≡◌, ℕ, List, Some, slice_get}
 use Rattle.graph_format.specs.Layer.{Layer}
 use Rattle.graph_layer.specs.Commit.{layer_and_position}

@@ -83,7 +83,7 @@ impl Graph {
     ///
     /// A position that is answered always holds the id. Where in each layer the ids strictly ascend
     /// and the fan is exact, the answer is the least position that holds the id, and `None` only
-    /// where none does. In a damaged file an id may be missed that is there.
+    /// where none does. In a damaged file, an id that is there may be missed.
     pub fn lookup(&self, id: oid<'_>) -> Option<Position>
         ensures found { FoundIn self.now (oid_bytes id.entry) (position_number result) }
         ensures holds { IfSome result (λ pos.

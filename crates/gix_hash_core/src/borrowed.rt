@@ -33,7 +33,7 @@ impl<'a> oid<'a> {
         }
     }
 
-    /// The id of bytes that are known to be as many as some kind has.
+    /// The id of these bytes, which are known to be 20 or 32.
     pub(crate) fn from_sized(bytes: &'a [u8]) -> oid<'a>
         requires { IsTrue (is_id_len (length bytes.now)) }
         ensures { oid_bytes result ≡ bytes.now }
@@ -74,7 +74,7 @@ impl<'a> oid<'a> {
         self.front() == 0 && self.bytes.iter().all(|byte| *byte == 0)
     }
 
-    /// The number that the id's first eight bytes make. It is 0 for hardly any id.
+    /// The number that the id's first eight bytes make. It is hardly ever 0.
     fn front(self) -> u64
         ensures { All (λ byte. byte ≡ 0) (oid_bytes self.entry) → result ≡ 0 }
     {

@@ -1,4 +1,4 @@
-//! What holds of all ids.
+//! Laws of ids and digests.
 //!
 //! That equality is an equivalence, that the order is total and agrees with it, and that equal ids
 //! hash alike is proved with the impls of `Eq`, `Ord` and `Hash` themselves.

@@ -30,8 +30,8 @@ pub enum IdError {
     Digit,
 }
 
-/// An id that owns its 20 or 32 bytes, which take no memory but its own place. A contract sees it
-/// as the list of them.
+/// An id that owns its 20 or 32 bytes, without an allocation. A contract sees it as the list of
+/// them.
 ///
 /// Equality, order and hash are those of the list. So ids of different kinds are never equal, and
 /// an id comes before another where its byte is the lesser at the first place at which they
@@ -103,7 +103,7 @@ impl ObjectId {
     }
 }
 
-/// The bytes that a text of two digits for each spells.
+/// The bytes that a text spells, two digits each.
 fn decoded<const N: usize>(text: &[u8]) -> Result<[u8; N], IdError>
     requires { length text.now ≡ 2 * N }
     ensures ok { IfOk result (λ bytes. decode_of text.now ≡ Ok bytes) }

@@ -25,8 +25,8 @@ abbrev pub MayBeFound : List Layer → List ℕ → Option Found → Type 0
 MayBeFound layers id (Some found) = FoundIn layers id (Some found.pos.0) × Reports layers found
 MayBeFound layers id None = FoundIn layers id None
 
--- what `find` may answer for the text of an id, where the opener may answer so. For a text that is no id the folder is left as
--- it was: nothing is opened
+-- what `find` may answer for the text of an id, given what the opener may answer. For a text that is no id the folder is left
+-- as it was: nothing is opened
 abbrev pub MayFind : List ℕ → Type 0 → (Result (List Layer) OpenError → Type 0) → Result (Option Found) Refusal → Type 0
 MayFind text IsLeftAlone MayOpen (Ok found) =
     (id : List ℕ) × SpellsId text id × ((layers : List Layer) × MayOpen (Ok layers) × MayBeFound layers id found)

@@ -22,7 +22,7 @@ use Rattle.graph_commands.specs.Text.{◌⧺◌, newline}
 
 -- What it means that a graph passes its check by these options with this outcome. The processor of the check accepts each commit.
 pub record Passes (options : VerifyOptions) (layers : List Layer) (outcome : Outcome) : Type 0 where
-  -- the graph is right and keeps what the options ask for besides, and these are its statistics
+  -- the graph is right and keeps the further rules that the options add, and these are its statistics
   pub right : IsSoundWith options layers
   pub statistics : Stats layers outcome
   -- in the terms of the check: none of its points has a fault, and the outcome is computed from the commits
@@ -31,7 +31,7 @@ pub record Passes (options : VerifyOptions) (layers : List Layer) (outcome : Out
 
 -- What it means that a graph fails its check by these options with this error.
 pub record Fails (options : VerifyOptions) (layers : List Layer) (error : VerifyError Infallible) : Type 0 where
-  -- the graph is not right, or does not keep what the options ask for besides, unless the check ran out of memory
+  -- the graph is not right, or breaks a further rule that the options add, unless the check ran out of memory
   pub deserved : IsDeservedWith options layers error
   -- the error is the first fault of the check, else that it ran out of memory
   pub first : (first_fault (points_with options layers) ≡ Some error) ⊎ (error ≡ OutOfMemory)
@@ -40,7 +40,7 @@ pub record Fails (options : VerifyOptions) (layers : List Layer) (error : Verify
 abbrev pub MayPass : VerifyOptions → (Result (List Layer) OpenError → Type 0) → Outcome → Type 0
 MayPass options MayOpen outcome = (layers : List Layer) × MayOpen (Ok layers) × Passes options layers outcome
 
--- what a command that checks by these options may answer, where the opener may answer so. The numbers of parents ascend
+-- what a command that checks by these options may answer, given what the opener may answer. The numbers of parents ascend
 abbrev pub MayCheck : VerifyOptions → (Result (List Layer) OpenError → Type 0) → Result Outcome Refusal → Type 0
 MayCheck options MayOpen (Ok outcome) = MayPass options MayOpen outcome × IsOrdered nat_cmp outcome.parent_counts
 MayCheck options MayOpen (Err (Verify error)) = (layers : List Layer) × MayOpen (Ok layers) × Fails options layers error
@@ -51,11 +51,11 @@ MayCheck options MayOpen (Err (File error)) = ⊥
 MayCheck options MayOpen (Err (Check error)) = ⊥
 MayCheck options MayOpen (Err Walk) = ⊥
 
--- what `verify` may answer: it asks for nothing besides
+-- what `verify` may answer: it adds no rule
 abbrev pub MayVerify : (Result (List Layer) OpenError → Type 0) → Result Outcome Refusal → Type 0
 MayVerify MayOpen answer = MayCheck (record { distinct_ids = false }) MayOpen answer
 
--- what `distinct` may answer: it asks that no id stands at two positions
+-- what `distinct` may answer: it adds the rule that no id stands at two positions
 abbrev pub MayVerifyDistinct : (Result (List Layer) OpenError → Type 0) → Result Outcome Refusal → Type 0
 MayVerifyDistinct MayOpen answer = MayCheck (record { distinct_ids = true }) MayOpen answer
 

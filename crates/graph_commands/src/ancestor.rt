@@ -25,7 +25,7 @@ use std::io::Write;
 /// The exit status of a query that found a walk.
 const REACHED: u8 = 0;
 
-/// The exit status of a query that found none, or one of whose ids is not there.
+/// The exit status of a query that found no walk, or that did not find one of its ids.
 const NOT_REACHED: u8 = 1;
 
 /// Looks for a shortest walk along parents from the commit with the first id to the one with the

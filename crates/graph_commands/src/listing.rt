@@ -19,7 +19,7 @@ use gix_commitgraph::{File, Position, file};
 use gix_hash_core::{Kind, oid};
 use std::io::Write;
 
-/// Writes the whole listing of a layer, by way of a block that has no bytes. `WriteFailed` comes
+/// Writes the whole listing of a layer through a block, which is empty before. `WriteFailed` comes
 /// where the writer fails.
 pub fn write_listing<W: Write>(
     block: &mut Block,

@@ -17,7 +17,7 @@ use std::fmt;
 /// Why a command was refused. It is displayed as its line, without the line's end.
 #[derive(Debug, Drop)]
 pub enum Refusal {
-    /// The text of an id is none.
+    /// The text that is to be an id is not one.
     Id(IdError),
     /// The input could not be read.
     Read(ReadError),
@@ -93,7 +93,7 @@ impl From<VerifyError<NoFault>> for Refusal {
     }
 }
 
-/// The exit status of a command that was refused for its words.
+/// The exit status of a command that was refused for the text of an id.
 const WRONG_WORDS: u8 = 2;
 
 /// The exit status of a command that was refused for what it read.

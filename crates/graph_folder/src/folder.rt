@@ -1,4 +1,4 @@
-//! Files and folders by their paths, whose reads a device may fail.
+//! Files and folders by their paths, on a device that may fail a read.
 
 ghost use Rattle.std.specs.Prelude.{◌≡◌, ℕ, Option, Some, None, IfOk, IsErrOf};
 ghost use Rattle.std.specs.Option.{ForSome};
@@ -37,7 +37,7 @@ pub trait Folder {
     /// What stands at each path, where that is known.
     ghost tree: { Self → Option Tree };
 
-    /// How many reads the device has failed so far, which stays at the greatest `u64`.
+    /// How many reads the device has failed so far; the count stays at the greatest `u64`.
     ghost failure_count: { Self → ℕ };
 
     /// How many reads the device has failed so far: the reads that answered `Device`, counted up

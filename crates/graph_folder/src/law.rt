@@ -1,4 +1,4 @@
-//! What holds of all texts.
+//! The law of the lines of a text.
 
 ghost use Rattle.std.specs.Prelude.{◌≡◌, ◌≢◌, ◌<◌, ◌++◌, ◌∷◌, [], ℕ, List, length};
 ghost use Rattle.std.specs.List.{All};

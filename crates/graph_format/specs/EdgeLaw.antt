@@ -14,7 +14,7 @@ pub record EndsAt (words : List ℕ) (k j : ℕ) : Type 0 where
 abbrev pub RunsOut : List ℕ → ℕ → Type 0
 RunsOut words k = (i : ℕ) → k ≤ i → i < length words → slice_index words i < 0x80000000
 
--- the words from k up to, without, j, and then word j without its top bit; no fault
+-- the words from k up to but not including j, and then word j without its top bit; no fault
 abbrev pub up_to_last : List ℕ → ℕ → ℕ → DecodedParents
 up_to_last words k j =
     let last = slice_index words j - 0x80000000 in

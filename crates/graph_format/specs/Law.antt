@@ -31,7 +31,7 @@ pub record NamesFirstFall (fan : List ℕ) : Type 0 where
       → (falling_refusal fan ≡ Some error) ↔ ((at : ℕ) × ((error ≡ FanFalls at) × FallsFirstAt fan at))
   pub rises : (falling_refusal fan ≡ None) ↔ ((i : ℕ) → i < 255 → slice_index fan i ≤ slice_index fan (i + 1))
 
--- The pieces have the same size, and are all of the bytes, one after another, but for fewer bytes than a piece has.
+-- The pieces have the same size, and make up the bytes, one after another, except for fewer bytes than a piece has at the end.
 pub record AreWholePieces (size : ℕ) (bytes : List ℕ) (parts : List (List ℕ)) : Type 0 where
   pub each : All (λ part. length part ≡ size) parts
   pub joined : concat parts ≡ take (size * length parts) bytes

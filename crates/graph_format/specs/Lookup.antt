@@ -21,7 +21,7 @@ pub record Found (layer : Layer) (id : List ℕ) (answer : Option ℕ) : Type 0 
 abbrev pub file_position_number : Option Position → Option ℕ
 file_position_number pos = option_map (λ p. p.0) pos
 
--- the bucket of a byte: the positions from this one up to, without, the number that the fan has at the byte
+-- the bucket of a byte: the positions from this one up to but not including the number that the fan has at the byte
 abbrev pub bucket_start : List ℕ → ℕ → ℕ
 bucket_start fan byte = if byte == 0 then 0 else slice_index fan (byte - 1)
 

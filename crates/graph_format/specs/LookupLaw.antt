@@ -1,4 +1,4 @@
--- what the words of lookup mean
+-- what it means to be the first position of an id, and the number of binary digits of a number
 use Rattle.std.specs.Prelude.{◌≡◌, ◌≢◌, ℕ, ◌^◌, ◌<◌, ◌≤◌, List, Option, Some, MatchOption, slice_get}
 
 -- the position holds the id and none before it does, or no position does

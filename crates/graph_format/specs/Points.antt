@@ -1,4 +1,4 @@
--- A check is a list of points. What may be said of a check that stops at the first fault, and of the processor that it calls.
+-- A check is a list of points. Here is what an answer says of a check that stops at the first fault, and of its processor.
 use Rattle.std.specs.Prelude.{◌≡◌, ℕ, List, [], ◌∷◌, ◌++◌, Option, Some, None, Result, Ok, Err}
 use Rattle.std.specs.List.{FoldsTo}
 
@@ -66,7 +66,7 @@ module _ {F E : Type 0} (step : F → ℕ → Result (Unit {0}) E → F → Type
       pub accepted : Accepts f (calls before) then
       pub answered : step then p (Err e) g
 
-    -- Memory ran out behind points without a fault, whose calls the processor accepted.
+    -- Memory ran out after points without a fault, whose calls the processor accepted.
     pub record RunsOutOfMemory : Type 0 where
       pub before : List (Point X)
       pub after : List (Point X)

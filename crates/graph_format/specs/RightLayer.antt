@@ -1,4 +1,4 @@
--- what is right of a layer by itself
+-- when a layer is right by itself
 use Rattle.std.specs.Prelude.{◌≡◌, ℕ, List, All, None}
 use Rattle.gix_hash_core.specs.Digest.{digest_of}
 use Rattle.graph_format.specs.Layer.{Layer}
@@ -10,7 +10,7 @@ use Rattle.graph_format.specs.Parents.{parents_of}
 abbrev pub IsNull : List ℕ → Type 0
 IsNull id = All (λ byte. byte ≡ 0) id
 
--- What is right of each layer by itself.
+-- The layer is right by itself.
 pub record IsRightLayer (layer : Layer) : Type 0 where
   -- "TRAILER"
   pub checksum : layer.checksum ≡ digest_of layer.kind layer.body
@@ -27,7 +27,7 @@ pub record IsRightLayer (layer : Layer) : Type 0 where
 abbrev pub AreParentsDecoded : Layer → Type 0
 AreParentsDecoded layer = All (λ r. (parents_of r layer.edges).fault ≡ None) layer.records
 
--- What is right of a layer and of its commits' parents, with no other layer at hand.
+-- The layer is right by itself, and the parents of its commits can be decoded.
 pub record IsSoundLayer (layer : Layer) : Type 0 where
   pub right : IsRightLayer layer
   pub decoded : AreParentsDecoded layer

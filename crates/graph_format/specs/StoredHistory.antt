@@ -1,5 +1,5 @@
--- The history that a commit-graph stores: its commits by position, each with the generation number that is stored of it and
--- the positions of its parents, first parent first ("Commit Data", "Extra Edge List").
+-- The history that a commit-graph stores: its commits by position, each with its stored generation number and the positions
+-- of its parents, first parent first ("Commit Data", "Extra Edge List").
 use Rattle.std.specs.Prelude.{List, map}
 use Rattle.std.specs.List.{flat_map}
 use Rattle.graph_walks.specs.History.{Node}

@@ -33,8 +33,8 @@ pub fn falling_fans_are_named()
     ensures { (fan : List ℕ) → NamesFirstFall fan }
 {}
 
-/// The pieces into which bytes fall, as ids, records and words, have the same size and leave out
-/// fewer bytes at the end than a piece has.
+/// The pieces into which bytes fall, as ids, records and words do, have the same size, and fewer
+/// bytes than a piece has are left over at the end.
 pub fn bytes_fall_into_pieces()
     ensures { (size : ℕ) (bytes : List ℕ) → FallIntoPieces size bytes }
 {}

@@ -1,8 +1,8 @@
 //! What Git's commit-graph files say, version 1: their layout, the conditions under which bytes are
 //! a layer, records, parents and extra edges, and the points that a check goes through.
 //!
-//! These are definitions and their laws. The code is that of the types in which the crates above
-//! answer: positions, parent fields, and why bytes, layers and commits are refused.
+//! These are definitions and their laws. The only code is that of the types that the crates above
+//! return: positions, parent fields, and why bytes, layers and commits are refused.
 #![tactic(auto)]
 
 ghost use Rattle.std.specs.Prelude.{Some};

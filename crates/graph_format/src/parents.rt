@@ -6,7 +6,7 @@ ghost use Rattle.std.specs.Prelude.{◌≡◌};
 use crate::Position;
 use thiserror::Error;
 
-/// What a parent field has in place of a position where no parent is there.
+/// What a parent field holds where there is no parent.
 pub const NO_PARENT: u32 = 0x7000_0000;
 
 /// The top bit of a word. A parent field with it is an index into the extra edge list, and a word
@@ -64,7 +64,7 @@ impl ParentEdge {
 /// What a word of the section "Extra Edge List" says.
 #[derive(Clone, Copy, Debug, PartialEq, Eq)]
 pub enum ExtraEdge {
-    /// The position of a parent, after which the next word is one too.
+    /// The position of a parent that is not the last: the next word is a parent too.
     Internal(Position),
     /// The position of the last parent.
     Last(Position),

@@ -1,4 +1,4 @@
--- what is counted of numbers of parents
+-- how many commits have each number of parents, as a check counts them
 use Rattle.std.specs.Prelude.{ℕ, Option, nat_lt, slice_index, if◌then◌else◌}
 use Rattle.std.specs.BTreeMap.{get}
 use Rattle.std.specs.Ordering.{nat_cmp}

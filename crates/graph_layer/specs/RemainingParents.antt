@@ -39,8 +39,8 @@ abbrev pub parents_hint : Parents → ℕ × Option ℕ
 parents_hint parents =
     if parents.started then second_hint (edge_of parents.next) else first_hint (edge_of parents.next) (edge_of parents.after)
 
--- The bounds once an item is taken, by those before it and the items then left: none, where none is left; else at least one,
--- and one less at most, where the greatest number is known.
+-- The bounds after an item is taken, from the bounds before and the items that are left: 0 where none is left; else at least
+-- 1, and at most one less than before, where an upper bound was known.
 abbrev pub hint_after : ℕ × Option ℕ → List (Result Position ParentError) → ℕ × Option ℕ
 hint_after hint [] = (0, Some 0)
 hint_after hint (item ∷ items) = (1, option_map (λ most. most - 1) hint.1)

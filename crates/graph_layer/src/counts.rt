@@ -8,8 +8,9 @@ ghost use Rattle.std.specs.BTreeMap.{get};
 use std::alloc::{AllocError, Global};
 use std::collections::BTreeMap;
 
-/// How many commits have each number of parents. Hardly any commit has more than 2: those are
-/// counted in a map, and the others, which would take most of a check's time there, in an array.
+/// How many commits have each number of parents. Those with more than 2, which are rare, are
+/// counted in a map. The others are counted in an array: in a map they would take most of a check's
+/// time.
 #[derive(Drop)]
 pub struct ParentCounts {
     few: [u32; 3],

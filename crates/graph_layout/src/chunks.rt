@@ -14,7 +14,7 @@ use gix_chunk_core::Index;
 use gix_hash_core::Kind;
 use graph_format::error::FileError;
 
-/// The bytes of a file from `start` up to, without, `end`.
+/// The bytes of a file from `start` up to but not including `end`.
 #[derive(Clone, Copy)]
 pub struct ChunkRange {
     pub start: usize,
@@ -119,7 +119,7 @@ fn check_records(kind: Kind, place: Option<ChunkRange>) -> Result<ChunkRange, Fi
     }
 }
 
-/// Refuses a fan that is missing, or is no 256 numbers.
+/// Refuses a fan that is missing, or that does not have 256 numbers.
 #[tactic(auto, unfolding(graph_format::specs::RefusalSteps::fan_refusal))]
 fn check_fan(place: Option<ChunkRange>) -> Result<ChunkRange, FileError>
     requires { IfSome place (λ p. p.start ≤ p.end) }
@@ -175,7 +175,7 @@ fn chunk_range(bytes: &[u8], index: &Index<'_>, id: [u8; 4]) -> Option<ChunkRang
     }
 }
 
-/// Where the chunks lie, where those are there that have to be, and each has a right size.
+/// Where the chunks lie, if those that have to be there are there, and each has a right size.
 #[tactic(auto, using(crate::proofs::ChunkLemmas::size_laws), unfolding(graph_format::specs::RefusalSteps::sizes_refusal))]
 pub fn chunk_ranges(bytes: &[u8], index: &Index<'_>, kind: Kind) -> Result<ChunkRanges, FileError>
     requires { Chunks bytes.now 8 (slice_index bytes.now 6) index.now }

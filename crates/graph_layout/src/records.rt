@@ -31,7 +31,7 @@ pub struct Records {
 }
 
 impl Records {
-    /// Decodes the records that the bytes are.
+    /// Decodes the records that stand in the bytes, one after another.
     #[tactic(auto, using(crate::proofs::DecodedRecordLemmas::decoding_laws))]
     pub fn decode(alloc: Global, kind: Kind, bytes: &[u8]) -> Result<Records, AllocError>
         ensures { IfOk result
@@ -46,7 +46,7 @@ impl Records {
         Ok(records)
     }
 
-    /// No records, and room for so many.
+    /// No records yet, with room for so many.
     fn with_capacity(alloc: Global, count: usize) -> Result<Records, AllocError>
         ensures { IfOk result (AreDecoded []) }
     {
@@ -76,7 +76,7 @@ impl Records {
     }
 }
 
-/// Decodes the words that the bytes are.
+/// Decodes the words that stand in the bytes, one after another.
 #[tactic(auto, using(crate::proofs::DecodedRecordLemmas::decoding_laws))]
 pub fn decode_words(alloc: Global, bytes: &[u8]) -> Result<Vec<u32>, AllocError>
     ensures { IfOk result (λ decoded. decoded.items ≡ words bytes.now) }

@@ -1,6 +1,6 @@
 //! How a Rattle program uses the crates for commit-graphs: it opens a graph and checks it, finds a
 //! commit, goes over parents, asks for ancestors, and opens a file that it has in memory.
-//! `docs/CALLING.md` explains each of these uses by this code.
+//! `docs/CALLING.md` explains each of these uses with this code.
 #![tactic(auto)]
 
 pub mod ancestry;

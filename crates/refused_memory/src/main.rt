@@ -1,9 +1,10 @@
 //! Makes one call after some allocations, so that each allocation of the call can be made to fail.
 //!
 //! The first line of standard input names the call. For each byte after that name, the newline
-//! among them, one allocation is made before the call. Where the program is run so that one
-//! allocation fails, their number decides which of the call's it is. What the call answered is
-//! written to standard output, without any further allocation. `scripts/refused_memory` runs it.
+//! among them, one allocation is made before the call. The program is run with one allocation
+//! failing, by its number; so the number of bytes decides which allocation of the call that is.
+//! What the call answered is written to standard output, without any further allocation.
+//! `scripts/refused_memory` runs it.
 #![tactic(auto)]
 
 mod calls;

@@ -1,4 +1,4 @@
-//! What the words of the contracts of graphs mean.
+//! Laws of graphs: their positions, their lookups, their refusals and their histories.
 
 ghost use Rattle.std.specs.Prelude.{◌≡◌, ◌<◌, ◌-◌, ℕ, List, All, Some, length, slice_get};
 ghost use Rattle.graph_format.specs.Layer.{Layer, record_at};

@@ -1,5 +1,5 @@
-//! How the numbers of an outcome fit together. The law is of an outcome that is passed, since a map
-//! in memory has each of its keys once.
+//! How the numbers of an outcome add up. The laws take an outcome, since only a map in memory is
+//! known to have each of its keys once.
 
 ghost use Rattle.std.specs.Prelude.{◌≡◌, List, All, sum};
 ghost use Rattle.std.specs.BTreeMap as tree;

@@ -77,7 +77,7 @@ impl Memory {
         Ok(())
     }
 
-    /// Has the n-th read from now, counted from 0, answer `Device`, whatever stands at its path.
+    /// Makes the n-th read from now, counted from 0, answer `Device`, whatever stands at its path.
     /// Every read counts. What an earlier call asked for is forgotten.
     pub fn fail_read(&mut self, n: u32)
         ensures { self.new ≡ record self.old { reads_before_failure = Some n } }

@@ -7,10 +7,10 @@ ghost use Rattle.graph_format.specs.EdgeLaw.{EndsAt, RunsOut, up_to_last, all_fr
 
 use crate::parents::ParentError;
 
-/// Of the words of an extra edge list from one index on, some first one has its top bit set, and
-/// the parents are the words up to it and it without that bit. Or none has it, and the parents are
-/// all of these words, after which comes `EdgeOverflow`. Where the index is at the list's end or
-/// past it, that error comes alone.
+/// Of the words of an extra edge list from some index on, either one is the first with its top bit
+/// set, and the parents are the words before it, and then that word without the bit; or none has
+/// the bit set, and the parents are all of these words, followed by `EdgeOverflow`. Where the index
+/// is the list's end or past it, that error comes alone.
 #[tactic(auto, using(crate::proofs::ExtraEdgeLemmas::edge_laws))]
 pub fn each_edge_list_ends_or_runs_out()
     ensures ends { (bytes : List ℕ) (k j : ℕ) → EndsAt (words bytes) k j
@@ -20,7 +20,7 @@ pub fn each_edge_list_ends_or_runs_out()
     ensures past { (bytes : List ℕ) (k : ℕ) → length (words bytes) ≤ k
         → extra_parents bytes k ≡ faulty ParentError.EdgeOverflow }
 
-    // One of both is always so.
+    // One of the two is always so.
     ensures either { (bytes : List ℕ) (k : ℕ) → ((j : ℕ) × EndsAt (words bytes) k j)
         ⊎ RunsOut (words bytes) k }
 {}

@@ -1,4 +1,4 @@
-//! What the words of the contracts of lookup mean.
+//! Laws of lookups: what a plain scan answers, and what a number of digits is.
 
 ghost use Rattle.std.specs.Prelude.{ℕ, List};
 ghost use Rattle.graph_format.specs.Lookup.{scan, digits};

@@ -38,20 +38,21 @@ pub fn order(one: &[u8], other: &[u8]) -> Ordering
 #[tactic(auto, using(crate::proofs::BucketLemmas::bucket_laws))]
 impl File {
     /// The position of an id. The first byte of the id names the positions that are searched: from
-    /// the number that the fan has at the byte before it, 0 for the byte 0, up to, without, the
-    /// number that it has at the byte.
+    /// the number that the fan has at the byte before it, 0 for the byte 0, up to but not including
+    /// the number that it has at the byte.
     ///
     /// A position that is answered always holds the id. Where the ids strictly ascend and the fan
     /// is exact, the answer is `None` only for an id that is not in the layer. Opening checks
-    /// neither, so in a damaged file an id may be missed that is there, and which of several equal
-    /// ids is found is open. See "OID Fanout" and "OID Lookup" of Git's commit-graph format.
+    /// neither, so in a damaged file an id that is there may be missed, and it is left open which
+    /// of several equal ids is found. See "OID Fanout" and "OID Lookup" of Git's commit-graph
+    /// format.
     pub fn lookup(&self, id: oid<'_>) -> Option<Position>
         ensures { Found self.now (oid_bytes id.entry) (file_position_number result) }
     {
         self.lookup_counted(id).0
     }
 
-    /// An answer under the rule of `lookup`, and how many times the id was compared with an id of
+    /// An answer as `lookup` gives it, and how many times the id was compared with an id of
     /// the file. One comparison has one of three outcomes: less, equal or greater. An id of another
     /// kind is compared with none.
     pub fn lookup_counted(&self, id: oid<'_>) -> (Option<Position>, u32)

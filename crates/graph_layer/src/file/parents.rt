@@ -20,7 +20,7 @@ pub struct Parents<'a> {
     next: u64,
     /// The parent field after that one.
     after: u32,
-    /// Whether the first field is behind.
+    /// Whether the first field was read.
     started: bool,
     ghost second_is_last: { started ≡ true → after ≡ 0x70000000 },
 }
@@ -66,8 +66,8 @@ impl<'a> Parents<'a> {
         }
     }
 
-    /// The next item where no position in a parent field is it: one of the extra edge list, or the
-    /// error that ends the parents.
+    /// The next item where it is not a position in a parent field: one of the extra edge list, or
+    /// the error that ends the parents.
     #[cold]
     #[inline(never)]
     fn next_beyond_fields(&mut self) -> Result<Position, ParentError>
