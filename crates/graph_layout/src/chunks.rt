@@ -23,7 +23,7 @@ pub struct ChunkRange {
 
 impl ChunkRange {
     /// How many bytes there are.
-    pub fn size(self) -> usize
+    pub(crate) fn size(self) -> usize
         requires { self.start ≤ self.end }
         ensures { result ≡ size_at self }
     {
@@ -177,7 +177,11 @@ fn chunk_range(bytes: &[u8], index: &Index<'_>, id: [u8; 4]) -> Option<ChunkRang
 
 /// Where the chunks lie, where those are there that have to be, and each has a right size.
 #[tactic(auto, using(crate::proofs::ChunkLemmas::size_laws), unfolding(graph_format::specs::RefusalSteps::sizes_refusal))]
-pub fn chunk_ranges(bytes: &[u8], index: &Index<'_>, kind: Kind) -> Result<ChunkRanges, FileError>
+pub(crate) fn chunk_ranges(
+    bytes: &[u8],
+    index: &Index<'_>,
+    kind: Kind,
+) -> Result<ChunkRanges, FileError>
     requires { Chunks bytes.now 8 (slice_index bytes.now 6) index.now }
     ensures chunks { IfOk result (AreChunkRanges bytes.now) }
     ensures fan { IfOk result (λ chunks. chunks.fan.end ≡ chunks.fan.start + 1024) }
