@@ -1,11 +1,9 @@
 //! Where the chunks of a file lie, and whether their sizes are right.
 
-ghost use Rattle.std.specs.Prelude.{◌≡◌, ◌+◌, ◌*◌, ◌<◌, ◌≤◌, length, slice_index, Some, None, IfOk};
-ghost use Rattle.std.specs.Prelude.{IfSome, IfNone, MatchOption, option_map};
+ghost use Rattle.std.specs.Prelude.{◌≡◌, ◌+◌, ◌≤◌, slice_index, Some, IfOk, IfSome, option_map};
 ghost use Rattle.gix_hash_core.specs.Kind.{id_len};
 ghost use Rattle.gix_chunk_core.specs.Table.{Chunks};
 ghost use Rattle.graph_format.specs.Reports.{Reports};
-ghost use Rattle.graph_format.specs.Format.{table_of, chunk_of, kind_in};
 ghost use Rattle.graph_format.specs.RefusalSteps.{bases_refusal, records_refusal, fan_refusal};
 ghost use Rattle.graph_format.specs.RefusalSteps.{ids_refusal, edges_refusal, sizes_refusal};
 ghost use Rattle.graph_layout.specs.ChunkRanges.{IsChunkRange, AreChunkRanges, size_at, start_of};

@@ -1,8 +1,6 @@
 //! The layout of a file: what its header says, and where its parts lie.
 
-ghost use Rattle.std.specs.Prelude.{◌≡◌, ◌+◌, ◌*◌, ◌<◌, ◌≤◌, length, slice_index, Some, None, IfOk};
-ghost use Rattle.gix_hash_core.specs.Kind.{id_len, kind_of};
-ghost use Rattle.gix_chunk_core.specs.Table.{Chunks};
+ghost use Rattle.std.specs.Prelude.{◌≡◌, ◌≤◌, length, IfOk};
 ghost use Rattle.graph_format.specs.Reports.{Reports};
 ghost use Rattle.graph_format.specs.Format.{table_of, fan_of, commits_of};
 ghost use Rattle.graph_format.specs.Refusal.{refusal};
