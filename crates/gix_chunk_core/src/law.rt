@@ -1,7 +1,6 @@
 //! Laws of the table of chunks.
 
-ghost use Rattle.std.specs.Prelude.{◌≡◌, ◌<◌, ◌≤◌, ◌↔◌, ℕ, List, length, Option, Some, None};
-ghost use Rattle.std.specs.Prelude.{Contains};
+ghost use Rattle.std.specs.Prelude.{◌≡◌, ◌≤◌, ◌↔◌, ℕ, List, length, Some, None, Contains};
 ghost use Rattle.gix_chunk_core.specs.Entry.{end_id};
 ghost use Rattle.gix_chunk_core.specs.Fault.{table_fault};
 ghost use Rattle.gix_chunk_core.specs.Table.{Table, Chunks, range_of};

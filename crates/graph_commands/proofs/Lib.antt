@@ -3,3 +3,4 @@ pub mod ListAnswers
 pub mod Appended
 pub mod BlockLemmas
 pub mod AncestorAnswers
+pub mod CheckAnswers

@@ -64,6 +64,6 @@ pub fn put_hex(bytes: &mut [u8], at: usize, id: &[u8]) -> usize
     ensures len { length bytes.new ≡ length bytes.old }
 {
     let end = at + 2 * id.len();
-    let _ = hex::encode_to_slice(id, &mut bytes[at..end]);
+    hex::encode_to_slice(id, &mut bytes[at..end]).unwrap();
     end
 }

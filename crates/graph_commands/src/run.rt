@@ -1,13 +1,17 @@
 //! The commands, over their inputs and a writer.
 
 ghost use Rattle.std.specs.Prelude.{◌≡◌, [], IfOk, IfErr, IfSome, Ok, Err};
+ghost use Rattle.std.specs.BTreeMap.{IsOrdered};
+ghost use Rattle.std.specs.Io.KnownBytes.{Appends};
+ghost use Rattle.std.specs.Ordering.{nat_cmp};
 ghost use Rattle.gix_hash_core.specs.Oid.{oid_bytes};
 ghost use Rattle.graph_commands.specs.Answer.{WritesAnswer, WritesRefusal};
 ghost use Rattle.graph_commands.specs.Opening.{MayOpen};
 ghost use Rattle.graph_commands.specs.List.{MayList, list_text, list_status};
 ghost use Rattle.graph_commands.specs.Find.{MayBeFound, MayFind, find_text, find_status};
-ghost use Rattle.graph_commands.specs.Verify.{Passes, Fails, MayPass, MayCheck, MayVerify};
-ghost use Rattle.graph_commands.specs.Verify.{MayVerifyDistinct, verify_text, verify_status};
+ghost use Rattle.graph_commands.specs.Report.{outcome_text};
+ghost use Rattle.graph_commands.specs.Verify.{MayVerify, MayVerifyDistinct};
+ghost use Rattle.graph_commands.specs.Verify.{verify_text, verify_status};
 
 pub use crate::ancestor::{Ancestry, run_ancestor};
 use crate::block::Block;
@@ -15,9 +19,10 @@ use crate::line::write_line;
 use crate::listing::write_listing;
 use crate::refusal::Refusal;
 use crate::report::{Found, write_outcome};
+use gix_commitgraph::file::Commit;
 use gix_commitgraph::opening::open_in;
 use gix_commitgraph::verify::{Outcome, VerifyError, VerifyOptions};
-use gix_commitgraph::{File, FileError, Graph, file};
+use gix_commitgraph::{File, FileError, Graph};
 use gix_hash_core::{ObjectId, oid};
 use graph_folder::folder::{Folder, read_all};
 use std::alloc::Global;
@@ -93,10 +98,13 @@ pub fn run_verify<T: Folder, W: Write>(
         (W.contents writer.old) (W.contents writer.new)) }
     ensures tree { T.tree folder.new ≡ T.tree folder.old }
 {
-    let plain = VerifyOptions {
-        distinct_ids: false,
-    };
-    run_check(alloc, folder, path, plain, writer)
+    match open_in(alloc, folder, path) {
+        Ok(graph) => {
+            let answer = graph.verify_integrity(alloc, &mut |_: &Commit<'_>| Ok(()));
+            write_answer(writer, answer)
+        }
+        Err(error) => refuse(writer, &Refusal::Open(error)),
+    }
 }
 
 /// Checks the graph that the path opens, and that no id stands in two of its layers. It writes
@@ -115,66 +123,35 @@ pub fn run_distinct<T: Folder, W: Write>(
         (W.contents writer.old) (W.contents writer.new)) }
     ensures tree { T.tree folder.new ≡ T.tree folder.old }
 {
-    let distinct = VerifyOptions { distinct_ids: true };
-    run_check(alloc, folder, path, distinct, writer)
+    match open_in(alloc, folder, path) {
+        Ok(graph) => {
+            let distinct = VerifyOptions { distinct_ids: true };
+            let answer = graph.verify_integrity_with(alloc, distinct, &mut |_: &Commit<'_>| Ok(()));
+            write_answer(writer, answer)
+        }
+        Err(error) => refuse(writer, &Refusal::Open(error)),
+    }
 }
 
-/// Checks the graph that the path opens by the options, and writes what was found, or why it is
-/// refused.
-fn run_check<T: Folder, W: Write>(
-    alloc: Global,
-    folder: &mut T,
-    path: &str,
-    options: VerifyOptions,
+/// Writes what the check of a graph found, or why it refuses the graph, and answers the exit
+/// status.
+fn write_answer<W: Write>(
     writer: &mut W,
+    answer: Result<Outcome, VerifyError<Infallible>>,
 ) -> Result<u8, WriteFailed>
-    ensures written { IfOk result (WritesAnswer verify_text verify_status
-        (MayCheck options
-        (MayOpen (T.tree folder.old) path.now (T.failure_count folder.old)
-        (T.failure_count folder.new)))
-        (W.contents writer.old) (W.contents writer.new)) }
-    ensures tree { T.tree folder.new ≡ T.tree folder.old }
+    ensures found { IfOk answer (λ outcome. IfOk result (λ status.
+        Appends (W.contents writer.old) (W.contents writer.new) (outcome_text outcome)
+        × IsOrdered nat_cmp outcome.parent_counts × (status ≡ 0))) }
+    ensures refused { IfErr answer (λ error. IfOk result
+        (WritesRefusal (Refusal.Verify error) (W.contents writer.old) (W.contents writer.new))) }
 {
-    match open_and_check(alloc, folder, path, options) {
+    match answer {
         Ok(outcome) => {
             write_outcome(writer, &outcome)?;
             Ok(DONE)
         }
-        Err(refusal) => refuse(writer, &refusal),
+        Err(error) => refuse(writer, &Refusal::Verify(error)),
     }
-}
-
-/// The statistics of the graph that the path opens, once it is checked by the options.
-fn open_and_check<T: Folder>(
-    alloc: Global,
-    folder: &mut T,
-    path: &str,
-    options: VerifyOptions,
-) -> Result<Outcome, Refusal>
-    ensures passed { IfOk result
-        (MayPass options (MayOpen (T.tree folder.old) path.now (T.failure_count folder.old)
-        (T.failure_count folder.new))) }
-    ensures refused { IfErr result (λ refusal.
-        MayCheck options
-        (MayOpen (T.tree folder.old) path.now (T.failure_count folder.old)
-        (T.failure_count folder.new)) (Err refusal)) }
-    ensures tree { T.tree folder.new ≡ T.tree folder.old }
-{
-    let graph = open_in(alloc, folder, path)?;
-    let outcome = check(alloc, &graph, options)?;
-    Ok(outcome)
-}
-
-/// Checks the graph by the options, accepting each commit.
-fn check(
-    alloc: Global,
-    graph: &Graph,
-    options: VerifyOptions,
-) -> Result<Outcome, VerifyError<Infallible>>
-    ensures passed { IfOk result (Passes options graph.now) }
-    ensures refused { IfErr result (Fails options graph.now) }
-{
-    graph.verify_integrity_with(alloc, options, &mut |_: &file::Commit<'_>| Ok(()))
 }
 
 /// Looks up the commit with an id, given in hexadecimal digits of either case, in the graph that

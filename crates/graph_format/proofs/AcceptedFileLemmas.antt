@@ -17,7 +17,7 @@ use Rattle.graph_format.specs.Layer.{IsLayer, decoded_layer}
 use Rattle.graph_format.specs.RefusalSteps.{header_refusal, bases_refusal, records_refusal, fan_refusal, ids_refusal}
 use Rattle.graph_format.specs.RefusalSteps.{edges_refusal, sizes_refusal, trailer_refusal, counts_refusal, checked}
 use Rattle.graph_format.specs.Refusal.{falling_refusal, fall_after, has_other_count, refusal, size_of}
-use Rattle.graph_format.proofs.RefusalStepLemmas.{checked-is, refusal-none, MayRefuse-checked}
+use Rattle.graph_format.proofs.RefusalStepLemmas.{checked-is}
 
 -- where no fault is named, each part names none
 pub otherwise-none : {E : Type 0} (first second : Option E) → (first otherwise second) ≡ None → (first ≡ None) × (second ≡ None)
@@ -197,4 +197,4 @@ accepted bytes path h =
       origin = refl;
     }
 
-pub ruleset accepted_laws = (accepted, refusal-none, MayRefuse-checked)
+pub ruleset accepted_laws = (accepted)

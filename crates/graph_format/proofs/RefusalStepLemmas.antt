@@ -1,9 +1,7 @@
 -- the groups of conditions are the conditions in their order
-use Rattle.std.proofs.Common.{◌≡◌, List, ℕ, Option, Some, None, refl, sym, ◌∙◌, inl}
+use Rattle.std.proofs.Common.{◌≡◌, List, ℕ, Option, Some, None, refl}
 use Rattle.std.specs.Option.{option_or}
-use Rattle.graph_format.specs.Opened.{MayRefuse}
 use Rattle.graph_format.specs.Refusal.{refusal}
-use Rattle.graph_format.specs.declared.error.FileError.{FileError}
 use Rattle.graph_format.specs.RefusalSteps.{header_refusal, bases_refusal, records_refusal, fan_refusal, ids_refusal}
 use Rattle.graph_format.specs.RefusalSteps.{edges_refusal, sizes_refusal, trailer_refusal, counts_refusal, checked}
 
@@ -15,9 +13,3 @@ pub checked-is : (bytes : List ℕ) → checked bytes ≡ refusal bytes
 unfolding checked refusal header_refusal bases_refusal records_refusal fan_refusal ids_refusal edges_refusal sizes_refusal
     trailer_refusal counts_refusal
 checked-is bytes = simp option_or-assoc
-
-pub refusal-none : (bytes : List ℕ) → checked bytes ≡ None → refusal bytes ≡ None
-refusal-none bytes h = sym (checked-is bytes) ∙ h
-
-pub MayRefuse-checked : (bytes : List ℕ) (error : FileError) → checked bytes ≡ Some error → MayRefuse bytes error
-MayRefuse-checked bytes error h = inl (sym (checked-is bytes) ∙ h)

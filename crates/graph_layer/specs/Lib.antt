@@ -6,7 +6,6 @@ pub use Rattle.graph_format.specs.Reports
 pub use Rattle.graph_format.specs.Format
 pub use Rattle.graph_format.specs.Layer
 pub use Rattle.graph_format.specs.Refusal
-pub use Rattle.graph_format.specs.RefusalSteps
 pub use Rattle.graph_format.specs.Opened
 pub use Rattle.graph_format.specs.Parents
 pub use Rattle.graph_format.specs.Law

@@ -4,7 +4,9 @@ use Rattle.gix_chunk_core.specs.Table.{Table, Chunks}
 use Rattle.gix_chunk_core.proofs.TableLemmas.{Chunks-is, end_in_file}
 use Rattle.graph_format.specs.Format.{table_of}
 use Rattle.graph_layout.specs.ChunkRanges.{IsAt, IsChunkRange}
-use Rattle.graph_format.specs.Refusal.{size_of}
+use Rattle.graph_format.specs.Refusal.{size_of, refusal}
+use Rattle.graph_format.specs.RefusalSteps.{checked}
+use Rattle.graph_format.proofs.RefusalStepLemmas.{checked-is}
 use Rattle.graph_layout.specs.declared.chunks.ChunkRange.{ChunkRange}
 use Rattle.graph_layout.proofs.ChunkLemmas.{size_of-place}
 
@@ -24,4 +26,8 @@ is_none-place bytes id (Some place) h = ap is_none (size_of-place bytes id (Some
 
 pub ruleset count_laws = (size_of-at, is_none-place)
 
-pub ruleset layout_laws = (table_of-end, end_in_file)
+-- the conditions in their order are the groups of conditions
+pub refusal-grouped : (bytes : List ℕ) → refusal bytes ≡ checked bytes
+refusal-grouped bytes = sym (checked-is bytes)
+
+pub ruleset layout_laws = (table_of-end, end_in_file, refusal-grouped)

@@ -10,13 +10,12 @@ use Rattle.graph_layout.specs.ChunkRanges.{IsAt, IsChunkRange}
 use Rattle.graph_layout.specs.declared.layout.Layout.{Layout}
 use Rattle.graph_layout.specs.declared.chunks.ChunkRange.{ChunkRange}
 use Rattle.graph_format.proofs.AcceptedFileLemmas.{accepted}
-use Rattle.graph_format.proofs.RefusalStepLemmas.{refusal-none}
 
 -- the layer of bytes that are not refused is theirs
 pub is-layer : (bytes path : List ℕ) (layout : Layout) (layer : Layer) → IsLayout bytes layout → decoded_layer bytes path ≡ layer
     → IsLayer bytes path layer
 is-layer bytes path layout layer kept view = let P : Layer → Type 0 = λ l. IsLayer bytes path l in
-    subst P view (accepted bytes path (refusal-none bytes kept.none))
+    subst P view (accepted bytes path kept.none)
 
 pub view-kind : (bytes path : List ℕ) (layout : Layout) (layer : Layer) → IsLayout bytes layout → decoded_layer bytes path ≡ layer
     → layout.kind ≡ layer.kind

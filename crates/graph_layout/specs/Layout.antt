@@ -2,13 +2,13 @@
 use Rattle.std.specs.Prelude.{◌≡◌, ℕ, List, slice_index, Some, None}
 use Rattle.gix_hash_core.specs.Kind.{kind_of}
 use Rattle.graph_format.specs.Format.{table_of, fan_of, commits_of}
+use Rattle.graph_format.specs.Refusal.{refusal}
 use Rattle.graph_layout.specs.ChunkRanges.{AreChunkRanges}
-use Rattle.graph_format.specs.RefusalSteps.{checked}
 use Rattle.graph_layout.specs.declared.layout.Layout.{Layout}
 
 -- The bytes are not refused, and have this layout.
 pub record IsLayout (bytes : List ℕ) (layout : Layout) : Type 0 where
-  pub none : checked bytes ≡ None
+  pub none : refusal bytes ≡ None
   pub kind : kind_of (slice_index bytes 5) ≡ Some layout.kind
   pub commits : layout.commits ≡ commits_of (fan_of bytes)
   pub base_count : layout.base_count ≡ slice_index bytes 7

@@ -2,7 +2,6 @@ pub use Rattle.graph_format.specs.Reports
 pub use Rattle.graph_format.specs.Format
 pub use Rattle.graph_format.specs.Layer
 pub use Rattle.graph_format.specs.Refusal
-pub use Rattle.graph_format.specs.RefusalSteps
 pub mod ChunkRanges
 pub mod Layout
 pub mod DecodedRecords

@@ -1,11 +1,9 @@
 //! Where the chunks of a file lie, and whether their sizes are right.
 
-ghost use Rattle.std.specs.Prelude.{◌≡◌, ◌+◌, ◌*◌, ◌<◌, ◌≤◌, length, slice_index, Some, None, IfOk};
-ghost use Rattle.std.specs.Prelude.{IfSome, IfNone, MatchOption, option_map};
+ghost use Rattle.std.specs.Prelude.{◌≡◌, ◌+◌, ◌≤◌, slice_index, Some, IfOk, IfSome, option_map};
 ghost use Rattle.gix_hash_core.specs.Kind.{id_len};
 ghost use Rattle.gix_chunk_core.specs.Table.{Chunks};
 ghost use Rattle.graph_format.specs.Reports.{Reports};
-ghost use Rattle.graph_format.specs.Format.{table_of, chunk_of, kind_in};
 ghost use Rattle.graph_format.specs.RefusalSteps.{bases_refusal, records_refusal, fan_refusal};
 ghost use Rattle.graph_format.specs.RefusalSteps.{ids_refusal, edges_refusal, sizes_refusal};
 ghost use Rattle.graph_layout.specs.ChunkRanges.{IsChunkRange, AreChunkRanges, size_at, start_of};
@@ -23,7 +21,7 @@ pub struct ChunkRange {
 
 impl ChunkRange {
     /// How many bytes there are.
-    pub fn size(self) -> usize
+    pub(crate) fn size(self) -> usize
         requires { self.start ≤ self.end }
         ensures { result ≡ size_at self }
     {
@@ -177,7 +175,11 @@ fn chunk_range(bytes: &[u8], index: &Index<'_>, id: [u8; 4]) -> Option<ChunkRang
 
 /// Where the chunks lie, if those that have to be there are there, and each has a right size.
 #[tactic(auto, using(crate::proofs::ChunkLemmas::size_laws), unfolding(graph_format::specs::RefusalSteps::sizes_refusal))]
-pub fn chunk_ranges(bytes: &[u8], index: &Index<'_>, kind: Kind) -> Result<ChunkRanges, FileError>
+pub(crate) fn chunk_ranges(
+    bytes: &[u8],
+    index: &Index<'_>,
+    kind: Kind,
+) -> Result<ChunkRanges, FileError>
     requires { Chunks bytes.now 8 (slice_index bytes.now 6) index.now }
     ensures chunks { IfOk result (AreChunkRanges bytes.now) }
     ensures fan { IfOk result (λ chunks. chunks.fan.end ≡ chunks.fan.start + 1024) }

@@ -1,6 +1,6 @@
 //! The fan of a file: for each first byte how many ids begin with it or a lesser one.
 
-ghost use Rattle.std.specs.Prelude.{◌≡◌, ◌+◌, ◌*◌, ◌<◌, ◌≤◌, length, slice_index, Some, None};
+ghost use Rattle.std.specs.Prelude.{◌≡◌, ◌+◌, ◌<◌, slice_index};
 ghost use Rattle.graph_format.specs.Reports.{Reports};
 ghost use Rattle.graph_format.specs.Format.{fan_of, fan_id};
 ghost use Rattle.graph_format.specs.Refusal.{falling_refusal};
@@ -23,7 +23,7 @@ pub fn fan_at(bytes: &[u8], fan: ChunkRange, i: usize) -> u32
 
 /// Refuses a fan that falls.
 #[tactic(auto, using(crate::proofs::FanLemmas::first_laws), unfolding(graph_format::specs::Refusal::falling_refusal))]
-pub fn check_rising(bytes: &[u8], fan: ChunkRange) -> Result<(), FileError>
+pub(crate) fn check_rising(bytes: &[u8], fan: ChunkRange) -> Result<(), FileError>
     requires place { IsAt bytes.now fan_id fan }
     requires size { fan.end ≡ fan.start + 1024 }
     ensures { Reports result (falling_refusal (fan_of bytes.now)) }

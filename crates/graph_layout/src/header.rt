@@ -10,7 +10,7 @@ use gix_hash_core::Kind;
 use graph_format::error::FileError;
 
 /// The header's length.
-pub const HEADER_LEN: usize = 8;
+pub(crate) const HEADER_LEN: usize = 8;
 
 /// The bytes that begin each file.
 const SIGNATURE: [u8; 4] = *b"CGPH";
@@ -21,7 +21,7 @@ const MIN_FILE_SIZE: usize = HEADER_LEN + 4 * 12 + 256 * 4 + 20;
 
 /// The kind of a file's ids, where its header is right.
 #[tactic(auto, unfolding(graph_format::specs::RefusalSteps::header_refusal, graph_format::specs::Format::kind_in))]
-pub fn kind_of_file(bytes: &[u8]) -> Result<Kind, FileError>
+pub(crate) fn kind_of_file(bytes: &[u8]) -> Result<Kind, FileError>
     ensures refusal { Reports result (header_refusal bytes.now) }
     ensures size { OnOk result (least_size ≤ length bytes.now) }
     ensures known { IfOk result (λ kind. kind_of (slice_index bytes.now 5) ≡ Some kind) }

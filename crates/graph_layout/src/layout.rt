@@ -1,11 +1,10 @@
 //! The layout of a file: what its header says, and where its parts lie.
 
-ghost use Rattle.std.specs.Prelude.{◌≡◌, ◌+◌, ◌*◌, ◌<◌, ◌≤◌, length, slice_index, Some, None, IfOk};
-ghost use Rattle.gix_hash_core.specs.Kind.{id_len, kind_of};
-ghost use Rattle.gix_chunk_core.specs.Table.{Chunks};
+ghost use Rattle.std.specs.Prelude.{◌≡◌, ◌≤◌, length, IfOk};
 ghost use Rattle.graph_format.specs.Reports.{Reports};
 ghost use Rattle.graph_format.specs.Format.{table_of, fan_of, commits_of};
-ghost use Rattle.graph_format.specs.RefusalSteps.{counts_refusal, trailer_refusal, checked};
+ghost use Rattle.graph_format.specs.Refusal.{refusal};
+ghost use Rattle.graph_format.specs.RefusalSteps.{counts_refusal, trailer_refusal};
 ghost use Rattle.graph_layout.specs.ChunkRanges.{AreChunkRanges};
 ghost use Rattle.graph_layout.specs.Layout.{IsLayout};
 
@@ -73,7 +72,7 @@ fn check_counts(
 /// The layout of the bytes, or why they are refused.
 #[tactic(auto, using(crate::proofs::ChunkSizeLemmas::layout_laws), unfolding(graph_format::specs::RefusalSteps::checked))]
 pub fn layout_of(bytes: &[u8]) -> Result<Layout, FileError>
-    ensures refusal { Reports result (checked bytes.now) }
+    ensures refusal { Reports result (refusal bytes.now) }
     ensures layout { IfOk result (IsLayout bytes.now) }
 {
     let kind = kind_of_file(bytes)?;

@@ -4,7 +4,7 @@
 
 pub mod chunks;
 pub mod fan;
-pub mod header;
+mod header;
 pub mod layout;
 pub mod numbers;
 pub mod records;

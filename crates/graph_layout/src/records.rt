@@ -33,7 +33,7 @@ pub struct Records {
 impl Records {
     /// Decodes the records that stand in the bytes, one after another.
     #[tactic(auto, using(crate::proofs::DecodedRecordLemmas::decoding_laws))]
-    pub fn decode(alloc: Global, kind: Kind, bytes: &[u8]) -> Result<Records, AllocError>
+    pub(crate) fn decode(alloc: Global, kind: Kind, bytes: &[u8]) -> Result<Records, AllocError>
         ensures { IfOk result
             (AreDecoded (map (record_of kind) (pieces (record_len kind) bytes.now))) }
     {
@@ -78,7 +78,7 @@ impl Records {
 
 /// Decodes the words that stand in the bytes, one after another.
 #[tactic(auto, using(crate::proofs::DecodedRecordLemmas::decoding_laws))]
-pub fn decode_words(alloc: Global, bytes: &[u8]) -> Result<Vec<u32>, AllocError>
+pub(crate) fn decode_words(alloc: Global, bytes: &[u8]) -> Result<Vec<u32>, AllocError>
     ensures { IfOk result (λ decoded. decoded.items ≡ words bytes.now) }
 {
     let count = bytes.len() / WORD_LEN;

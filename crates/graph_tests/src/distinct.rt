@@ -1,5 +1,5 @@
 use crate::fixtures::{Row, built, layer, opened, planned};
-use crate::verifying::{graph, graph_of};
+use crate::verifying::{compare_outcome, graph, graph_of};
 use gix_commitgraph::file::Commit;
 use gix_commitgraph::verify::{CommitFault, Outcome, VerifyError, VerifyOptions};
 use gix_commitgraph::{Graph, Position};
@@ -70,17 +70,18 @@ fn compare_upper(
 #[test]
 fn an_id_in_two_layers_is_refused_where_that_is_asked(rt: HostRuntime) {
     let alloc = rt.alloc();
+    let graph = on_lower(&rt, alloc, &REPEATED, 0x99);
+    let seen = compare_outcome(&rt, alloc, &graph, Some(1), &[(0, 3), (1, 2)]);
+    let (answer, calls) = checked(alloc, &graph, false);
+    assert!(rt; seen.len() == 5 && answer.is_ok() && calls == 5);
+
     let (pos, earlier) = (Position(2), Position(1));
     let duplicate = VerifyError::DuplicateId { pos, earlier };
-    compare_upper(&rt, alloc, &REPEATED, 0x99, &duplicate, 2);
+    compare_refusal(&rt, alloc, &graph, &duplicate, 2);
     compare_upper(&rt, alloc, &REPEATED, 0, &duplicate, 2);
     let (pos, fault) = (Position(3), CommitFault::Order);
     let order = VerifyError::Commit { pos, fault };
     compare_upper(&rt, alloc, &FALLING, 0x99, &order, 3);
-
-    let graph = on_lower(&rt, alloc, &REPEATED, 0x99);
-    let (answer, calls) = checked(alloc, &graph, false);
-    assert!(rt; answer.is_ok() && calls == 5);
 }
 
 const FAR_APART: [&[Row<'static>]; 5] = [

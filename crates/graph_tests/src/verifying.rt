@@ -106,7 +106,7 @@ fn compare_refusal(
 /// Compares the outcome of a right graph: its longest path and the counts of the numbers of
 /// parents. The first bytes of the ids of the commits that the processor was called on are
 /// answered, in order.
-fn compare_outcome(
+pub fn compare_outcome(
     rt: &impl Abort,
     alloc: Global,
     graph: &Graph,

@@ -4,7 +4,6 @@ ghost use Rattle.std.specs.Prelude.{◌≡◌, Some, OnOk, OnErr, IsOkAnd, strin
 ghost use Rattle.std.specs.FinMap as map;
 ghost use Rattle.std.specs.Option.{option_map, option_copied};
 ghost use Rattle.graph_folder.specs.Tree.{RegularFile, Directory, is_file, is_folder};
-ghost use Rattle.graph_folder.specs.Failures.{failures_after};
 ghost use Rattle.graph_folder.specs.Memory.{nothing, put, will_fail, read_of, after_read};
 ghost use Rattle.graph_folder.specs.Memory.{AnswersRead};
 

@@ -1,7 +1,6 @@
 //! The file system as a folder.
 
 ghost use Rattle.std.specs.Prelude.{◌≡◌, None, IsOk};
-ghost use Rattle.graph_folder.specs.Failures.{failures_after};
 
 use super::whole::read_expected;
 use super::{Folder, ReadError};

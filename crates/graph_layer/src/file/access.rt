@@ -1,7 +1,7 @@
 //! Accessors of a layer, and iterators over its ids, its base ids and its commits.
 
-ghost use Rattle.std.specs.Prelude.{◌≡◌, ◌+◌, ◌*◌, ◌<◌, ◌≤◌, length, map, drop, slice_index};
-ghost use Rattle.std.specs.Prelude.{slice_range, slice_get, Some, IfSome, option_map, bytes_eq};
+ghost use Rattle.std.specs.Prelude.{◌≡◌, ◌+◌, ◌<◌, ◌≤◌, length, map, slice_index, slice_range};
+ghost use Rattle.std.specs.Prelude.{slice_get, Some, IfSome, option_map, bytes_eq};
 ghost use Rattle.gix_hash_core.specs.Kind.{id_len};
 ghost use Rattle.gix_hash_core.specs.Oid.{oid_bytes};
 ghost use Rattle.graph_format.specs.Format.{words, commits_of};
@@ -197,7 +197,7 @@ impl<'a> Ids<'a> {
 }
 
 impl<'a> Iterator for Ids<'a> {
-    ghost use Rattle.std.specs.Iterator.{YieldsFirstBy, item_count, UpTo, at_most};
+    ghost use Rattle.std.specs.Iterator.{YieldsFirstBy, item_count, UpTo};
     ghost use Rattle.std.specs.Iterator.SizeHint.{IsWithinCount};
     ghost use Rattle.graph_layer.specs.Remaining.{ids_left};
 
@@ -247,7 +247,7 @@ impl<'a> BaseIds<'a> {
 }
 
 impl<'a> Iterator for BaseIds<'a> {
-    ghost use Rattle.std.specs.Iterator.{YieldsFirstBy, item_count, UpTo, at_most};
+    ghost use Rattle.std.specs.Iterator.{YieldsFirstBy, item_count, UpTo};
     ghost use Rattle.std.specs.Iterator.SizeHint.{IsWithinCount};
     ghost use Rattle.graph_layer.specs.Remaining.{base_ids_left};
 
@@ -299,7 +299,7 @@ impl<'a> Commits<'a> {
 }
 
 impl<'a> Iterator for Commits<'a> {
-    ghost use Rattle.std.specs.Iterator.{YieldsFirstBy, item_count, UpTo, at_most};
+    ghost use Rattle.std.specs.Iterator.{YieldsFirstBy, item_count, UpTo};
     ghost use Rattle.std.specs.Iterator.SizeHint.{IsWithinCount};
     ghost use Rattle.graph_layer.specs.Commit.{layer_and_position};
     ghost use Rattle.graph_layer.specs.Remaining.{commits_left};

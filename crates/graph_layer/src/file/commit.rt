@@ -15,7 +15,11 @@ use std::fmt;
 
 /// A commit of a layer, as its record in the section "Commit Data" describes it.
 ///
-/// Two commits are equal where the bytes of their files are equal, and their positions.
+/// Two commits are equal where their positions are, and the bytes of their files. The positions are
+/// compared first. Where they are equal, the bytes are compared up to the first that differ, which
+/// are all of them where both commits are of one file: equality is one of contents, and from equal
+/// addresses no contract follows. Where the file is known to be the same, compare
+/// [`position`](Commit::position).
 #[derive(Clone, Copy)]
 pub struct Commit<'a> {
     file: &'a File,
