@@ -8,6 +8,7 @@ pub mod ParentFaultFreeLemmas
 pub mod SoundLemmas
 pub mod PathLemmas
 pub mod ChainOpeningLemmas
+pub mod OpenErrorLemmas
 pub mod OpenedPathLemmas
 pub mod InfoOpeningLemmas
 pub mod Utf8Lemmas
