@@ -26,3 +26,4 @@ pub mod GraphTallyLemmas
 pub mod LayerStartLemmas
 pub mod DuplicateLemmas
 pub mod DistinctLemmas
+pub mod DuplicateNameLemmas
