@@ -8,6 +8,7 @@ pub mod ParentFaultFreeLemmas
 pub mod SoundLemmas
 pub mod PathLemmas
 pub mod ChainOpeningLemmas
+pub mod OpenErrorLemmas
 pub mod OpenedPathLemmas
 pub mod InfoOpeningLemmas
 pub mod Utf8Lemmas
@@ -25,3 +26,4 @@ pub mod GraphTallyLemmas
 pub mod LayerStartLemmas
 pub mod DuplicateLemmas
 pub mod DistinctLemmas
+pub mod DuplicateNameLemmas

@@ -9,9 +9,9 @@
 //! outcome, and can answer that memory ran out. Accessors, iterators and lookups allocate nothing.
 #![tactic(auto)]
 
-ghost use Rattle.std.specs.Prelude.{Some, IfOk, IfErr};
+ghost use Rattle.std.specs.Prelude.{Some, IfOk, IfErr, MatchResult};
 ghost use Rattle.gix_commitgraph.specs.Graph.{IsGraph};
-ghost use Rattle.gix_commitgraph.specs.OpenAlways.{IsFromPath};
+ghost use Rattle.gix_commitgraph.specs.OpenAlways.{IsFromPath, IsPathError};
 ghost use Rattle.graph_layer.specs.OpenRefusals.{OutOfMemoryStandsAlone};
 
 mod access;
@@ -37,7 +37,7 @@ use std::rt::Files;
 /// Opens the commit-graph at a path, which is that of a file, a chain folder or an info folder:
 /// [`Graph::at`].
 pub fn at<R: Files>(rt: &R, alloc: Global, path: &str) -> Result<Graph, OpenError>
-    ensures from { IfOk result (IsFromPath path.now) }
+    ensures from { MatchResult result (IsFromPath path.now) IsPathError }
     ensures graph { IfOk result IsGraph }
     ensures memory { IfErr result OutOfMemoryStandsAlone }
 {

@@ -6,10 +6,11 @@
 //! [`Disk`](graph_folder::folder::Disk), the same openers are [`Graph::at`], [`Graph::from_file`],
 //! [`Graph::from_info_dir`] and [`Graph::from_commit_graphs_dir`].
 
-ghost use Rattle.std.specs.Prelude.{◌≡◌, ◌⊎◌, IfOk, IfErr};
+ghost use Rattle.std.specs.Prelude.{◌≡◌, ◌⊎◌, IfOk, IfErr, MatchResult};
 ghost use Rattle.std.specs.Option.{ForSome};
 ghost use Rattle.gix_commitgraph.specs.Graph.{IsGraph};
-ghost use Rattle.gix_commitgraph.specs.OpenAlways.{IsFromChain, IsFromInfo, IsFromPath};
+ghost use Rattle.gix_commitgraph.specs.OpenAlways.{IsFromChain, IsFromInfo, IsFolderError};
+ghost use Rattle.gix_commitgraph.specs.OpenAlways.{IsFromPath, IsPathError};
 ghost use Rattle.gix_commitgraph.specs.Opening.{FolderOpens, Opens, MetFailureIfDevice};
 ghost use Rattle.graph_layer.specs.OpenRefusals.{OutOfMemoryStandsAlone};
 
@@ -44,7 +45,7 @@ pub fn open_in<T: Folder>(alloc: Global, folder: &mut T, path: &str) -> Result<G
     ensures device { MetFailureIfDevice result (T.failure_count folder.old)
         (T.failure_count folder.new) }
     ensures tree { T.tree folder.new ≡ T.tree folder.old }
-    ensures from { IfOk result (IsFromPath path.now) }
+    ensures from { MatchResult result (IsFromPath path.now) IsPathError }
     ensures graph { IfOk result IsGraph }
     ensures memory { IfErr result OutOfMemoryStandsAlone }
 {
@@ -65,7 +66,8 @@ fn open_folder_in<T: Folder>(alloc: Global, folder: &mut T, path: &str) -> Resul
     ensures device { MetFailureIfDevice result (T.failure_count folder.old)
         (T.failure_count folder.new) }
     ensures tree { T.tree folder.new ≡ T.tree folder.old }
-    ensures from { IfOk result (λ graph. IsFromChain path.now graph ⊎ IsFromInfo path.now graph) }
+    ensures from { MatchResult result
+        (λ graph. IsFromChain path.now graph ⊎ IsFromInfo path.now graph) IsFolderError }
     ensures graph { IfOk result IsGraph }
     ensures memory { IfErr result OutOfMemoryStandsAlone }
 {

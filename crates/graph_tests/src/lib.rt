@@ -9,6 +9,8 @@ mod ancestors;
 #[cfg(test)]
 mod building;
 #[cfg(test)]
+mod by_path;
+#[cfg(test)]
 mod checking;
 #[cfg(test)]
 mod commits;

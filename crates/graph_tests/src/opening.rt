@@ -6,10 +6,10 @@ use std::alloc::Global;
 use std::process::Abort;
 
 /// An entry of a table of chunks: an id, and where its chunk begins.
-type Entry = (&'static [u8; 4], u64);
+pub type Entry = (&'static [u8; 4], u64);
 
 /// A file of this header, these entries of its table, and so many bytes 0.
-fn with_zeros(
+pub fn with_zeros(
     rt: &impl Abort,
     alloc: Global,
     header: &[u8; 8],
@@ -27,7 +27,7 @@ fn compare_refusal(rt: &impl Abort, alloc: Global, bytes: Vec<u8>, want: &FileEr
 }
 
 /// A header, the entries of a table, the number of bytes 0 after it, and the refusal of that file.
-type Refused = (&'static [u8; 8], &'static [Entry], usize, FileError);
+pub type Refused = (&'static [u8; 8], &'static [Entry], usize, FileError);
 
 /// Compares the refusals of some files.
 fn compare(rt: &impl Abort, alloc: Global, rows: &[Refused]) {
@@ -38,10 +38,10 @@ fn compare(rt: &impl Abort, alloc: Global, rows: &[Refused]) {
 }
 
 /// The header of a SHA-1 file of three chunks.
-const THREE: &[u8; 8] = b"CGPH\x01\x01\x03\x00";
+pub const THREE: &[u8; 8] = b"CGPH\x01\x01\x03\x00";
 
 /// The table of a file without commits. A fan of 1024 bytes 0 follows it, and 20 for a checksum.
-const ENTRIES: &[Entry] = &[(b"OIDF", 56), (b"OIDL", 1080), (b"CDAT", 1080), (END, 1080)];
+pub const ENTRIES: &[Entry] = &[(b"OIDF", 56), (b"OIDL", 1080), (b"CDAT", 1080), (END, 1080)];
 
 /// A header, the entries of a table, the number of bytes 0 after it, and the kind of hash.
 type Empty = (&'static [u8; 8], &'static [Entry], usize, Kind);
@@ -100,7 +100,7 @@ fn chunks_that_may_stand_there(rt: HostRuntime) {
     compare_empty(&rt, rt.alloc(), MORE_CHUNKS);
 }
 
-const REFUSED_HEADERS: &[Refused] = &[
+pub const REFUSED_HEADERS: &[Refused] = &[
     (b"CGPX\x01\x01\x03\x00", ENTRIES, 1044, FileError::Signature),
     (
         b"CGPH\x02\x01\x03\x00",
@@ -167,7 +167,7 @@ fn damaged_chunk_tables(rt: HostRuntime) {
     compare(&rt, rt.alloc(), DAMAGED_TABLES);
 }
 
-const MISSING_CHUNKS: &[Refused] = &[
+pub const MISSING_CHUNKS: &[Refused] = &[
     (
         THREE,
         &[(b"OIDF", 56), (b"OIDL", 1080), (b"XTRA", 1080), (END, 1080)],
@@ -193,7 +193,7 @@ fn chunks_that_are_missing(rt: HostRuntime) {
     compare(&rt, rt.alloc(), MISSING_CHUNKS);
 }
 
-const WRONG_SIZES: &[Refused] = &[
+pub const WRONG_SIZES: &[Refused] = &[
     (
         THREE,
         &[(b"OIDF", 56), (b"OIDL", 1080), (b"CDAT", 1080), (END, 1115)],
@@ -237,7 +237,7 @@ fn chunks_of_a_wrong_size(rt: HostRuntime) {
     compare(&rt, rt.alloc(), WRONG_SIZES);
 }
 
-const WRONG_BASES: &[Refused] = &[
+pub const WRONG_BASES: &[Refused] = &[
     (
         b"CGPH\x01\x01\x04\x01",
         &[

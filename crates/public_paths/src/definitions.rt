@@ -41,7 +41,7 @@ ghost use Rattle.gix_commitgraph.specs.LookupLaw.{IsDigitCount, IsFirst};
 ghost use Rattle.gix_commitgraph.specs.NameRule.{KeepsNameRule, is_named_right};
 ghost use Rattle.gix_commitgraph.specs.Oid.{oid_bytes};
 ghost use Rattle.gix_commitgraph.specs.OpenAlways.{IsFileError, IsFolderError, IsFromChain};
-ghost use Rattle.gix_commitgraph.specs.OpenAlways.{IsFromFile, IsFromInfo, IsFromPath};
+ghost use Rattle.gix_commitgraph.specs.OpenAlways.{IsFromFile, IsFromInfo, IsFromPath, IsPathError};
 ghost use Rattle.gix_commitgraph.specs.OpenAnswer.{IsAsExpected, failures_after_opening};
 ghost use Rattle.gix_commitgraph.specs.OpenAnswer.{result_map};
 ghost use Rattle.gix_commitgraph.specs.OpenError.TheVariants.{OutOfMemory};

@@ -7,7 +7,7 @@ ghost use Rattle.std.specs.Prelude.{IfOk, MatchResult};
 ghost use Rattle.gix_commitgraph.specs.Distinct.{AreDistinct};
 ghost use Rattle.gix_commitgraph.specs.Graph.{IsGraph};
 ghost use Rattle.gix_commitgraph.specs.Headline.{IsDeserved, LookupsAreScans, Stats};
-ghost use Rattle.gix_commitgraph.specs.OpenAlways.{IsFromPath};
+ghost use Rattle.gix_commitgraph.specs.OpenAlways.{IsFromPath, IsPathError};
 ghost use Rattle.gix_commitgraph.specs.Sound.{Sound};
 
 pub mod definitions;
@@ -24,7 +24,7 @@ use std::rt::Files;
 
 /// Opens a graph by its path.
 pub fn open<R: Files>(rt: &R, alloc: Global, path: &str) -> Result<Graph, OpenError>
-    ensures from { IfOk result (IsFromPath path.now) }
+    ensures from { MatchResult result (IsFromPath path.now) IsPathError }
     ensures graph { IfOk result IsGraph }
 {
     at(rt, alloc, path)

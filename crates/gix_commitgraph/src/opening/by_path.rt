@@ -3,7 +3,7 @@
 ghost use Rattle.std.specs.Prelude.{IfOk, IfErr, MatchResult};
 ghost use Rattle.gix_commitgraph.specs.Graph.{IsGraph};
 ghost use Rattle.gix_commitgraph.specs.OpenAlways.{IsFromFile, IsFromChain, IsFromInfo, IsFromPath};
-ghost use Rattle.gix_commitgraph.specs.OpenAlways.{IsFileError, IsFolderError};
+ghost use Rattle.gix_commitgraph.specs.OpenAlways.{IsFileError, IsFolderError, IsPathError};
 ghost use Rattle.graph_layer.specs.OpenRefusals.{OutOfMemoryStandsAlone};
 
 use crate::graph::Graph;
@@ -16,7 +16,7 @@ impl Graph {
     /// Opens what stands at the path: a file, a chain folder or an info folder, as [`open_in`] does
     /// over the file system, with its errors.
     pub fn at<R: Files>(rt: &R, alloc: Global, path: &str) -> Result<Graph, OpenError>
-        ensures from { IfOk result (IsFromPath path.now) }
+        ensures from { MatchResult result (IsFromPath path.now) IsPathError }
         ensures graph { IfOk result IsGraph }
         ensures memory { IfErr result OutOfMemoryStandsAlone }
     {

@@ -1,12 +1,13 @@
 //! The opener of a chain folder.
 
-ghost use Rattle.std.specs.Prelude.{◌≡◌, IfOk, IfErr, IfSome, MatchResult, is_some};
+ghost use Rattle.std.specs.Prelude.{◌≡◌, IfOk, IfErr, IfSome, MatchResult, is_some, length};
 ghost use Rattle.std.specs.Option.{ForSome};
 ghost use Rattle.std.specs.Str.{is_utf8};
 ghost use Rattle.std.specs.Str.Lines.{lines};
 ghost use Rattle.graph_folder.specs.Tree.{is_file};
 ghost use Rattle.gix_commitgraph.specs.Graph.{IsGraph};
-ghost use Rattle.gix_commitgraph.specs.OpenAlways.{IsFromChain, IsFolderError};
+ghost use Rattle.gix_commitgraph.specs.OpenAlways.{IsFromChain, IsFolderError, IsLineError};
+ghost use Rattle.gix_commitgraph.specs.OpenAlways.{IsErrorOfLines};
 ghost use Rattle.graph_layer.specs.LayerOpening.{IsReadError};
 ghost use Rattle.graph_layer.specs.OpenAnswer.{IsAsExpected, failures_after_opening, result_map};
 ghost use Rattle.graph_layer.specs.LayerOpening.{bytes_at};
@@ -107,7 +108,8 @@ fn open_layers<T: Folder>(
     ensures tree { T.tree folder.new ≡ T.tree folder.old }
     ensures failures { T.failure_count folder.new
         ≡ failures_after_opening result (T.failure_count folder.old) }
-    ensures from { MatchResult result (λ files. IsFromChain path.now files.items) IsFolderError }
+    ensures from { MatchResult result (λ files. IsFromChain path.now files.items)
+        (IsErrorOfLines (length (lines text.now))) }
     ensures memory { IfErr result OutOfMemoryStandsAlone }
 {
     let mut files = Vec::new(alloc);
@@ -132,7 +134,7 @@ fn open_line<T: Folder>(
     ensures failures { T.failure_count folder.new
         ≡ failures_after_opening result (T.failure_count folder.old) }
     ensures path { IfOk result (λ file. file.path ≡ layer_path path.now line.now) }
-    ensures errors { IfErr result IsFolderError }
+    ensures errors { IfErr result (IsLineError layer) }
     ensures memory { IfErr result OutOfMemoryStandsAlone }
 {
     let Some(name) = text_of(line) else {

@@ -3,8 +3,7 @@
 ghost use Rattle.std.specs.Prelude.{◌≡◌, IfOk, IfErr, IsErrOf, MatchResult};
 ghost use Rattle.std.specs.Option.{ForSome};
 ghost use Rattle.gix_commitgraph.specs.Graph.{IsGraph};
-ghost use Rattle.gix_commitgraph.specs.OpenAlways.{IsFromFile};
-ghost use Rattle.gix_commitgraph.specs.OpenAlways.{IsFileError};
+ghost use Rattle.gix_commitgraph.specs.OpenAlways.{IsFromFile, IsFileError, IsErrorOfLayers};
 ghost use Rattle.graph_layer.specs.OpenAnswer.{IsAsExpected, failures_after_opening};
 ghost use Rattle.gix_commitgraph.specs.Opening.{graph_of_layers, file_opened};
 ghost use Rattle.gix_commitgraph.specs.Opening.{Opens};
@@ -27,7 +26,7 @@ use std::alloc::Global;
 /// 2. `Device`: a read of it failed. The folder's count of failures has risen then, and in no other
 ///    case.
 /// 3. `Layer`: the bytes are refused, as layer 0.
-/// 4. `Graph`: the layer has more commits than a graph can have.
+/// 4. `Graph`, with `TooManyCommits`: the layer has more commits than a graph can have.
 ///
 /// `OutOfMemory` comes where an allocation failed.
 pub fn open_file_in<T: Folder>(
@@ -55,7 +54,7 @@ pub(super) fn new_graph(alloc: Global, files: Vec<File>) -> Result<Graph, OpenEr
     ensures opens { IsAsExpected result (graph_of_layers files.items) }
     ensures no_device { ¬ (IsErrOf result OpenError.Device) }
     ensures layers { IfOk result (λ layers. layers ≡ files.items) }
-    ensures errors { IfErr result IsFileError }
+    ensures errors { IfErr result (IsErrorOfLayers files.items) }
     ensures graph { IfOk result IsGraph }
     ensures memory { IfErr result OutOfMemoryStandsAlone }
 {

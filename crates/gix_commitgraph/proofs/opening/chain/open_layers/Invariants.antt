@@ -1,11 +1,12 @@
-use Rattle.std.proofs.Common.{◌≡◌, Some, vec_len}
+use Rattle.std.proofs.Common.{◌≡◌, ◌+◌, Some, length, vec_len}
 use Rattle.std.specs.Str.Lines.{lines}
 use Rattle.graph_folder.specs.Tree.{Tree}
 use Rattle.gix_commitgraph.specs.OpenAlways.{IsFromChain}
 use Rattle.gix_commitgraph.proofs.ChainOpeningLemmas.{layers_from, layers_with}
 use Rattle.gix_commitgraph.proofs.opening.chain.open_layers.Given as goal
 
--- the lines that are left name what follows the layers so far, each of which a line names, and no device has failed
+-- the lines that are left name what follows the layers so far, of which there is one for each line before; each is a file that a
+-- line names, and no device has failed
 abbrev pub invariant-loop-line : goal.invariant-loop-line
 invariant-loop-line g l =
     let tree_of = g.T.Folder.tree in
@@ -16,6 +17,7 @@ invariant-loop-line g l =
       tree : tree_of l.folder ≡ tree_of l.fn.folder;
       failures : failures l.folder ≡ failures l.fn.folder;
       from : IsFromChain l.path l.files.items;
+      counted : vec_len l.files + length l.line-iterator ≡ length (lines l.text);
       layers : (tree : Tree) → tree_of l.fn.folder ≡ Some tree
           → layers_from tree l.path 0 (lines l.text) ≡ layers_with l.files.items tree l.path (vec_len l.files) l.line-iterator;
     }
