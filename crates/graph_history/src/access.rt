@@ -1,6 +1,7 @@
 //! What a right graph says of its commits.
 
-ghost use Rattle.std.specs.Prelude.{◌≡◌, ◌↔◌, ◌<◌, ℕ, All, IfSome, Some, map, option_map, slice_get};
+ghost use Rattle.std.specs.Prelude.{◌≡◌, ◌↔◌, ◌<◌, ◌≤◌, ℕ, All, IfNone, IfSome, Some, map};
+ghost use Rattle.std.specs.Prelude.{option_map, slice_get};
 ghost use Rattle.gix_hash_core.specs.Oid.{oid_bytes};
 ghost use Rattle.graph_walks.specs.History.{generation_at, parents_at};
 ghost use Rattle.graph_format.specs.Lookup.{scan};
@@ -29,6 +30,14 @@ impl<'g> Checked<'g> {
         ensures graph { IsGraph self.now }
     {
         self.graph().num_commits()
+    }
+
+    /// The position of this number, or `None` where it is not below `num_commits()`.
+    pub fn position(&self, number: u32) -> Option<Position>
+        ensures some { IfSome result (λ pos. (pos.0 ≡ number) × (pos.0 < total self.now)) }
+        ensures none { IfNone result (total self.now ≤ number) }
+    {
+        (number < self.num_commits()).then_some(Position(number))
     }
 
     /// The least position of an id, or `None` where the graph does not have it: what a scan of all

@@ -23,7 +23,7 @@ use std::marker::Model;
 pub struct NoFault;
 
 /// The options of a check that looks for nothing besides what every right graph keeps.
-const PLAIN: VerifyOptions = VerifyOptions {
+pub(crate) const PLAIN: VerifyOptions = VerifyOptions {
     distinct_ids: false,
 };
 

@@ -3,9 +3,9 @@
 ghost use Rattle.std.specs.Prelude.{◌≡◌, IfErr, IfOk};
 ghost use Rattle.gix_commitgraph.specs.Distinct.{IsSoundWith};
 ghost use Rattle.gix_commitgraph.specs.Sound.{Sound};
-ghost use Rattle.graph_history.specs.Checked.{MayRefuseWith};
+ghost use Rattle.graph_history.specs.Checked.{MayRefuseGraph, MayRefuseWith};
 
-use crate::checked::{Checked, NoFault};
+use crate::checked::{Checked, NoFault, PLAIN};
 use gix_commitgraph::Graph;
 use gix_commitgraph::file::Commit;
 use gix_commitgraph::verify::{Outcome, VerifyError, VerifyOptions};
@@ -36,14 +36,30 @@ impl Model for CheckedGraph {
 }
 
 impl CheckedGraph {
-    /// Checks a graph with [`Graph::verify_integrity_with`], accepts each commit, and keeps the
-    /// graph.
+    /// Checks a graph as [`Checked::new`] does, and keeps it.
     ///
     /// # Errors
     ///
-    /// The first check that fails, in the order of [`Graph::verify_integrity_with`], or
-    /// `OutOfMemory` where an allocation failed; never `Processor`. The graph is let go then.
-    pub fn new(
+    /// Those of [`Checked::new`]. The graph is dropped then.
+    pub fn new(alloc: Global, graph: Graph) -> Result<CheckedGraph, VerifyError<NoFault>>
+        ensures graph { IfOk result (λ checked. checked ≡ graph) }
+        ensures sound { IfOk result (λ _. Sound graph) }
+        ensures refusal { IfErr result (MayRefuseGraph graph) }
+    {
+        let outcome = graph.verify_integrity(alloc, &mut |_: &Commit<'_>| Ok(()))?;
+        Ok(CheckedGraph {
+            graph,
+            options: PLAIN,
+            outcome,
+        })
+    }
+
+    /// Checks a graph as [`Checked::new_with`] does, and keeps it.
+    ///
+    /// # Errors
+    ///
+    /// Those of [`Checked::new_with`]. The graph is dropped then.
+    pub fn new_with(
         alloc: Global,
         options: VerifyOptions,
         graph: Graph,
