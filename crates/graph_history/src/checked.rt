@@ -104,13 +104,6 @@ impl<'g> Checked<'g> {
         self.graph
     }
 
-    /// What was checked besides what every right graph keeps.
-    pub fn options(&self) -> VerifyOptions
-        ensures { IsSoundWith result self.now }
-    {
-        self.options
-    }
-
     /// The statistics of the graph.
     pub fn outcome(&self) -> &Outcome
         ensures { Stats self.now result.now }

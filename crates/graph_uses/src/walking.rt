@@ -15,8 +15,10 @@ pub fn ancestors(
 ) -> Result<Vec<ObjectId>, AllocError> {
     let mut ids = Vec::new(alloc);
     let mut queue = BinaryHeap::new(alloc);
-    let mut seen = vec![in alloc; false; graph.num_commits() as usize]?;
+    let mut marks = vec![in alloc; false; graph.num_commits() as usize]?;
+    let seen = marks.as_mut_slice();
     if let Some(start) = graph.find(id) {
+        seen[start.0 as usize] = true;
         queue.push((graph.generation(start), start.0))?;
     }
     // Each commit is queued once.
