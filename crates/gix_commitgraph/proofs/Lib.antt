@@ -3,6 +3,7 @@ pub mod GraphLookupLemmas
 pub mod PositionLemmas
 pub mod GraphLemmas
 pub mod HistoryLemmas
+pub mod KnownParentLemmas
 pub mod BaseFaultFreeLemmas
 pub mod ParentFaultFreeLemmas
 pub mod SoundLemmas

@@ -1,4 +1,5 @@
 pub mod PlaceLemmas
+pub mod RightGraphLemmas
 pub mod QueueLemmas
 pub mod StepLemmas
 pub mod ShortestWalkLemmas

@@ -1,4 +1,5 @@
 pub mod Checked
+pub mod RightGraph
 pub mod Counts
 pub mod Answer
 pub mod Queue

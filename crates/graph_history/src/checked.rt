@@ -1,40 +1,53 @@
-//! A graph that was checked, and the query that relies on the check.
+//! A graph that was checked and is right.
 
-ghost use Rattle.std.specs.Prelude.{◌≡◌, ◌<◌, IfOk, IfErr};
+ghost use Rattle.std.specs.Prelude.{◌≡◌, ◌<◌, IfErr, IfOk};
 ghost use Rattle.graph_format.specs.StoredHistory.{history_of};
+ghost use Rattle.gix_commitgraph.specs.Distinct.{IsSoundWith};
 ghost use Rattle.gix_commitgraph.specs.Graph.{total};
+ghost use Rattle.gix_commitgraph.specs.Headline.{Stats};
 ghost use Rattle.gix_commitgraph.specs.Sound.{Sound};
 ghost use Rattle.graph_history.specs.Answer.{IsAnswer};
-ghost use Rattle.graph_history.specs.Checked.{MayRefuseGraph};
+ghost use Rattle.graph_history.specs.Checked.{MayRefuseGraph, MayRefuseWith};
 
 use crate::Reached;
 use crate::search::shortest_walk;
 use gix_commitgraph::file::Commit;
-use gix_commitgraph::verify::VerifyError;
+use gix_commitgraph::verify::{Outcome, VerifyError, VerifyOptions};
 use gix_commitgraph::{Graph, Position};
 use std::alloc::{AllocError, Global};
+use std::borrow::Cow;
 use std::marker::Model;
 
 /// The error of a processor that accepts each commit: it never comes.
 #[derive(Clone, Copy, Debug, PartialEq, Eq)]
 pub struct NoFault;
 
-/// A graph that was checked and is right. A contract sees it as the list of the graph's layers.
+/// The options of a check that looks for nothing besides what every right graph keeps.
+pub(crate) const PLAIN: VerifyOptions = VerifyOptions {
+    distinct_ids: false,
+};
+
+/// A graph that was checked and is right, with its statistics. It borrows the graph, and a
+/// [`CheckedGraph`](crate::CheckedGraph) owns one. A contract sees it as the list of the graph's
+/// layers.
 #[derive(Drop)]
 pub struct Checked<'g> {
-    graph: &'g Graph,
+    pub(crate) graph: &'g Graph,
+    pub(crate) options: VerifyOptions,
+    pub(crate) outcome: Cow<'g, Outcome>,
 }
 
 impl<'g> Model for Checked<'g> {
+    ghost use Rattle.std.specs.Cow.{cow_value};
     ghost use Rattle.std.specs.Prelude.{List};
     ghost use Rattle.graph_format.specs.Layer.{Layer};
-    ghost use Rattle.gix_commitgraph.specs.Sound.{Sound};
+    ghost use Rattle.graph_history.specs.RightGraph.{IsRight};
 
     ghost Value = { List Layer };
 
     ghost view = { λ a. a.graph.now };
 
-    ghost invariant = { λ a. Sound a.graph.now };
+    ghost invariant = { λ a. IsRight a.options a.graph.now (cow_value a.outcome) };
 }
 
 impl<'g> Checked<'g> {
@@ -51,8 +64,54 @@ impl<'g> Checked<'g> {
         ensures sound { IfOk result (λ _. Sound graph.now) }
         ensures refusal { IfErr result (MayRefuseGraph graph.now) }
     {
-        graph.verify_integrity(alloc, &mut |_: &Commit<'_>| Ok(()))?;
-        Ok(Checked { graph })
+        let outcome = graph.verify_integrity(alloc, &mut |_: &Commit<'_>| Ok(()))?;
+        Ok(Checked {
+            graph,
+            options: PLAIN,
+            outcome: Cow::Owned(outcome),
+        })
+    }
+
+    /// Checks a graph with [`Graph::verify_integrity_with`], and accepts each commit. Where the
+    /// options ask for distinct ids, no id stands at two positions of a graph that is accepted.
+    ///
+    /// # Errors
+    ///
+    /// The first check that fails, in the order of [`Graph::verify_integrity_with`], or
+    /// `OutOfMemory` where an allocation failed; never `Processor`.
+    pub fn new_with(
+        alloc: Global,
+        options: VerifyOptions,
+        graph: &'g Graph,
+    ) -> Result<Checked<'g>, VerifyError<NoFault>>
+        ensures graph { IfOk result (λ checked. checked ≡ graph.now) }
+        ensures sound { IfOk result (λ _. IsSoundWith options graph.now) }
+        ensures refusal { IfErr result (MayRefuseWith options graph.now) }
+    {
+        let outcome = graph.verify_integrity_with(alloc, options, &mut |_: &Commit<'_>| Ok(()))?;
+        Ok(Checked {
+            graph,
+            options,
+            outcome: Cow::Owned(outcome),
+        })
+    }
+
+    /// The graph.
+    pub fn graph(&self) -> &'g Graph
+        ensures same { result.now ≡ self.now }
+        ensures right { Sound self.now }
+    {
+        self.graph
+    }
+
+    /// The statistics of the graph.
+    pub fn outcome(&self) -> &Outcome
+        ensures { Stats self.now result.now }
+    {
+        match &self.outcome {
+            Cow::Borrowed(outcome) => outcome,
+            Cow::Owned(outcome) => outcome,
+        }
     }
 
     /// Looks for a shortest walk along parents from one commit to another, at positions that are

@@ -7,13 +7,18 @@
 //! ("topological level" in Git's commit-graph design).
 #![tactic(auto)]
 
+mod access;
 mod checked;
 mod commits;
 pub mod law;
+mod owned;
+mod parents;
 mod search;
 
 pub use checked::{Checked, NoFault};
 use gix_commitgraph::Position;
+pub use owned::CheckedGraph;
+pub use parents::ParentPositions;
 
 /// The answer of a query for a walk from one commit to another.
 #[derive(Debug, Drop)]

@@ -3,8 +3,8 @@
 use gix_commitgraph::opening::OpenError;
 use gix_commitgraph::verify::VerifyError;
 use gix_hash_core::IdError;
+use graph_history::NoFault;
 use std::alloc::AllocError;
-use std::convert::Infallible;
 use thiserror::Error;
 
 /// Why a question about the commit-graph at a path has no answer.
@@ -15,7 +15,7 @@ pub enum QueryError {
     Open(#[from] OpenError),
     /// The graph failed its check.
     #[error("the graph failed its check: {0}")]
-    Check(#[from] VerifyError<Infallible>),
+    Check(#[from] VerifyError<NoFault>),
     /// The text spells no id.
     #[error("the text spells no id: {0}")]
     Id(#[from] IdError),

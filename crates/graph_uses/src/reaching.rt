@@ -1,33 +1,49 @@
-//! Asking whether one commit is an ancestor of another.
+//! Asking which commits are ancestors of another.
 
 ghost use Rattle.std.specs.Prelude.{◌↔◌, ◌<◌, IfOk, IsTrue};
 ghost use Rattle.gix_commitgraph.specs.Graph.{total};
-ghost use Rattle.gix_commitgraph.specs.Sound.{Sound};
-ghost use Rattle.graph_format.specs.StoredHistory.{history_of};
-ghost use Rattle.graph_walks.specs.Walks.{Reaches};
+ghost use Rattle.gix_commitgraph.specs.StoredHistory.{history_of};
+ghost use Rattle.gix_commitgraph.specs.Walks.{Reaches};
 
-use gix_commitgraph::verify::VerifyError;
-use gix_commitgraph::{Graph, Position};
-use graph_history::{Checked, NoFault};
-use std::alloc::Global;
+use gix_commitgraph::Position;
+use gix_hash_core::{ObjectId, oid};
+use graph_history::Checked;
+use std::alloc::{AllocError, Global};
 
-/// Whether a walk along parents leads from one commit of a graph to another. The graph is checked
-/// first.
-///
-/// The error is the first fault that the check finds, or `OutOfMemory` where an allocation failed.
+/// Whether a walk along parents leads from one commit of a graph to another. The error is that an
+/// allocation failed.
 pub fn reaches(
     alloc: Global,
-    graph: &Graph,
+    graph: &Checked<'_>,
     from: Position,
     to: Position,
-) -> Result<bool, VerifyError<NoFault>>
+) -> Result<bool, AllocError>
     requires from { from.0 < total graph.now }
     requires to { to.0 < total graph.now }
-    ensures sound { IfOk result (λ _. Sound graph.now) }
-    ensures reaches { IfOk result (λ found.
-        IsTrue found ↔ Reaches (history_of graph.now) from.0 to.0) }
+    ensures { IfOk result (λ found. IsTrue found ↔ Reaches (history_of graph.now) from.0 to.0) }
 {
-    let checked = Checked::new(alloc, graph)?;
-    let reached = checked.ancestor_walk(alloc, from, to)?;
+    let reached = graph.ancestor_walk(alloc, from, to)?;
     Ok(reached.walk.is_some())
+}
+
+/// Of some commits, those that are merged into the one with an id: its ancestors, and itself. The
+/// error is that an allocation failed.
+pub fn merged(
+    alloc: Global,
+    graph: &Checked<'_>,
+    into: oid<'_>,
+    commits: &[ObjectId],
+) -> Result<Vec<ObjectId>, AllocError> {
+    let mut merged = Vec::new(alloc);
+    let Some(from) = graph.find(into) else {
+        return Ok(merged);
+    };
+    for commit in commits {
+        if let Some(to) = graph.find(commit.as_oid())
+            && reaches(alloc, graph, from, to)?
+        {
+            merged.push(*commit)?;
+        }
+    }
+    Ok(merged)
 }

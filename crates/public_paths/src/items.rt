@@ -6,20 +6,23 @@ use gix_commitgraph::file::{self, BaseIds, Commits, File, Ids};
 use gix_commitgraph::law::check::{
     a_check_of_a_graph_calls_on_each_position_once, a_check_of_a_layer_calls_on_each_position_once,
 };
-use gix_commitgraph::law::distinct::distinct_ids_are_without_fault;
+use gix_commitgraph::law::distinct::{
+    a_graph_that_keeps_what_is_asked_is_without_fault,
+    a_repeated_id_is_named_only_where_that_is_asked, a_scan_of_distinct_ids_is_exact,
+    distinct_ids_are_without_fault,
+};
 use gix_commitgraph::law::edges::each_edge_list_ends_or_runs_out;
 use gix_commitgraph::law::graph::{
     a_lookup_in_ordered_layers_is_a_scan, a_position_is_a_place_in_its_layer,
     a_position_lies_in_one_layer, layers_are_refused_or_make_a_graph, the_commits_of_layers_add_up,
-    the_history_of_a_graph_is_that_of_its_layers,
+    the_history_of_a_graph_is_that_of_its_layers, the_history_of_a_graph_says_what_its_records_say,
 };
-use gix_commitgraph::law::layer::{
-    a_layer_without_fault_is_right, the_test_of_a_name_is_the_rule,
-};
+use gix_commitgraph::law::layer::{a_layer_without_fault_is_right, the_test_of_a_name_is_the_rule};
 use gix_commitgraph::law::lookup::{a_scan_answers_the_first_position, digits_are_binary_digits};
 use gix_commitgraph::law::sound::{
     a_graph_without_fault_is_right, a_lookup_in_a_right_graph_is_a_scan,
     a_right_graph_is_without_fault, the_longest_path_of_a_right_graph_is_its_longest_walk,
+    the_parents_of_a_right_graph_are_there,
 };
 use gix_commitgraph::law::stats::{
     the_parent_counts_of_a_graph_add_up, the_parent_counts_of_a_layer_add_up,

@@ -2,12 +2,14 @@ use gix_commitgraph::opening::OpenError;
 use gix_commitgraph::verify::{CommitFault, VerifyError};
 use gix_commitgraph::{FileError, Graph, Position};
 use gix_hash_core::{IdError, Kind, ObjectId};
-use graph_uses::ancestry::parents_of;
-use graph_uses::checked::{check, open_checked};
+use graph_history::CheckedGraph;
+use graph_uses::checked::open_checked;
 use graph_uses::finding::{find, time_of};
 use graph_uses::in_memory::open_bytes;
+use graph_uses::parents::parents_of;
 use graph_uses::query::parents_at_path;
-use graph_uses::reaching::reaches;
+use graph_uses::reaching::{merged, reaches};
+use graph_uses::walking::ancestors;
 use graph_vectors::{LayerPlan, PlanCommit, build};
 use std::alloc::{AllocError, Global};
 use std::fs;
@@ -70,6 +72,16 @@ fn graph_of(rt: &impl Abort, alloc: Global, rows: &[Row<'_>]) -> Graph {
     open_bytes(alloc, file_of(rt, alloc, rows)).expect(rt, "a graph")
 }
 
+/// The checked graph of a file of these commits, which is right.
+fn right_graph(rt: &impl Abort, alloc: Global, rows: &[Row<'_>]) -> CheckedGraph {
+    CheckedGraph::new(alloc, graph_of(rt, alloc, rows)).expect(rt, "a right graph")
+}
+
+/// The id that repeats this byte.
+fn id(byte: u8) -> ObjectId {
+    ObjectId::from([byte; 20])
+}
+
 #[test]
 fn opens_bytes_in_memory(rt: HostRuntime) {
     let alloc = rt.alloc();
@@ -90,13 +102,14 @@ fn opens_bytes_in_memory(rt: HostRuntime) {
 #[test]
 fn checks_a_graph(rt: HostRuntime) {
     let alloc = rt.alloc();
-    let right = graph_of(&rt, alloc, DIAMOND);
-    let outcome = check(alloc, &right).expect(&rt, "a right graph");
+    let right = right_graph(&rt, alloc, DIAMOND);
+    let checked = right.as_checked();
+    let outcome = checked.outcome();
     assert_eq!(rt; outcome.num_commits, 4);
     assert_eq!(rt; outcome.longest_path_length, Some(2));
     assert_eq!(rt; outcome.parent_counts.get(&1), Some(&2));
     let wrong = graph_of(&rt, alloc, TWICE);
-    let answer = check(alloc, &wrong);
+    let answer = CheckedGraph::new(alloc, wrong);
     assert!(rt;
         matches!(
             answer,
@@ -106,15 +119,6 @@ fn checks_a_graph(rt: HostRuntime) {
             })
         )
     );
-}
-
-#[test]
-fn finds_commits_in_a_graph_that_was_not_checked(rt: HostRuntime) {
-    let graph = graph_of(&rt, rt.alloc(), DIAMOND);
-    let threes = ObjectId::from([0x33; 20]);
-    assert_eq!(rt; time_of(&graph, threes.as_oid()), Some(1700000000));
-    let fives = ObjectId::from([0x55; 20]);
-    assert_eq!(rt; time_of(&graph, fives.as_oid()), None);
 }
 
 const RIGHT: &str = "graph_uses_test_right";
@@ -127,14 +131,16 @@ fn asks_a_graph_on_disk(rt: HostRuntime) {
     let bytes = file_of(&rt, alloc, DIAMOND);
     fs::write(&rt, RIGHT, bytes.as_slice()).expect(&rt, "a file");
     let graph = open_checked(&rt, alloc, RIGHT).expect(&rt, "a right graph");
-    assert!(rt; matches!(find(&graph, THREES), Ok(Some(Position(2)))));
-    assert!(rt; matches!(find(&graph, FIVES), Ok(None)));
-    assert!(rt; matches!(find(&graph, "33"), Err(IdError::Length)));
+    let checked = graph.as_checked();
+    assert!(rt; matches!(find(&checked, THREES), Ok(Some(Position(2)))));
+    assert!(rt; matches!(find(&checked, FIVES), Ok(None)));
+    assert!(rt; matches!(find(&checked, "33"), Err(IdError::Length)));
+    assert_eq!(rt; time_of(&checked, id(0x33).as_oid()), Some(1700000000));
+    assert_eq!(rt; time_of(&checked, id(0x55).as_oid()), None);
     let parents = parents_at_path(&rt, alloc, RIGHT, FOURS).expect(&rt, "an answer");
-    let want = [Position(1), Position(2)];
-    assert!(rt; parents.as_deref() == Some(want.as_slice()));
+    assert_eq!(rt; parents.as_slice(), [id(0x22), id(0x33)].as_slice());
     let parents = parents_at_path(&rt, alloc, RIGHT, FIVES).expect(&rt, "an answer");
-    assert!(rt; parents.is_none());
+    assert!(rt; parents.is_empty());
     fs::remove_file(&rt, RIGHT).expect(&rt, "no file");
 }
 
@@ -170,25 +176,31 @@ const PARENTS: &[(u32, &[Position])] = &[
 #[test]
 fn gives_parents(rt: HostRuntime) {
     let alloc = rt.alloc();
-    let graph = graph_of(&rt, alloc, DIAMOND);
-    let _outcome = check(alloc, &graph).expect(&rt, "a right graph");
-    for (pos, want) in PARENTS {
-        assert!(rt; *pos < graph.num_commits());
-        let parents = parents_of(alloc, &graph, Position(*pos)).expect(&rt, "parents");
-        assert_eq!(rt; parents.as_slice(), *want, "at {pos}");
+    let graph = right_graph(&rt, alloc, DIAMOND);
+    let checked = graph.as_checked();
+    for (number, want) in PARENTS {
+        let pos = checked.position(*number).expect(&rt, "a commit");
+        let parents = parents_of(alloc, &checked, pos).expect(&rt, "parents");
+        assert_eq!(rt; parents.as_slice(), *want, "at {number}");
     }
+    assert!(rt; checked.position(4).is_none());
 }
 
 #[test]
 fn asks_for_ancestors(rt: HostRuntime) {
     let alloc = rt.alloc();
-    let graph = graph_of(&rt, alloc, DIAMOND);
+    let graph = right_graph(&rt, alloc, DIAMOND);
+    let checked = graph.as_checked();
     for (from, to, want) in [(3, 0, true), (1, 2, false), (2, 2, true), (0, 3, false)] {
-        assert!(rt; from < graph.num_commits() && to < graph.num_commits());
-        let found = reaches(alloc, &graph, Position(from), Position(to));
+        let start = checked.position(from).expect(&rt, "a commit");
+        let end = checked.position(to).expect(&rt, "a commit");
+        let found = reaches(alloc, &checked, start, end);
         assert_eq!(rt; found.expect(&rt, "an answer"), want, "from {from} to {to}");
     }
-    let wrong = graph_of(&rt, alloc, TWICE);
-    assert!(rt; wrong.num_commits() > 3);
-    assert!(rt; reaches(alloc, &wrong, Position(3), Position(0)).is_err());
+    let commits = [id(0x11), id(0x33), id(0x22), id(0x55)];
+    let found = merged(alloc, &checked, id(0x22).as_oid(), &commits).expect(&rt, "an answer");
+    assert_eq!(rt; found.as_slice(), [id(0x11), id(0x22)].as_slice());
+    let all = ancestors(alloc, &checked, id(0x44).as_oid()).expect(&rt, "an answer");
+    let want = [id(0x44), id(0x33), id(0x22), id(0x11)];
+    assert_eq!(rt; all.as_slice(), want.as_slice());
 }

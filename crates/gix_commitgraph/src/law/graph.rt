@@ -2,7 +2,7 @@
 
 ghost use Rattle.std.specs.Prelude.{◌≡◌, ◌<◌, ◌-◌, ℕ, List, All, Some, length, slice_get};
 ghost use Rattle.graph_format.specs.Layer.{Layer, record_at};
-ghost use Rattle.gix_commitgraph.specs.Graph.{total, start};
+ghost use Rattle.gix_commitgraph.specs.Graph.{graph_commits, total, start};
 ghost use Rattle.graph_format.specs.Layer.{IsOpened};
 ghost use Rattle.graph_format.specs.StoredHistory.{node_of, history_of};
 ghost use Rattle.gix_commitgraph.specs.GraphLaw.{LiesIn, LiesInOne, ComesFromLayer, AreCounted};
@@ -45,4 +45,11 @@ pub fn the_history_of_a_graph_is_that_of_its_layers()
         → LiesIn layers pos i layer
         → slice_get (history_of layers) pos
         ≡ Some (node_of layer (record_at layer (pos - start layers i))) }
+{}
+
+/// The history of a graph of opened layers says of each commit what its record says.
+pub fn the_history_of_a_graph_says_what_its_records_say()
+    ensures { (layers : List Layer) (p pos : ℕ) (layer : Layer) → All IsOpened layers
+        → slice_get (graph_commits layers) p ≡ Some (layer, pos)
+        → slice_get (history_of layers) p ≡ Some (node_of layer (record_at layer pos)) }
 {}

@@ -2,12 +2,13 @@
 //! keep their rules, each parent stands in the layer of its commit or an earlier one, and each
 //! generation number counts the commits of the longest walk along parents.
 
-ghost use Rattle.std.specs.Prelude.{◌≡◌, ℕ, List, All, Option, None};
-ghost use Rattle.graph_format.specs.Layer.{Layer};
-ghost use Rattle.gix_commitgraph.specs.Graph.{graph_ids};
+ghost use Rattle.std.specs.Prelude.{◌≡◌, ◌<◌, ℕ, List, All, Option, None, Some, slice_get};
+ghost use Rattle.graph_format.specs.Layer.{Layer, record_at};
+ghost use Rattle.graph_format.specs.Parents.{parents_of};
+ghost use Rattle.gix_commitgraph.specs.Graph.{graph_commits, graph_ids, total};
 ghost use Rattle.graph_format.specs.Layer.{IsOpened};
 ghost use Rattle.gix_commitgraph.specs.GraphLookup.{FoundIn};
-ghost use Rattle.graph_walks.specs.History.{generations};
+ghost use Rattle.graph_walks.specs.History.{generations, parents_at};
 ghost use Rattle.graph_format.specs.StoredHistory.{history_of};
 ghost use Rattle.graph_format.specs.Lookup.{scan};
 ghost use Rattle.graph_format.specs.Points.{first_fault};
@@ -40,4 +41,14 @@ pub fn a_lookup_in_a_right_graph_is_a_scan()
 pub fn the_longest_path_of_a_right_graph_is_its_longest_walk()
     ensures { (layers : List Layer) → Sound layers
         → MatchesLongestWalk (history_of layers) (longest_path (generations (history_of layers))) }
+{}
+
+/// In a right graph of opened layers the parents of each commit can be decoded, and are commits of
+/// the graph.
+pub fn the_parents_of_a_right_graph_are_there()
+    ensures decoded { (layers : List Layer) (p pos : ℕ) (layer : Layer) → All IsOpened layers
+        → Sound layers → slice_get (graph_commits layers) p ≡ Some (layer, pos)
+        → (parents_of (record_at layer pos) layer.edges).fault ≡ None }
+    ensures there { (layers : List Layer) (p : ℕ) → All IsOpened layers → Sound layers
+        → All (λ q. q < total layers) (parents_at (history_of layers) p) }
 {}

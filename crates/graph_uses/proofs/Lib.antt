@@ -1,4 +1,0 @@
-mod AllGiven
-mod KnownParents
-mod Stored
-mod Within

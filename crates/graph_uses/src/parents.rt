@@ -1,0 +1,41 @@
+//! Going over parents.
+
+ghost use Rattle.std.specs.Prelude.{◌≡◌, ◌<◌, IfOk, map};
+ghost use Rattle.gix_commitgraph.specs.Graph.{total};
+ghost use Rattle.gix_commitgraph.specs.History.{parents_at};
+ghost use Rattle.gix_commitgraph.specs.StoredHistory.{history_of};
+
+use gix_commitgraph::Position;
+use gix_hash_core::{ObjectId, oid};
+use graph_history::Checked;
+use std::alloc::{AllocError, Global};
+
+/// The positions of the parents of the commit at a position, in their order. The error is that an
+/// allocation failed.
+pub fn parents_of(
+    alloc: Global,
+    graph: &Checked<'_>,
+    pos: Position,
+) -> Result<Vec<Position>, AllocError>
+    requires { pos.0 < total graph.now }
+    ensures { IfOk result (λ parents.
+        map (λ parent. parent.0) parents.items ≡ parents_at (history_of graph.now) pos.0) }
+{
+    graph.parents(pos).collect(alloc)
+}
+
+/// The ids of the parents of the commit with an id, none where the graph has no such commit. The
+/// error is that an allocation failed.
+pub fn parent_ids(
+    alloc: Global,
+    graph: &Checked<'_>,
+    id: oid<'_>,
+) -> Result<Vec<ObjectId>, AllocError> {
+    let mut ids = Vec::new(alloc);
+    if let Some(pos) = graph.find(id) {
+        for parent in graph.parents(pos) {
+            ids.push(graph.id(parent).to_owned())?;
+        }
+    }
+    Ok(ids)
+}
