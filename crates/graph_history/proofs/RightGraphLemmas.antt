@@ -1,5 +1,5 @@
 -- Lookups in a right graph, and the parents of its commits.
-use Rattle.std.proofs.Common.{◌≡◌, ℕ, ◌<◌, List, [], ◌∷◌, ◌++◌, All, IfSome, MatchOption, Option, Some, None, Result, Ok, Err, length}
+use Rattle.std.proofs.Common.{◌≡◌, ℕ, ◌<◌, List, [], ◌∷◌, ◌++◌, All, IfSome, MatchOption, Option, Some, None, Result, Ok, Err}
 use Rattle.std.proofs.Common.{map, slice_get, refl, sym, ap, subst, ◌∙◌, arith}
 use Rattle.std.specs.Result.{IsOk}
 use Rattle.std.proofs.lemmas.List.{append-nil}
@@ -64,8 +64,8 @@ no_error_among e rest [] is = cc
 no_error_among e rest (pos ∷ positions) is = cc
 
 module _ (old new : Items) (all : old ≡ given (positions_among old)) where
-  pub rest_given : (item : Option (Result Position ParentError)) → MatchOption item ((old ≡ []) × (new ≡ [])) (λ x. old ≡ x ∷ new)
-      → new ≡ given (positions_among new)
+  pub rest_given : (item : Option (Result Position ParentError))
+      → MatchOption item ((old ≡ []) × (new ≡ [])) (λ x. old ≡ x ∷ new) → new ≡ given (positions_among new)
   unfolding rest_of
   rest_given None steps = subst (λ (items : Items). items ≡ given (positions_among items)) (sym steps.1) refl
   rest_given (Some (Ok pos)) steps =

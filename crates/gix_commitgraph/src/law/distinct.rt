@@ -37,8 +37,8 @@ pub fn a_repeated_id_is_named_only_where_that_is_asked<E>()
         → IsTrue options.distinct_ids }
 {}
 
-/// Where the ids of a graph are distinct, a plain scan answers a position exactly where it holds the
-/// id.
+/// Where the ids of a graph are distinct, a plain scan answers a position exactly where it holds
+/// the id.
 pub fn a_scan_of_distinct_ids_is_exact()
     ensures { (layers : List Layer) (id : List ℕ) (p : ℕ) → AreDistinct layers
         → (scan (graph_ids layers) id ≡ Some p)
