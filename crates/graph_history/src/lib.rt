@@ -10,10 +10,16 @@
 mod checked;
 mod commits;
 pub mod law;
+mod lists;
+mod marks;
 mod search;
+mod searcher;
+mod walk;
+mod words;
 
 pub use checked::{Checked, NoFault};
 use gix_commitgraph::Position;
+pub use searcher::Searcher;
 
 /// The answer of a query for a walk from one commit to another.
 #[derive(Debug, Drop)]
