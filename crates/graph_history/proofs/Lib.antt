@@ -9,3 +9,4 @@ pub mod ShortestWalkLemmas
 pub mod VisitLemmas
 pub mod QueryLemmas
 pub mod KnownAnswerLemmas
+pub mod DescentLemmas

@@ -69,7 +69,8 @@ module _ (h : List Node) (list : List ℕ) (p next : ℕ) (reading : IsReading h
     pub reading_goes_on : extra_edge_of (get_or list next 0) ≡ extra.Internal pos → IsReading h list p (next + 1)
     reading_goes_on is = record {
       decoded =
-          sym (ap (λ (d : DecodedParents). d.fault) (listed_at list next (extra.Internal pos) reading_within is)) ∙ reading.decoded;
+          sym (ap (λ (d : DecodedParents). d.fault) (listed_at list next (extra.Internal pos) reading_within is))
+          ∙ reading.decoded;
       parents = λ q contained.
           reading.parents q (subst (λ (xs : List ℕ). Contains xs q) (sym (named_internal list next pos reading_within is))
           (tail_contained pos.0 q (named_from list (next + 1)) contained));
@@ -220,7 +221,8 @@ module _ (h : List Node) (least : ℕ) (a b : List Marked) (c : ℕ) (extends : 
   pub goes_over_internal : IsRead h least b list now (Some (next + 1))
   goes_over_internal =
       subst (λ (xs : List Marked). IsRead h least b list xs (Some (next + 1))) (sym marks)
-      (read_internal h least b list was next pos (read_extends h least a list was b c (Some next) extends read) (sym names) queues)
+      (read_internal h least b list was next pos (read_extends h least a list was b c (Some next) extends read) (sym names)
+      queues)
 
   pub goes_over_last : (last : Position) → extra_edge_of (get_or list next 0) ≡ extra.Last last → IsRead h least b list now None
   goes_over_last last is =

@@ -1,6 +1,6 @@
 -- A table of marks, as marks are set and cleared in it.
-use Rattle.std.proofs.Common.{◌≡◌, ◌≢◌, ◌⊎◌, ◌↔◌, ℕ, suc, zero, ◌<◌, ◌≤◌, List, [], ◌∷◌, ◌++◌, length, set, get_or, Contains, IsTrue}
-use Rattle.std.proofs.Common.{not, refl, sym, ap, ap₂, ◌∙◌, subst, inl, inr, ⊎_elim, arith, eqb, eq-eqb}
+use Rattle.std.proofs.Common.{◌≡◌, ◌≢◌, ◌⊎◌, ◌↔◌, ℕ, suc, zero, ◌<◌, ◌≤◌, List, [], ◌∷◌, ◌++◌, length, set, get_or, Contains}
+use Rattle.std.proofs.Common.{IsTrue, not, refl, sym, ap, ap₂, ◌∙◌, subst, inl, inr, ⊎_elim, arith, eqb, eq-eqb}
 use Rattle.std.proofs.lemmas.Bool.{cases_lt, cases_eq, false≢true}
 use Rattle.std.proofs.lemmas.List.{length_push, length-set, get_or-set_same, get_or-set_other, get_or_push, get_or_append_left}
 use Rattle.std.proofs.lemmas.List.Elements.{Contains-push, Contains-append_left}
@@ -51,7 +51,8 @@ module _ (marks numbers : List ℕ) (are : AreMarks marks numbers) (n : ℕ) (in
   pub marked_from_mark : get_or marks n 0 ≢ CLEAR → IsMarked (with_marks marks numbers) n
   marked_from_mark some =
       let at = contains_at numbers n (are.others n inside some) in
-      (at.0, (let lt = at.1 in omega (arith, length-with_marks marks numbers)), number_in-with_marks marks numbers at.0 at.1 ∙ at.2)
+      let within : at.0 < length (with_marks marks numbers) = omega (arith, at.1, length-with_marks marks numbers) in
+      (at.0, within, number_in-with_marks marks numbers at.0 at.1 ∙ at.2)
 
   pub mark_from_marked : IsMarked (with_marks marks numbers) n → get_or marks n 0 ≢ CLEAR
   mark_from_marked (i, lt, at) none =
@@ -83,7 +84,10 @@ module _ (marks numbers : List ℕ) (are : AreMarks marks numbers) (n : ℕ) (in
 
     cases_pushed : (i : ℕ) → i < length (numbers ++ n ∷ []) → (i < length numbers) ⊎ (i ≡ length numbers)
     cases_pushed i lt = let len = length_push numbers n in
-        ⊎_elim (λ (lo : i < length numbers). inl lo) (λ (hi : length numbers ≤ i). inr (omega arith)) (cases_lt i (length numbers))
+        ⊎_elim
+        (λ (lo : i < length numbers). inl lo)
+        (λ (hi : length numbers ≤ i). inr (omega arith))
+        (cases_lt i (length numbers))
 
     number_old : (i : ℕ) → i < length numbers → get_or (numbers ++ n ∷ []) i 0 ≡ get_or numbers i 0
     number_old i lt = get_or_append_left numbers (n ∷ []) 0 i lt

@@ -7,6 +7,7 @@
 //! ("topological level" in Git's commit-graph design).
 #![tactic(auto)]
 
+mod ancestor;
 mod checked;
 mod commits;
 pub mod law;

@@ -1,6 +1,6 @@
 //! A searcher, which answers queries one after another.
 
-ghost use Rattle.std.specs.Prelude.{◌≡◌, ◌≢◌, ◌<◌, ◌≤◌, length, IfOk, IfSome, IfNone};
+ghost use Rattle.std.specs.Prelude.{◌≡◌, ◌≢◌, ◌↔◌, ◌<◌, ◌≤◌, length, IfOk, IfSome, IfNone, IsTrue};
 ghost use Rattle.graph_walks.specs.History.{generation_at};
 ghost use Rattle.graph_walks.specs.Walks.{Reaches};
 ghost use Rattle.graph_format.specs.StoredHistory.{history_of};
@@ -74,6 +74,27 @@ impl<'g> Searcher<'g> {
         self.search.clear();
         answer
     }
+
+    /// Whether a walk along parents leads from one commit to another, at positions that are below
+    /// the graph's `num_commits()`: whether `to` is an ancestor of `from`, or the same commit.
+    ///
+    /// The search goes depth first, first parents first. It visits and leaves out commits as
+    /// [`Searcher::ancestor_walk`] does, and goes over no word of an extra edge list twice.
+    ///
+    /// # Errors
+    ///
+    /// An allocation failed. The searcher can be asked again.
+    pub fn is_ancestor(&mut self, from: Position, to: Position) -> Result<bool, AllocError>
+        requires from { from.0 < total self.old }
+        requires to { to.0 < total self.old }
+        ensures graph { self.new ≡ self.old }
+        ensures found { IfOk result (λ found.
+            IsTrue found ↔ Reaches (history_of self.old) from.0 to.0) }
+    {
+        let answer = leads_to(&mut self.search, from, to);
+        self.search.clear();
+        answer
+    }
 }
 
 /// A shortest walk from one commit to another.
@@ -105,6 +126,26 @@ fn walk_between(
         });
     };
     search.shortest_walk(from, to, least)
+}
+
+/// Whether a walk leads from one commit to another.
+fn leads_to(search: &mut Search<'_>, from: Position, to: Position) -> Result<bool, AllocError>
+    requires idle { IsIdle search.old }
+    requires from { from.0 < total search.old.graph.now }
+    requires to { to.0 < total search.old.graph.now }
+    ensures graph { search.new.graph.now ≡ search.old.graph.now }
+    ensures found { IfOk result (λ found.
+        IsTrue found ↔ Reaches (history_of search.old.graph.now) from.0 to.0) }
+{
+    the_history_of_a_graph_is_that_of_its_layers();
+    let _commits = search.graph.num_commits();
+    if from == to {
+        return Ok(true);
+    }
+    match least_number(search.graph, from, to) {
+        Some(least) => search.reaches(from, to, least),
+        None => Ok(false),
+    }
 }
 
 /// The generation number of a commit, where it allows a walk to it from another commit.

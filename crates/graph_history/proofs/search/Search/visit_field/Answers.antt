@@ -22,11 +22,13 @@ returns-in-None-clause-named c = λ q names high.
 pub enqueue-requires-clause-parent : goal.enqueue-requires-clause-parent
 enqueue-requires-clause-parent c =
     let s = c.args.self.now in
-    subst (λ (f : ParentEdge). NamesParents s.graph.now (commit_in (queued_by s) c.args.place) f) c.in-GraphPosition.is c.requires.field
+    subst (λ (f : ParentEdge). NamesParents s.graph.now (commit_in (queued_by s) c.args.place) f) c.in-GraphPosition.is
+    c.requires.field
 
 pub returns-in_ok-enqueue-in-GraphPosition-clause-read : goal.returns-in_ok-enqueue-in-GraphPosition-clause-read
 returns-in_ok-enqueue-in-GraphPosition-clause-read c =
-    are_read_extends c.args.self.now c.enqueue.new.self c.args.place c.in_ok-enqueue-in-GraphPosition.ensures.goes_on c.enqueue.ensures.words
+    are_read_extends c.args.self.now c.enqueue.new.self c.args.place c.in_ok-enqueue-in-GraphPosition.ensures.goes_on
+    c.enqueue.ensures.words
     c.requires.read
 
 pub returns-in_ok-enqueue-in-GraphPosition-clause-named : goal.returns-in_ok-enqueue-in-GraphPosition-clause-named
@@ -63,4 +65,5 @@ returns-in_ok-visit_list-in-ExtraEdgeIndex-clause-named c = λ q names high.
     let here : at.0 ≡ c.layer_of-layer.result =
     c.layer_of-layer.ensures.only at.0 at.1
     (subst (λ (k : ℕ). LiesIn s.graph.now k at.0 at.1) (sym c.commit_at.ensures) at.2) in
-    c.in_ok-visit_list-in-ExtraEdgeIndex.ensures.named q (contained_in s.graph.now at.0 c.layer_of-layer.result _ q here at.3) high
+    c.in_ok-visit_list-in-ExtraEdgeIndex.ensures.named q
+    (contained_in s.graph.now at.0 c.layer_of-layer.result _ q here at.3) high

@@ -173,7 +173,8 @@ returns-in-Last-clause-read c =
     let names = c.parent_of.ensures ∙ ap named_by (sym word) in
     let queues = subst₂ (λ (layers : List Layer) (least : ℕ). least ≤ generation_at (history_of layers) c.parent_of.result.0
     → IsQueued (queued_by after) c.parent_of.result.0) inv.graph inv.goes_on.least e.queued in
-    are_read_from (record c.enqueue.new.self { words = c.set.new.self }) s.graph.now s.least c.args.layer (c.enqueue.ensures.graph ∙ inv.graph)
+    are_read_from (record c.enqueue.new.self { words = c.set.new.self }) s.graph.now s.least c.args.layer
+    (c.enqueue.ensures.graph ∙ inv.graph)
     (e.goes_on.least ∙ inv.goes_on.least)
     (λ i apart.
     rw (c.in_ok-set.ensures.others i apart, c.enqueue.ensures.words)
@@ -210,8 +211,8 @@ returns-in-Last-clause-named c = λ q contained high.
     let was = marked_at l.self.words.layers.items c.args.layer in
     let now = was ++ record { number = l.next; mark = 0 } ∷ [] in
     named_are_queued h s.least (queued_by after) list now
-    (goes_over_last h s.least (queued_by l.self) (queued_by after) c.args.place e.goes_on.extends list was now l.next inv.read refl
-    c.parent_of.result names queues c.in-Last.field-0 (word ∙ c.in-Last.is)) c.args.index
+    (goes_over_last h s.least (queued_by l.self) (queued_by after) c.args.place e.goes_on.extends list was now l.next inv.read
+    refl c.parent_of.result names queues c.in-Last.field-0 (word ∙ c.in-Last.is)) c.args.index
     (goes_over_marked h s.least (queued_by l.self) (queued_by after) c.args.place e.goes_on.extends list was now l.next inv.read
     refl c.parent_of.result names queues c.args.index inv.begun) q contained high
 
