@@ -45,6 +45,13 @@ impl Graph {
         self.starts[last] + self.files[last].num_commits()
     }
 
+    /// The layers, from the lowest on.
+    pub fn layers(&self) -> &[File]
+        ensures { result.now ≡ self.now }
+    {
+        self.files.as_slice()
+    }
+
     /// The id at a position, which is below `num_commits()`. The positions of a graph are those of
     /// its layers, one layer after another.
     pub fn id_at(&self, pos: Position) -> oid<'_>

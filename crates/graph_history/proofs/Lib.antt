@@ -1,7 +1,13 @@
 pub mod PlaceLemmas
 pub mod RightGraphLemmas
+pub mod MarkLemmas
 pub mod QueueLemmas
+pub mod ListLemmas
+pub mod FieldLemmas
+pub mod SearchLemmas
 pub mod StepLemmas
 pub mod ShortestWalkLemmas
 pub mod VisitLemmas
 pub mod QueryLemmas
+pub mod KnownAnswerLemmas
+pub mod DescentLemmas

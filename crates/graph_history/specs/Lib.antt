@@ -2,5 +2,8 @@ pub mod Checked
 pub mod RightGraph
 pub mod Counts
 pub mod Answer
+pub mod Marks
 pub mod Queue
+pub mod BreadthFirst
 pub mod Commits
+pub mod Search

@@ -1,6 +1,7 @@
 //! A graph that was checked and is right.
 
-ghost use Rattle.std.specs.Prelude.{◌≡◌, ◌<◌, IfErr, IfOk};
+ghost use Rattle.std.specs.Prelude.{◌≡◌, ◌↔◌, ◌<◌, IfErr, IfOk, IsTrue};
+ghost use Rattle.graph_walks.specs.Walks.{Reaches};
 ghost use Rattle.graph_format.specs.StoredHistory.{history_of};
 ghost use Rattle.gix_commitgraph.specs.Distinct.{IsSoundWith};
 ghost use Rattle.gix_commitgraph.specs.Graph.{total};
@@ -11,6 +12,7 @@ ghost use Rattle.graph_history.specs.Checked.{MayRefuseGraph, MayRefuseWith};
 
 use crate::Reached;
 use crate::search::shortest_walk;
+use crate::searcher::Searcher;
 use gix_commitgraph::file::Commit;
 use gix_commitgraph::verify::{Outcome, VerifyError, VerifyOptions};
 use gix_commitgraph::{Graph, Position};
@@ -112,6 +114,33 @@ impl<'g> Checked<'g> {
             Cow::Borrowed(outcome) => outcome,
             Cow::Owned(outcome) => outcome,
         }
+    }
+
+    /// A searcher over the graph, for several queries one after another. Nothing is allocated yet.
+    pub fn searcher(&self, alloc: Global) -> Searcher<'g>
+        ensures { result ≡ self.now }
+    {
+        Searcher::new(alloc, self.graph)
+    }
+
+    /// Whether a walk along parents leads from one commit to another, at positions that are below
+    /// the graph's `num_commits()`: whether `to` is an ancestor of `from`, or `from` itself.
+    ///
+    /// # Errors
+    ///
+    /// An allocation failed.
+    pub fn is_ancestor(
+        &self,
+        alloc: Global,
+        from: Position,
+        to: Position,
+    ) -> Result<bool, AllocError>
+        requires from { from.0 < total self.now }
+        requires to { to.0 < total self.now }
+        ensures { IfOk result (λ found.
+            IsTrue found ↔ Reaches (history_of self.now) from.0 to.0) }
+    {
+        self.searcher(alloc).is_ancestor(from, to)
     }
 
     /// Looks for a shortest walk along parents from one commit to another, at positions that are

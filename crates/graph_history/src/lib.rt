@@ -8,17 +8,24 @@
 #![tactic(auto)]
 
 mod access;
+mod ancestor;
 mod checked;
 mod commits;
 pub mod law;
+mod lists;
+mod marks;
 mod owned;
 mod parents;
 mod search;
+mod searcher;
+mod walk;
+mod words;
 
 pub use checked::{Checked, NoFault};
 use gix_commitgraph::Position;
 pub use owned::CheckedGraph;
 pub use parents::ParentPositions;
+pub use searcher::Searcher;
 
 /// The answer of a query for a walk from one commit to another.
 #[derive(Debug, Drop)]

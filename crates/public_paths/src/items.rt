@@ -71,7 +71,7 @@ fn graphs<R: Files>(outcome: &Outcome) -> file::Position {
     let _ = Graph::from_info_dir::<R>;
     let _ = Graph::from_commit_graphs_dir::<R>;
     let _ = (Graph::commit_at, Graph::id_at, Graph::lookup);
-    let _ = (Graph::commit_by_id, Graph::object_hash);
+    let _ = (Graph::commit_by_id, Graph::object_hash, Graph::layers);
     let _ = (
         Graph::num_commits,
         Graph::layer_of_counted,
