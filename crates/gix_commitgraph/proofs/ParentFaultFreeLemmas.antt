@@ -72,6 +72,13 @@ module _ {E : Type 0} where
       → parents_refusal {E = E} layers i layer pos ≡ None
   unrefused layers i layer pos decoded within = (parents-at layers i layer pos).1 (decoded, within)
 
+  -- and one whose parents are not refused
+  pub known-unrefused : (layers : List Layer) (i : ℕ) (layer : Layer) (pos : ℕ)
+      → parents_refusal {E = E} layers i layer pos ≡ None
+      → ((parents_of (record_at layer pos) layer.edges).fault ≡ None)
+      × All (λ q. q.0 < stop layers i) (parents_of (record_at layer pos) layer.edges).positions
+  known-unrefused layers i layer pos none = (parents-at layers i layer pos).0 none
+
   -- the parents of all commits of layer i can be told, and stand before its end
   pub parents-iff : (layers : List Layer) (i : ℕ) (layer : Layer) → IsPaired layer
       → ((pos : ℕ) → pos < length layer.ids → parents_refusal {E = E} layers i layer pos ≡ None) ↔ AreParentsKnown layers i layer

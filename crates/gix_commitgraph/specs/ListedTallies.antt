@@ -1,5 +1,5 @@
--- what the parents come to that an extra edge list has
-use Rattle.std.specs.Prelude.{◌≡◌, ℕ, ◌<◌, List, All, Option, None, length, map}
+-- parent count and greatest parent generation: of a commit, and of each suffix of an extra edge list
+use Rattle.std.specs.Prelude.{◌≡◌, ℕ, ◌<◌, List, All, Option, None, SomeIff, length, map}
 use Rattle.graph_walks.specs.Counts.{greatest}
 use Rattle.graph_walks.specs.History.{Node, generation_at}
 use Rattle.graph_format.specs.Layer.{Layer}
@@ -9,14 +9,22 @@ use Rattle.graph_layer.specs.ListedParents.{AreListed}
 use Rattle.gix_commitgraph.specs.declared.verify.layer.LayerSpan.{LayerSpan}
 use Rattle.gix_commitgraph.specs.declared.verify.commit.ParentTally.{ParentTally}
 
--- These parents are decoded without a fault, and stand before `stop`. The tally has their number, and the greatest of their
--- generation numbers.
-pub record IsTallied (history : List Node) (stop : ℕ) (parents : DecodedParents) (tally : ParentTally) : Type 0 where
+-- These parents are decoded without a fault, and stand before `stop`.
+pub record AreWithin (stop : ℕ) (parents : DecodedParents) : Type 0 where
   pub decoded : parents.fault ≡ None
-  pub within : All (λ q. q.0 < stop) parents.positions
-  pub count : tally.count ≡ length parents.positions
-  pub max_generation : tally.max_generation ≡ greatest (map (generation_at history) (map (λ q. q.0) parents.positions))
+  pub below : All (λ q. q.0 < stop) parents.positions
 
--- The tallies of the words of a layer's extra edge list: where there is one, of the parents that are listed from its word on.
+-- the number of these parents, and the greatest of their generation numbers
+abbrev pub tally_of : List Node → DecodedParents → ParentTally
+tally_of history parents = record {
+  count = length parents.positions;
+  max_generation = greatest (map (generation_at history) (map (λ q. q.0) parents.positions));
+}
+
+-- The tally of these parents: `Some` exactly where they are decoded without a fault and stand before `stop`.
+abbrev pub IsTally : List Node → ℕ → DecodedParents → Option ParentTally → Type 0
+IsTally history stop parents tally = SomeIff tally (AreWithin stop parents) (tally_of history parents)
+
+-- One tally for each word of a layer's extra edge list, of the parents that are listed from that word on.
 abbrev pub AreTallied : List Layer → LayerSpan → List (Option ParentTally) → Type 0
-AreTallied layers span tallies = AreListed (IsTallied (history_of layers) span.stop) span.file.now.edges tallies
+AreTallied layers span tallies = AreListed (IsTally (history_of layers) span.stop) span.file.now.edges tallies

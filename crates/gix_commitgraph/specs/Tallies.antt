@@ -1,5 +1,5 @@
 -- what the tally of some commits is
-use Rattle.std.specs.Prelude.{◌≡◌, ◌≢◌, ℕ, ◌+◌, ◌-◌, ◌%◌, ◌<◌, List, All, Option, None, IfSome, length, map, slice_index_or}
+use Rattle.std.specs.Prelude.{◌≡◌, ◌≢◌, ℕ, ◌/◌, ◌%◌, ◌<◌, List, Option, None, length, map, slice_index_or}
 use Rattle.graph_walks.specs.Counts.{greatest, count_of}
 use Rattle.graph_layer.specs.ParentCounts.{counted}
 use Rattle.graph_walks.specs.History.{Node, generations, parent_numbers, generation_at, parents_at}
@@ -9,6 +9,7 @@ use Rattle.graph_format.specs.StoredHistory.{history_of}
 use Rattle.gix_commitgraph.specs.declared.verify.layer.LayerSpan.{LayerSpan}
 use Rattle.gix_commitgraph.specs.declared.verify.tally.Tally.{Tally}
 use Rattle.gix_commitgraph.specs.declared.verify.commit.ParentTally.{ParentTally}
+use Rattle.gix_commitgraph.specs.ListedTallies.{IsTally}
 
 -- The statistics of the commits so far.
 pub record Tallies (seen : List Node) (tally : Tally) : Type 0 where
@@ -25,14 +26,17 @@ pub record ParentsTally (history : List Node) (p : ℕ) (tally : ParentTally) : 
 abbrev pub decoded_at : Layer → ℕ → DecodedParents
 decoded_at layer place = parents_of (record_at layer place) layer.edges
 
--- This is the tally of the parents of the commit at a place of a layer. They are decoded without a fault, and stand before the
--- layer's end.
-pub record IsGathered (layers : List Layer) (span : LayerSpan) (place : ℕ) (gathered : ParentTally) : Type 0 where
-  pub decoded : (decoded_at span.file.now place).fault ≡ None
-  pub within : All (λ q. q.0 < span.stop) (decoded_at span.file.now place).positions
-  pub tally : ParentsTally (history_of layers) (span.first + place) gathered
+-- The tally of the parents of the commit at a place of a layer: `Some` exactly where they are decoded without a fault and stand
+-- before the layer's end.
+abbrev pub IsGathered : List Layer → LayerSpan → ℕ → Option ParentTally → Type 0
+IsGathered layers span place gathered = IsTally (history_of layers) span.stop (decoded_at span.file.now place) gathered
 
--- This was gathered of the block of 256 commits in which the commit at a place stands, if it is not the first of one.
+-- A block has the tallies of 256 commits of a layer, among which the one at a place is, or of as many of them as there are.
+abbrev pub AreGathered : List Layer → LayerSpan → ℕ → List (Option ParentTally) → Type 0
+AreGathered layers span among block =
+    (place : ℕ) → place < length span.file.now.ids → place / 256 ≡ among / 256
+    → IsGathered layers span place (slice_index_or block (place % 256) None)
+
+-- This was gathered before the check of the commit at a place, if that is not the first of its block.
 abbrev pub IsBlock : List Layer → LayerSpan → ℕ → List (Option ParentTally) → Type 0
-IsBlock layers span place block =
-    place % 256 ≢ 0 → (i : ℕ) → IfSome (slice_index_or block i None) (IsGathered layers span (place - place % 256 + i))
+IsBlock layers span place block = place % 256 ≢ 0 → AreGathered layers span place block

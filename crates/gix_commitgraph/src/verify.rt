@@ -243,11 +243,9 @@ impl Graph {
             return Err(VerifyError::TooManyFiles);
         }
         let mut tally = Tally::new(alloc);
-        let mut first = 0;
         for layer in 0..self.files.len() {
-            let span = self.span_at(layer, first);
+            let span = self.span_at(layer);
             self.verify_layer(options, span, alloc, &mut tally, processor)?;
-            first = span.stop;
         }
         Ok(tally.outcome()?)
     }

@@ -1,5 +1,5 @@
 -- laws of what is wrong with the ids of a commit
-use Rattle.std.proofs.Common.{◌≡◌, ◌==◌, ◌-◌, ◌<◌, ℕ, Bool, true, false, not, List, Some, slice_get, refl, sym, arith}
+use Rattle.std.proofs.Common.{◌≡◌, ◌==◌, ◌-◌, ◌<◌, ℕ, Bool, true, false, not, List, Option, Some, slice_get, refl, sym, arith}
 use Rattle.std.specs.Prelude.{All, nat_lt}
 use Rattle.std.specs.List.{list_all}
 use Rattle.std.specs.Ordering.{nat_cmp, is_ge}
@@ -9,8 +9,9 @@ use Rattle.std.specs.Bool.{Decides}
 use Rattle.std.proofs.lemmas.Bool.Decides.{nat_tests, same_from_decides, Decides-by_and, Decides-eqb}
 use Rattle.first_faults.specs.First.{◌when◌, ◌otherwise◌}
 use Rattle.graph_format.specs.Layer.{Layer, record_at}
-use Rattle.graph_format.specs.declared.fault.CommitFault.TheVariants.{NullId, Order, NullTree}
-use Rattle.graph_format.specs.Faults.{is_null, id_at, is_out_of_order, commit_fault}
+use Rattle.graph_format.specs.declared.fault.CommitFault.{CommitFault}
+use Rattle.graph_format.specs.declared.fault.CommitFault.TheVariants.{NullId, Order}
+use Rattle.graph_format.specs.Faults.{is_null, id_at, is_out_of_order, id_fault, tree_fault, commit_fault}
 
 -- whether an id is not above the one before it
 pub out_of_order-at : (layer : Layer) (pos : ℕ) (before id : List ℕ)
@@ -41,9 +42,14 @@ pub null_tree-at : (layer : Layer) (pos : ℕ) (tree : List ℕ) (b : Bool)
     → tree ≡ (record_at layer pos).tree → Decides b (All (λ byte. byte ≡ 0) tree) → is_null (record_at layer pos).tree ≡ b
 null_tree-at layer pos tree b at h = rw (← at) (sym (same_from_decides b (is_null tree) h (is_null-decides tree)))
 
--- the first fault, by what the tests say
-pub commit_fault-by : (layer : Layer) (pos : ℕ) (null disordered null_tree : Bool)
-    → is_null (id_at layer pos) ≡ null → is_out_of_order layer pos ≡ disordered → is_null (record_at layer pos).tree ≡ null_tree
-    → ((NullId when null otherwise Order when disordered) otherwise NullTree when null_tree) ≡ commit_fault layer pos
+-- the first fault of its own id, by what the tests say
+pub id_fault-by : (layer : Layer) (pos : ℕ) (null disordered : Bool)
+    → is_null (id_at layer pos) ≡ null → is_out_of_order layer pos ≡ disordered
+    → (NullId when null otherwise Order when disordered) ≡ id_fault layer pos
+id_fault-by layer pos null disordered h k = rw (h, k) refl
+
+-- the first fault, by those of its own id and of the tree's
+pub commit_fault-by : (layer : Layer) (pos : ℕ) (id tree : Option CommitFault)
+    → id ≡ id_fault layer pos → tree ≡ tree_fault layer pos → (id otherwise tree) ≡ commit_fault layer pos
 unfolding commit_fault
-commit_fault-by layer pos null disordered null_tree h k l = rw (h, k, l) refl
+commit_fault-by layer pos id tree h k = rw (h, k) refl

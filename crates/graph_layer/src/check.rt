@@ -2,7 +2,7 @@
 
 ghost use Rattle.std.specs.Prelude.{◌≡◌, ◌<◌, length, slice_get, option_map, Some};
 ghost use Rattle.gix_hash_core.specs.Oid.{oid_bytes};
-ghost use Rattle.graph_format.specs.Faults.{layer_fault, commit_fault};
+ghost use Rattle.graph_format.specs.Faults.{layer_fault, id_fault, tree_fault};
 ghost use Rattle.graph_format.specs.Format.{words};
 ghost use Rattle.graph_format.specs.Parents.{edge_of};
 ghost use Rattle.graph_layer.specs.Commit.{commit_layer, commit_pos, commit_record};
@@ -20,11 +20,18 @@ pub fn layer_fault(file: &File) -> Option<LayerFault>
     file.layer_fault()
 }
 
-/// The first thing that is wrong with a commit's ids ("OID Lookup", "Commit Data").
-pub fn commit_fault(commit: &Commit<'_>) -> Option<CommitFault>
-    ensures { result ≡ commit_fault (commit_layer commit.now) (commit_pos commit.now) }
+/// The first thing that is wrong with a commit's own id ("OID Lookup").
+pub fn id_fault(commit: &Commit<'_>) -> Option<CommitFault>
+    ensures { result ≡ id_fault (commit_layer commit.now) (commit_pos commit.now) }
 {
-    commit.fault()
+    commit.id_fault()
+}
+
+/// What is wrong with the id of a commit's root tree ("Commit Data").
+pub fn tree_fault(commit: &Commit<'_>) -> Option<CommitFault>
+    ensures { result ≡ tree_fault (commit_layer commit.now) (commit_pos commit.now) }
+{
+    commit.tree_fault()
 }
 
 /// What both parent fields of a commit say ("Commit Data").

@@ -1,6 +1,6 @@
 //! The check of one commit of a graph.
 
-ghost use Rattle.std.specs.Prelude.{◌≡◌, ◌<◌, All, length, take, IfOk, IfSome};
+ghost use Rattle.std.specs.Prelude.{◌≡◌, ◌<◌, All, None, Some, length, take, IfOk};
 ghost use Rattle.std.specs.Result.{result_err};
 ghost use Rattle.std.specs.Fn.{TakesAt};
 
@@ -31,7 +31,7 @@ impl Graph {
     ghost use Rattle.gix_commitgraph.specs.LayerSpans.{IsSpan, IsInSpan};
 
     /// One commit: its ids, its parents, its generation number, the processor. The answer is the
-    /// number of its parents. They are decoded where nothing was gathered of them.
+    /// number of its parents. They are decoded only where they are refused, to say why.
     pub(super) fn verify_commit<'a, F, E>(
         &'a self,
         options: VerifyOptions,
@@ -45,7 +45,7 @@ impl Graph {
         F: FnMut(&Commit<'a>) -> Result<(), E>,
         requires span { IsSpan self.now span }
         requires commit { IsInSpan span commit.now pos.0 }
-        requires gathered { IfSome gathered (IsGathered self.now span (commit_pos commit.now)) }
+        requires gathered { IsGathered self.now span (commit_pos commit.now) gathered }
         requires below { All IsOrdered (take span.layer self.now) }
         requires callable { (state : F) → TakesAt F.FnMut state commit.now }
         ensures agrees { Agrees (CalledOn F.FnMut (InGraph self.now))
@@ -70,7 +70,7 @@ impl Graph {
         Ok(parents.count)
     }
 
-    /// The parents of a commit, as they were gathered, or else by `check_parents`.
+    /// The parents of a commit, as they were gathered, or why they are refused.
     fn tally_parents<E>(
         &self,
         span: LayerSpan<'_>,
@@ -80,7 +80,7 @@ impl Graph {
     ) -> Result<ParentTally, VerifyError<E>>
         requires span { IsSpan self.now span }
         requires commit { IsInSpan span commit.now pos.0 }
-        requires gathered { IfSome gathered (IsGathered self.now span (commit_pos commit.now)) }
+        requires gathered { IsGathered self.now span (commit_pos commit.now) gathered }
         ensures refusal { result_err result
             ≡ parents_refusal self.now span.entry.layer span.entry.file.now
             (commit_pos commit.now) }
@@ -88,42 +88,36 @@ impl Graph {
     {
         match gathered {
             Some(parents) => Ok(parents),
-            None => self.check_parents(span, commit, pos),
+            None => Err(self.refused_parent(span, commit, pos)),
         }
     }
 
-    /// The parents of a commit, which are all to stand below the end of its layer.
-    fn check_parents<E>(
+    /// The refusal of a commit's first parent that cannot be decoded, or does not stand below the
+    /// end of its layer.
+    fn refused_parent<E>(
         &self,
         span: LayerSpan<'_>,
         commit: &Commit<'_>,
         pos: Position,
-    ) -> Result<ParentTally, VerifyError<E>>
+    ) -> VerifyError<E>
         requires span { IsSpan self.now span }
         requires commit { IsInSpan span commit.now pos.0 }
-        ensures refusal { result_err result
+        requires refused { IsGathered self.now span (commit_pos commit.now) None }
+        ensures { Some result
             ≡ parents_refusal self.now span.entry.layer span.entry.file.now
             (commit_pos commit.now) }
-        ensures parents { IfOk result (ParentsTally (history_of self.now) pos.0) }
     {
-        let mut count = 0;
-        let mut max_generation = 0;
         for parent in commit.iter_parents() {
             match parent {
-                Err(error) => return Err(VerifyError::Parent { pos, error }),
+                Err(error) => return VerifyError::Parent { pos, error },
                 Ok(parent) => {
                     if parent.0 >= span.stop {
-                        return Err(VerifyError::ParentOutOfRange { pos, parent });
+                        return VerifyError::ParentOutOfRange { pos, parent };
                     }
-                    count += 1;
-                    max_generation = self.generation_at(span, parent).max(max_generation);
                 }
             }
         }
-        Ok(ParentTally {
-            count,
-            max_generation,
-        })
+        unreachable!()
     }
 
     /// The generation number of a commit that stands below the end of this layer. One that stands

@@ -1,15 +1,16 @@
-//! What the parents of many commits come to, gathered before these commits are checked.
+//! Parent count and greatest parent generation of many commits, gathered before their check.
 //!
 //! Parents stand anywhere in a layer, so that the memory with their generation numbers is waited
 //! for. In a loop as short as the one here, those of several commits are waited for at once.
 
-ghost use Rattle.std.specs.Prelude.{◌≡◌, ℕ, ◌+◌, ◌<◌, None, IfSome, length, slice_index_or};
+ghost use Rattle.std.specs.Prelude.{◌≡◌, ◌+◌, ◌%◌, ◌<◌, length};
 
+use crate::file;
 use crate::file::commit::ParentEdge;
 use crate::graph::Graph;
 use crate::verify::commit::ParentTally;
 use crate::verify::layer::LayerSpan;
-use crate::{Position, file};
+use crate::verify::lists::{ListedTally, NO_PARENTS};
 use graph_layer::check::parent_edges;
 
 /// For how many commits parents are gathered at a time.
@@ -22,20 +23,20 @@ pub(super) type Block = [Option<ParentTally>; BLOCK];
 pub(super) const NOTHING: Block = [None; BLOCK];
 
 impl Graph {
-    ghost use Rattle.graph_walks.specs.History.{generation_at};
+    ghost use Rattle.graph_format.specs.Parents.{second_parents};
     ghost use Rattle.graph_format.specs.StoredHistory.{history_of};
     ghost use Rattle.gix_commitgraph.specs.LayerSpans.{IsSpan};
-    ghost use Rattle.gix_commitgraph.specs.Tallies.{IsGathered, IsBlock};
-    ghost use Rattle.gix_commitgraph.specs.ListedTallies.{AreTallied};
+    ghost use Rattle.gix_commitgraph.specs.Tallies.{IsGathered, AreGathered, IsBlock};
+    ghost use Rattle.gix_commitgraph.specs.ListedTallies.{AreTallied, IsTally};
 
-    /// What is gathered of the parents of the commit at this place of a layer: their number and the
-    /// greatest of their generation numbers, where there are one or two, and they stand in the
-    /// layer, or where the tallies of the extra edge list have them. At the first commit of a
-    /// block, it is gathered for the whole block.
+    /// The tally of the parents of the commit at this place of a layer, and `None` exactly where
+    /// they cannot be decoded or do not all stand before the end of the layer. At the first commit
+    /// of a block, the whole block is gathered.
+    #[inline(always)]
     pub(super) fn gathered(
         &self,
         span: LayerSpan<'_>,
-        tallies: &[Option<ParentTally>],
+        tallies: &[ListedTally],
         place: u32,
         block: &mut Block,
     ) -> Option<ParentTally>
@@ -43,74 +44,71 @@ impl Graph {
         requires tallies { AreTallied self.now span tallies.now }
         requires within { place < length span.file.now.ids }
         requires before { IsBlock self.now span place block.old }
-        ensures result { IfSome result (IsGathered self.now span.entry place) }
+        ensures result { IsGathered self.now span.entry place result }
         ensures after { IsBlock self.now span.entry (place + 1) block.new }
     {
         let index = place as usize % BLOCK;
         if index == 0 {
-            *block = self.gather(span, place);
+            self.gather(span, tallies, place, block);
         }
-        match block[index] {
-            Some(parents) => Some(parents),
-            None => self.listed(span, tallies, place),
-        }
+        block[index]
     }
 
-    /// The same of as many commits as a block has, from this place on.
-    fn gather(&self, span: LayerSpan<'_>, first: u32) -> Block
+    /// Gathers as many commits as a block has, from this place on.
+    #[inline(never)]
+    fn gather(&self, span: LayerSpan<'_>, tallies: &[ListedTally], first: u32, block: &mut Block)
         requires span { IsSpan self.now span }
+        requires tallies { AreTallied self.now span tallies.now }
         requires within { first < length span.file.now.ids }
-        ensures { (i : ℕ)
-            → IfSome (slice_index_or result i None) (IsGathered self.now span.entry (first + i)) }
+        requires begins { first % 256 ≡ 0 }
+        ensures { AreGathered self.now span.entry first block.new }
     {
-        let mut block = [None; BLOCK];
         let count = (span.file.num_commits() - first).min(BLOCK as u32);
         for index in 0..count {
-            block[index as usize] = self.gather_one(span, first + index);
+            block[index as usize] = self.gather_one(span, tallies, first + index);
         }
-        block
     }
 
     /// The same of one commit.
     #[inline(always)]
-    fn gather_one(&self, span: LayerSpan<'_>, place: u32) -> Option<ParentTally>
+    fn gather_one(
+        &self,
+        span: LayerSpan<'_>,
+        tallies: &[ListedTally],
+        place: u32,
+    ) -> Option<ParentTally>
         requires span { IsSpan self.now span }
+        requires tallies { AreTallied self.now span tallies.now }
         requires within { place < length span.file.now.ids }
-        ensures { IfSome result (IsGathered self.now span.entry place) }
+        ensures { IsGathered self.now span.entry place result }
     {
         let commit = span.file.commit_at(file::Position(place));
         match parent_edges(&commit) {
-            (ParentEdge::GraphPosition(first), ParentEdge::None) => {
-                let max_generation = self.generation_within(span, first)?;
-                Some(ParentTally {
-                    count: 1,
-                    max_generation,
-                })
-            }
-            (ParentEdge::GraphPosition(first), ParentEdge::GraphPosition(second)) => {
-                let one = self.generation_within(span, first)?;
-                let other = self.generation_within(span, second)?;
-                Some(ParentTally {
-                    count: 2,
-                    max_generation: one.max(other),
-                })
+            (ParentEdge::None, ParentEdge::None) => Some(NO_PARENTS),
+            (ParentEdge::GraphPosition(first), second) => {
+                self.with_parent(span, first, self.after_first(span, tallies, second))
             }
             _ => None,
         }
     }
 
-    /// The generation number of a commit, if it stands in the layer.
+    /// The tally of the parents that the second field of a commit gives.
     #[inline(always)]
-    fn generation_within(&self, span: LayerSpan<'_>, pos: Position) -> Option<u32>
-        requires { IsSpan self.now span }
-        ensures below { IfSome result (λ _. pos.0 < span.entry.stop) }
-        ensures generation { IfSome result (λ generation.
-            generation ≡ generation_at (history_of self.now) pos.0) }
+    fn after_first(
+        &self,
+        span: LayerSpan<'_>,
+        tallies: &[ListedTally],
+        second: ParentEdge,
+    ) -> Option<ParentTally>
+        requires span { IsSpan self.now span }
+        requires tallies { AreTallied self.now span tallies.now }
+        ensures { IsTally (history_of self.now) span.entry.stop
+            (second_parents second span.entry.file.now.edges) result }
     {
-        if pos.0 >= span.first && pos.0 < span.stop {
-            Some(self.generation_at(span, pos))
-        } else {
-            None
+        match second {
+            ParentEdge::None => Some(NO_PARENTS),
+            ParentEdge::GraphPosition(pos) => self.with_parent(span, pos, Some(NO_PARENTS)),
+            ParentEdge::ExtraEdgeIndex(index) => tallies.get(index as usize)?.get(),
         }
     }
 }

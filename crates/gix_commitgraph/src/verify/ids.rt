@@ -1,7 +1,6 @@
 //! The check of the ids of one commit of a graph.
 
-ghost use Rattle.std.specs.Prelude.{◌≡◌, ◌≤◌, All, length, take, option_map, None};
-ghost use Rattle.std.specs.Prelude.{if◌then◌else◌};
+ghost use Rattle.std.specs.Prelude.{◌≡◌, ◌≤◌, All, length, take, option_map};
 ghost use Rattle.std.specs.Result.{result_err};
 ghost use Rattle.gix_hash_core.specs.Oid.{oid_bytes};
 
@@ -9,9 +8,9 @@ use crate::Position;
 use crate::file::Commit;
 use crate::graph::Graph;
 use crate::verify::layer::LayerSpan;
-use crate::verify::{CommitFault, VerifyError, VerifyOptions};
+use crate::verify::{VerifyError, VerifyOptions};
 use gix_hash_core::oid;
-use graph_layer::check::commit_fault;
+use graph_layer::check::{id_fault, tree_fault};
 
 impl Graph {
     ghost use Rattle.graph_format.specs.Lookup.{scan};
@@ -22,7 +21,7 @@ impl Graph {
     ghost use Rattle.gix_commitgraph.specs.LayerSpans.{IsSpan, IsInSpan};
     ghost use Rattle.gix_commitgraph.specs.Verify.{duplicate_refusal, ids_refusal};
 
-    /// The id of a commit, whether it stands in a layer below if that is asked, and the id of its
+    /// The ids of a commit: its own, which no layer below has where that is asked, and that of its
     /// root tree.
     pub(super) fn check_ids<E>(
         &self,
@@ -38,21 +37,21 @@ impl Graph {
             ≡ ids_refusal options self.now span.entry.layer span.entry.file.now
             (commit_pos commit.now) }
     {
-        match commit_fault(commit) {
-            None => self.check_distinct(options, span, commit, pos),
-            Some(fault) => {
-                if matches!(fault, CommitFault::NullTree) {
-                    self.check_distinct(options, span, commit, pos)?;
-                }
-                Err(VerifyError::Commit { pos, fault })
-            }
+        if let Some(fault) = id_fault(commit) {
+            return Err(VerifyError::Commit { pos, fault });
+        }
+        if options.distinct_ids {
+            self.check_distinct(span, commit, pos)?;
+        }
+        match tree_fault(commit) {
+            Some(fault) => Err(VerifyError::Commit { pos, fault }),
+            None => Ok(()),
         }
     }
 
-    /// Whether the id of a commit stands in a layer below, if that is asked.
+    /// Whether the id of a commit stands in a layer below.
     fn check_distinct<E>(
         &self,
-        options: VerifyOptions,
         span: LayerSpan<'_>,
         commit: &Commit<'_>,
         pos: Position,
@@ -60,14 +59,10 @@ impl Graph {
         requires span { IsSpan self.now span }
         requires commit { IsInSpan span commit.now pos.0 }
         requires below { All IsOrdered (take span.layer self.now) }
-        ensures { result_err result ≡ (if options.distinct_ids
-            then duplicate_refusal self.now span.entry.layer span.entry.file.now
-            (commit_pos commit.now)
-            else None) }
+        ensures { result_err result
+            ≡ duplicate_refusal self.now span.entry.layer span.entry.file.now
+            (commit_pos commit.now) }
     {
-        if !options.distinct_ids {
-            return Ok(());
-        }
         match self.find_below(commit.id(), span.layer) {
             Some(earlier) => Err(VerifyError::DuplicateId { pos, earlier }),
             None => Ok(()),

@@ -24,7 +24,6 @@ pub(super) struct LayerSpan<'a> {
 }
 
 impl Graph {
-    ghost use Rattle.gix_commitgraph.specs.Graph.{start, stop};
     ghost use Rattle.graph_format.specs.StoredHistory.{history_of};
     ghost use Rattle.graph_format.specs.Points.{Agrees};
     ghost use Rattle.graph_layer.specs.Called.{MayBeCalled, CalledOn};
@@ -34,15 +33,14 @@ impl Graph {
     ghost use Rattle.gix_commitgraph.specs.GraphLaw.{IsOrdered};
     ghost use Rattle.gix_commitgraph.specs.LayerSpans.{IsSpan};
 
-    /// The layer of this number; `first` commits stand before it.
-    pub(super) fn span_at(&self, layer: usize, first: u32) -> LayerSpan<'_>
-        requires layer { layer < length self.now }
-        requires first { first ≡ start self.now layer }
+    /// The layer of this number.
+    pub(super) fn span_at(&self, layer: usize) -> LayerSpan<'_>
+        requires { layer < length self.now }
         ensures span { IsSpan self.now result }
         ensures layer { result.layer ≡ layer }
-        ensures first { result.first ≡ first }
     {
         let file = &self.files[layer];
+        let first = self.starts[layer];
         LayerSpan {
             file,
             layer,

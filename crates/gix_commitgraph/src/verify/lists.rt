@@ -1,38 +1,77 @@
-//! What the parents come to that an extra edge list has.
+//! Parent count and greatest parent generation, for each suffix of an extra edge list.
 //!
-//! Commits may share a list, or parts of one. So the list is gone over once for all of them.
+//! Commits may share a list, or the end of one. So a list is gone over once for all of them.
 
-ghost use Rattle.std.specs.Prelude.{◌≡◌, ◌≤◌, ◌<◌, None, IfSome, IfOk, length};
+ghost use Rattle.std.specs.Prelude.{◌≡◌, ◌<◌, IfSome, IfOk};
 
-use crate::file::commit::{ExtraEdge, ParentEdge};
+use crate::Position;
+use crate::file::commit::ExtraEdge;
 use crate::graph::Graph;
 use crate::verify::commit::ParentTally;
 use crate::verify::layer::LayerSpan;
-use crate::{Position, file};
-use graph_layer::check::{extra_edges, parent_edges};
+use graph_layer::check::extra_edges;
 use std::alloc::{AllocError, Global};
+use std::marker::Model;
 
 /// The tally of no parents.
-const NO_PARENTS: ParentTally = ParentTally {
+pub(super) const NO_PARENTS: ParentTally = ParentTally {
     count: 0,
     max_generation: 0,
 };
+
+/// An `Option<ParentTally>` in eight bytes, of parents from a word of an extra edge list on. They
+/// are one at least, so that the tally of no parents stands for `None`.
+#[derive(Drop)]
+pub(super) struct ListedTally {
+    tally: ParentTally,
+}
+
+impl Model for ListedTally {
+    ghost use Rattle.std.specs.Prelude.{◌==◌, if◌then◌else◌, Option, Some, None};
+    ghost use Rattle.gix_commitgraph.specs.declared.verify.commit.ParentTally.{ParentTally};
+
+    ghost Value = { Option ParentTally };
+
+    ghost view = { λ a. if a.tally.count == 0 then None else Some a.tally };
+}
+
+impl ListedTally {
+    fn new(tally: Option<ParentTally>) -> ListedTally
+        requires { IfSome tally (λ parents. 0 < parents.count) }
+        ensures { result ≡ tally }
+    {
+        ListedTally {
+            tally: tally.unwrap_or(NO_PARENTS),
+        }
+    }
+
+    /// The tally of these parents.
+    #[inline(always)]
+    pub(super) fn get(&self) -> Option<ParentTally>
+        ensures { result ≡ self.now }
+    {
+        if self.tally.count == 0 {
+            None
+        } else {
+            Some(self.tally)
+        }
+    }
+}
 
 impl Graph {
     ghost use Rattle.graph_format.specs.StoredHistory.{history_of};
     ghost use Rattle.graph_format.specs.Parents.{DecodedParents, followed_by};
     ghost use Rattle.gix_commitgraph.specs.LayerSpans.{IsSpan};
-    ghost use Rattle.gix_commitgraph.specs.Tallies.{IsGathered};
-    ghost use Rattle.gix_commitgraph.specs.ListedTallies.{IsTallied, AreTallied};
+    ghost use Rattle.gix_commitgraph.specs.ListedTallies.{IsTally, AreTallied};
 
     /// For each word of a layer's extra edge list, the tally of the parents that are listed from it
-    /// on, where they can be decoded and stand before the end of the layer. Memory is asked for
-    /// only where there are words.
+    /// on, and `None` exactly where they cannot be decoded or do not all stand before the end of
+    /// the layer. Memory is asked for only where there are words.
     pub(super) fn tally_lists(
         &self,
         span: LayerSpan<'_>,
         alloc: Global,
-    ) -> Result<Vec<Option<ParentTally>>, AllocError>
+    ) -> Result<Vec<ListedTally>, AllocError>
         requires { IsSpan self.now span }
         ensures { IfOk result (λ tallies. AreTallied self.now span.entry tallies.items) }
     {
@@ -45,37 +84,17 @@ impl Graph {
                     ExtraEdge::Internal(pos) => self.with_parent(span, pos, listed),
                     ExtraEdge::Last(pos) => self.with_parent(span, pos, Some(NO_PARENTS)),
                 };
-                tallies.push(listed)?;
+                tallies.push(ListedTally::new(listed))?;
             }
             tallies.reverse();
         }
         Ok(tallies)
     }
 
-    /// The tally of the parents of the commit at this place of a layer, where it has more than two,
-    /// which can be decoded and stand before the end of the layer.
-    pub(super) fn listed(
-        &self,
-        span: LayerSpan<'_>,
-        tallies: &[Option<ParentTally>],
-        place: u32,
-    ) -> Option<ParentTally>
-        requires span { IsSpan self.now span }
-        requires within { place < length span.file.now.ids }
-        requires tallies { AreTallied self.now span tallies.now }
-        ensures { IfSome result (IsGathered self.now span.entry place) }
-    {
-        let commit = span.file.commit_at(file::Position(place));
-        match parent_edges(&commit) {
-            (ParentEdge::GraphPosition(first), ParentEdge::ExtraEdgeIndex(index)) => {
-                self.with_parent(span, first, *tallies.get(index as usize)?)
-            }
-            _ => None,
-        }
-    }
-
-    /// The tally of one parent before others, where it stands before the end of the layer.
-    fn with_parent(
+    /// The tally of one parent before others, and `None` exactly where that of the others is, or
+    /// the one does not stand before the end of the layer.
+    #[inline(always)]
+    pub(super) fn with_parent(
         &self,
         span: LayerSpan<'_>,
         pos: Position,
@@ -83,10 +102,10 @@ impl Graph {
     ) -> Option<ParentTally>
         requires span { IsSpan self.now span }
         requires few { IfSome others (λ tally. tally.count < 4294967295) }
-        ensures { (parents : DecodedParents)
-            → IfSome others (IsTallied (history_of self.now) span.entry.stop parents)
-            → IfSome result (IsTallied (history_of self.now) span.entry.stop
-            (followed_by pos parents)) }
+        ensures some { IfSome result (λ tally. 0 < tally.count) }
+        ensures tally { (parents : DecodedParents)
+            → IsTally (history_of self.now) span.entry.stop parents others
+            → IsTally (history_of self.now) span.entry.stop (followed_by pos parents) result }
     {
         let others = others?;
         if pos.0 >= span.stop {

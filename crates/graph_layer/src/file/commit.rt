@@ -33,7 +33,8 @@ impl<'a> Commit<'a> {
     ghost use Rattle.graph_layer.specs.Commit.{commit_parents};
     ghost use Rattle.graph_format.specs.Parents.{edge_of, items_of, first_of};
     ghost use Rattle.graph_layer.specs.RemainingParents.{parents_left, parents_hint, first_hint};
-    ghost use Rattle.graph_format.specs.Faults.{commit_fault, is_out_of_order};
+    ghost use Rattle.graph_format.specs.Faults.{commit_fault, id_fault, tree_fault};
+    ghost use Rattle.graph_format.specs.Faults.{is_out_of_order};
 
     pub(crate) fn new(file: &'a File, pos: file::Position) -> Commit<'a>
         requires { pos.0 < length file.now.ids }
@@ -106,11 +107,30 @@ impl<'a> Commit<'a> {
     pub(crate) fn fault(&self) -> Option<CommitFault>
         ensures { result ≡ commit_fault (commit_layer self.now) (commit_pos self.now) }
     {
+        match self.id_fault() {
+            Some(fault) => Some(fault),
+            None => self.tree_fault(),
+        }
+    }
+
+    /// The first thing that is wrong with the commit's own id.
+    pub(crate) fn id_fault(&self) -> Option<CommitFault>
+        ensures { result ≡ id_fault (commit_layer self.now) (commit_pos self.now) }
+    {
         if self.id().is_null() {
             Some(CommitFault::NullId)
         } else if self.is_out_of_order() {
             Some(CommitFault::Order)
-        } else if self.root_tree_id().is_null() {
+        } else {
+            None
+        }
+    }
+
+    /// What is wrong with the id of the commit's root tree.
+    pub(crate) fn tree_fault(&self) -> Option<CommitFault>
+        ensures { result ≡ tree_fault (commit_layer self.now) (commit_pos self.now) }
+    {
+        if self.root_tree_id().is_null() {
             Some(CommitFault::NullTree)
         } else {
             None

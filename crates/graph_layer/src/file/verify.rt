@@ -148,7 +148,7 @@ impl<'a> Commit<'a> {
     ghost use Rattle.graph_layer.specs.Commit.{commit_layer, commit_pos, commit_parents};
     ghost use Rattle.graph_format.specs.Points.{Agrees};
     ghost use Rattle.graph_layer.specs.Traverse.{commit_points, cause_of};
-    ghost use Rattle.graph_layer.specs.ListedParents.{AreListed, IsCounted};
+    ghost use Rattle.graph_layer.specs.ListedParents.{AreListed, IsCount};
 
     /// Checks the commit's ids, calls the processor on it, and decodes its parents, by what was
     /// counted in the extra edge list of its layer. The answer is the number of its parents.
@@ -159,7 +159,7 @@ impl<'a> Commit<'a> {
     ) -> Result<u32, TraverseError<E>>
     where
         F: FnMut(&Commit<'a>) -> Result<(), E>,
-        requires counts { AreListed IsCounted (commit_layer self.now).edges counts.now }
+        requires counts { AreListed IsCount (commit_layer self.now).edges counts.now }
         requires callable { (state : F) → TakesAt F.FnMut state self.now }
         requires few { length (commit_parents self.now).positions < 2 ^ 32 }
         ensures agrees { Agrees (CalledOn F.FnMut (InLayer (commit_layer self.now)))

@@ -1,5 +1,4 @@
 use Rattle.std.proofs.Common.{◌≡◌, ◌+◌, Some, None, arith}
-use Rattle.std.proofs.lemmas.Bool.{not-false}
 use Rattle.std.proofs.lemmas.Option.{slice_get_within}
 use Rattle.gix_hash_core.specs.Oid.{oid_bytes}
 use Rattle.graph_layer.specs.Commit.{commit_pos}
@@ -17,16 +16,14 @@ pub returns-in-Some : goal.returns-in-Some
 returns-in-Some g c =
     let is_p : c.args.pos.0 ≡ start c.args.self.now c.args.span.layer + commit_pos c.args.commit.now =
     omega (arith, c.requires.commit.at, c.requires.span.first) in
-    duplicate-is c.args.options c.args.self.now c.args.span.layer c.args.span.file.now (commit_pos c.args.commit.now) c.args.pos.0
+    duplicate-is c.args.self.now c.args.span.layer c.args.span.file.now (commit_pos c.args.commit.now) c.args.pos.0
     (oid_bytes c.id.result) (Some c.in-Some.earlier.0)
-    (not-false _ c.if-not-options.false) (id-told _ c.args.span.file.now _ _ c.requires.commit.layer c.id.ensures) is_p
-    c.in-Some.ensures
+    (id-told _ c.args.span.file.now _ _ c.requires.commit.layer c.id.ensures) is_p c.in-Some.ensures
 
 pub returns-in-None : goal.returns-in-None
 returns-in-None g c =
     let is_p : c.args.pos.0 ≡ start c.args.self.now c.args.span.layer + commit_pos c.args.commit.now =
     omega (arith, c.requires.commit.at, c.requires.span.first) in
-    duplicate-is c.args.options c.args.self.now c.args.span.layer c.args.span.file.now (commit_pos c.args.commit.now) c.args.pos.0
+    duplicate-is c.args.self.now c.args.span.layer c.args.span.file.now (commit_pos c.args.commit.now) c.args.pos.0
     (oid_bytes c.id.result) None
-    (not-false _ c.if-not-options.false) (id-told _ c.args.span.file.now _ _ c.requires.commit.layer c.id.ensures) is_p
-    c.in-None.ensures
+    (id-told _ c.args.span.file.now _ _ c.requires.commit.layer c.id.ensures) is_p c.in-None.ensures

@@ -1,14 +1,27 @@
-use Rattle.std.proofs.Common.{◌+◌}
+use Rattle.std.proofs.Common.{◌≡◌, ℕ, ◌%◌, ◌<◌, subst, ◌+◌, None, ◌∙◌, arith, length-set}
+use Rattle.std.specs.Prelude.{slice_index_or}
 use Rattle.gix_commitgraph.specs.Tallies.{IsGathered}
-use Rattle.gix_commitgraph.proofs.GatherLemmas.{none-yet, one-more}
+use Rattle.gix_commitgraph.proofs.GatherLemmas.{one-more}
 use Rattle.gix_commitgraph.proofs.graph.Graph.gather.Goals as goal
 
 pub loop-index-init : goal.loop-index-init
-loop-index-init c = record { gathered = none-yet (λ i. IsGathered c.args.self.now c.args.span (c.args.first + i)) 256 }
+loop-index-init c = record { sized = c.told-block; gathered = λ i below. absurd (omega (arith, below)) }
 
 pub loop-index-preserved : goal.loop-index-preserved
 loop-index-preserved c = record {
+  sized = length-set c.loop-index.block c.loop-index.index c.gather_one.result ∙ c.loop-index.invariant.sized;
   gathered =
-      one-more (λ i. IsGathered c.args.self.now c.args.span (c.args.first + i)) _ _ _ c.loop-index.invariant.gathered
-      c.gather_one.ensures;
+      one-more (λ i. IsGathered c.args.self.now c.args.span (c.args.first + i)) c.loop-index.block c.loop-index.index
+      c.gather_one.result None
+      (omega (arith, c.loop-index.invariant.sized, c.loop-index-test.true, c.min-count.ensures))
+      c.loop-index.invariant.gathered c.gather_one.ensures;
 }
+
+pub returns : goal.returns
+returns c = λ place within near.
+    let i : ℕ = place % 256 in
+    let whole : c.args.first + i ≡ place = omega (arith, near, c.requires.begins) in
+    let below : i < c.loop-index.index =
+    omega (arith, whole, within, c.loop-index-test.false, c.min-count.ensures, c.num_commits.ensures.ids) in
+    subst (λ (p : ℕ). IsGathered c.args.self.now c.args.span p (slice_index_or c.loop-index.block i None)) whole
+    (c.loop-index.invariant.gathered i below)

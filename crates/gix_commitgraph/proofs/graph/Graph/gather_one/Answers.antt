@@ -1,27 +1,13 @@
-use Rattle.std.proofs.Common.{refl, sym, ◌∙◌, arith}
-use Rattle.gix_commitgraph.proofs.GatherLemmas.{gathered-one, gathered-two}
+use Rattle.graph_format.specs.Parents.{second_parents}
+use Rattle.graph_format.specs.StoredHistory.{history_of}
+use Rattle.graph_layer.proofs.ParentCountLemmas.{second-few}
+use Rattle.gix_commitgraph.proofs.LayerSpanLemmas.{span-opened}
+use Rattle.gix_commitgraph.proofs.EdgeListLemmas.{tallied_few}
 use Rattle.gix_commitgraph.proofs.graph.Graph.gather_one.Goals as goal
 
-pub returns-in_ok-max_generation-in-GraphPosition-None : goal.returns-in_ok-max_generation-in-GraphPosition-None
-returns-in_ok-max_generation-in-GraphPosition-None c =
-    gathered-one c.args.self.now c.args.span c.commit_at-commit.result c.args.place _ c.requires.span
-    c.commit_at-commit.ensures.layer c.commit_at-commit.ensures.pos
-    c.in-GraphPosition-None.first (sym c.in-GraphPosition-None.is-0 ∙ c.parent_edges.ensures.first)
-    (sym c.in-GraphPosition-None.is-1 ∙ c.parent_edges.ensures.second)
-    c.in_ok-max_generation-in-GraphPosition-None.ensures.below refl
-    c.in_ok-max_generation-in-GraphPosition-None.ensures.generation
-
-pub returns-in_ok-other-in-GraphPosition-GraphPosition : goal.returns-in_ok-other-in-GraphPosition-GraphPosition
-returns-in_ok-other-in-GraphPosition-GraphPosition c =
-    gathered-two c.args.self.now c.args.span c.commit_at-commit.result c.args.place _ c.requires.span
-    c.commit_at-commit.ensures.layer c.commit_at-commit.ensures.pos
-    c.in-GraphPosition-GraphPosition.first c.in-GraphPosition-GraphPosition.second
-    (sym c.in-GraphPosition-GraphPosition.is-0 ∙ c.parent_edges.ensures.first) (sym c.in-GraphPosition-GraphPosition.is-1
-    ∙ c.parent_edges.ensures.second)
-    c.in_ok-one-in-GraphPosition-GraphPosition.ensures.below c.in_ok-other-in-GraphPosition-GraphPosition.ensures.below refl
-    (omega (
-      arith,
-      c.max.ensures,
-      c.in_ok-one-in-GraphPosition-GraphPosition.ensures.generation,
-      c.in_ok-other-in-GraphPosition-GraphPosition.ensures.generation,
-    ))
+pub with_parent-requires-clause-few : goal.with_parent-requires-clause-few
+with_parent-requires-clause-few c =
+    let second = c.parent_edges.result.1 in
+    let edges = c.args.span.file.now.edges in
+    tallied_few (history_of c.args.self.now) c.args.span.stop (second_parents second edges) c.after_first.result
+    c.after_first.ensures (second-few second edges (span-opened c.args.self.now c.args.span c.requires.span).few_edges)

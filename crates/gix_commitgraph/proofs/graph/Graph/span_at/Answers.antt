@@ -1,34 +1,41 @@
-use Rattle.std.proofs.Common.{◌≡◌, ◌<◌, Some, length, slice_get, refl, sym, ap, subst, ◌∙◌, arith}
-use Rattle.std.proofs.lemmas.Option.{slice_get_read}
-use Rattle.gix_commitgraph.specs.Graph.{IsGraph}
+use Rattle.std.proofs.Common.{◌≡◌, Some, length, slice_get, ap, subst, arith}
+use Rattle.gix_commitgraph.specs.Graph.{start, IsGraph}
 use Rattle.gix_commitgraph.proofs.LayerListLemmas.{start-more, counted-fits}
+use Rattle.gix_commitgraph.proofs.LayerStartLemmas.{start-kept, layer-kept}
 use Rattle.gix_commitgraph.proofs.graph.Graph.span_at.Goals as goal
+
+pub index-first-requires : goal.index-first-requires
+index-first-requires c = omega (arith, c.requires, c.self.invariant.counted.one_each, ap length c.self.view_is)
 
 -- the layer is the one of this number
 layer-there : (c : goal.After-num_commits) → slice_get c.args.self.now c.args.layer ≡ Some c.index-file.result.now
 layer-there c =
-    let layers = c.self.inside.files.items in
-    let inside : c.args.layer < length layers = rw (c.self.view_is) c.requires.layer in
-    ap (λ ls. slice_get ls c.args.layer) (sym c.self.view_is)
-    ∙ slice_get_read layers (length layers) c.args.layer c.index-file.result.now refl inside c.index-file.ensures
+    layer-kept c.args.self.now c.self.inside.files.items c.args.layer c.index-file.result.now c.self.view_is c.requires
+    c.index-file.ensures
+
+-- and it starts where the graph keeps it
+first-kept : (c : goal.After-num_commits) → c.index-first.result.now ≡ start c.args.self.now c.args.layer
+first-kept c =
+    start-kept c.args.self.now c.self.inside.files.items c.self.inside.starts.items c.args.layer c.index-first.result.now
+    c.self.view_is c.self.invariant c.requires c.index-first.ensures
 
 pub overflow_add-result : goal.overflow_add-result
 overflow_add-result c =
     omega (
       arith,
       c.num_commits.ensures.ids,
-      counted-fits c.args.self.now c.args.layer c.args.first c.index-file.result.now
-          (subst IsGraph c.self.view_is c.self.invariant.graph) c.requires.first (layer-there c),
+      counted-fits c.args.self.now c.args.layer c.index-first.result.now c.index-file.result.now
+          (subst IsGraph c.self.view_is c.self.invariant.graph) (first-kept c) (layer-there c),
     )
 
 pub returns-clause-span : goal.returns-clause-span
 returns-clause-span c = record {
   graph = subst IsGraph c.self.view_is c.self.invariant.graph;
   there = layer-there c;
-  first = c.requires.first;
+  first = first-kept c;
   stop = omega (
     arith,
-    c.requires.first,
+    first-kept c,
     c.num_commits.ensures.ids,
     start-more c.args.self.now c.args.layer c.index-file.result.now (layer-there c),
   );

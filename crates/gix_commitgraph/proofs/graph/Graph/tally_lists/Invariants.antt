@@ -1,9 +1,10 @@
 use Rattle.graph_format.specs.StoredHistory.{history_of}
 use Rattle.graph_layer.proofs.EdgeListLemmas.{HasPassed}
-use Rattle.gix_commitgraph.specs.ListedTallies.{IsTallied}
+use Rattle.gix_commitgraph.specs.ListedTallies.{IsTally}
+use Rattle.gix_commitgraph.proofs.EdgeListLemmas.{nothing-tallied}
 use Rattle.gix_commitgraph.proofs.graph.Graph.tally_lists.Given as goal
 
 abbrev pub invariant-loop-word : goal.invariant-loop-word
 invariant-loop-word l =
-    HasPassed (IsTallied (history_of l.self) l.span.stop) l.initial.word-iterator.iter.rest.now l.word-iterator.iter.rest.now
-    l.listed l.tallies.items
+    HasPassed (IsTally (history_of l.self) l.span.stop) (nothing-tallied (history_of l.self) l.span.stop)
+    l.initial.word-iterator.iter.rest.now l.word-iterator.iter.rest.now l.listed l.tallies.items

@@ -8,5 +8,6 @@ returns-in-Some g c =
       refusal =
           gathered-refusal c.args.self.now c.args.span (commit_pos c.args.commit.now) c.in-Some.parents c.requires.span known;
       parents =
-          gathered-tally c.args.self.now c.args.span c.args.commit.now c.args.pos.0 c.in-Some.parents c.requires.commit known;
+          gathered-tally c.args.self.now c.args.span c.args.commit.now c.args.pos.0 c.in-Some.parents c.requires.span
+          c.requires.commit known;
     }

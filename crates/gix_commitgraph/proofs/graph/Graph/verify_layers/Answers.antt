@@ -1,10 +1,9 @@
-use Rattle.std.proofs.Common.{◌≡◌, ◌≤◌, ℕ, All, Some, length, take, slice_get, sym, ap, subst, ◌∙◌, arith, rules}
+use Rattle.std.proofs.Common.{◌≡◌, ◌≤◌, All, Some, length, take, slice_get, sym, ap, subst, arith, rules}
 use Rattle.std.proofs.lemmas.List.Elements.{All-more}
 use Rattle.std.proofs.lemmas.Option.{slice_get_within, get_or_from_slice_get}
 use Rattle.std.proofs.lemmas.Result.{err_from_is_err_and}
 use Rattle.graph_format.proofs.PointLemmas.{ran_out}
-use Rattle.gix_commitgraph.specs.Graph.{stop, IsGraph}
-use Rattle.graph_format.specs.StoredHistory.{history_of}
+use Rattle.gix_commitgraph.specs.Graph.{IsGraph}
 use Rattle.gix_commitgraph.proofs.GraphHistoryLemmas.{take-all}
 use Rattle.gix_commitgraph.proofs.LayerListLemmas.{start-none}
 use Rattle.gix_commitgraph.specs.GraphLaw.{IsOrdered}
@@ -18,9 +17,8 @@ loop-layer-init g c =
     omega (arith, c.len.ensures, c.self.inside.files.ok.0, ap length c.self.view_is, c.if-len-gt-MOST_LAYERS.false) in
     record {
       reached = reached_layers g.F.FnMut c.args.options c.args.self.now _ few;
-      first = sym (start-none c.args.self.now);
       ordered = λ k d h. absurd (omega arith);
-      tally = c.new-tally.ensures;
+      tally = rw start-none c.new-tally.ensures;
     }
 
 pub verify_layer-requires : goal.verify_layer-requires
@@ -34,7 +32,7 @@ verify_layer-requires g c κs =
           below,
           (
             c.requires,
-            rw c.span_at-span.ensures.first
+            rw (c.span_at-span.ensures.span.first, c.span_at-span.ensures.layer)
                 c.loop-layer.invariant.tally,
           ),
         ),
@@ -60,11 +58,10 @@ loop-layer-preserved g c =
     let ordered = ordered-passed c.args.options layers at file graph.opened there passes.no_fault in
     record {
       reached = reached_next_layer g.F.FnMut c.args.options layers _ at file there _ _ c.loop-layer.invariant.reached passes;
-      first = c.span_at-span.ensures.span.stop ∙ ap (stop layers) c.span_at-span.ensures.layer;
       ordered =
           All-more IsOrdered layers at file (slice_get_within layers at file there) c.loop-layer.invariant.ordered
           (subst IsOrdered (sym (get_or_from_slice_get layers at file file there)) ordered);
-      tally = c.in_ok-verify_layer.ensures.tally;
+      tally = rw (c.span_at-span.ensures.span.stop, c.span_at-span.ensures.layer) at c.in_ok-verify_layer.ensures.tally;
     }
 
 pub returns-in_err-outcome-clause-agrees : goal.returns-in_err-outcome-clause-agrees
@@ -83,7 +80,5 @@ returns-clause-outcome g c =
     let past : length c.args.self.now ≤ c.loop-layer.layer =
     omega (arith, c.len-layer-end.ensures, c.self.inside.files.ok.0, ap length c.self.view_is, c.loop-layer-test.false) in
     let graph : IsGraph c.args.self.now = subst IsGraph c.self.view_is c.self.invariant.graph in
-    let all : take c.loop-layer.first (history_of c.args.self.now) ≡ history_of c.args.self.now =
-    ap (λ (n : ℕ). take n (history_of c.args.self.now)) c.loop-layer.invariant.first
-    ∙ take-all c.args.self.now c.loop-layer.layer graph.opened past in
+    let all = take-all c.args.self.now c.loop-layer.layer graph.opened past in
     rw all at (c.in_ok-outcome.ensures _ c.loop-layer.invariant.tally)

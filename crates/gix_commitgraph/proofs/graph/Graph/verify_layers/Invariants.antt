@@ -1,4 +1,4 @@
-use Rattle.std.proofs.Common.{◌≡◌, All, take}
+use Rattle.std.proofs.Common.{All, take}
 use Rattle.gix_commitgraph.specs.Graph.{start}
 use Rattle.graph_format.specs.StoredHistory.{history_of}
 use Rattle.gix_commitgraph.specs.GraphLaw.{IsOrdered}
@@ -9,7 +9,6 @@ use Rattle.gix_commitgraph.proofs.graph.Graph.verify_layers.Given as goal
 abbrev pub invariant-loop-layer : goal.invariant-loop-layer
 invariant-loop-layer g l = record {
   reached : ReachesLayer g.F.FnMut l.options l.self l.fn.processor l.layer l.processor;
-  first : l.first ≡ start l.self l.layer;
   ordered : All IsOrdered (take l.layer l.self);
-  tally : Tallies (take l.first (history_of l.self)) l.tally;
+  tally : Tallies (take (start l.self l.layer) (history_of l.self)) l.tally;
 }
