@@ -1,4 +1,4 @@
-use Rattle.std.proofs.Common.{◌≡◌, ◌+◌, ◌-◌, true, false, Some, length, slice_get, refl, sym, ap, ◌∙◌, arith}
+use Rattle.std.proofs.Common.{◌≡◌, ℕ, ◌+◌, ◌-◌, true, false, Some, length, slice_get, refl, sym, ap, ◌∙◌, arith}
 use Rattle.first_faults.specs.First.{first_below}
 use Rattle.graph_format.specs.declared.error.GraphError.TheVariants.{HashMismatch}
 use Rattle.std.proofs.lemmas.Option.{slice_get_read}
@@ -25,6 +25,7 @@ returns-then-ne c =
     (mismatch-is files at layer next _ _ true here there c.object_hash.ensures c.object_hash-in-loop-below.ensures
     (sym c.if-ne.true ∙ c.ne.ensures))
     c.loop-below-test.true
+    ∙ ap (λ (layer : ℕ). Some (HashMismatch layer)) (omega arith)
 
 pub loop-below-preserved : goal.loop-below-preserved
 loop-below-preserved c =

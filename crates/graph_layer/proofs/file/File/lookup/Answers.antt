@@ -1,4 +1,5 @@
+use Rattle.std.proofs.Common.{rules}
 use Rattle.graph_layer.proofs.file.File.lookup.Goals as goal
 
 pub returns : goal.returns
-returns c = c.lookup_counted.ensures.found
+returns c = search rules

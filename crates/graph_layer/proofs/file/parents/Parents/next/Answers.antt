@@ -1,3 +1,4 @@
+use Rattle.std.proofs.Common.{rules}
 use Rattle.graph_layer.proofs.ParentBoundLemmas.{hint-taken}
 use Rattle.graph_layer.proofs.file.parents.Parents.next.Goals as goal
 
@@ -7,4 +8,4 @@ returns-then-word-2-clause-hint c =
     hint-taken old.started old.next old.after old.file.now.edges c.if-word.true c.if-word-2.true old.second_is_last
 
 pub returns-else-word-3-clause-steps : goal.returns-else-word-3-clause-steps
-returns-else-word-3-clause-steps c = c.next_beyond_fields.ensures.items
+returns-else-word-3-clause-steps c = search rules
