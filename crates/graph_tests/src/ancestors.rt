@@ -1,6 +1,5 @@
 use crate::fixtures::{DIAMOND, Row};
 use crate::verifying::{OCTOPUS, TEN, graph};
-use gix_commitgraph::verify::VerifyError;
 use gix_commitgraph::{GENERATION_NUMBER_MAX, Graph, Position};
 use graph_history::{Checked, Reached};
 use std::alloc::Global;
@@ -108,18 +107,4 @@ fn a_walk_goes_through_layers(rt: HostRuntime) {
     let walk = answer.walk.expect(&rt, "a walk");
     let wanted = [Position(3), Position(2), Position(1)];
     assert!(rt; walk.as_slice() == wanted.as_slice());
-}
-
-#[test]
-fn a_wrong_graph_answers_no_query(rt: HostRuntime) {
-    let wrong: &[Row<'_>] = &[(0x11, &[], 1), (0x22, &[0], 3)];
-    let graph = graph(&rt, rt.alloc(), &[wrong]);
-    let refused = matches!(
-        Checked::new(rt.alloc(), &graph).err(),
-        Some(VerifyError::Generation {
-            pos: Position(1),
-            expected: 2
-        })
-    );
-    assert!(rt; refused);
 }
