@@ -23,6 +23,8 @@ mod folders;
 #[cfg(test)]
 mod graphs;
 #[cfg(test)]
+mod large;
+#[cfg(test)]
 mod opening;
 #[cfg(test)]
 mod parents;
