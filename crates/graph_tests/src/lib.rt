@@ -29,6 +29,8 @@ mod opening;
 #[cfg(test)]
 mod parents;
 #[cfg(test)]
+mod shared_lists;
+#[cfg(test)]
 mod texts;
 #[cfg(test)]
 mod traversing;
