@@ -1,7 +1,7 @@
 //! What the program answers to each command, over a folder in memory.
 
 use crate::respond;
-use crate::tests::streams::{StandardInput, Stream, command_line};
+use crate::tests::streams::{StandardInput, Stream, WRITE_FAILED_LINE, command_line};
 use graph_folder::folder::Memory;
 use std::alloc::{AllocError, Global};
 
@@ -65,8 +65,8 @@ fn file(alloc: Global, layer: &Layer) -> Result<Vec<u8>, AllocError> {
         bytes.extend_from_slice(&offset.to_be_bytes())?;
     }
     for byte in 0..=255u8 {
-        let count = layer.ids.iter().filter(|id| **id <= byte).count() as u32;
-        bytes.extend_from_slice(&count.to_be_bytes())?;
+        let count = layer.ids.iter().filter(|id| **id <= byte).count() as u64;
+        bytes.extend_from_slice(&count.to_be_bytes()[4..])?;
     }
     for id in layer.ids {
         bytes.extend_from_slice(&[*id; 20])?;
@@ -109,7 +109,8 @@ const LISTING: &str = "layer sha1 bases 0 commits 2\n\
     0 1111111111111111111111111111111111111111 9999999999999999999999999999999999999999 1 7 -\n\
     1 2222222222222222222222222222222222222222 9999999999999999999999999999999999999999 2 7 0\n";
 
-/// The words of commands, each with the exit status and what is written.
+/// The words of commands, each with the exit status and what is written. Where standard output is
+/// closed, the status is 2.
 const ANSWERS: &[(&[&str], u8, &str)] = &[
     (&["list"], 0, LISTING),
     (
@@ -142,5 +143,9 @@ fn answers_each_command(rt: HostRuntime) {
         assert_eq!(rt; status, *want_status);
         assert_eq!(rt; output.text(), *want);
         assert_eq!(rt; errors.writes, 0);
+        let mut closed = Stream::closed(alloc);
+        let status = respond(alloc, &words, &input, &mut folder, &mut closed, &mut errors);
+        assert_eq!(rt; status, 2);
+        assert_eq!(rt; errors.text(), WRITE_FAILED_LINE);
     }
 }

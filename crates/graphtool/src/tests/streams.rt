@@ -69,6 +69,9 @@ impl Write for Stream {
     }
 }
 
+/// What is written to standard error where the answer could not be written.
+pub(super) const WRITE_FAILED_LINE: &str = "graphtool: the answer could not be written\n";
+
 /// The program's own name, and then these words.
 pub(super) fn command_line(alloc: Global, words: &[&str]) -> Result<Vec<String>, AllocError> {
     let mut line = Vec::new(alloc);

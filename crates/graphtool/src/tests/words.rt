@@ -1,4 +1,4 @@
-use crate::tests::streams::{StandardInput, Stream, command_line};
+use crate::tests::streams::{StandardInput, Stream, WRITE_FAILED_LINE, command_line};
 use crate::{Command, respond, status_of};
 use graph_commands::run::WriteFailed;
 use graph_folder::folder::Memory;
@@ -80,8 +80,6 @@ fn other_words_are_no_command(rt: HostRuntime) -> Result<(), Fail> {
     assert_eq!(rt; Command::from_words(&[]), None);
     Ok(())
 }
-
-const WRITE_FAILED_LINE: &str = "graphtool: the answer could not be written\n";
 
 #[test]
 fn reports_a_failed_write(rt: HostRuntime) -> Result<(), Fail> {
