@@ -5,7 +5,7 @@ usage: python3 scripts/real_data PROGRAM [every-value]
 - `list`: the listing of each layer, and the refusal of damaged ones.
 - `verify`: what it counts in each file and chain, and what it finds wrong with damaged ones, beside
   the verdict of `git commit-graph verify`. Where the two verdicts differ is printed as a table, and has
-  to be what differences.py lists.
+  to be what differences.py lists. `distinct` and `ancestor` refuse the damaged ones with the same line.
 - `find`: where each commit stands, in files and chains that are named in every way.
 - `ancestor`: a shortest walk between each pair of commits, or that there is none, as
   `git merge-base --is-ancestor` says, and how many commits were visited.

@@ -43,7 +43,7 @@ fn tells(
     Ok(false)
 }
 
-const ONES: &str = "1111111111111111111111111111111111111111";
+pub const ONES: &str = "1111111111111111111111111111111111111111";
 
 const TWOS: &str = "2222222222222222222222222222222222222222";
 
@@ -57,9 +57,9 @@ const SIXES: &str = "6666666666666666666666666666666666666666";
 
 /// Texts of two ids, and the status, the lines and the visits of `ancestor`.
 const WALKS: &[(&str, &str, u8, &[&str], u32, u32)] = &[
-    (FOURS, ONES, 0, &["walk 3 1 0", "walk 3 2 0"], 2, 4),
-    (THREES, THREES, 0, &["walk 2"], 0, 1),
-    (THREES, ONES, 0, &["walk 2 0"], 1, 2),
+    (FOURS, ONES, 0, &["walk 3 1 0", "walk 3 2 0"], 4, 4),
+    (THREES, THREES, 0, &["walk 2"], 1, 1),
+    (THREES, ONES, 0, &["walk 2 0"], 2, 2),
     (TWOS, THREES, 1, &["none"], 0, 1),
     (ONES, FOURS, 1, &["none"], 0, 0),
 ];
@@ -82,7 +82,7 @@ fn finds_a_walk_through_a_chain(rt: HostRuntime) {
     let upper = built(&rt, alloc, &[base], &[(0x33, &[1], 3), (0x44, &[2, 0], 4)]);
     let mut folder = Memory::new(alloc);
     put_chain(&rt, alloc, &mut folder, "g", &[&lower, &upper]);
-    let want = (0, ["walk 3 2 1"].as_slice(), 2, 3);
+    let want = (0, ["walk 3 2 1"].as_slice(), 3, 3);
     expect_walk(&rt, alloc, &mut folder, (FOURS, TWOS), want);
 }
 
@@ -100,16 +100,16 @@ const NO_IDS: &[(&str, &str, &str)] = &[
     ("zz", "", "refused id 1\n"),
 ];
 
-/// Asserts the status of `ancestor` for two texts of ids, and what it writes.
-fn expect_line(
+/// Asserts the status of `ancestor` for a path and two texts of ids, and what it writes.
+pub fn expect_ancestor<T: Folder>(
     rt: &impl Abort,
     alloc: Global,
-    folder: &mut Memory,
-    (first, second): (&str, &str),
+    folder: &mut T,
+    (path, first, second): (&str, &str, &str),
     (status, want): (u8, &str),
 ) {
     let mut out = writer(alloc, usize::MAX, None);
-    let answer = run_ancestor(alloc, folder, "g", first, second, &mut out);
+    let answer = run_ancestor(alloc, folder, path, first, second, &mut out);
     assert_eq!(rt; answer.expect(rt, "a status"), status);
     assert_eq!(rt; out.text(), want);
 }
@@ -119,25 +119,20 @@ fn tells_why_no_walk_is_looked_for(rt: HostRuntime) {
     let alloc = rt.alloc();
     let mut folder = with_commits(&rt, alloc, "g", DIAMOND);
     for (first, second, line) in UNKNOWN {
-        expect_line(&rt, alloc, &mut folder, (first, second), (1, line));
+        expect_ancestor(&rt, alloc, &mut folder, ("g", first, second), (1, line));
     }
     // A text that is no id opens nothing.
     folder.fail_read(0);
     for (first, second, line) in NO_IDS {
-        expect_line(&rt, alloc, &mut folder, (first, second), (2, line));
+        expect_ancestor(&rt, alloc, &mut folder, ("g", first, second), (2, line));
         assert_eq!(rt; folder.failures(), 0);
     }
-    expect_line(
-        &rt,
-        alloc,
-        &mut folder,
-        (FOURS, ONES),
-        (1, "refused open 3\n"),
-    );
+    let failed = (1, "refused open 3\n");
+    expect_ancestor(&rt, alloc, &mut folder, ("g", FOURS, ONES), failed);
     // A wrong graph is refused before an id is looked up.
     let mut wrong = with_commits(&rt, alloc, "g", &[(0x11, &[], 1), (0x22, &[0], 3)]);
     let want = "refused verify 8 position 1 expected 2\n";
-    expect_line(&rt, alloc, &mut wrong, (FIVES, ONES), (1, want));
+    expect_ancestor(&rt, alloc, &mut wrong, ("g", FIVES, ONES), (1, want));
 }
 
 /// Refusals of a query, with their texts.

@@ -1,7 +1,7 @@
 use crate::fixtures::{Row, built, checksum_of, put_chain, writer};
 use crate::verifying::expect_verify;
 use graph_commands::run::{WriteFailed, run_distinct};
-use graph_folder::folder::Memory;
+use graph_folder::folder::{Folder, Memory};
 use std::alloc::Global;
 use std::process::Abort;
 
@@ -16,9 +16,15 @@ fn chain(rt: &impl Abort, alloc: Global, upper: &[Row<'_>]) -> Memory {
 }
 
 /// Asserts the status of `distinct`, and what it writes.
-fn expect_distinct(rt: &impl Abort, alloc: Global, mut folder: Memory, status: u8, want: &str) {
+pub fn expect_distinct<T: Folder>(
+    rt: &impl Abort,
+    alloc: Global,
+    folder: &mut T,
+    path: &str,
+    (status, want): (u8, &str),
+) {
     let mut out = writer(alloc, usize::MAX, None);
-    let answer = run_distinct(alloc, &mut folder, "graphs", &mut out);
+    let answer = run_distinct(alloc, folder, path, &mut out);
     assert_eq!(rt; answer.expect(rt, "a status"), status);
     assert_eq!(rt; out.text(), want);
 }
@@ -34,14 +40,19 @@ const DISTINCT: &[Row<'static>] = &[(0x15, &[1], 3), (0x33, &[1], 3), (0x44, &[]
 
 const COUNTED: &str = "ok commits 5 longest 2\nparents 0 commits 2\nparents 1 commits 3\n";
 
+/// The same for the chain of these upper layers.
+fn expect_chain(rt: &impl Abort, alloc: Global, upper: &[Row<'_>], want: (u8, &str)) {
+    expect_distinct(rt, alloc, &mut chain(rt, alloc, upper), "graphs", want);
+}
+
 #[test]
 fn tells_an_id_that_stands_in_two_layers(rt: HostRuntime) {
     let alloc = rt.alloc();
-    expect_distinct(&rt, alloc, chain(&rt, alloc, DISTINCT), 0, COUNTED);
+    expect_chain(&rt, alloc, DISTINCT, (0, COUNTED));
     let repeated = "refused verify 11 position 2 earlier 1\n";
-    expect_distinct(&rt, alloc, chain(&rt, alloc, REPEATED), 1, repeated);
+    expect_chain(&rt, alloc, REPEATED, (1, repeated));
     let falling = "refused verify 5 position 3 fault 2\n";
-    expect_distinct(&rt, alloc, chain(&rt, alloc, FALLING), 1, falling);
+    expect_chain(&rt, alloc, FALLING, (1, falling));
     let text = "ok commits 5 longest 2\nparents 0 commits 3\nparents 1 commits 2\n";
     expect_verify(
         &rt,
@@ -50,12 +61,6 @@ fn tells_an_id_that_stands_in_two_layers(rt: HostRuntime) {
         "graphs",
         (0, text),
     );
-}
-
-#[test]
-fn tells_why_nothing_was_opened_for_distinct_ids(rt: HostRuntime) {
-    let alloc = rt.alloc();
-    expect_distinct(&rt, alloc, Memory::new(alloc), 1, "refused open 1\n");
 }
 
 #[test]

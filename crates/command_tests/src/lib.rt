@@ -17,6 +17,8 @@ mod finding;
 #[cfg(test)]
 mod fixtures;
 #[cfg(test)]
+mod large;
+#[cfg(test)]
 mod lines;
 #[cfg(test)]
 mod listing;

@@ -2,7 +2,7 @@ ghost use Rattle.std.specs.Prelude.{None};
 
 use crate::finding::expect_find;
 use crate::fixtures::{DIAMOND, built, copied, put_chain, put_dir, put_file, with_commits};
-use crate::verifying::expect_verify;
+use crate::verifying::{expect_check, expect_verify};
 use graph_folder::folder::{Folder, Memory, ReadError};
 use std::alloc::{AllocError, Global};
 use std::process::Abort;
@@ -66,7 +66,7 @@ fn tells_why_nothing_was_opened(rt: HostRuntime) {
     let alloc = rt.alloc();
     let mut folder = damaged_folder(&rt, alloc);
     for (path, want) in UNOPENED {
-        expect_verify(&rt, alloc, &mut folder, path, (1, want));
+        expect_check(&rt, alloc, &mut folder, path, (1, want));
         expect_find(&rt, alloc, &mut folder, (path, HEX), (1, want));
     }
 }

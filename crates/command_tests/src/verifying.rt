@@ -1,9 +1,12 @@
+use crate::ancestors::{ONES, expect_ancestor};
+use crate::distinct::expect_distinct;
 use crate::fixtures::{
     DIAMOND, Row, built, checksum_of, put_chain, with_commits, with_file, writer,
 };
-use gix_hash_core::ObjectId;
+use gix_hash_core::{Kind, ObjectId};
 use graph_commands::run::{WriteFailed, run_verify};
 use graph_folder::folder::{Folder, Memory};
+use graph_vectors::reseal;
 use std::alloc::Global;
 use std::process::Abort;
 
@@ -19,6 +22,21 @@ pub fn expect_verify<T: Folder>(
     let answer = run_verify(alloc, folder, path, &mut out);
     assert_eq!(rt; answer.expect(rt, "a status"), status);
     assert_eq!(rt; out.text(), want);
+}
+
+/// The same, and that `distinct` and `ancestor` refuse a graph as `verify` does.
+pub fn expect_check<T: Folder>(
+    rt: &impl Abort,
+    alloc: Global,
+    folder: &mut T,
+    path: &str,
+    (status, want): (u8, &str),
+) {
+    expect_verify(rt, alloc, folder, path, (status, want));
+    if status == 1 {
+        expect_distinct(rt, alloc, folder, path, (status, want));
+        expect_ancestor(rt, alloc, folder, (path, ONES, ONES), (status, want));
+    }
 }
 
 const DIAMOND_LINES: &str = "ok commits 4 longest 2\n\
@@ -80,7 +98,7 @@ fn checks_a_file(rt: HostRuntime) {
     let alloc = rt.alloc();
     for (commits, status, want) in FILES {
         let mut folder = with_commits(&rt, alloc, "commit-graph", commits);
-        expect_verify(&rt, alloc, &mut folder, "commit-graph", (*status, want));
+        expect_check(&rt, alloc, &mut folder, "commit-graph", (*status, want));
     }
 }
 
@@ -94,12 +112,53 @@ const WRONG_COMMITS: &[(&[Row<'_>], &str)] = &[
     (&[(0x11, &[1], 2)], "refused verify 7 position 0 parent 1\n"),
 ];
 
+/// Where the diamond's file is damaged, the bytes there, and what is wrong with it then. The fan
+/// begins at byte 56, the ids at 1080, and the records, of 36 bytes each, at 1160.
+const DAMAGED: &[(usize, &[u8], &str)] = &[
+    (124, &[0; 4], "refused verify 4 layer 0 fault 3 byte 17\n"),
+    (1232, &[0; 20], "refused verify 5 position 2 fault 3\n"),
+    (
+        1288,
+        b"\x70\0\0\0\0\0\0\x02",
+        "refused verify 6 position 3 error 1\n",
+    ),
+    (
+        1288,
+        b"\x80\0\0\0\x70\0\0\0",
+        "refused verify 6 position 3 error 2\n",
+    ),
+    (
+        1288,
+        b"\0\0\0\x01\x80\0\0\0",
+        "refused verify 6 position 3 error 3\n",
+    ),
+];
+
+/// The diamond's file with these bytes written over it from a place on, and a right checksum.
+fn damaged(rt: &impl Abort, alloc: Global, from: usize, bytes: &[u8]) -> Vec<u8> {
+    let mut file = built(rt, alloc, &[], DIAMOND);
+    let to = from.saturating_add(bytes.len());
+    assert!(rt; from <= to && to <= file.len() && file.len() >= 20);
+    file[from..to].copy_from_slice(bytes);
+    reseal(Kind::Sha1, &mut file);
+    file
+}
+
+#[test]
+fn refuses_a_damaged_file(rt: HostRuntime) {
+    let alloc = rt.alloc();
+    for (from, bytes, want) in DAMAGED {
+        let mut folder = with_file(&rt, alloc, "g", damaged(&rt, alloc, *from, bytes));
+        expect_check(&rt, alloc, &mut folder, "g", (1, want));
+    }
+}
+
 #[test]
 fn refuses_a_file(rt: HostRuntime) {
     let alloc = rt.alloc();
     let base = ObjectId::from([0x33; 20]);
     let mut folder = with_file(&rt, alloc, "g", built(&rt, alloc, &[base], &[]));
-    expect_verify(
+    expect_check(
         &rt,
         alloc,
         &mut folder,
@@ -111,7 +170,7 @@ fn refuses_a_file(rt: HostRuntime) {
         *last ^= 1;
     }
     let mut folder = with_file(&rt, alloc, "g", changed);
-    expect_verify(
+    expect_check(
         &rt,
         alloc,
         &mut folder,
@@ -120,7 +179,7 @@ fn refuses_a_file(rt: HostRuntime) {
     );
     for (commits, want) in WRONG_COMMITS {
         let mut folder = with_commits(&rt, alloc, "g", commits);
-        expect_verify(&rt, alloc, &mut folder, "g", (1, want));
+        expect_check(&rt, alloc, &mut folder, "g", (1, want));
     }
 }
 
@@ -128,7 +187,7 @@ fn refuses_a_file(rt: HostRuntime) {
 fn expect_chain(rt: &impl Abort, alloc: Global, layers: &[&[u8]], want: (u8, &str)) {
     let mut folder = Memory::new(alloc);
     put_chain(rt, alloc, &mut folder, "graphs", layers);
-    expect_verify(rt, alloc, &mut folder, "graphs", want);
+    expect_check(rt, alloc, &mut folder, "graphs", want);
 }
 
 const CHAIN_LINES: &str = "ok commits 3 longest 2\n\
@@ -203,13 +262,13 @@ fn a_layer_is_named_after_its_checksum(rt: HostRuntime) {
     let alloc = rt.alloc();
     for (path, status, want) in NAMES {
         let mut folder = with_commits(&rt, alloc, path, DIAMOND);
-        expect_verify(&rt, alloc, &mut folder, path, (*status, want));
+        expect_check(&rt, alloc, &mut folder, path, (*status, want));
     }
     let bytes = built(&rt, alloc, &[], DIAMOND);
     let checksum = checksum_of(&bytes);
     let right = format!(in alloc; "x/graph-{checksum}.graph/.").expect(&rt, "memory for a path");
     let mut folder = with_file(&rt, alloc, right.as_str(), bytes);
-    expect_verify(&rt, alloc, &mut folder, right.as_str(), (0, DIAMOND_LINES));
+    expect_check(&rt, alloc, &mut folder, right.as_str(), (0, DIAMOND_LINES));
 }
 
 const CYCLIC: &[Row<'static>] = &[(0x11, &[0], 1)];

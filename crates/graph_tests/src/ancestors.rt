@@ -1,6 +1,5 @@
 use crate::fixtures::{DIAMOND, Row};
 use crate::verifying::{OCTOPUS, TEN, graph};
-use gix_commitgraph::verify::VerifyError;
 use gix_commitgraph::{GENERATION_NUMBER_MAX, Graph, Position};
 use graph_history::{Checked, Reached};
 use std::alloc::Global;
@@ -31,6 +30,17 @@ const SHORTCUT: &[Row<'static>] = &[(0x11, &[], 1), (0x22, &[0], 2), (0x33, &[1,
 
 const CYCLE: &[Row<'static>] = &[(0x11, &[2], MAX), (0x22, &[0], MAX), (0x33, &[1], MAX)];
 
+/// A merge of three commits. The second is a root, the others have parents of their own.
+const BETWEEN: &[Row<'static>] = &[
+    (0x11, &[], 1),
+    (0x22, &[], 1),
+    (0x33, &[1], 2),
+    (0x44, &[1], 2),
+    (0x55, &[2], 3),
+    (0x66, &[3], 3),
+    (0x77, &[4, 0, 5], 4),
+];
+
 const TEN_TO_ONE: &[Position] = &[
     Position(9),
     Position(8),
@@ -45,7 +55,8 @@ const TEN_TO_ONE: &[Position] = &[
 ];
 
 /// The commits of a graph of one layer, two positions, the only shortest walk between them, and the
-/// least and the greatest number of visits.
+/// least and the greatest number of commits that a search takes from its queue, breadth first and
+/// the end of the walk included, in whatever order it goes over the parents of a commit.
 type Query = (
     &'static [Row<'static>],
     u32,
@@ -57,15 +68,16 @@ type Query = (
 
 const QUERIES: &[Query] = &[
     (DIAMOND, 2, 2, Some(&[Position(2)]), 1, 1),
-    (OCTOPUS, 3, 0, Some(&[Position(3), Position(0)]), 1, 4),
-    (SHORTCUT, 2, 0, Some(&[Position(2), Position(0)]), 1, 3),
-    (TEN, 9, 0, Some(TEN_TO_ONE), 9, 10),
+    (OCTOPUS, 3, 0, Some(&[Position(3), Position(0)]), 2, 3),
+    (SHORTCUT, 2, 0, Some(&[Position(2), Position(0)]), 2, 3),
+    (BETWEEN, 6, 0, Some(&[Position(6), Position(0)]), 2, 4),
+    (TEN, 9, 0, Some(TEN_TO_ONE), 10, 10),
     (
         CYCLE,
         0,
         1,
         Some(&[Position(0), Position(2), Position(1)]),
-        2,
+        3,
         3,
     ),
     (DIAMOND, 1, 2, None, 0, 1),
@@ -96,7 +108,7 @@ fn one_of_two_shortest_walks_is_answered(rt: HostRuntime) {
     assert!(rt; walk.len() == 3);
     assert!(rt; walk[0] == Position(3) && walk[2] == Position(0));
     assert!(rt; walk[1] == Position(1) || walk[1] == Position(2));
-    assert!(rt; 2 <= answer.visits && answer.visits <= 4);
+    assert!(rt; answer.visits == 4);
 }
 
 #[test]
@@ -107,19 +119,5 @@ fn a_walk_goes_through_layers(rt: HostRuntime) {
     let answer = reached(&rt, rt.alloc(), &graph, 3, 1);
     let walk = answer.walk.expect(&rt, "a walk");
     let wanted = [Position(3), Position(2), Position(1)];
-    assert!(rt; walk.as_slice() == wanted.as_slice());
-}
-
-#[test]
-fn a_wrong_graph_answers_no_query(rt: HostRuntime) {
-    let wrong: &[Row<'_>] = &[(0x11, &[], 1), (0x22, &[0], 3)];
-    let graph = graph(&rt, rt.alloc(), &[wrong]);
-    let refused = matches!(
-        Checked::new(rt.alloc(), &graph).err(),
-        Some(VerifyError::Generation {
-            pos: Position(1),
-            expected: 2
-        })
-    );
-    assert!(rt; refused);
+    assert!(rt; walk.as_slice() == wanted.as_slice() && answer.visits == 3);
 }

@@ -182,16 +182,31 @@ fn empty_layers_have_no_positions(rt: HostRuntime) {
     compare_none(&rt, &graph_of(&rt, rt.alloc(), &[&[], &[]]));
 }
 
-/// The most comparisons after which the layer of a position is found, where each layer has one
-/// commit.
-fn most_comparisons(rt: &impl Abort, graph: &Graph) -> u32 {
-    let mut most = 0;
+/// How many comparisons find the layers of a graph, each of which has one commit. The numbers are
+/// sorted.
+fn comparisons(rt: &impl Abort, alloc: Global, graph: &Graph) -> Vec<u32> {
+    let mut counts = Vec::new(alloc);
     for pos in 0..graph.num_commits() {
         let (layer, count) = graph.layer_of_counted(Position(pos));
         assert!(rt; layer == pos as usize);
-        most = count.max(most);
+        counts.push(count).expect(rt, "memory");
     }
-    most
+    counts.sort().expect(rt, "memory");
+    counts
+}
+
+/// How many comparisons find one of 1, 2, 3, 4 and 5 layers. Each comparison leaves one of two
+/// halves, of which neither has more than one layer more than the other, until one layer is left.
+const HALVED: [&[u32]; 5] = [&[0], &[1, 1], &[1, 2, 2], &[2, 2, 2, 2], &[2, 2, 2, 3, 3]];
+
+#[test]
+fn a_layer_is_found_by_halves(rt: HostRuntime) {
+    let commit: &[ObjectId] = &[id(0x11, 0)];
+    for want in HALVED {
+        let layers = &[commit; 5][..want.len().min(5)];
+        let graph = graph_of(&rt, rt.alloc(), layers);
+        assert!(rt; comparisons(&rt, rt.alloc(), &graph).as_slice() == want);
+    }
 }
 
 #[test]
@@ -199,8 +214,8 @@ fn one_of_256_layers_is_found_in_eight_or_nine_comparisons(rt: HostRuntime) {
     let commit: &[ObjectId] = &[id(0x11, 0)];
     let graph = graph_of(&rt, rt.alloc(), &[commit; 256]);
     assert!(rt; graph.num_commits() == 256);
-    let most = most_comparisons(&rt, &graph);
-    assert!(rt; 8 <= most && most <= 9);
+    let counts = comparisons(&rt, rt.alloc(), &graph);
+    assert!(rt; matches!(counts.last(), Some(8 | 9)));
 }
 
 /// The empty layer of this kind.

@@ -25,9 +25,13 @@ mod folders;
 #[cfg(test)]
 mod graphs;
 #[cfg(test)]
+mod large;
+#[cfg(test)]
 mod opening;
 #[cfg(test)]
 mod parents;
+#[cfg(test)]
+mod shared_lists;
 #[cfg(test)]
 mod texts;
 #[cfg(test)]

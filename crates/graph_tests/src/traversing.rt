@@ -8,11 +8,11 @@ use std::process::Abort;
 
 /// The error of a processor that refuses.
 #[derive(Clone, Copy, Debug, PartialEq, Eq)]
-struct Refused;
+pub struct Refused;
 
 /// What the check of a layer answers where the processor always answers the same, how often the
 /// processor was called, and whether that was at the positions 0, 1, 2 and so on.
-fn checked(
+pub fn checked(
     alloc: Global,
     file: &File,
     answer: Result<(), Refused>,
@@ -70,7 +70,7 @@ fn faults_of_the_commits(rt: HostRuntime) {
 }
 
 /// The diamond's file with the last bit of its checksum turned.
-fn with_wrong_checksum(rt: &impl Abort, alloc: Global) -> Vec<u8> {
+pub fn with_wrong_checksum(rt: &impl Abort, alloc: Global) -> Vec<u8> {
     let mut bytes = layer(rt, alloc, &[], DIAMOND);
     assert!(rt; bytes.len() == 1324);
     bytes[1323] ^= 1;
@@ -139,10 +139,10 @@ fn the_processor_comes_before_the_parents(rt: HostRuntime) {
 }
 
 /// The greatest and the least generation number, the most parents and the number of commits.
-type Numbers = (u32, u32, u32, u32);
+pub type Numbers = (u32, u32, u32, u32);
 
 /// Compares an outcome: its numbers, and how many commits have each number of parents.
-fn compare_outcome(rt: &impl Abort, outcome: &Outcome, want: Numbers, counts: &[(u32, u32)]) {
+pub fn compare_outcome(rt: &impl Abort, outcome: &Outcome, want: Numbers, counts: &[(u32, u32)]) {
     let (greatest, least, most_parents, commits) = want;
     assert!(rt; outcome.max_generation == greatest && outcome.min_generation == least);
     assert!(rt; outcome.max_parents == most_parents && outcome.num_commits == commits);

@@ -1,9 +1,11 @@
 use crate::fixtures::{DIAMOND, Row, damaged_diamond, layer, opened, sharing};
+use crate::traversing::with_wrong_checksum;
 use gix_commitgraph::file::Commit;
 use gix_commitgraph::file::commit::ParentError;
 use gix_commitgraph::verify::{CommitFault, LayerFault, Outcome, VerifyError};
 use gix_commitgraph::{File, GENERATION_NUMBER_MAX, Graph, Position};
 use gix_hash_core::ObjectId;
+use graph_history::{Checked, NoFault};
 use std::alloc::{AllocError, Global};
 use std::collections::BTreeMap;
 use std::process::Abort;
@@ -89,18 +91,23 @@ fn checked(
     (answer, seen)
 }
 
+/// Why a graph is refused whose commits the processor accepts.
+type Fault = VerifyError<NoFault>;
+
 /// Compares the refusal of a graph whose commits the processor accepts, and the number of its
-/// calls.
-fn compare_refusal(
-    rt: &impl Abort,
-    alloc: Global,
-    graph: &Graph,
-    want: &VerifyError<Refused>,
-    calls: usize,
-) {
-    let (answer, seen) = checked(alloc, graph, None);
-    assert!(rt; seen.len() == calls);
+/// calls. No query is answered for such a graph, which is refused alike.
+fn compare_refusal(rt: &impl Abort, alloc: Global, graph: &Graph, want: &Fault, calls: usize) {
+    let mut seen = 0usize;
+    let answer = graph.verify_integrity(
+        alloc,
+        &mut |_: &Commit<'_>| -> Result<(), NoFault> {
+            seen = seen.saturating_add(1);
+            Ok(())
+        },
+    );
+    assert!(rt; seen == calls);
     assert!(rt; matches!(&answer, Err(error) if error == want));
+    assert!(rt; matches!(&Checked::new(alloc, graph), Err(error) if error == want));
 }
 
 /// Compares the outcome of a right graph: its longest path and the counts of the numbers of
@@ -251,7 +258,7 @@ fn wrong_generation_numbers_are_refused(rt: HostRuntime) {
 }
 
 /// Where the diamond's file is damaged, the bytes there, the refusal, and the number of calls.
-type Damaged = (usize, &'static [u8], VerifyError<Refused>, usize);
+type Damaged = (usize, &'static [u8], Fault, usize);
 
 const DAMAGED: &[Damaged] = &[
     (
@@ -281,6 +288,24 @@ const DAMAGED: &[Damaged] = &[
         },
         3,
     ),
+    (
+        1288,
+        b"\x80\0\0\0\x70\0\0\0",
+        VerifyError::Parent {
+            pos: Position(3),
+            error: ParentError::FirstIsEdgeIndex,
+        },
+        3,
+    ),
+    (
+        1288,
+        b"\0\0\0\x01\x80\0\0\0",
+        VerifyError::Parent {
+            pos: Position(3),
+            error: ParentError::NoEdgeList,
+        },
+        3,
+    ),
 ];
 
 /// Compares the refusals of damaged files.
@@ -295,6 +320,39 @@ fn compare_damaged(rt: &impl Abort, alloc: Global, rows: &[Damaged]) {
 #[test]
 fn damaged_layers_are_refused(rt: HostRuntime) {
     compare_damaged(&rt, rt.alloc(), DAMAGED);
+}
+
+/// The commits of a graph of one layer, the position that is refused, and what is wrong with its
+/// id.
+const WRONG_IDS: &[(&[Row<'static>], u32, CommitFault)] = &[
+    (&[(0, &[], 1)], 0, CommitFault::NullId),
+    (&[(0x11, &[], 1), (0x11, &[], 1)], 1, CommitFault::Order),
+];
+
+#[test]
+fn wrong_ids_are_refused(rt: HostRuntime) {
+    for (commits, place, fault) in WRONG_IDS {
+        let graph = graph(&rt, rt.alloc(), &[*commits]);
+        let (pos, fault) = (Position(*place), *fault);
+        let want = VerifyError::Commit { pos, fault };
+        compare_refusal(&rt, rt.alloc(), &graph, &want, *place as usize);
+    }
+}
+
+/// Compares the refusal of the graph of a layer with this fault.
+fn compare_layer(rt: &impl Abort, alloc: Global, file: File, fault: LayerFault) {
+    let want = VerifyError::Layer { layer: 0, fault };
+    compare_refusal(rt, alloc, &graph_of(rt, alloc, [file]), &want, 0);
+}
+
+#[test]
+fn a_layer_of_another_checksum_or_name_is_refused(rt: HostRuntime) {
+    let alloc = rt.alloc();
+    let changed = opened(&rt, alloc, with_wrong_checksum(&rt, alloc), "commit-graph");
+    compare_layer(&rt, alloc, changed, LayerFault::Checksum);
+    let bytes = layer(&rt, alloc, &[], DIAMOND);
+    let misnamed = opened(&rt, alloc, bytes, "graph-.graph");
+    compare_layer(&rt, alloc, misnamed, LayerFault::FileName);
 }
 
 /// The parent fields that point to the first and to the second word of an extra edge list, and the
@@ -328,7 +386,7 @@ fn commits_share_an_edge_list(rt: HostRuntime) {
 
 /// The second parent fields of the positions 2 and 3, the words of the list, the refusal, and how
 /// many commits the processor is called on.
-const REFUSED_LISTS: &[([u32; 2], [u32; 2], VerifyError<Refused>, usize)] = &[
+const REFUSED_LISTS: &[([u32; 2], [u32; 2], Fault, usize)] = &[
     (
         [FIRST, FIRST],
         [0, 0x8000_0009],
@@ -405,11 +463,15 @@ fn the_greatest_generation_stands_in_a_shared_edge_list(rt: HostRuntime) {
 }
 
 #[test]
-fn a_base_too_many_is_refused(rt: HostRuntime) {
-    let file = file(&rt, rt.alloc(), &[ObjectId::from([0x33; 20])], &[]);
-    let graph = graph_of(&rt, rt.alloc(), [file]);
+fn a_base_too_many_and_another_base_are_refused(rt: HostRuntime) {
+    let (alloc, base) = (rt.alloc(), ObjectId::from([0x33; 20]));
+    let alone = graph_of(&rt, alloc, [file(&rt, alloc, &[base], &[])]);
     let want = VerifyError::BaseCount { layer: 0 };
-    compare_refusal(&rt, rt.alloc(), &graph, &want, 0);
+    compare_refusal(&rt, alloc, &alone, &want, 0);
+    let (lower, upper) = (file(&rt, alloc, &[], &[]), file(&rt, alloc, &[base], &[]));
+    let graph = graph_of(&rt, alloc, [lower, upper]);
+    let want = VerifyError::BaseId { layer: 1, index: 0 };
+    compare_refusal(&rt, alloc, &graph, &want, 0);
 }
 
 #[test]

@@ -15,7 +15,8 @@ use graph_commands::line::write_line;
 use graph_commands::run::{
     WriteFailed, run_ancestor, run_distinct, run_find, run_list, run_verify,
 };
-use graph_folder::folder::Disk;
+use graph_folder::folder::{Disk, Folder};
+use std::alloc::Global;
 use std::io::Write;
 use std::process::ExitCode;
 use std::{env, io};
@@ -31,7 +32,10 @@ const FAILED: u8 = 2;
 fn main(rt: HostRuntime) -> ExitCode {
     let mut errors = rt.stderr();
     let status = match words(&rt) {
-        Some(words) => respond(&rt, &words, &mut errors),
+        Some(words) => {
+            let (mut disk, mut output) = (Disk::new(&rt), io::writer(&rt));
+            respond(rt.alloc(), &words, &rt, &mut disk, &mut output, &mut errors)
+        }
         None => fail(&mut errors, USAGE),
     };
     ExitCode::from(status)
@@ -42,10 +46,18 @@ fn words(rt: &HostRuntime) -> Option<Vec<String>> {
     env::args(rt).ok()?.collect(rt.alloc()).ok()
 }
 
-/// Runs the command that the words are, and answers the exit status.
-fn respond<W: Write>(rt: &HostRuntime, words: &[String], errors: &mut W) -> u8 {
+/// Runs the command that the words are, over standard input, a folder and both streams that are
+/// written to, and answers the exit status.
+fn respond<I: Input, T: Folder, W: Write, E: Write>(
+    alloc: Global,
+    words: &[String],
+    input: &I,
+    folder: &mut T,
+    output: &mut W,
+    errors: &mut E,
+) -> u8 {
     match Command::from_words(words) {
-        Some(command) => status_of(command.run(rt), errors),
+        Some(command) => status_of(command.run(alloc, input, folder, output), errors),
         None => fail(errors, USAGE),
     }
 }
@@ -122,23 +134,24 @@ impl<'a> Command<'a> {
         }
     }
 
-    fn run(self, rt: &HostRuntime) -> Result<u8, WriteFailed> {
-        let alloc = rt.alloc();
-        let mut writer = io::writer(rt);
+    /// Runs the command, and answers its exit status. `WriteFailed` comes where its output fails.
+    fn run<I: Input, T: Folder, W: Write>(
+        self,
+        alloc: Global,
+        input: &I,
+        folder: &mut T,
+        output: &mut W,
+    ) -> Result<u8, WriteFailed> {
         match self {
-            Command::List => run_list(alloc, &mut rt.reader(), &mut writer),
-            Command::Verify { path } => { run_verify(alloc, &mut Disk::new(rt), path, &mut writer) }
-            Command::Find { path, hex } => {
-                run_find(alloc, &mut Disk::new(rt), path, hex, &mut writer)
-            }
+            Command::List => run_list(alloc, &mut input.reader(), output),
+            Command::Verify { path } => run_verify(alloc, folder, path, output),
+            Command::Find { path, hex } => run_find(alloc, folder, path, hex, output),
             Command::Ancestor {
                 path,
                 first,
                 second,
-            } => { run_ancestor(alloc, &mut Disk::new(rt), path, first, second, &mut writer) }
-            Command::Distinct { path } => {
-                run_distinct(alloc, &mut Disk::new(rt), path, &mut writer)
-            }
+            } => run_ancestor(alloc, folder, path, first, second, output),
+            Command::Distinct { path } => run_distinct(alloc, folder, path, output),
         }
     }
 }

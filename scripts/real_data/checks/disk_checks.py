@@ -3,6 +3,7 @@
 import os
 from functools import partial
 
+from checks import beside
 from damage import trees
 from damage.wrong_trees import NOT_OPENED, Right, all_wrong
 from expected import judge
@@ -60,6 +61,9 @@ def check_tree(program, tally, repository, case, differences):
         refusal = partial(judge.exactly, 1, case.answer, "")
         complaints += [refusal(program.find(path, "0" * 40)) for path in paths]
     title = "%s, %s, verified and found" % (repository.object_format, case.name)
+    tally.check(title, next(filter(None, complaints), None))
+    complaints = [beside.complaint(program, path, answer) for path, answer in zip(paths, answers)]
+    title = "%s, %s, distinct and ancestor" % (repository.object_format, case.name)
     tally.check(title, next(filter(None, complaints), None))
     differences.compare(case.listed_as or case.name, answers[0], repository.git_verdict())
 

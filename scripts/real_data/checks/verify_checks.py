@@ -5,6 +5,7 @@ import resource
 import tempfile
 from functools import partial
 
+from checks import beside
 from checks.runs import check_runs
 from damage import forms, mutations, wrong_commits, wrong_layout
 from damage.layer import sealed
@@ -94,6 +95,8 @@ def check_verdict(program, tally, repository, differences, case):
     name, layer, text = case
     answer = verify_bytes(program, repository.graph_path(), layer)
     tally.check("%s, %s, verified" % (repository.object_format, name), judge.verdict(text, answer))
+    complaint = beside.complaint(program, repository.graph_path(), answer)
+    tally.check("%s, %s, distinct and ancestor" % (repository.object_format, name), complaint)
     differences.compare(name, answer, repository.git_verdict())
 
 
