@@ -1,11 +1,12 @@
-//! A layer whose commits share one long extra edge list. What goes over the list once for each of
-//! them takes longer than a test may.
+//! A layer whose commits share one long extra edge list. A check or a query that goes over the list
+//! once for each of them takes longer than a test may.
 
 use crate::fixtures::{END, opened, words, written};
 use crate::verifying::graph_of;
 use gix_commitgraph::file::Commit;
 use gix_commitgraph::{File, Graph};
 use gix_hash_core::Kind;
+use graph_history::Checked;
 use graph_vectors::reseal;
 use std::alloc::Global;
 use std::convert::Infallible;
@@ -101,10 +102,26 @@ fn compare_verified(rt: &impl Abort, alloc: Global, graph: &Graph) {
     assert!(rt; outcome.parent_counts.len() == COMMITS as usize);
 }
 
+/// The walk from the last commit to the second, which goes through all commits between them.
+fn compare_queries(rt: &impl Abort, alloc: Global, graph: &Graph) {
+    let checked = Checked::new(alloc, graph).expect(rt, "a right graph");
+    let last = checked.position(COMMITS - 1).expect(rt, "the last commit");
+    let second = checked.position(1).expect(rt, "the second commit");
+    let reached = checked.ancestor_walk(alloc, last, second);
+    let reached = reached.expect(rt, "memory");
+    assert!(rt; reached.visits == COMMITS - 1);
+    let walk = reached.walk.expect(rt, "a walk");
+    assert!(rt; walk.len() == COMMITS as usize - 1);
+    let found = checked.is_ancestor(alloc, last, second);
+    assert!(rt; found.expect(rt, "memory"));
+}
+
 #[test]
 fn a_shared_list_is_checked_in_time(rt: HostRuntime) {
     let alloc = rt.alloc();
     let file = layer(&rt, alloc);
     compare_traversed(&rt, alloc, &file);
-    compare_verified(&rt, alloc, &graph_of(&rt, alloc, [file]));
+    let graph = graph_of(&rt, alloc, [file]);
+    compare_verified(&rt, alloc, &graph);
+    compare_queries(&rt, alloc, &graph);
 }
