@@ -4,7 +4,7 @@ use crate::stage::Stage;
 use gix_commitgraph::file::Commit;
 use gix_commitgraph::opening::{open_chain_dir_in, open_file_in, open_in, open_info_dir_in};
 use gix_commitgraph::verify::VerifyOptions;
-use gix_commitgraph::{File, Graph, Position, at};
+use gix_commitgraph::{File, Graph, at};
 use graph_commands::run::{run_ancestor, run_distinct, run_find, run_list, run_verify};
 use graph_folder::folder::{Folder, Memory};
 use graph_history::Checked;
@@ -33,7 +33,7 @@ pub fn call(rt: &HostRuntime, alloc: Global, name: &[u8], stage: &mut Stage) -> 
         b"verify_integrity" => verify_integrity(rt, alloc, false, &stage.graph),
         b"verify_integrity_with" => verify_integrity(rt, alloc, true, &stage.line),
         b"put_file" | b"put_dir" => put(rt, alloc, name, stage),
-        b"ancestor_walk" => ancestor_walk(rt, alloc, &stage.line),
+        b"ancestor_walk" | b"is_ancestor" => query(rt, alloc, name, &stage.line),
         b"run_list"
         | b"run_verify"
         | b"run_verify_info"
@@ -107,18 +107,21 @@ fn verify_integrity(
     println!(rt; "{copied:?}")
 }
 
-/// Checks a graph for queries, then looks for the walk from its tenth commit to the first. Each has
-/// a line.
-fn ancestor_walk(rt: &HostRuntime, alloc: Global, graph: &Graph) -> io::Result<()> {
+/// Checks a graph for queries, then asks for the walk from its tenth commit to the first, or
+/// whether there is one. Each has a line.
+fn query(rt: &HostRuntime, alloc: Global, name: &[u8], graph: &Graph) -> io::Result<()> {
     let checked = Checked::new(alloc, graph);
     println!(rt; "{:?}", checked.as_ref().map(|_| ()))?;
     let Ok(checked) = checked else {
         return Ok(());
     };
-    if graph.num_commits() < 10 {
+    let (Some(from), Some(to)) = (checked.position(9), checked.position(0)) else {
         return println!(rt; "fewer than ten commits");
+    };
+    if name == b"is_ancestor".as_slice() {
+        return println!(rt; "{:?}", checked.is_ancestor(alloc, from, to));
     }
-    let answer = checked.ancestor_walk(alloc, Position(9), Position(0));
+    let answer = checked.ancestor_walk(alloc, from, to);
     let walk = answer.map(|reached| reached.walk);
     println!(rt; "{walk:?}")
 }
