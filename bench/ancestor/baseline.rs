@@ -1,5 +1,6 @@
 //! What the program in `main.rt.txt` does, in plain Rust: a breadth-first search that leaves out each
-//! commit whose generation number is below that of the commit that is looked for.
+//! commit whose generation number is below that of the commit that is looked for. Where the two
+//! commits are one, or their generation numbers allow no walk, nothing is searched.
 
 #[allow(dead_code)]
 #[path = "../lookup/layer.rs"]
@@ -9,6 +10,12 @@ use layer::{Chain, ID_LEN, Id, Layer};
 use std::time::Instant;
 use std::{env, fs};
 
+/// Stands where a commit has no mark.
+const CLEAR: u32 = u32::MAX;
+
+/// The greatest generation number that a commit-graph file can hold.
+const GENERATION_NUMBER_MAX: u32 = 0x3fff_ffff;
+
 /// A search along parents. It names no commit whose generation number is below the least.
 struct Search<'a> {
     chain: &'a Chain<'a>,
@@ -16,7 +23,7 @@ struct Search<'a> {
     /// The commits that were reached, in the order in which they were, each once.
     queue: Vec<u32>,
     /// For each commit of the graph, the place in the queue of the commit from which it was reached.
-    marks: Vec<Option<u32>>,
+    marks: Vec<u32>,
 }
 
 impl<'a> Search<'a> {
@@ -26,14 +33,14 @@ impl<'a> Search<'a> {
             chain,
             least,
             queue: Vec::new(),
-            marks: vec![None; commits],
+            marks: vec![CLEAR; commits],
         }
     }
 
     fn reach(&mut self, commit: u32, child: u32) {
         let mark = &mut self.marks[commit as usize];
-        if mark.is_none() && self.least <= self.chain.generation_at(commit) {
-            *mark = Some(child);
+        if *mark == CLEAR && self.least <= self.chain.generation_at(commit) {
+            *mark = child;
             self.queue.push(commit);
         }
     }
@@ -59,11 +66,27 @@ impl<'a> Search<'a> {
         let mut walk = vec![self.queue[place as usize]];
         let mut reached = place;
         while reached > 0 {
-            reached = self.marks[self.queue[reached as usize] as usize].unwrap();
+            reached = self.marks[self.queue[reached as usize] as usize];
             walk.push(self.queue[reached as usize]);
         }
         walk.reverse();
         walk
+    }
+}
+
+/// The number of commits of a shortest walk, 0 where there is none, and the number of visits.
+fn answer(chain: &Chain<'_>, from: u32, to: u32, prunes: bool) -> (usize, u32) {
+    if !prunes {
+        return Search::new(chain, 0).run(from, to);
+    }
+    if from == to {
+        return (1, 1);
+    }
+    let (above, least) = (chain.generation_at(from), chain.generation_at(to));
+    if least < above || (above == least && least == GENERATION_NUMBER_MAX) {
+        Search::new(chain, least).run(from, to)
+    } else {
+        (0, 0)
     }
 }
 
@@ -72,8 +95,7 @@ fn run(name: &str, chain: &Chain<'_>, ids: &[Id], prunes: bool) {
     let start = Instant::now();
     let (mut walks, mut commits, mut visits) = (0u64, 0u64, 0u64);
     for &[from, to] in positions.as_chunks().0 {
-        let least = if prunes { chain.generation_at(to) } else { 0 };
-        let (length, visited) = Search::new(chain, least).run(from, to);
+        let (length, visited) = answer(chain, from, to, prunes);
         walks += u64::from(length > 0);
         commits += length as u64;
         visits += u64::from(visited);

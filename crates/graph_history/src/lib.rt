@@ -2,9 +2,10 @@
 //! parents.
 //!
 //! [`Checked::new`] checks a graph once. [`Checked::ancestor_walk`] then goes over the ancestors of
-//! a commit breadth first. It relies on the generation numbers, which the check has found right,
-//! and leaves out each commit whose number is too low to lead to the one that is looked for
-//! ("topological level" in Git's commit-graph design).
+//! a commit breadth first. A [`Searcher`] answers many queries over one memory, and
+//! [`Searcher::is_ancestor`] asks for no walk, and goes depth first. Both rely on the generation
+//! numbers, which the check has found right, and leave out each commit whose number is too low to
+//! lead to the one that is looked for ("topological level" in Git's commit-graph design).
 #![tactic(auto)]
 
 mod access;

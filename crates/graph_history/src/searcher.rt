@@ -111,6 +111,7 @@ fn walk_between(
 {
     the_history_of_a_graph_is_that_of_its_layers();
     generations_never_rise_along_walks();
+    // The contract of `num_commits` says that the layers make a graph.
     let _commits = search.graph.num_commits();
     if from == to {
         let walk = vec![in search.alloc; from]?;
@@ -138,6 +139,7 @@ fn leads_to(search: &mut Search<'_>, from: Position, to: Position) -> Result<boo
         IsTrue found ↔ Reaches (history_of search.old.graph.now) from.0 to.0) }
 {
     the_history_of_a_graph_is_that_of_its_layers();
+    // The contract of `num_commits` says that the layers make a graph.
     let _commits = search.graph.num_commits();
     if from == to {
         return Ok(true);
@@ -163,6 +165,7 @@ fn least_number(graph: &Graph, from: Position, to: Position) -> Option<u32>
     the_history_of_a_graph_is_that_of_its_layers();
     generations_never_rise_along_walks();
     generations_fall_along_walks();
+    // The contract of `num_commits` says that the layers make a graph.
     let _commits = graph.num_commits();
     let (above, least) = (generation_of(graph, from), generation_of(graph, to));
     if least < above || (above == least && least == GENERATION_NUMBER_MAX) {

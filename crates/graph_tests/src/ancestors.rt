@@ -101,6 +101,22 @@ fn the_only_shortest_walk_is_answered(rt: HostRuntime) {
 }
 
 #[test]
+fn a_searcher_answers_one_query_after_another(rt: HostRuntime) {
+    for (commits, from, to, walk, ..) in QUERIES {
+        let graph = graph(&rt, rt.alloc(), &[*commits]);
+        let checked = Checked::new(rt.alloc(), &graph).expect(&rt, "a right graph");
+        let from = checked.position(*from).expect(&rt, "a commit");
+        let to = checked.position(*to).expect(&rt, "a commit");
+        let mut searcher = checked.searcher(rt.alloc());
+        let first = searcher.ancestor_walk(from, to).expect(&rt, "memory");
+        let found = searcher.is_ancestor(from, to).expect(&rt, "memory");
+        let again = searcher.ancestor_walk(from, to).expect(&rt, "memory");
+        assert!(rt; first.walk.as_deref() == *walk && again.walk.as_deref() == *walk);
+        assert!(rt; first.visits == again.visits && found == walk.is_some());
+    }
+}
+
+#[test]
 fn one_of_two_shortest_walks_is_answered(rt: HostRuntime) {
     let graph = graph(&rt, rt.alloc(), &[DIAMOND]);
     let answer = reached(&rt, rt.alloc(), &graph, 3, 0);
