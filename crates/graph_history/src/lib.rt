@@ -1,11 +1,11 @@
-//! Whether one commit of a commit-graph is an ancestor of another, and by which shortest walk along
-//! parents.
+//! Commit-graphs that were checked and are right, as types, and what may be asked of them.
 //!
-//! [`Checked::new`] checks a graph once. [`Checked::ancestor_walk`] then goes over the ancestors of
-//! a commit breadth first. A [`Searcher`] answers many queries over one memory, and
-//! [`Searcher::is_ancestor`] asks for no walk, and goes depth first. Both rely on the generation
-//! numbers, which the check has found right, and leave out each commit whose number is too low to
-//! lead to the one that is looked for ("topological level" in Git's commit-graph design).
+//! A [`Checked`] borrows a graph, and a [`CheckedGraph`] owns it. Both are made by a check alone. A
+//! checked graph says of each of its commits what the file says, and whether one commit is an
+//! ancestor of another, and by which shortest walk along parents. A [`Searcher`] answers many such
+//! queries over one memory. Queries rely on the generation numbers, which the check has found
+//! right, and leave out each commit whose number is too low to lead to the one that is looked for
+//! ("topological level" in Git's commit-graph design).
 #![tactic(auto)]
 
 mod access;
