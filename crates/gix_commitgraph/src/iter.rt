@@ -91,7 +91,7 @@ impl<'a> GraphIds<'a> {
 }
 
 impl<'a> Iterator for GraphIds<'a> {
-    ghost use Rattle.std.specs.Iterator.{YieldsFirstBy, item_count, UpTo, at_most};
+    ghost use Rattle.std.specs.Iterator.{YieldsFirstBy, item_count, UpTo};
     ghost use Rattle.std.specs.Iterator.SizeHint.{IsWithinCount};
     ghost use Rattle.gix_hash_core.specs.Oid.{oid_bytes};
     ghost use Rattle.gix_commitgraph.specs.GraphRemaining.{graph_ids_left};
@@ -138,7 +138,7 @@ impl<'a> GraphCommits<'a> {
 }
 
 impl<'a> Iterator for GraphCommits<'a> {
-    ghost use Rattle.std.specs.Iterator.{YieldsFirstBy, item_count, UpTo, at_most};
+    ghost use Rattle.std.specs.Iterator.{YieldsFirstBy, item_count, UpTo};
     ghost use Rattle.std.specs.Iterator.SizeHint.{IsWithinCount};
     ghost use Rattle.graph_layer.specs.Commit.{layer_and_position};
     ghost use Rattle.gix_commitgraph.specs.GraphRemaining.{graph_commits_left};

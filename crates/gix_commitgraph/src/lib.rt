@@ -9,7 +9,7 @@
 //! outcome, and can answer that memory ran out. Accessors, iterators and lookups allocate nothing.
 #![tactic(auto)]
 
-ghost use Rattle.std.specs.Prelude.{Some, IfOk, IfErr, MatchResult};
+ghost use Rattle.std.specs.Prelude.{IfOk, IfErr, MatchResult};
 ghost use Rattle.gix_commitgraph.specs.Graph.{IsGraph};
 ghost use Rattle.gix_commitgraph.specs.OpenAlways.{IsFromPath, IsPathError};
 ghost use Rattle.graph_layer.specs.OpenRefusals.{OutOfMemoryStandsAlone};

@@ -1,7 +1,6 @@
 //! Marks of numbers, which are kept from one search to the next.
 
-ghost use Rattle.std.specs.Prelude.{◌≡◌, ◌≢◌, ◌↔◌, ◌<◌, ◌≤◌, ◌++◌, ◌∷◌, [], length, IsTrue};
-ghost use Rattle.std.specs.Prelude.{OnOk};
+ghost use Rattle.std.specs.Prelude.{◌≡◌, ◌≢◌, ◌↔◌, ◌<◌, ◌≤◌, ◌++◌, ◌∷◌, [], length, IsTrue, OnOk};
 ghost use Rattle.graph_history.specs.Marks.{IsMarked, number_in, mark_in};
 
 use std::alloc::{AllocError, Global};

@@ -1,6 +1,6 @@
 //! The parents of a commit of a right graph, one after another.
 
-ghost use Rattle.std.specs.Prelude.{◌≡◌, ◌<◌, All, IfSome, Some, length, map};
+ghost use Rattle.std.specs.Prelude.{◌≡◌, ◌<◌, All, map};
 ghost use Rattle.graph_walks.specs.History.{parents_at};
 ghost use Rattle.graph_format.specs.StoredHistory.{history_of};
 ghost use Rattle.gix_commitgraph.specs.Graph.{total};

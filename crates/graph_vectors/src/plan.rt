@@ -1,6 +1,6 @@
 //! What a file is to hold.
 
-ghost use Rattle.std.specs.Prelude.{◌≡◌, ◌<◌, ◌↔◌, IsTrue, All, length};
+ghost use Rattle.std.specs.Prelude.{◌≡◌, ◌↔◌, IsTrue, All, length};
 ghost use Rattle.gix_hash_core.specs.Kind.{id_len};
 
 use crate::edges::{NO_PARENT, has_few_extra_words};

@@ -1,6 +1,6 @@
 //! The header, and the table of chunks.
 
-ghost use Rattle.std.specs.Prelude.{◌≡◌, ◌+◌, ◌*◌, ◌<◌, ◌≤◌, ◌^◌, ◌++◌, OnOk, IfOk, length};
+ghost use Rattle.std.specs.Prelude.{◌≡◌, ◌+◌, ◌<◌, ◌≤◌, ◌^◌, ◌++◌, OnOk, IfOk, length};
 ghost use Rattle.graph_vectors.specs.Chunks.{long_bytes, table_from};
 ghost use Rattle.graph_vectors.specs.Plan.{IsPlan};
 ghost use Rattle.graph_vectors.specs.Sizes.{AreSizes, optional_entry, first_offset_of};

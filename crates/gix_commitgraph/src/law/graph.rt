@@ -1,9 +1,8 @@
 //! Laws of graphs: their positions, their lookups, their refusals and their histories.
 
 ghost use Rattle.std.specs.Prelude.{◌≡◌, ◌<◌, ◌-◌, ℕ, List, All, Some, length, slice_get};
-ghost use Rattle.graph_format.specs.Layer.{Layer, record_at};
+ghost use Rattle.graph_format.specs.Layer.{Layer, record_at, IsOpened};
 ghost use Rattle.gix_commitgraph.specs.Graph.{graph_commits, total, start};
-ghost use Rattle.graph_format.specs.Layer.{IsOpened};
 ghost use Rattle.graph_format.specs.StoredHistory.{node_of, history_of};
 ghost use Rattle.gix_commitgraph.specs.GraphLaw.{LiesIn, LiesInOne, ComesFromLayer, AreCounted};
 ghost use Rattle.gix_commitgraph.specs.GraphLaw.{AreScanned, IsJudged};

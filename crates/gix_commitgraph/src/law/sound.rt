@@ -3,10 +3,9 @@
 //! generation number counts the commits of the longest walk along parents.
 
 ghost use Rattle.std.specs.Prelude.{◌≡◌, ◌<◌, ℕ, List, All, Option, None, Some, slice_get};
-ghost use Rattle.graph_format.specs.Layer.{Layer, record_at};
+ghost use Rattle.graph_format.specs.Layer.{Layer, record_at, IsOpened};
 ghost use Rattle.graph_format.specs.Parents.{parents_of};
 ghost use Rattle.gix_commitgraph.specs.Graph.{graph_commits, graph_ids, total};
-ghost use Rattle.graph_format.specs.Layer.{IsOpened};
 ghost use Rattle.gix_commitgraph.specs.GraphLookup.{FoundIn};
 ghost use Rattle.graph_walks.specs.History.{generations, parents_at};
 ghost use Rattle.graph_format.specs.StoredHistory.{history_of};

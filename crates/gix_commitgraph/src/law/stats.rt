@@ -3,8 +3,7 @@
 
 ghost use Rattle.std.specs.Prelude.{◌≡◌, List, All, sum};
 ghost use Rattle.std.specs.BTreeMap as tree;
-ghost use Rattle.graph_format.specs.Layer.{Layer};
-ghost use Rattle.graph_format.specs.Layer.{IsOpened};
+ghost use Rattle.graph_format.specs.Layer.{Layer, IsOpened};
 ghost use Rattle.gix_commitgraph.specs.Headline.{Stats};
 
 use crate::verify;

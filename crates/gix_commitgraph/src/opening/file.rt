@@ -6,7 +6,6 @@ ghost use Rattle.gix_commitgraph.specs.Graph.{IsGraph};
 ghost use Rattle.gix_commitgraph.specs.OpenAlways.{IsFromFile, IsFileError, IsErrorOfLayers};
 ghost use Rattle.graph_layer.specs.OpenAnswer.{IsAsExpected, failures_after_opening};
 ghost use Rattle.gix_commitgraph.specs.Opening.{graph_of_layers, file_opened};
-ghost use Rattle.gix_commitgraph.specs.Opening.{Opens};
 ghost use Rattle.graph_layer.specs.OpenRefusals.{OutOfMemoryStandsAlone};
 
 use crate::file::File;

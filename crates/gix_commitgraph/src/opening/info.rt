@@ -3,10 +3,9 @@
 ghost use Rattle.std.specs.Prelude.{◌≡◌, IfOk, IfErr, MatchResult};
 ghost use Rattle.std.specs.Option.{ForSome};
 ghost use Rattle.gix_commitgraph.specs.Graph.{IsGraph};
-ghost use Rattle.gix_commitgraph.specs.OpenAlways.{IsFromInfo};
-ghost use Rattle.gix_commitgraph.specs.OpenAlways.{IsFolderError};
+ghost use Rattle.gix_commitgraph.specs.OpenAlways.{IsFromInfo, IsFolderError};
 ghost use Rattle.graph_layer.specs.OpenAnswer.{is_settled};
-ghost use Rattle.gix_commitgraph.specs.Opening.{InfoOpens, Opens, MetFailureIfDevice};
+ghost use Rattle.gix_commitgraph.specs.Opening.{InfoOpens, MetFailureIfDevice};
 ghost use Rattle.graph_layer.specs.OpenRefusals.{OutOfMemoryStandsAlone};
 
 use crate::graph::Graph;

@@ -19,7 +19,6 @@ pub(super) struct ParentTally {
 
 impl Graph {
     ghost use Rattle.graph_layer.specs.Commit.{commit_pos};
-    ghost use Rattle.gix_commitgraph.specs.Graph.{start};
     ghost use Rattle.graph_walks.specs.History.{generation_at, parents_at};
     ghost use Rattle.graph_format.specs.StoredHistory.{history_of};
     ghost use Rattle.graph_format.specs.Points.{Agrees};

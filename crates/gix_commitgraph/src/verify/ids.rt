@@ -17,7 +17,6 @@ impl Graph {
     ghost use Rattle.graph_layer.specs.Commit.{commit_pos};
     ghost use Rattle.gix_commitgraph.specs.Graph.{graph_ids};
     ghost use Rattle.gix_commitgraph.specs.GraphLaw.{IsOrdered};
-    ghost use Rattle.gix_commitgraph.specs.GraphLookup.{position_number};
     ghost use Rattle.gix_commitgraph.specs.LayerSpans.{IsSpan, IsInSpan};
     ghost use Rattle.gix_commitgraph.specs.Verify.{duplicate_refusal, ids_refusal};
 

@@ -1,6 +1,6 @@
 //! The check of one layer of a graph.
 
-ghost use Rattle.std.specs.Prelude.{◌≡◌, ◌+◌, ◌<◌, All, length, take, IfOk, OnOk};
+ghost use Rattle.std.specs.Prelude.{◌≡◌, ◌<◌, All, length, take, OnOk};
 ghost use Rattle.std.specs.Result.{result_err};
 
 use crate::Position;

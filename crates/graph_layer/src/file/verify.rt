@@ -3,9 +3,7 @@
 mod lists;
 mod tally;
 
-ghost use Rattle.std.specs.Prelude.{◌≡◌, ◌≢◌, ◌==◌, ℕ, ◌+◌, ◌<◌, ◌^◌, [], length, take, nat_eq};
-ghost use Rattle.std.specs.Prelude.{if◌then◌else◌, unwrap_or, Some, IfOk, OnOk, MatchResult};
-ghost use Rattle.std.specs.HashMap.{get};
+ghost use Rattle.std.specs.Prelude.{◌≡◌, ◌≢◌, ◌<◌, ◌^◌, length, IfOk, MatchResult};
 ghost use Rattle.gix_hash_core.specs.Digest.{digest_of};
 
 use crate::file::verify::tally::Tally;
