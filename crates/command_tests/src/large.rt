@@ -66,10 +66,9 @@ fn listing(alloc: Global, bases: &[ObjectId], from: u32, to: u32) -> Result<Stri
         let (place, generation) = (commit.saturating_sub(from), commit.saturating_add(1));
         let (id, tree) = (id(commit), ObjectId::from([0xee; 20]));
         text.push_str(&format!(in alloc; "{place} {id} {tree} {generation} 7 ")?)?;
-        let mut before = "";
-        for parent in parents(alloc, commit)? {
-            text.push_str(&format!(in alloc; "{before}{parent}")?)?;
-            before = ",";
+        for (place, parent) in parents(alloc, commit)?.iter().enumerate() {
+            text.push_str(if place == 0 { "" } else { "," })?;
+            text.push_str(&format!(in alloc; "{parent}")?)?;
         }
         text.push_str(if commit == 0 { "-\n" } else { "\n" })?;
     }
