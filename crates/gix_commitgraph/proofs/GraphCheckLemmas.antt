@@ -11,7 +11,7 @@ use Rattle.graph_format.specs.Layer.{Layer}
 use Rattle.graph_layer.specs.Called.{CalledOn}
 use Rattle.gix_commitgraph.specs.InGraph.{InGraph}
 use Rattle.graph_format.specs.Points.{Point, Cause, StopsBy, Passes}
-use Rattle.gix_commitgraph.specs.Verify.{layer_points, points_with}
+use Rattle.gix_commitgraph.specs.Verify.{layer_points, layers_from, points_from}
 use Rattle.graph_layer.specs.declared.file.commit.Commit.{Commit}
 use Rattle.gix_commitgraph.specs.declared.verify.VerifyError.{VerifyError}
 use Rattle.gix_commitgraph.specs.declared.verify.VerifyOptions.{VerifyOptions}
@@ -19,11 +19,7 @@ use Rattle.gix_commitgraph.specs.declared.verify.VerifyError.TheVariants as erro
 use Rattle.graph_format.proofs.PointLemmas.{Reaches, reached_start, reached_past_check, passed, reached_past_part, stops_in_part}
 use Rattle.graph_layer.proofs.ElementLemmas.{drop-next}
 
--- the points of the layers from layer i on
-abbrev pub layers_from : {E : Type 0} → VerifyOptions → List Layer → ℕ → List (Point (VerifyError E))
-layers_from options layers i = flat_map (λ e. layer_points options layers e.0 e.1) (enumerate_from i (drop i layers))
-
-layers_from-next : {E : Type 0} (options : VerifyOptions) (layers : List Layer) (i : ℕ) (layer : Layer)
+pub layers_from-next : {E : Type 0} (options : VerifyOptions) (layers : List Layer) (i : ℕ) (layer : Layer)
     → slice_get layers i ≡ Some layer
     → layers_from {E = E} options layers i ≡ layer_points options layers i layer ++ layers_from options layers (i + 1)
 layers_from-next {E} options layers i layer there =
@@ -38,29 +34,29 @@ layers_from-end {E} options layers i past =
     λ rest. flat_map (λ e. layer_points options layers e.0 e.1) (enumerate_from i rest) in
     ap from (drop_all i layers past)
 
--- A graph, layer by layer.
+-- A graph, layer by layer, from one on.
 module _ {F E : Type 0} (processor : Mut F (Bor Commit × Unit {0}) (Result (Unit {0}) E)) (options : VerifyOptions)
-    (layers : List Layer) (f : F) where
+    (layers : List Layer) (first : ℕ) (f : F) where
   -- The check has come to layer i.
   abbrev pub ReachesLayer : ℕ → F → Type 0
   ReachesLayer i g =
-      Reaches (CalledOn processor (InGraph layers)) (points_with {E = E} options layers) f (layers_from options layers i) g
+      Reaches (CalledOn processor (InGraph layers)) (points_from {E = E} options layers first) f (layers_from options layers i) g
 
-  pub reached_layers : length layers ≤ 256 → ReachesLayer 0 f
+  pub reached_layers : length layers ≤ 256 → ReachesLayer first f
   reached_layers few =
       let test : nat_lt 256 (length layers) ≡ false = le-ltb _ _ few in
-      reached_past_check (CalledOn processor (InGraph layers)) (points_with {E = E} options layers) f
-      (error.TooManyFiles when nat_lt 256 (length layers)) (layers_from options layers 0) f (rw test refl)
+      reached_past_check (CalledOn processor (InGraph layers)) (points_from {E = E} options layers first) f
+      (error.TooManyFiles when nat_lt 256 (length layers)) (layers_from options layers first) f (rw test refl)
       (reached_start _ _ f)
 
   module _ (i : ℕ) (layer : Layer) (there : slice_get layers i ≡ Some layer) (g h : F) (reached : ReachesLayer i g) where
-    at_layer : Reaches (CalledOn processor (InGraph layers)) (points_with {E = E} options layers) f
+    at_layer : Reaches (CalledOn processor (InGraph layers)) (points_from {E = E} options layers first) f
         (layer_points options layers i layer ++ layers_from options layers (i + 1)) g
     at_layer = rw (layers_from-next options layers i layer there) at reached
 
     pub stops_in_layer : (s : Cause (VerifyError E) E)
         → StopsBy (CalledOn processor (InGraph layers)) (layer_points options layers i layer) g h s
-        → StopsBy (CalledOn processor (InGraph layers)) (points_with {E = E} options layers) f h s
+        → StopsBy (CalledOn processor (InGraph layers)) (points_from {E = E} options layers first) f h s
     stops_in_layer s r =
         stops_in_part _ _ f (layer_points options layers i layer) (layers_from options layers (i + 1)) g h at_layer s r
 
@@ -71,8 +67,8 @@ module _ {F E : Type 0} (processor : Mut F (Bor Commit × Unit {0}) (Result (Uni
 
   -- behind the last layer the graph is passed
   pub graph_passed : (i : ℕ) (g : F) → length layers ≤ i → ReachesLayer i g
-      → Passes (CalledOn processor (InGraph layers)) (points_with {E = E} options layers) f g
+      → Passes (CalledOn processor (InGraph layers)) (points_from {E = E} options layers first) f g
   graph_passed i g past reached =
       let P : List (Point (VerifyError E)) → Type 0 =
-      λ rest. Reaches (CalledOn processor (InGraph layers)) (points_with {E = E} options layers) f rest g in
+      λ rest. Reaches (CalledOn processor (InGraph layers)) (points_from {E = E} options layers first) f rest g in
       passed _ _ f g (subst P (layers_from-end options layers i past) reached)

@@ -55,7 +55,7 @@ unfolding start
 start-cons layer layers i = sum_by-cons size layer (take i layers)
 
 -- what stands in the first list, and past it in the second
-get-front : {X : Type 0} (xs ys : List X) (i : ℕ) → i < length xs → slice_get (xs ++ ys) i ≡ slice_get xs i
+pub get-front : {X : Type 0} (xs ys : List X) (i : ℕ) → i < length xs → slice_get (xs ++ ys) i ≡ slice_get xs i
 get-front [] ys i h = absurd (omega (arith, h))
 get-front (x ∷ xs) ys zero h = refl
 get-front (x ∷ xs) ys (suc i) h = get-front xs ys i (omega (arith, h))

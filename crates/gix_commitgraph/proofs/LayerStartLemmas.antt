@@ -1,16 +1,19 @@
 -- laws of the starts of the layers of a graph, and of a search that halves them
-use Rattle.std.proofs.Common.{◌≡◌, ℕ, ◌+◌, ◌-◌, ◌/◌, ◌<◌, ◌≤◌, List, [], ◌∷◌, ◌++◌, length, slice_get, slice_index, get_or, Some}
+use Rattle.std.proofs.Common.{◌≡◌, ℕ, ◌+◌, ◌-◌, ◌/◌, ◌<◌, ◌≤◌, List, [], ◌∷◌, ◌++◌, length, take, slice_get, slice_index, get_or, Some}
 use Rattle.std.proofs.Common.{refl, sym, ap, ◌∙◌, arith, ⊎_elim}
 use Rattle.std.proofs.lemmas.Bool.{cases_lt}
-use Rattle.std.proofs.lemmas.List.{get_or_read, get_or_append_left, get_or_push, length_push}
+use Rattle.std.proofs.lemmas.List.{get_or_read, get_or_append_left, get_or_push, get_or-take, length_push, length-take-le}
+use Rattle.std.proofs.lemmas.List.{take-append-le, take-take}
+use Rattle.std.proofs.lemmas.List.Elements.{All-take}
 use Rattle.std.proofs.lemmas.Option.{slice_get_read}
 use Rattle.graph_format.specs.Layer.{Layer}
 use Rattle.graph_format.specs.Lookup.{digits}
 use Rattle.graph_format.proofs.DigitLemmas.{digits-half, digits-enough, digits-needed}
-use Rattle.gix_commitgraph.specs.Graph.{graph_ids, graph_commits, start, stop, total}
+use Rattle.graph_format.specs.Layer.{IsOpened}
+use Rattle.gix_commitgraph.specs.Graph.{graph_ids, graph_commits, start, stop, total, IsGraph}
 use Rattle.gix_commitgraph.specs.GraphLaw.{LiesIn}
 use Rattle.gix_commitgraph.proofs.GraphLemmas.{place-in}
-use Rattle.gix_commitgraph.proofs.LayerListLemmas.{size, start-more, start-all}
+use Rattle.gix_commitgraph.proofs.LayerListLemmas.{size, start-more, start-all, start-fits}
 use Rattle.gix_commitgraph.specs.LayerStarts.{AreStarts, IsGraphWithStarts}
 
 -- a lesser number has no more digits
@@ -90,4 +93,52 @@ place-kept layers files starts pos i first layer view kept within read_start rea
       commit = rw is_first place.commit;
       id = rw is_first place.id;
       within = omega (arith, is_first, from, below, start-more layers i layer here);
+    }
+
+-- a layer that is put on top
+start-front : (layers rest : List Layer) (i : ℕ) → i ≤ length layers → start (layers ++ rest) i ≡ start layers i
+unfolding start
+start-front layers rest i h = ap total (take-append-le i layers rest h)
+
+pub starts-pushed : (layers : List Layer) (starts : List ℕ) (layer : Layer) (first : ℕ) → AreStarts layers starts
+    → first ≡ total layers → AreStarts (layers ++ layer ∷ []) (starts ++ first ∷ [])
+starts-pushed layers starts layer first kept is_first =
+    let all = layers ++ layer ∷ [] in
+    let upto : StartsUpTo all (length layers) starts = record {
+      counted = kept.one_each;
+      each = λ i h. kept.each i (omega (arith, kept.one_each)) ∙ sym (start-front layers (layer ∷ []) i (omega arith));
+    } in
+    let next : first ≡ start all (length layers) =
+    is_first ∙ sym (start-all layers (length layers) (omega arith)) ∙ sym (start-front layers (layer ∷ []) (length layers) (omega arith)) in
+    starts-all all (length layers + 1) _ (starts-more all (length layers) first starts _ upto next refl)
+    (sym (length_push layers layer))
+
+-- the highest layer is taken off
+graph-taken : (layers : List Layer) (n : ℕ) → IsGraph layers → n ≤ length layers → 0 < n → IsGraph (take n layers)
+unfolding start
+graph-taken layers n graph fits some = record {
+  makes = record {
+    some = omega (arith, length-take-le n layers fits);
+    few = omega (arith, start-fits layers n, graph.makes.few);
+    alike = λ i j d before within.
+        let below : j < n = omega (arith, length-take-le n layers fits) in
+        rw (get_or-take n layers i d (omega arith), get_or-take n layers j d below)
+        (graph.makes.alike i j d before (omega arith));
+  };
+  opened = All-take IsOpened n layers graph.opened;
+}
+
+pub kept-taken : (layers : List Layer) (starts : List ℕ) (n : ℕ) → IsGraphWithStarts layers starts → n ≤ length layers → 0 < n
+    → IsGraphWithStarts (take n layers) (take n starts)
+unfolding start
+kept-taken layers starts n kept fits some =
+    let long : n ≤ length starts = omega (arith, kept.counted.one_each) in
+    record {
+      graph = graph-taken layers n kept.graph fits some;
+      counted = record {
+        one_each = length-take-le n starts long ∙ sym (length-take-le n layers fits);
+        each = λ i h.
+            let below : i < n = omega (arith, length-take-le n starts long) in
+            get_or-take n starts i 0 below ∙ kept.counted.each i (omega arith) ∙ ap total (sym (take-take i n layers (omega arith)));
+      };
     }

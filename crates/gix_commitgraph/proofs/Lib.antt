@@ -28,3 +28,5 @@ pub mod LayerStartLemmas
 pub mod DuplicateLemmas
 pub mod DistinctLemmas
 pub mod DuplicateNameLemmas
+pub mod OutcomeLemmas
+pub mod RightBelowLemmas

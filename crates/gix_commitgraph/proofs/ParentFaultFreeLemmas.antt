@@ -96,7 +96,7 @@ module _ {E : Type 0} where
         subst (AreKnownAt layers i layer) (record_at-get_or layer k ∙ get_or_default layer.records k no_record d within)
         ((parents-at layers i layer k).0 (h k (omega arith)))
 
-  generation-at : (history : List Node) (p : ℕ) → (generation_refusal {E = E} history p ≡ None)
+  pub generation-at : (history : List Node) (p : ℕ) → (generation_refusal {E = E} history p ≡ None)
       ↔ (generation_at history p ≡ expected_generation history p)
   generation-at history p = (
     λ h. eqb-true _ _ (not-false _ (when-none _ _ h)),

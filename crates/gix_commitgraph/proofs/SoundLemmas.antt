@@ -16,7 +16,7 @@ use Rattle.graph_walks.specs.History.{generations}
 use Rattle.graph_format.specs.StoredHistory.{history_of}
 use Rattle.graph_walks.specs.Walks.{MatchesLongestWalk}
 use Rattle.graph_format.specs.Faults.{layer_fault, commit_fault, id_at}
-use Rattle.graph_format.specs.Points.{first_fault, Passes, IsRefused}
+use Rattle.graph_format.specs.Points.{Point, first_fault, Passes, IsRefused}
 use Rattle.graph_walks.specs.Generations.{longest_path}
 use Rattle.gix_commitgraph.specs.Verify.{base_ids_refusal, duplicate_refusal, parents_refusal, generation_refusal, commit_points}
 use Rattle.gix_commitgraph.specs.Verify.{layer_points, points_with, graph_points, Summarizes}
@@ -47,19 +47,22 @@ paired-at layers i layer paired here =
 ordered-right : (layer : Layer) → IsRightLayer layer → IsOrdered layer
 ordered-right layer right = (right.ascending, right.fan)
 
+pub ordered-all : (layers : List Layer) → Sound layers → All IsOrdered layers
+ordered-all layers sound = All-weaker IsRightLayer IsOrdered ordered-right layers sound.rules.each
+
 -- No condition on a commit fails.
-record IsPassedCommit (E : Type 0) (options : VerifyOptions) (layers : List Layer) (i : ℕ) (layer : Layer) (pos : ℕ)
+pub record IsPassedCommit (E : Type 0) (options : VerifyOptions) (layers : List Layer) (i : ℕ) (layer : Layer) (pos : ℕ)
     : Type 0 where
-  ids : commit_fault layer pos ≡ None
-  asked : (if options.distinct_ids then duplicate_refusal {E = E} layers i layer pos else None) ≡ None
-  parents : parents_refusal {E = E} layers i layer pos ≡ None
-  generation : generation_refusal {E = E} (history_of layers) (start layers i + pos) ≡ None
+  pub ids : commit_fault layer pos ≡ None
+  pub asked : (if options.distinct_ids then duplicate_refusal {E = E} layers i layer pos else None) ≡ None
+  pub parents : parents_refusal {E = E} layers i layer pos ≡ None
+  pub generation : generation_refusal {E = E} (history_of layers) (start layers i + pos) ≡ None
 
 -- No condition on a layer fails.
-record IsPassedLayer (E : Type 0) (options : VerifyOptions) (layers : List Layer) (i : ℕ) (layer : Layer) : Type 0 where
-  bases : base_ids_refusal {E = E} layers i layer ≡ None
-  whole : layer_fault layer ≡ None
-  commits : (pos : ℕ) → pos < length layer.ids → IsPassedCommit E options layers i layer pos
+pub record IsPassedLayer (E : Type 0) (options : VerifyOptions) (layers : List Layer) (i : ℕ) (layer : Layer) : Type 0 where
+  pub bases : base_ids_refusal {E = E} layers i layer ≡ None
+  pub whole : layer_fault layer ≡ None
+  pub commits : (pos : ℕ) → pos < length layer.ids → IsPassedCommit E options layers i layer pos
 
 -- no condition on a layer of a graph fails
 abbrev ArePassed : Type 0 → VerifyOptions → List Layer → Type 0
@@ -82,7 +85,7 @@ module _ {E : Type 0} where
         ),
   )
 
-  layer_points-iff : (options : VerifyOptions) (layers : List Layer) (i : ℕ) (layer : Layer)
+  pub layer_points-iff : (options : VerifyOptions) (layers : List Layer) (i : ℕ) (layer : Layer)
       → (first_fault (layer_points {E = E} options layers i layer) ≡ None) ↔ IsPassedLayer E options layers i layer
   layer_points-iff options layers i layer =
       let each = range-none (commit_points {E = E} options layers i layer) (length layer.ids) in (
@@ -162,7 +165,7 @@ module _ {E : Type 0} where
       (distinct-none layers i pos layer (distinct refl) here within)
   asked-none false layers i pos layer distinct here within = refl
 
-  passed-from_sound : (options : VerifyOptions) (layers : List Layer) → All IsPaired layers → IsSoundWith options layers
+  pub passed-from_sound : (options : VerifyOptions) (layers : List Layer) → All IsPaired layers → IsSoundWith options layers
       → ArePassed E options layers
   passed-from_sound options layers paired right_graph i layer here =
       let sound = right_graph.sound in
@@ -236,17 +239,20 @@ module _ {E : Type 0} where
       ordered-right layer (right-from_passed options layers i layer (paired-at layers i layer (all-paired layers opened) here)
       ((layer_points-iff options layers i layer).0 none))
 
--- What a check of a graph says of it, with a processor and its states before and after the check.
+-- What a check of a graph says of it, with a processor and its states before and after the check. The points that it goes over
+-- may be some of all, where the others have no fault.
 module _ {F E : Type 0} (step : F → ℕ → Result (Unit {0}) E → F → Type 0) (options : VerifyOptions) (layers : List Layer)
+    (points : List (Point (VerifyError E))) (whole : first_fault points ≡ first_fault (points_with {E = E} options layers))
     (f g : F) where
   -- only a right graph passes
-  pub sound-from_passes : All IsOpened layers → Passes step (points_with {E = E} options layers) f g → IsSoundWith options layers
-  sound-from_passes opened passes = sound_with-from_none options layers opened passes.no_fault
+  pub sound-from_passes : All IsOpened layers → Passes step points f g → IsSoundWith options layers
+  sound-from_passes opened passes = sound_with-from_none {E = E} options layers opened (sym whole ∙ passes.no_fault)
 
   -- and a right graph is never refused
   pub sound-not_refused : All IsOpened layers → IsSoundWith options layers → (x : VerifyError E)
-      → IsRefused step (points_with {E = E} options layers) f g x → ⊥
-  sound-not_refused opened sound x refused = none-some x (sym (none-from_sound_with options layers opened sound) ∙ refused.fault)
+      → IsRefused step points f g x → ⊥
+  sound-not_refused opened sound x refused =
+      none-some x (sym (none-from_sound_with options layers opened sound) ∙ sym whole ∙ refused.fault)
 
 -- a lookup in a right graph is a plain scan
 pub sound-scanned : (layers : List Layer) (id : List ℕ) (answer : Option ℕ) → Sound layers → FoundIn layers id answer

@@ -1,6 +1,6 @@
 -- what the check of a graph looks for, in its order, and what it answers
 use Rattle.std.specs.Prelude.{◌≡◌, ◌==◌, ◌+◌, ◌∷◌, [], ℕ, List, false, not, if◌then◌else◌, nat_lt, bytes_eq, slice_get, unwrap_or}
-use Rattle.std.specs.Prelude.{length, map, take, Option, Some, None, option_map, Result, Ok, Err}
+use Rattle.std.specs.Prelude.{length, map, take, drop, Option, Some, None, option_map, Result, Ok, Err}
 use Rattle.std.specs.BTreeMap.{get, IsUnchanged}
 use Rattle.std.specs.List.{flat_map, range_with_len, enumerate_from}
 use Rattle.std.specs.Ordering.{nat_cmp}
@@ -87,11 +87,17 @@ module _ {E : Type 0} where
       ∷ check (option_map (error.Layer i) (layer_fault layer))
       ∷ flat_map (commit_points options layers i layer) (range_with_len 0 (length layer.ids))
 
+  -- the layers from layer i on
+  abbrev pub layers_from : VerifyOptions → List Layer → ℕ → List (Point (VerifyError E))
+  layers_from options layers i = flat_map (λ e. layer_points options layers e.0 e.1) (enumerate_from i (drop i layers))
+
+  -- the number of layers, and then each from layer i on
+  abbrev pub points_from : VerifyOptions → List Layer → ℕ → List (Point (VerifyError E))
+  points_from options layers i = check (error.TooManyFiles when nat_lt 256 (length layers)) ∷ layers_from options layers i
+
   -- the number of layers, and then each layer
   abbrev pub points_with : VerifyOptions → List Layer → List (Point (VerifyError E))
-  points_with options layers =
-      check (error.TooManyFiles when nat_lt 256 (length layers))
-      ∷ flat_map (λ e. layer_points options layers e.0 e.1) (enumerate_from 0 layers)
+  points_with options layers = points_from options layers 0
 
   -- where nothing is asked for besides
   abbrev pub graph_points : List Layer → List (Point (VerifyError E))

@@ -47,7 +47,8 @@ impl Graph {
 
     /// The layers, from the lowest on.
     pub fn layers(&self) -> &[File]
-        ensures { result.now ≡ self.now }
+        ensures same { result.now ≡ self.now }
+        ensures graph { IsGraph self.now }
     {
         self.files.as_slice()
     }

@@ -1,9 +1,10 @@
 //! Building a graph from its layers.
 
-ghost use Rattle.std.specs.Prelude.{◌≡◌, ◌<◌, ◌≤◌, ◌⊎◌, All, length, Some, None, IfOk, MatchResult};
+ghost use Rattle.std.specs.Prelude.{◌≡◌, ◌<◌, ◌≤◌, ◌⊎◌, ◌∷◌, ◌++◌, [], All, length, Some, None};
+ghost use Rattle.std.specs.Prelude.{IfOk, MatchOption, MatchResult, OnErr, OnOk};
 ghost use Rattle.graph_format.specs.Reports.{Reports};
 ghost use Rattle.graph_format.specs.Layer.{IsOpened};
-ghost use Rattle.gix_commitgraph.specs.Graph.{total};
+ghost use Rattle.gix_commitgraph.specs.Graph.{IsGraph, total};
 ghost use Rattle.gix_commitgraph.specs.GraphRefusal.{mismatch_refusal, graph_refusal};
 ghost use Rattle.gix_commitgraph.specs.LayerStarts.{AreStarts};
 ghost use Rattle.graph_format.specs.declared.TheConstants as limits;
@@ -38,6 +39,48 @@ impl Graph {
             return Err(GraphError::OutOfMemory);
         };
         Ok(Graph { files, starts })
+    }
+
+    /// Puts a file on top of the layers, as one more of them. As with [`Graph::new`], that it names
+    /// those before it as its base layers is not checked here.
+    ///
+    /// # Errors
+    ///
+    /// Those of [`Graph::new`] for the files of the layers and this one, or `OutOfMemory` where an
+    /// allocation failed. The file is then dropped, and the graph is as it was.
+    pub fn push(&mut self, file: File) -> Result<(), GraphError>
+        ensures pushed { OnOk result (self.new ≡ self.old ++ file ∷ []) }
+        ensures kept { OnErr result (self.new ≡ self.old) }
+        ensures graph { IsGraph self.new }
+        ensures refusal { MatchResult result
+            (λ _. graph_refusal (self.old ++ file ∷ []) ≡ None)
+            (λ e. (graph_refusal (self.old ++ file ∷ []) ≡ Some e) ⊎ (e ≡ GraphError.OutOfMemory)) }
+    {
+        let start = self.num_commits();
+        if self.files.push(file).is_err() {
+            return Err(GraphError::OutOfMemory);
+        }
+        if let Err(error) = check(&self.files) {
+            self.files.pop();
+            return Err(error);
+        }
+        if self.starts.push(start).is_err() {
+            self.files.pop();
+            return Err(GraphError::OutOfMemory);
+        }
+        Ok(())
+    }
+
+    /// Takes the highest layer off, unless it is the only one.
+    pub fn pop(&mut self) -> Option<File>
+        ensures { MatchOption result ((self.new ≡ self.old) × (length self.old ≡ 1))
+            (λ file. self.old ≡ self.new ++ file ∷ []) }
+    {
+        if self.files.len() == 1 {
+            return None;
+        }
+        self.starts.pop();
+        self.files.pop()
     }
 }
 

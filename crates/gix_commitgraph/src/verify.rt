@@ -7,7 +7,7 @@ mod layer;
 mod lists;
 mod tally;
 
-ghost use Rattle.std.specs.Prelude.{IfOk, IsTrue, MatchResult};
+ghost use Rattle.std.specs.Prelude.{◌≤◌, All, IfOk, IsTrue, MatchResult, length, take};
 
 use crate::Position;
 use crate::file::Commit;
@@ -116,7 +116,10 @@ impl Graph {
     ghost use Rattle.graph_layer.specs.Called.{MayBeCalled, CalledOn};
     ghost use Rattle.gix_commitgraph.specs.InGraph.{InGraph};
     ghost use Rattle.graph_format.specs.StoredHistory.{history_of};
-    ghost use Rattle.gix_commitgraph.specs.Verify.{graph_points, points_with, cause_of, Summarizes};
+    ghost use Rattle.gix_commitgraph.specs.Verify.{graph_points, points_from, points_with, cause_of};
+    ghost use Rattle.gix_commitgraph.specs.Verify.{Summarizes};
+    ghost use Rattle.gix_commitgraph.specs.GraphLaw.{IsOrdered};
+    ghost use Rattle.gix_commitgraph.specs.Tallies.{Tallies};
     ghost use Rattle.gix_commitgraph.specs.Distinct.{IsSoundWith, IsDeservedWith, LookupsAreExact};
     ghost use Rattle.gix_commitgraph.specs.Graph.{IsGraph};
     ghost use Rattle.gix_commitgraph.specs.Sound.{Sound};
@@ -179,7 +182,7 @@ impl Graph {
         let plain = VerifyOptions {
             distinct_ids: false,
         };
-        self.verify_layers(alloc, plain, processor)
+        self.verify_layers(alloc, plain, 0, Tally::new(alloc), processor)
     }
 
     /// Checks the graph as [`Graph::verify_integrity`] does, and for what the options ask besides.
@@ -220,30 +223,78 @@ impl Graph {
         ensures distinct { IfOk result (λ _.
             IsTrue options.distinct_ids → LookupsAreExact self.now) }
     {
-        self.verify_layers(alloc, options, processor)
+        self.verify_layers(alloc, options, 0, Tally::new(alloc), processor)
     }
 
-    /// Checks the layers, from the lowest on. What its answer says of the graph as a whole is left
-    /// to its callers.
-    fn verify_layers<'a, F, E>(
+    /// Goes on with a check where the layers below one were checked with the same options, and
+    /// `below` is the answer: it checks that layer and those above it. What it answers is what
+    /// [`Graph::verify_integrity_with`] would answer of the whole graph, without the calls on the
+    /// commits below.
+    ///
+    /// # Errors
+    ///
+    /// Those of [`Graph::verify_integrity_with`], in the same order.
+    pub fn verify_integrity_from<'a, F, E>(
         &'a self,
         alloc: Global,
         options: VerifyOptions,
+        layer: usize,
+        below: &Outcome,
         processor: &mut F,
     ) -> Result<Outcome, VerifyError<E>>
     where
         F: FnMut(&Commit<'a>) -> Result<(), E>,
-        requires { MayBeCalled F.FnMut (InGraph self.now) }
-        ensures agrees { Agrees (CalledOn F.FnMut (InGraph self.now)) (points_with options self.now)
-            processor.old processor.new cause_of result }
+        requires callable { MayBeCalled F.FnMut (InGraph self.now) }
+        requires layer { layer ≤ length self.now }
+        requires sound { IsSoundWith options (take layer self.now) }
+        requires below { Summarizes (history_of (take layer self.now)) below.now }
+
+        // It is `Ok` exactly where no check fails and the processor accepts each commit from the
+        // layer on, once and in order; else it names the first check that fails, or hands back the
+        // processor's error. That check is the first of all that fails, as the law
+        // `the_first_fault_stands_above_right_layers` says.
+        ensures agrees { Agrees (CalledOn F.FnMut (InGraph self.now))
+            (points_from options self.now layer) processor.old processor.new cause_of result }
+        ensures outcome { IfOk result (Summarizes (history_of self.now)) }
+
+        // A graph that passes keeps all that is asked, and one that keeps it is refused only by the
+        // processor or because an allocation failed.
+        ensures sound { MatchResult result (λ _. IsSoundWith options self.now)
+            (IsDeservedWith options self.now) }
+
+        // In a graph that passes, the statistics are exact.
+        ensures statistics { IfOk result (Stats self.now) }
+    {
+        let tally = Tally::from_outcome(below)?;
+        self.verify_layers(alloc, options, layer, tally, processor)
+    }
+
+    /// Checks the layers from one on, whose tally is that of the layers below it. What its answer
+    /// says of the graph as a whole is left to its callers.
+    fn verify_layers<'a, F, E>(
+        &'a self,
+        alloc: Global,
+        options: VerifyOptions,
+        first: usize,
+        tally: Tally,
+        processor: &mut F,
+    ) -> Result<Outcome, VerifyError<E>>
+    where
+        F: FnMut(&Commit<'a>) -> Result<(), E>,
+        requires callable { MayBeCalled F.FnMut (InGraph self.now) }
+        requires first { first ≤ length self.now }
+        requires ordered { All IsOrdered (take first self.now) }
+        requires tally { Tallies (history_of (take first self.now)) tally }
+        ensures agrees { Agrees (CalledOn F.FnMut (InGraph self.now))
+            (points_from options self.now first) processor.old processor.new cause_of result }
         ensures outcome { IfOk result (Summarizes (history_of self.now)) }
         ensures graph { IsGraph self.now }
     {
         if self.files.len() > MOST_LAYERS {
             return Err(VerifyError::TooManyFiles);
         }
-        let mut tally = Tally::new(alloc);
-        for layer in 0..self.files.len() {
+        let mut tally = tally;
+        for layer in first..self.files.len() {
             let span = self.span_at(layer);
             self.verify_layer(options, span, alloc, &mut tally, processor)?;
         }

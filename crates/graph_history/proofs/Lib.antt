@@ -11,3 +11,4 @@ pub mod VisitLemmas
 pub mod QueryLemmas
 pub mod KnownAnswerLemmas
 pub mod DescentLemmas
+pub mod PushLemmas

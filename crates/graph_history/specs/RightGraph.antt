@@ -2,11 +2,13 @@
 use Rattle.std.specs.Prelude.{ℕ, List, [], ◌∷◌, Option, Result, Ok, Err, option_map, slice_get}
 use Rattle.graph_format.specs.Format.{Record}
 use Rattle.graph_format.specs.Layer.{Layer, record_at}
+use Rattle.graph_format.specs.StoredHistory.{history_of}
 use Rattle.graph_format.specs.declared.Position.{Position}
 use Rattle.graph_format.specs.declared.parents.ParentError.{ParentError}
 use Rattle.gix_commitgraph.specs.Distinct.{IsSoundWith}
 use Rattle.gix_commitgraph.specs.Graph.{graph_commits}
 use Rattle.gix_commitgraph.specs.Headline.{Stats}
+use Rattle.gix_commitgraph.specs.Verify.{Summarizes}
 use Rattle.gix_commitgraph.specs.declared.verify.Outcome.{Outcome}
 use Rattle.gix_commitgraph.specs.declared.verify.VerifyOptions.{VerifyOptions}
 
@@ -14,6 +16,7 @@ use Rattle.gix_commitgraph.specs.declared.verify.VerifyOptions.{VerifyOptions}
 pub record IsRight (options : VerifyOptions) (layers : List Layer) (outcome : Outcome) : Type 0 where
   pub sound : IsSoundWith options layers
   pub stats : Stats layers outcome
+  pub summary : Summarizes (history_of layers) outcome
 
 -- the record of the commit at a position ("Commit Data")
 abbrev pub record_in : List Layer → ℕ → Option Record

@@ -24,7 +24,7 @@ mod words;
 
 pub use checked::{Checked, NoFault};
 use gix_commitgraph::Position;
-pub use owned::CheckedGraph;
+pub use owned::{CheckedGraph, PushError};
 pub use parents::ParentPositions;
 pub use searcher::Searcher;
 

@@ -1,17 +1,30 @@
 //! A graph that was checked and is right, with the graph itself.
 
-ghost use Rattle.std.specs.Prelude.{◌≡◌, IfErr, IfOk};
+ghost use Rattle.std.specs.Prelude.{◌≡◌, ◌∷◌, ◌++◌, [], IfErr, IfOk, OnErr, OnOk};
 ghost use Rattle.gix_commitgraph.specs.Distinct.{IsSoundWith};
 ghost use Rattle.gix_commitgraph.specs.Sound.{Sound};
-ghost use Rattle.graph_history.specs.Checked.{MayRefuseGraph, MayRefuseWith};
+ghost use Rattle.graph_history.specs.Checked.{MayRefuseGraph, MayRefusePush, MayRefuseWith};
 
 use crate::checked::{Checked, NoFault, PLAIN};
-use gix_commitgraph::Graph;
+use gix_commitgraph::{File, Graph, GraphError};
 use gix_commitgraph::file::Commit;
+use gix_commitgraph::law::check::the_first_fault_stands_above_right_layers;
 use gix_commitgraph::verify::{Outcome, VerifyError, VerifyOptions};
 use std::alloc::Global;
 use std::borrow::Cow;
 use std::marker::Model;
+use thiserror::Error;
+
+/// Why a file is not put on top of a checked graph.
+#[derive(Debug, Drop, PartialEq, Eq, Error)]
+pub enum PushError {
+    /// The layers and the file make no graph.
+    #[error("Graph")]
+    Graph(GraphError),
+    /// The layers and the file make a graph that is not right.
+    #[error("Check")]
+    Check(VerifyError<NoFault>),
+}
 
 /// A graph that was checked and is right, with its statistics. It owns the graph, and lends it as a
 /// [`Checked`], which answers what is asked of it. A contract sees it as the list of the graph's
@@ -85,6 +98,45 @@ impl CheckedGraph {
             graph: &self.graph,
             options: self.options,
             outcome: Cow::Borrowed(&self.outcome),
+        }
+    }
+
+    /// Puts a file on top of the layers and checks it, at the cost of that file alone: what stands
+    /// below was checked. After an `Ok` the graph is as if all of it had been checked with the same
+    /// options, statistics included.
+    ///
+    /// # Errors
+    ///
+    /// Those of [`Graph::new`] for the files of the layers and this one, and then those of a check
+    /// of all of them with the options of the graph's check: the first check of all that fails. The
+    /// file is then dropped, and the graph is as it was.
+    pub fn push(&mut self, alloc: Global, file: File) -> Result<(), PushError>
+        ensures pushed { OnOk result (self.new ≡ self.old ++ file ∷ []) }
+        ensures kept { OnErr result (self.new ≡ self.old) }
+        ensures right { Sound self.new }
+        ensures refusal { IfErr result (MayRefusePush self.old (self.old ++ file ∷ [])) }
+    {
+        let layer = self.graph.layers().len();
+        if let Err(error) = self.graph.push(file) {
+            return Err(PushError::Graph(error));
+        }
+        let checked = self.graph.verify_integrity_from(
+            alloc,
+            self.options,
+            layer,
+            &self.outcome,
+            &mut |_: &Commit<'_>| Ok(()),
+        );
+        the_first_fault_stands_above_right_layers::<NoFault>();
+        match checked {
+            Ok(outcome) => {
+                self.outcome = outcome;
+                Ok(())
+            }
+            Err(error) => {
+                self.graph.pop();
+                Err(PushError::Check(error))
+            }
         }
     }
 

@@ -1,7 +1,7 @@
 //! How many commits have each number of parents.
 
-ghost use Rattle.std.specs.Prelude.{◌≡◌, ◌==◌, ℕ, ◌+◌, ◌<◌, ◌^◌, Some, None, OnOk, IfOk, unwrap_or};
-ghost use Rattle.std.specs.Prelude.{if◌then◌else◌};
+ghost use Rattle.std.specs.Prelude.{◌≡◌, ◌≢◌, ◌==◌, ℕ, ◌+◌, ◌<◌, ◌^◌, Some, None, OnOk, IfOk};
+ghost use Rattle.std.specs.Prelude.{if◌then◌else◌, unwrap_or};
 ghost use Rattle.std.specs.Ordering.{nat_cmp};
 ghost use Rattle.std.specs.BTreeMap.{get};
 
@@ -28,6 +28,21 @@ impl ParentCounts {
         ParentCounts {
             few: [0; 3],
             more: BTreeMap::new(alloc),
+        }
+    }
+
+    /// The counts that a map has, none of which is 0.
+    pub fn from_map(map: BTreeMap<u32, u32>) -> ParentCounts
+        requires { (k : ℕ) → get nat_cmp map k ≢ Some 0 }
+        ensures { (k : ℕ) → counted result k ≡ get nat_cmp map k }
+    {
+        let mut more = map;
+        let none = more.remove(&0).unwrap_or(0);
+        let one = more.remove(&1).unwrap_or(0);
+        let two = more.remove(&2).unwrap_or(0);
+        ParentCounts {
+            few: [none, one, two],
+            more,
         }
     }
 

@@ -18,7 +18,7 @@ pub(super) struct Tally {
 impl Tally {
     ghost use Rattle.graph_walks.specs.History.{Node};
     ghost use Rattle.gix_commitgraph.specs.Verify.{Summarizes};
-    ghost use Rattle.gix_commitgraph.specs.Tallies.{Tallies};
+    ghost use Rattle.gix_commitgraph.specs.Tallies.{AreNumbered, Tallies};
 
     /// The statistics of no commits.
     pub(super) fn new(alloc: Global) -> Tally
@@ -29,6 +29,24 @@ impl Tally {
             num_commits: 0,
             parent_counts: ParentCounts::new(alloc),
         }
+    }
+
+    /// The statistics of the commits that have this outcome.
+    pub(super) fn from_outcome(outcome: &Outcome) -> Result<Tally, AllocError>
+        requires { (seen : List Node) × Summarizes seen outcome.now }
+        ensures { IfOk result (λ tally. (seen : List Node) → AreNumbered seen
+            → Summarizes seen outcome.now → Tallies seen tally) }
+    {
+        let max_generation = match outcome.longest_path_length {
+            Some(_) if outcome.num_commits == 0 => 0,
+            Some(edges) => edges.saturating_add(1),
+            None => GENERATION_NUMBER_MAX,
+        };
+        Ok(Tally {
+            max_generation,
+            num_commits: outcome.num_commits,
+            parent_counts: ParentCounts::from_map(outcome.try_clone()?.parent_counts),
+        })
     }
 
     /// Adds a commit with this generation number and this number of parents.

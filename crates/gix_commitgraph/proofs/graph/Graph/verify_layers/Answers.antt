@@ -5,8 +5,8 @@ use Rattle.std.proofs.lemmas.Result.{err_from_is_err_and}
 use Rattle.graph_format.proofs.PointLemmas.{ran_out}
 use Rattle.gix_commitgraph.specs.Graph.{IsGraph}
 use Rattle.gix_commitgraph.proofs.GraphHistoryLemmas.{take-all}
-use Rattle.gix_commitgraph.proofs.LayerListLemmas.{start-none}
 use Rattle.gix_commitgraph.specs.GraphLaw.{IsOrdered}
+use Rattle.gix_commitgraph.proofs.RightBelowLemmas.{history-below}
 use Rattle.gix_commitgraph.proofs.SoundLemmas.{ordered-passed}
 use Rattle.gix_commitgraph.proofs.GraphCheckLemmas.{reached_layers, stops_in_layer, reached_next_layer, graph_passed}
 use Rattle.gix_commitgraph.proofs.graph.Graph.verify_layers.Goals as goal
@@ -15,10 +15,11 @@ pub loop-layer-init : goal.loop-layer-init
 loop-layer-init g c =
     let few : length c.args.self.now ≤ 256 =
     omega (arith, c.len.ensures, c.self.inside.files.ok.0, ap length c.self.view_is, c.if-len-gt-MOST_LAYERS.false) in
+    let opened = (subst IsGraph c.self.view_is c.self.invariant.graph).opened in
     record {
-      reached = reached_layers g.F.FnMut c.args.options c.args.self.now _ few;
-      ordered = λ k d h. absurd (omega arith);
-      tally = rw start-none c.new-tally.ensures;
+      reached = reached_layers g.F.FnMut c.args.options c.args.self.now c.args.first _ few;
+      ordered = c.requires.ordered;
+      tally = rw (history-below c.args.self.now c.args.first opened) c.requires.tally;
     }
 
 pub verify_layer-requires : goal.verify_layer-requires
@@ -31,7 +32,7 @@ verify_layer-requires g c κs =
         (
           below,
           (
-            c.requires,
+            c.requires.callable,
             rw (c.span_at-span.ensures.span.first, c.span_at-span.ensures.layer)
                 c.loop-layer.invariant.tally,
           ),
@@ -43,7 +44,7 @@ pub returns-in_err-verify_layer-clause-agrees : goal.returns-in_err-verify_layer
 returns-in_err-verify_layer-clause-agrees g c =
     let handed = err_from_is_err_and c.from_residual.result c.from_residual.ensures.1 in
     rw (handed.1, handed.2)
-    (stops_in_layer g.F.FnMut c.args.options c.args.self.now _ c.loop-layer.layer c.span_at-span.result.file.now
+    (stops_in_layer g.F.FnMut c.args.options c.args.self.now c.args.first _ c.loop-layer.layer c.span_at-span.result.file.now
     (rw c.span_at-span.ensures.layer at c.span_at-span.ensures.span.there) _ _ c.loop-layer.invariant.reached _
     (rw c.span_at-span.ensures.layer at c.in_err-verify_layer.ensures.agrees))
 
@@ -57,7 +58,7 @@ loop-layer-preserved g c =
     let graph : IsGraph layers = subst IsGraph c.self.view_is c.self.invariant.graph in
     let ordered = ordered-passed c.args.options layers at file graph.opened there passes.no_fault in
     record {
-      reached = reached_next_layer g.F.FnMut c.args.options layers _ at file there _ _ c.loop-layer.invariant.reached passes;
+      reached = reached_next_layer g.F.FnMut c.args.options layers c.args.first _ at file there _ _ c.loop-layer.invariant.reached passes;
       ordered =
           All-more IsOrdered layers at file (slice_get_within layers at file there) c.loop-layer.invariant.ordered
           (subst IsOrdered (sym (get_or_from_slice_get layers at file file there)) ordered);
@@ -73,7 +74,7 @@ pub returns-clause-agrees : goal.returns-clause-agrees
 returns-clause-agrees g c =
     let past : length c.args.self.now ≤ c.loop-layer.layer =
     omega (arith, c.len-layer-end.ensures, c.self.inside.files.ok.0, ap length c.self.view_is, c.loop-layer-test.false) in
-    graph_passed g.F.FnMut c.args.options c.args.self.now _ c.loop-layer.layer _ past c.loop-layer.invariant.reached
+    graph_passed g.F.FnMut c.args.options c.args.self.now c.args.first _ c.loop-layer.layer _ past c.loop-layer.invariant.reached
 
 pub returns-clause-outcome : goal.returns-clause-outcome
 returns-clause-outcome g c =

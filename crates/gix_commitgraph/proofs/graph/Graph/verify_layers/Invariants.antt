@@ -8,7 +8,7 @@ use Rattle.gix_commitgraph.proofs.graph.Graph.verify_layers.Given as goal
 
 abbrev pub invariant-loop-layer : goal.invariant-loop-layer
 invariant-loop-layer g l = record {
-  reached : ReachesLayer g.F.FnMut l.options l.self l.fn.processor l.layer l.processor;
+  reached : ReachesLayer g.F.FnMut l.options l.self l.first l.fn.processor l.layer l.processor;
   ordered : All IsOrdered (take l.layer l.self);
   tally : Tallies (take (start l.self l.layer) (history_of l.self)) l.tally;
 }
