@@ -6,10 +6,10 @@ ghost use Rattle.gix_commitgraph.specs.Sound.{Sound};
 ghost use Rattle.graph_history.specs.Checked.{MayRefuseGraph, MayRefusePush, MayRefuseWith};
 
 use crate::checked::{Checked, NoFault, PLAIN};
-use gix_commitgraph::{File, Graph, GraphError};
 use gix_commitgraph::file::Commit;
 use gix_commitgraph::law::check::the_first_fault_stands_above_right_layers;
 use gix_commitgraph::verify::{Outcome, VerifyError, VerifyOptions};
+use gix_commitgraph::{File, Graph, GraphError};
 use std::alloc::Global;
 use std::borrow::Cow;
 use std::marker::Model;

@@ -31,6 +31,8 @@ mod opening;
 #[cfg(test)]
 mod parents;
 #[cfg(test)]
+mod pushing;
+#[cfg(test)]
 mod shared_lists;
 #[cfg(test)]
 mod texts;

@@ -10,7 +10,7 @@ use Rattle.gix_commitgraph.proofs.verify.tally.Tally.from_outcome.Goals as goal
 pub returns : goal.returns
 returns c = λ (seen : List Node) (numbered : AreNumbered seen) (sums : Summarizes seen c.args.outcome.now). record {
   max_generation = elim c.match-outcome.branch [
-    in-Some w ↦
+    | in-Some w ↦
         w.max_generation-is ∙ sym (greatest_of_none seen (sym sums.num_commits ∙ w.if-outcome-eq0.true))
     | in-Some-2 w ↦
         let some : 0 < length seen = omega (arith, sums.num_commits, w.if-outcome-eq0.false) in
