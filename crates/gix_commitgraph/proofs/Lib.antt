@@ -28,3 +28,4 @@ pub mod LayerStartLemmas
 pub mod DuplicateLemmas
 pub mod DistinctLemmas
 pub mod DuplicateNameLemmas
+pub mod IdPlaceLemmas

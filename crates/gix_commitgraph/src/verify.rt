@@ -1,6 +1,7 @@
 //! The check of a graph: what may be wrong with it, and the statistics of its commits.
 
 mod commit;
+mod distinct;
 mod gather;
 mod ids;
 mod layer;
@@ -242,9 +243,10 @@ impl Graph {
         if self.files.len() > MOST_LAYERS {
             return Err(VerifyError::TooManyFiles);
         }
+        let distinct = self.distinct_below(options, alloc)?;
         let mut tally = Tally::new(alloc);
         for layer in 0..self.files.len() {
-            let span = self.span_at(layer);
+            let span = self.span_at(layer, distinct);
             self.verify_layer(options, span, alloc, &mut tally, processor)?;
         }
         Ok(tally.outcome()?)

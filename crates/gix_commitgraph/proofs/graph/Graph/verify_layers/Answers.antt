@@ -39,9 +39,17 @@ verify_layer-requires g c κs =
       ),
     )
 
+pub returns-in_err-distinct-clause-agrees : goal.returns-in_err-distinct-clause-agrees
+returns-in_err-distinct-clause-agrees g c =
+    let few : length c.args.self.now ≤ 256 =
+    omega (arith, c.len.ensures, c.self.inside.files.ok.0, ap length c.self.view_is, c.if-len-gt-MOST_LAYERS.false) in
+    let no_memory = err_from_is_err_and c.from_residual.result c.from_residual.ensures.1 in
+    rw (no_memory.1, no_memory.2)
+    (ran_out _ _ _ _ _ (reached_layers g.F.FnMut c.args.options c.args.self.now c.args.processor.now few))
+
 pub returns-in_err-verify_layer-clause-agrees : goal.returns-in_err-verify_layer-clause-agrees
 returns-in_err-verify_layer-clause-agrees g c =
-    let handed = err_from_is_err_and c.from_residual.result c.from_residual.ensures.1 in
+    let handed = err_from_is_err_and c.from_residual-in_err-verify_layer.result c.from_residual-in_err-verify_layer.ensures.1 in
     rw (handed.1, handed.2)
     (stops_in_layer g.F.FnMut c.args.options c.args.self.now _ c.loop-layer.layer c.span_at-span.result.file.now
     (rw c.span_at-span.ensures.layer at c.span_at-span.ensures.span.there) _ _ c.loop-layer.invariant.reached _
