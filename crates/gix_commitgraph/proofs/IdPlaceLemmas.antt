@@ -1,6 +1,6 @@
 -- Ids with their positions: gathered, sorted, and gone over.
 use Rattle.std.proofs.Common.{◌≡◌, ◌⊎◌, inl, inr, ℕ, zero, suc, ◌+◌, ◌-◌, ◌<◌, ◌≤◌, Bool, true, false, List, [], ◌∷◌, ◌++◌}
-use Rattle.std.proofs.Common.{length, get_or, drop, map, slice_get, Option, Some, option_map, refl, sym, ap, subst}
+use Rattle.std.proofs.Common.{length, get_or, drop, slice_get, Option, Some, option_map, refl, sym, ap}
 use Rattle.std.proofs.Common.{◌∙◌, add-one, arith, ⊎_elim}
 use Rattle.std.specs.List.Sorted.{IsPermutation, IsSortedBy}
 use Rattle.std.specs.Ordering.{nat_cmp, ordering_reverse, ordering_then, is_lt, is_eq}
