@@ -79,8 +79,8 @@ pub distinct-none : (layers : List Layer) (i pos : ℕ) (layer : Layer) → AreD
     → pos < length layer.ids
     → scan (graph_ids (take i layers)) (id_at layer pos) ≡ None
 distinct-none layers i pos layer distinct here within =
-    none-below_distinct layers (start layers i + pos + 1) i pos layer (λ p q id below_p below_q at_p at_q. distinct p q id at_p at_q)
-    here within (omega arith)
+    none-below_distinct layers (start layers i + pos + 1) i pos layer
+    (λ p q id below_p below_q at_p at_q. distinct p q id at_p at_q) here within (omega arith)
 
 scan-misses : (ids : List (List ℕ)) (id : List ℕ) (p : ℕ) → scan ids id ≡ None → slice_get ids p ≡ Some id → ⊥
 scan-misses ids id p none here = (subst (IsFirst ids id) none (scan-first ids id)) p here

@@ -48,8 +48,9 @@ left-first xs left k x h =
     let is = left-suc xs left k x h in (is.0, ap (λ (n : ℕ). drop n xs) (add-one k) ∙ is.1)
 
 -- the id of the commit at a position
-pub id-at_commit : (layers : List Layer) (p i : ℕ) (layer : Layer) (id : List ℕ) → slice_get (graph_commits layers) p ≡ Some (layer, i)
-    → slice_get layer.ids i ≡ Some id → slice_get (graph_ids layers) p ≡ Some id
+pub id-at_commit : (layers : List Layer) (p i : ℕ) (layer : Layer) (id : List ℕ)
+    → slice_get (graph_commits layers) p ≡ Some (layer, i) → slice_get layer.ids i ≡ Some id
+    → slice_get (graph_ids layers) p ≡ Some id
 id-at_commit layers p i layer id here is =
     ap (λ (ids : List (List ℕ)). slice_get ids p) (sym (ids-of_commits layers))
     ∙ slice_get-map id_of (graph_commits layers) p
@@ -103,7 +104,7 @@ beside : (places : List IdPlace) (i j : ℕ) (d : IdPlace) → IsSortedBy ById p
     → oid_bytes (get_or places j d).id ≡ oid_bytes (get_or places (j - 1) d).id
 beside places i j d sorted before within same =
     let up = sorted_far ById (ranks_by nat_list_cmp_total (λ (p : IdPlace). oid_bytes p.id)) places sorted in
-    let no_less : is_lt (slice_cmp nat_cmp (oid_bytes (get_or places (j - 1) d).id) (oid_bytes (get_or places i d).id)) ≡ false =
+    let no_less : ById (get_or places (j - 1) d) (get_or places i d) ≡ false =
     up i (j - 1) d (omega arith) (omega arith) in
     same-ids _ _ (up (j - 1) j d (omega arith) within)
     (ap (λ (id : List ℕ). is_lt (slice_cmp nat_cmp (oid_bytes (get_or places (j - 1) d).id) id)) same ∙ no_less)
@@ -128,13 +129,14 @@ pub same-place : (places : List IdPlace) (k index : ℕ) (item place : IdPlace) 
 same-place places k index item place here is at_k = same_Some _ _ (sym here ∙ ap (slice_get places) (sym is) ∙ at_k)
 
 -- one place more is compared with the place before it
-pub repeats-more : (places : List IdPlace) (index first less : ℕ) (item : IdPlace) → slice_get places index ≡ Some item → less ≤ first
+pub repeats-more : (places : List IdPlace) (index first less : ℕ) (item : IdPlace) → slice_get places index ≡ Some item
+    → less ≤ first
     → ((k : ℕ) (place next : IdPlace) → k + 1 < index → slice_get places k ≡ Some place → slice_get places (k + 1) ≡ Some next
     → oid_bytes next.id ≡ oid_bytes place.id → first ≤ next.pos.0)
     → ((k : ℕ) (place : IdPlace) → k + 1 ≡ index → slice_get places k ≡ Some place → oid_bytes item.id ≡ oid_bytes place.id
     → less ≤ item.pos.0)
-    → (k : ℕ) (place next : IdPlace) → k + 1 < index + 1 → slice_get places k ≡ Some place → slice_get places (k + 1) ≡ Some next
-    → oid_bytes next.id ≡ oid_bytes place.id → less ≤ next.pos.0
+    → (k : ℕ) (place next : IdPlace) → k + 1 < index + 1 → slice_get places k ≡ Some place
+    → slice_get places (k + 1) ≡ Some next → oid_bytes next.id ≡ oid_bytes place.id → less ≤ next.pos.0
 repeats-more places index first less item here lower old new = λ k place next below at_k at_next same. ⊎_elim
     (λ (before : k + 1 < index). let most : first ≤ next.pos.0 = old k place next before at_k at_next same in omega arith)
     (λ (not_before : index ≤ k + 1).

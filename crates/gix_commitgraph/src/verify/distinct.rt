@@ -1,7 +1,7 @@
-//! How many commits of a graph are known to have distinct ids.
+//! Up to which position the ids of a graph are distinct.
 //!
-//! All ids are sorted once, so that equal ones stand side by side. A lookup of each id in each layer
-//! below would take as many times longer as there are layers.
+//! All ids are sorted once, so that equal ones stand side by side. A lookup of each id in each
+//! layer below would take time that grows with the number of layers.
 
 ghost use Rattle.std.specs.Prelude.{◌^◌, ◌<◌, length, IfOk};
 ghost use Rattle.gix_commitgraph.specs.IdPlaces.{ComesBeforeRepeats};
@@ -25,8 +25,10 @@ impl Graph {
     ghost use Rattle.gix_commitgraph.specs.IdPlaces.{AreIdPlaces};
 
     /// A position below which no two commits have one id. Where distinct ids are asked for in more
-    /// than one layer, it is that of the first commit whose id an earlier one has, or whose id has a
-    /// fault, and else the number of commits. Otherwise it is 0, and no memory is asked for.
+    /// than one layer, it is that of the first commit whose id an earlier one has, or whose id has
+    /// a fault, and else the number of commits. Otherwise it is 0, and no memory is asked for.
+    ///
+    /// The check looks for each id from there on, so that a lesser answer would cost time alone.
     pub(super) fn distinct_below(
         &self,
         options: VerifyOptions,

@@ -21,8 +21,10 @@ returns-then-pos-span g c =
     let layers = c.args.self.now in
     let layer = c.args.span.file.now in
     let place = commit_pos c.args.commit.now in
-    let is_p : c.args.pos.0 ≡ start layers c.args.span.layer + place = omega (arith, c.requires.commit.at, c.requires.span.first) in
-    let within : place < size layer = subst (λ (l : Layer). place < size l) c.requires.commit.layer c.args.commit.now.in_range in
+    let is_p : c.args.pos.0 ≡ start layers c.args.span.layer + place =
+    omega (arith, c.requires.commit.at, c.requires.span.first) in
+    let within : place < size layer =
+    subst (λ (l : Layer). place < size l) c.requires.commit.layer c.args.commit.now.in_range in
     let none =
     none-below_distinct layers c.args.span.distinct c.args.span.layer place layer c.requires.span.distinct c.requires.span.there
     within (omega (arith, is_p)) in

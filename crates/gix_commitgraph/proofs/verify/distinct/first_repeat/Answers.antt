@@ -12,20 +12,23 @@ loop-place-preserved c =
     let places = c.args.places.now in
     let index = c.loop-place.place-index in
     let item = c.place-item.result in
-    let here : slice_get places index ≡ Some item = slice_get_read places (length places) index item refl (omega arith) c.place-item.is in
+    let here : slice_get places index ≡ Some item =
+    slice_get_read places (length places) index item refl (omega arith) c.place-item.is in
     elim c.if-eq.branch [
       | then-eq w ↦
           let lower : c.if-eq.first ≤ c.loop-place.first = omega (arith, w.first-is, w.min-first.ensures) in
           record {
             within = omega (arith, lower, c.loop-place.invariant.within);
-            last = λ k place at_k is. ap (λ (p : IdPlace). Some p.id) (same-place places k index item place here (omega (arith, is)) at_k);
+            last = λ k place at_k is.
+                ap (λ (p : IdPlace). Some p.id) (same-place places k index item place here (omega (arith, is)) at_k);
             before = repeats-more places index c.loop-place.first c.if-eq.first item here lower c.loop-place.invariant.before
                 (λ k place is at_k same. omega (arith, w.first-is, w.min-first.ensures));
           }
       | else-eq w ↦
           record {
             within = omega (arith, w.first-is, c.loop-place.invariant.within);
-            last = λ k place at_k is. ap (λ (p : IdPlace). Some p.id) (same-place places k index item place here (omega (arith, is)) at_k);
+            last = λ k place at_k is.
+                ap (λ (p : IdPlace). Some p.id) (same-place places k index item place here (omega (arith, is)) at_k);
             before = repeats-more places index c.loop-place.first c.if-eq.first item here (omega (arith, w.first-is))
                 c.loop-place.invariant.before
                 (λ k place is at_k same.
