@@ -13,7 +13,7 @@ use Rattle.graph_format.proofs.ScanLemmas.{scan-first, scan-found, scan-none}
 use Rattle.graph_layer.proofs.AscendingIdLemmas.{ascending-less, not-less_itself}
 use Rattle.gix_commitgraph.specs.Graph.{graph_ids, total, start}
 use Rattle.gix_commitgraph.specs.GraphLaw.{LiesIn, IsOrdered}
-use Rattle.gix_commitgraph.specs.Distinct.{AreDistinct}
+use Rattle.gix_commitgraph.specs.Distinct.{AreDistinct, AreDistinctBelow}
 use Rattle.gix_commitgraph.proofs.GraphLemmas.{lies-in_one, place-in, counted}
 use Rattle.gix_commitgraph.proofs.LayerListLemmas.{size, start-more, graph_ids-at}
 use Rattle.gix_commitgraph.proofs.DuplicateLemmas.{start-take}
@@ -55,11 +55,11 @@ id-there : (layer : Layer) (pos : ℕ) → pos < size layer → slice_get layer.
 id-there layer pos within =
     slice_get-get_or layer.ids pos [] within ∙ ap (λ (id : List ℕ). Some id) (sym (unwrap_or-slice_get layer.ids pos []))
 
--- where the ids are distinct, no earlier layer has that of a commit
-pub distinct-none : (layers : List Layer) (i pos : ℕ) (layer : Layer) → AreDistinct layers → slice_get layers i ≡ Some layer
-    → pos < length layer.ids
+-- below a position where the ids are distinct, no earlier layer has that of a commit
+pub none-below_distinct : (layers : List Layer) (n i pos : ℕ) (layer : Layer) → AreDistinctBelow layers n
+    → slice_get layers i ≡ Some layer → pos < length layer.ids → start layers i + pos < n
     → scan (graph_ids (take i layers)) (id_at layer pos) ≡ None
-distinct-none layers i pos layer distinct here within =
+none-below_distinct layers n i pos layer distinct here within below =
     scan-none (graph_ids (take i layers)) (id_at layer pos) (λ e found.
     let inside : e < start layers i =
     omega (
@@ -69,9 +69,18 @@ distinct-none layers i pos layer distinct here within =
       total-take layers i,
     ) in
     let same : e ≡ start layers i + pos =
-    distinct e (start layers i + pos) (id_at layer pos) (sym (ids-front layers i e inside) ∙ found)
+    distinct e (start layers i + pos) (id_at layer pos) (omega (arith, inside, below)) below
+    (sym (ids-front layers i e inside) ∙ found)
     (graph_ids-at layers i pos layer here within ∙ id-there layer pos within) in
     omega (arith, inside, same))
+
+-- where all ids are distinct, no earlier layer has that of any commit
+pub distinct-none : (layers : List Layer) (i pos : ℕ) (layer : Layer) → AreDistinct layers → slice_get layers i ≡ Some layer
+    → pos < length layer.ids
+    → scan (graph_ids (take i layers)) (id_at layer pos) ≡ None
+distinct-none layers i pos layer distinct here within =
+    none-below_distinct layers (start layers i + pos + 1) i pos layer
+    (λ p q id below_p below_q at_p at_q. distinct p q id at_p at_q) here within (omega arith)
 
 scan-misses : (ids : List (List ℕ)) (id : List ℕ) (p : ℕ) → scan ids id ≡ None → slice_get ids p ≡ Some id → ⊥
 scan-misses ids id p none here = (subst (IsFirst ids id) none (scan-first ids id)) p here

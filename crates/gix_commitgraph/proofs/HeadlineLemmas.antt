@@ -4,7 +4,7 @@ use Rattle.std.specs.Prelude.{MatchResult, IfOk, IsTrue}
 use Rattle.graph_format.specs.Layer.{Layer}
 use Rattle.graph_format.specs.Layer.{IsOpened}
 use Rattle.graph_format.specs.StoredHistory.{history_of}
-use Rattle.graph_format.specs.Points.{Point, Agrees, first_fault}
+use Rattle.graph_format.specs.Points.{Point, Agrees, Passes, IsRefused, first_fault}
 use Rattle.gix_commitgraph.specs.Sound.{Sound}
 use Rattle.gix_commitgraph.specs.Verify.{points_with, cause_of, Summarizes}
 use Rattle.gix_commitgraph.specs.Headline.{Stats, LookupsAreScans, Disproves, IsDeserved}
@@ -34,30 +34,36 @@ disproves-wider P Q (error.DuplicateId pos earlier) from shown = λ q. shown (fr
 module _ {F E : Type 0} (step : F → ℕ → Result (Unit {0}) E → F → Type 0) (options : VerifyOptions) (layers : List Layer)
     (points : List (Point (VerifyError E))) (whole : first_fault points ≡ first_fault (points_with {E = E} options layers))
     (f g : F) (opened : All IsOpened layers) where
+  refused_deserved : (x : VerifyError E) → IsRefused step points f g x → ¬ IsSoundWith options layers
+  refused_deserved x refused sound = sound-not_refused step options layers points whole f g opened sound x refused
+
+  passed_right : Passes step points f g → IsSoundWith options layers
+  passed_right passes = sound-from_passes step options layers points whole f g opened passes
+
   deserved : (x : VerifyError E) → Agrees step points f g {T = Outcome} cause_of (Err x)
       → IsDeservedWith options layers x
   deserved (error.Processor pos e) agrees = tt
   deserved error.OutOfMemory agrees = tt
-  deserved error.TooManyFiles agrees = λ sound. sound-not_refused step options layers points whole f g opened sound _ agrees
-  deserved (error.BaseCount i) agrees = λ sound. sound-not_refused step options layers points whole f g opened sound _ agrees
-  deserved (error.BaseId i j) agrees = λ sound. sound-not_refused step options layers points whole f g opened sound _ agrees
-  deserved (error.Layer i fault) agrees = λ sound. sound-not_refused step options layers points whole f g opened sound _ agrees
-  deserved (error.Commit pos fault) agrees = λ sound. sound-not_refused step options layers points whole f g opened sound _ agrees
-  deserved (error.Parent pos fault) agrees = λ sound. sound-not_refused step options layers points whole f g opened sound _ agrees
-  deserved (error.ParentOutOfRange pos parent) agrees = λ sound. sound-not_refused step options layers points whole f g opened sound _ agrees
-  deserved (error.Generation pos expected) agrees = λ sound. sound-not_refused step options layers points whole f g opened sound _ agrees
-  deserved (error.DuplicateId pos earlier) agrees = λ sound. sound-not_refused step options layers points whole f g opened sound _ agrees
+  deserved error.TooManyFiles agrees = refused_deserved _ agrees
+  deserved (error.BaseCount i) agrees = refused_deserved _ agrees
+  deserved (error.BaseId i j) agrees = refused_deserved _ agrees
+  deserved (error.Layer i fault) agrees = refused_deserved _ agrees
+  deserved (error.Commit pos fault) agrees = refused_deserved _ agrees
+  deserved (error.Parent pos fault) agrees = refused_deserved _ agrees
+  deserved (error.ParentOutOfRange pos parent) agrees = refused_deserved _ agrees
+  deserved (error.Generation pos expected) agrees = refused_deserved _ agrees
+  deserved (error.DuplicateId pos earlier) agrees = refused_deserved _ agrees
 
   -- an Ok is that of a graph that keeps all that is asked, and a refusal by name that of another
   pub judged_with : (r : Result Outcome (VerifyError E)) → Agrees step points f g cause_of r
       → MatchResult r (λ _. IsSoundWith options layers) (IsDeservedWith options layers)
-  judged_with (Ok outcome) agrees = sound-from_passes step options layers points whole f g opened agrees
+  judged_with (Ok outcome) agrees = passed_right agrees
   judged_with (Err x) agrees = deserved x agrees
 
   -- the same of a graph that is right, where nothing is asked for besides
   pub judged : (r : Result Outcome (VerifyError E)) → options.distinct_ids ≡ false
       → Agrees step points f g cause_of r → MatchResult r (λ _. Sound layers) (IsDeserved layers)
-  judged (Ok outcome) plain agrees = (sound-from_passes step options layers points whole f g opened agrees).sound
+  judged (Ok outcome) plain agrees = (passed_right agrees).sound
   judged (Err x) plain agrees =
       disproves-wider (IsSoundWith options layers) (Sound layers) x
       (λ sound. record { sound = sound; distinct = λ is. let never : false ≡ true = cc in cc }) (deserved x agrees)
@@ -71,19 +77,19 @@ module _ {F E : Type 0} (step : F → ℕ → Result (Unit {0}) E → F → Type
 
   pub right_stats : (r : Result Outcome (VerifyError E)) → Agrees step points f g cause_of r
       → IfOk r (Summarizes (history_of layers)) → IfOk r (Stats layers)
-  right_stats (Ok outcome) agrees sums = counted outcome (sound-from_passes step options layers points whole f g opened agrees).sound sums
+  right_stats (Ok outcome) agrees sums = counted outcome (passed_right agrees).sound sums
   right_stats (Err x) agrees sums = tt
 
   pub right_lookups : (r : Result Outcome (VerifyError E)) → Agrees step points f g cause_of r
       → IfOk r (λ _. LookupsAreScans layers)
   right_lookups (Ok outcome) agrees =
-      λ id answer found. sound-scanned layers id answer (sound-from_passes step options layers points whole f g opened agrees).sound found
+      λ id answer found. sound-scanned layers id answer (passed_right agrees).sound found
   right_lookups (Err x) agrees = tt
 
   -- with distinct ids each lookup is exact
   pub exact_lookups : (r : Result Outcome (VerifyError E)) → Agrees step points f g cause_of r
       → IfOk r (λ _. IsTrue options.distinct_ids → LookupsAreExact layers)
   exact_lookups (Ok outcome) agrees = λ is id answer found p.
-      let right = sound-from_passes step options layers points whole f g opened agrees in
+      let right = passed_right agrees in
       exact-scan layers id answer p (right.distinct is) (sound-scanned layers id answer right.sound found)
   exact_lookups (Err x) agrees = tt

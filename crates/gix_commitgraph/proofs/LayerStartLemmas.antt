@@ -1,6 +1,6 @@
 -- laws of the starts of the layers of a graph, and of a search that halves them
-use Rattle.std.proofs.Common.{◌≡◌, ℕ, ◌+◌, ◌-◌, ◌/◌, ◌<◌, ◌≤◌, List, [], ◌∷◌, ◌++◌, length, take, slice_get, slice_index, get_or, Some}
-use Rattle.std.proofs.Common.{refl, sym, ap, ◌∙◌, arith, ⊎_elim}
+use Rattle.std.proofs.Common.{◌≡◌, ℕ, ◌+◌, ◌-◌, ◌/◌, ◌<◌, ◌≤◌, List, [], ◌∷◌, ◌++◌, length, take, slice_get, slice_index}
+use Rattle.std.proofs.Common.{get_or, Some, refl, sym, ap, ◌∙◌, arith, ⊎_elim}
 use Rattle.std.proofs.lemmas.Bool.{cases_lt}
 use Rattle.std.proofs.lemmas.List.{get_or_read, get_or_append_left, get_or_push, get_or-take, length_push, length-take-le}
 use Rattle.std.proofs.lemmas.List.{take-append-le, take-take}
@@ -109,7 +109,9 @@ starts-pushed layers starts layer first kept is_first =
       each = λ i h. kept.each i (omega (arith, kept.one_each)) ∙ sym (start-front layers (layer ∷ []) i (omega arith));
     } in
     let next : first ≡ start all (length layers) =
-    is_first ∙ sym (start-all layers (length layers) (omega arith)) ∙ sym (start-front layers (layer ∷ []) (length layers) (omega arith)) in
+    is_first
+    ∙ sym (start-all layers (length layers) (omega arith))
+    ∙ sym (start-front layers (layer ∷ []) (length layers) (omega arith)) in
     starts-all all (length layers + 1) _ (starts-more all (length layers) first starts _ upto next refl)
     (sym (length_push layers layer))
 
@@ -139,6 +141,8 @@ kept-taken layers starts n kept fits some =
         one_each = length-take-le n starts long ∙ sym (length-take-le n layers fits);
         each = λ i h.
             let below : i < n = omega (arith, length-take-le n starts long) in
-            get_or-take n starts i 0 below ∙ kept.counted.each i (omega arith) ∙ ap total (sym (take-take i n layers (omega arith)));
+            get_or-take n starts i 0 below
+            ∙ kept.counted.each i (omega arith)
+            ∙ ap total (sym (take-take i n layers (omega arith)));
       };
     }

@@ -30,3 +30,4 @@ pub mod DistinctLemmas
 pub mod DuplicateNameLemmas
 pub mod OutcomeLemmas
 pub mod RightBelowLemmas
+pub mod IdPlaceLemmas

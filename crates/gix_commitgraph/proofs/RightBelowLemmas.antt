@@ -1,6 +1,7 @@
 -- Where the lowest layers of a graph are right, the check of the graph finds no fault in them.
 use Rattle.std.proofs.Common.{◌≡◌, ℕ, zero, suc, ◌+◌, ◌<◌, ◌≤◌, min, Bool, if◌then◌else◌, List, [], ◌∷◌, ◌++◌, map, length}
-use Rattle.std.proofs.Common.{take, drop, slice_get, get_or, nat_lt, All, Option, Some, None, option_map, refl, sym, ap, subst, ◌∙◌, arith, ⊎_elim}
+use Rattle.std.proofs.Common.{take, drop, slice_get, get_or, nat_lt, All, Option, Some, None, option_map, refl, sym, ap, subst}
+use Rattle.std.proofs.Common.{◌∙◌, arith, ⊎_elim}
 use Rattle.std.specs.List.{flat_map}
 use Rattle.std.specs.Option.{option_map_or}
 use Rattle.std.proofs.lemmas.Grind.{flat_map-append}
@@ -26,7 +27,8 @@ use Rattle.gix_commitgraph.specs.Distinct.{IsSoundWith}
 use Rattle.gix_commitgraph.specs.Graph.{graph_ids, total, start, stop}
 use Rattle.gix_commitgraph.specs.Sound.{Sound}
 use Rattle.gix_commitgraph.specs.Tallies.{AreNumbered}
-use Rattle.gix_commitgraph.specs.Verify.{duplicate_refusal, generation_refusal, layer_points, layers_from, points_from, points_with}
+use Rattle.gix_commitgraph.specs.Verify.{duplicate_refusal, generation_refusal, layer_points, layers_from, points_from}
+use Rattle.gix_commitgraph.specs.Verify.{points_with}
 use Rattle.gix_commitgraph.specs.declared.verify.VerifyError.{VerifyError}
 use Rattle.gix_commitgraph.specs.declared.verify.VerifyError.TheVariants as error
 use Rattle.gix_commitgraph.specs.declared.verify.VerifyOptions.{VerifyOptions}
@@ -41,10 +43,12 @@ use Rattle.gix_commitgraph.proofs.SoundLemmas.{IsPassedCommit, IsPassedLayer, pa
 
 -- what the first commits of a history say
 generation-front : (a b : List Node) (p : ℕ) → p < length a → generation_at (a ++ b) p ≡ generation_at a p
-generation-front a b p within = ap (λ (o : Option Node). option_map_or (λ (node : Node). node.generation) o 0) (get-front a b p within)
+generation-front a b p within =
+    ap (λ (o : Option Node). option_map_or (λ (node : Node). node.generation) o 0) (get-front a b p within)
 
 parents-front : (a b : List Node) (p : ℕ) → p < length a → parents_at (a ++ b) p ≡ parents_at a p
-parents-front a b p within = ap (λ (o : Option Node). option_map_or (λ (node : Node). node.parents) o []) (get-front a b p within)
+parents-front a b p within =
+    ap (λ (o : Option Node). option_map_or (λ (node : Node). node.parents) o []) (get-front a b p within)
 
 generations-front : (a b : List Node) (ps : List ℕ) → All (λ p. p < length a) ps
     → map (generation_at (a ++ b)) ps ≡ map (generation_at a) ps
@@ -123,7 +127,9 @@ module _ {E : Type 0} (options : VerifyOptions) (layers : List Layer) (i : ℕ) 
       let first : start (take i layers) j ≡ start layers j = start-take layers i j (omega arith) in
       let last : stop (take i layers) j ≡ stop layers j = start-take layers i (j + 1) (omega arith) in
       record {
-        bases = (bases-iff layers j layer here).1 (right.sound.rules.bases j layer there ∙ ap checksums (before layers i j (omega arith)));
+        bases =
+            (bases-iff layers j layer here).1
+            (right.sound.rules.bases j layer there ∙ ap checksums (before layers i j (omega arith)));
         whole = passed.whole;
         commits = λ pos within.
             let commit = passed.commits pos within in

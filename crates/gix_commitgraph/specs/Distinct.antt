@@ -13,6 +13,12 @@ abbrev pub AreDistinct : List Layer → Type 0
 AreDistinct layers =
     (p q : ℕ) (id : List ℕ) → slice_get (graph_ids layers) p ≡ Some id → slice_get (graph_ids layers) q ≡ Some id → p ≡ q
 
+-- no two positions below n hold one id
+abbrev pub AreDistinctBelow : List Layer → ℕ → Type 0
+AreDistinctBelow layers n =
+    (p q : ℕ) (id : List ℕ) → p < n → q < n
+    → slice_get (graph_ids layers) p ≡ Some id → slice_get (graph_ids layers) q ≡ Some id → p ≡ q
+
 -- A graph is right, and keeps the rules that the options add.
 pub record IsSoundWith (options : VerifyOptions) (layers : List Layer) : Type 0 where
   pub sound : Sound layers

@@ -1,6 +1,7 @@
 //! The check of a graph: what may be wrong with it, and the statistics of its commits.
 
 mod commit;
+mod distinct;
 mod gather;
 mod ids;
 mod layer;
@@ -116,8 +117,8 @@ impl Graph {
     ghost use Rattle.graph_layer.specs.Called.{MayBeCalled, CalledOn};
     ghost use Rattle.gix_commitgraph.specs.InGraph.{InGraph};
     ghost use Rattle.graph_format.specs.StoredHistory.{history_of};
-    ghost use Rattle.gix_commitgraph.specs.Verify.{graph_points, points_from, points_with, cause_of};
-    ghost use Rattle.gix_commitgraph.specs.Verify.{Summarizes};
+    ghost use Rattle.gix_commitgraph.specs.Verify.{graph_points, points_from, points_with};
+    ghost use Rattle.gix_commitgraph.specs.Verify.{cause_of, Summarizes};
     ghost use Rattle.gix_commitgraph.specs.GraphLaw.{IsOrdered};
     ghost use Rattle.gix_commitgraph.specs.Tallies.{Tallies};
     ghost use Rattle.gix_commitgraph.specs.Distinct.{IsSoundWith, IsDeservedWith, LookupsAreExact};
@@ -293,9 +294,10 @@ impl Graph {
         if self.files.len() > MOST_LAYERS {
             return Err(VerifyError::TooManyFiles);
         }
+        let distinct = self.distinct_below(options, first, alloc)?;
         let mut tally = tally;
         for layer in first..self.files.len() {
-            let span = self.span_at(layer);
+            let span = self.span_at(layer, distinct);
             self.verify_layer(options, span, alloc, &mut tally, processor)?;
         }
         Ok(tally.outcome()?)

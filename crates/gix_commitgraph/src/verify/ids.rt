@@ -48,7 +48,8 @@ impl Graph {
         }
     }
 
-    /// Whether the id of a commit stands in a layer below.
+    /// Whether the id of a commit stands in a layer below. It is looked for only from the position
+    /// on below which no two commits have one id.
     fn check_distinct<E>(
         &self,
         span: LayerSpan<'_>,
@@ -62,6 +63,9 @@ impl Graph {
             ≡ duplicate_refusal self.now span.entry.layer span.entry.file.now
             (commit_pos commit.now) }
     {
+        if pos.0 < span.distinct {
+            return Ok(());
+        }
         match self.find_below(commit.id(), span.layer) {
             Some(earlier) => Err(VerifyError::DuplicateId { pos, earlier }),
             None => Ok(()),

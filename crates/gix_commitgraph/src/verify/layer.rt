@@ -21,6 +21,8 @@ pub(super) struct LayerSpan<'a> {
     /// The position of its first commit, and the one after its last.
     pub(super) first: u32,
     pub(super) stop: u32,
+    /// A position of the graph below which no two commits have one id.
+    pub(super) distinct: u32,
 }
 
 impl Graph {
@@ -32,10 +34,12 @@ impl Graph {
     ghost use Rattle.gix_commitgraph.specs.Tallies.{Tallies};
     ghost use Rattle.gix_commitgraph.specs.GraphLaw.{IsOrdered};
     ghost use Rattle.gix_commitgraph.specs.LayerSpans.{IsSpan};
+    ghost use Rattle.gix_commitgraph.specs.Distinct.{AreDistinctBelow};
 
-    /// The layer of this number.
-    pub(super) fn span_at(&self, layer: usize) -> LayerSpan<'_>
-        requires { layer < length self.now }
+    /// The layer of this number, with a position below which no two commits have one id.
+    pub(super) fn span_at(&self, layer: usize, distinct: u32) -> LayerSpan<'_>
+        requires layer { layer < length self.now }
+        requires distinct { AreDistinctBelow self.now distinct }
         ensures span { IsSpan self.now result }
         ensures layer { result.layer ≡ layer }
     {
@@ -46,6 +50,7 @@ impl Graph {
             layer,
             first,
             stop: first + file.num_commits(),
+            distinct,
         }
     }
 

@@ -5,19 +5,19 @@ use Rattle.gix_commitgraph.proofs.LayerStartLemmas.{start-kept, layer-kept}
 use Rattle.gix_commitgraph.proofs.graph.Graph.span_at.Goals as goal
 
 pub index-first-requires : goal.index-first-requires
-index-first-requires c = omega (arith, c.requires, c.self.invariant.counted.one_each, ap length c.self.view_is)
+index-first-requires c = omega (arith, c.requires.layer, c.self.invariant.counted.one_each, ap length c.self.view_is)
 
 -- the layer is the one of this number
 layer-there : (c : goal.After-num_commits) → slice_get c.args.self.now c.args.layer ≡ Some c.index-file.result.now
 layer-there c =
-    layer-kept c.args.self.now c.self.inside.files.items c.args.layer c.index-file.result.now c.self.view_is c.requires
+    layer-kept c.args.self.now c.self.inside.files.items c.args.layer c.index-file.result.now c.self.view_is c.requires.layer
     c.index-file.ensures
 
 -- and it starts where the graph keeps it
 first-kept : (c : goal.After-num_commits) → c.index-first.result.now ≡ start c.args.self.now c.args.layer
 first-kept c =
     start-kept c.args.self.now c.self.inside.files.items c.self.inside.starts.items c.args.layer c.index-first.result.now
-    c.self.view_is c.self.invariant c.requires c.index-first.ensures
+    c.self.view_is c.self.invariant c.requires.layer c.index-first.ensures
 
 pub overflow_add-result : goal.overflow_add-result
 overflow_add-result c =
@@ -39,4 +39,5 @@ returns-clause-span c = record {
     c.num_commits.ensures.ids,
     start-more c.args.self.now c.args.layer c.index-file.result.now (layer-there c),
   );
+  distinct = c.requires.distinct;
 }

@@ -24,4 +24,5 @@ returns-clause-distinct g c =
     c.verify_layers.ensures.agrees
 
 pub verify_layers-requires : goal.verify_layers-requires
-verify_layers-requires g c κs = (search rules, (c.requires, (omega arith, (λ k d h. absurd (omega arith), rw history-none c.new.ensures))))
+verify_layers-requires g c κs =
+    (search rules, (c.requires, (omega arith, (λ k d h. absurd (omega arith), rw history-none c.new.ensures))))

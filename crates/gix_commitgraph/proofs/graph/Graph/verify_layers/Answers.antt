@@ -40,9 +40,17 @@ verify_layer-requires g c κs =
       ),
     )
 
+pub returns-in_err-distinct-clause-agrees : goal.returns-in_err-distinct-clause-agrees
+returns-in_err-distinct-clause-agrees g c =
+    let few : length c.args.self.now ≤ 256 =
+    omega (arith, c.len.ensures, c.self.inside.files.ok.0, ap length c.self.view_is, c.if-len-gt-MOST_LAYERS.false) in
+    let no_memory = err_from_is_err_and c.from_residual.result c.from_residual.ensures.1 in
+    rw (no_memory.1, no_memory.2)
+    (ran_out _ _ _ _ _ (reached_layers g.F.FnMut c.args.options c.args.self.now c.args.first c.args.processor.now few))
+
 pub returns-in_err-verify_layer-clause-agrees : goal.returns-in_err-verify_layer-clause-agrees
 returns-in_err-verify_layer-clause-agrees g c =
-    let handed = err_from_is_err_and c.from_residual.result c.from_residual.ensures.1 in
+    let handed = err_from_is_err_and c.from_residual-in_err-verify_layer.result c.from_residual-in_err-verify_layer.ensures.1 in
     rw (handed.1, handed.2)
     (stops_in_layer g.F.FnMut c.args.options c.args.self.now c.args.first _ c.loop-layer.layer c.span_at-span.result.file.now
     (rw c.span_at-span.ensures.layer at c.span_at-span.ensures.span.there) _ _ c.loop-layer.invariant.reached _
@@ -58,7 +66,8 @@ loop-layer-preserved g c =
     let graph : IsGraph layers = subst IsGraph c.self.view_is c.self.invariant.graph in
     let ordered = ordered-passed c.args.options layers at file graph.opened there passes.no_fault in
     record {
-      reached = reached_next_layer g.F.FnMut c.args.options layers c.args.first _ at file there _ _ c.loop-layer.invariant.reached passes;
+      reached =
+          reached_next_layer g.F.FnMut c.args.options layers c.args.first _ at file there _ _ c.loop-layer.invariant.reached passes;
       ordered =
           All-more IsOrdered layers at file (slice_get_within layers at file there) c.loop-layer.invariant.ordered
           (subst IsOrdered (sym (get_or_from_slice_get layers at file file there)) ordered);

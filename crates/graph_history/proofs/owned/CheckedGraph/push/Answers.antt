@@ -33,7 +33,8 @@ returns-in-Err-checked-clause-refusal c =
     let layers = c.push.new.self in
     let front : take (length below) layers ≡ below =
     ap (take (length below)) c.in_default.ensures.pushed ∙ take-append_seam below (c.args.file ∷ []) in
-    let fits : length below ≤ length layers = omega (arith, ap length c.in_default.ensures.pushed, length_push below c.args.file) in
+    let fits : length below ≤ length layers =
+    omega (arith, ap length c.in_default.ensures.pushed, length_push below c.args.file) in
     let whole =
     c.the_first_fault_stands_above_right_layers.ensures options layers (length below) c.in_default.ensures.graph.opened fits
     (subst (IsSoundWith options) (sym front) c.self.invariant.sound) in
