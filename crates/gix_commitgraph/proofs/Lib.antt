@@ -31,3 +31,4 @@ pub mod DuplicateNameLemmas
 pub mod OutcomeLemmas
 pub mod RightBelowLemmas
 pub mod IdPlaceLemmas
+pub mod IdWalkLemmas

@@ -43,6 +43,7 @@ pub mod LayerSpans
 pub mod LayerStarts
 pub mod Headline
 pub mod Distinct
+pub mod IdWalks
 pub mod IdPlaces
 pub mod InGraph
 pub use Rattle.gix_hash_core.specs.Digest

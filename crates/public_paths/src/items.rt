@@ -5,6 +5,7 @@ use gix_commitgraph::file::verify::{self, ChecksumMismatch};
 use gix_commitgraph::file::{self, BaseIds, Commits, File, Ids};
 use gix_commitgraph::law::check::{
     a_check_of_a_graph_calls_on_each_position_once, a_check_of_a_layer_calls_on_each_position_once,
+    the_first_fault_stands_above_right_layers,
 };
 use gix_commitgraph::law::distinct::{
     a_graph_that_keeps_what_is_asked_is_without_fault,
@@ -31,6 +32,7 @@ use gix_commitgraph::law::walk::{
     cycles_are_at_the_cap, generations_fall_along_walks, generations_never_rise_along_walks,
     generations_that_count_walks_are_local, greatest_generation_is_the_longest_walk,
     local_generations_count_walks, the_cap_is_this_number,
+    walks_over_distinct_ids_are_walks_over_positions,
 };
 use gix_commitgraph::law::{
     bytes_fall_into_pieces, each_is_answered, each_is_refused_or_read, falling_fans_are_named,

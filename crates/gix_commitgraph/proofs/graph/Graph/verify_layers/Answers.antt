@@ -67,7 +67,8 @@ loop-layer-preserved g c =
     let ordered = ordered-passed c.args.options layers at file graph.opened there passes.no_fault in
     record {
       reached =
-          reached_next_layer g.F.FnMut c.args.options layers c.args.first _ at file there _ _ c.loop-layer.invariant.reached passes;
+          reached_next_layer g.F.FnMut c.args.options layers c.args.first _ at file there _ _
+          c.loop-layer.invariant.reached passes;
       ordered =
           All-more IsOrdered layers at file (slice_get_within layers at file there) c.loop-layer.invariant.ordered
           (subst IsOrdered (sym (get_or_from_slice_get layers at file file there)) ordered);
