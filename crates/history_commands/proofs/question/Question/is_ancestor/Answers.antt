@@ -1,0 +1,17 @@
+-- What is found of both ids.
+use Rattle.std.proofs.Common.{sym}
+use Rattle.history_commands.proofs.question.Question.is_ancestor.Goals as goal
+
+pub returns-in_default-find-clause-found : goal.returns-in_default-find-clause-found
+returns-in_default-find-clause-found c =
+    let same = c.as_checked-checked.ensures.same in
+    let first = sym (rw (same, c.as_oid.ensures) at c.in-Some.ensures.scanned) in
+    let second = sym (rw (same, c.as_oid-2.ensures) at c.in_default-find.ensures.scanned) in
+    (c.in-Some.first.0, first, second)
+
+pub returns-in-Ok-clause-found : goal.returns-in-Ok-clause-found
+returns-in-Ok-clause-found c =
+    let same = c.as_checked-checked.ensures.same in
+    let first = sym (rw (same, c.as_oid.ensures) at c.in-Some.ensures.scanned) in
+    let second = sym (rw (same, c.as_oid-2.ensures) at c.in-Some-find.ensures.scanned) in
+    (c.in-Some.first.0, c.in-Some-find.second.0, first, second, rw same at c.in-Ok.ensures)
