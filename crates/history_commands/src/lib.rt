@@ -7,5 +7,6 @@
 
 mod question;
 pub mod run;
+mod walk;
 
 pub use question::Answer;

@@ -8,6 +8,7 @@ ghost use Rattle.history_commands.specs.IsAncestor.{IsTold, told_status, told_wo
 ghost use Rattle.history_commands.specs.IsAncestor.{is_ancestor_text, is_ancestor_status};
 
 use crate::question::{Answer, Question, ask};
+pub use crate::walk::run_walk;
 use graph_commands::line::write_line;
 use graph_commands::refusal::Refusal;
 use graph_commands::run::{WriteFailed, refuse};
