@@ -15,4 +15,5 @@ returns-in_ok-write_found-in-Ok-clause-written g c =
     )
 
 pub returns-in-Err-clause-written : goal.returns-in-Err-clause-written
-returns-in-Err-clause-written g c = writes_refused _ c.in-Err.refusal _ _ c.refuse.result c.in-Err.ensures.refused c.refuse.ensures
+returns-in-Err-clause-written g c =
+    writes_refused _ c.in-Err.refusal _ _ c.refuse.result c.in-Err.ensures.refused c.refuse.ensures
