@@ -1,10 +1,11 @@
 //! The command `walk`, and the lines that it writes. Writing them allocates nothing.
 
-ghost use Rattle.std.specs.Prelude.{◌≡◌, ◌<◌, All, IfErr, IfOk, OnOk, Ok};
+ghost use Rattle.std.specs.Prelude.{◌≡◌, ◌<◌, [], All, IfErr, IfOk, OnOk, Ok};
 ghost use Rattle.std.specs.Io.KnownBytes.{Appends};
 ghost use Rattle.std.specs.List.{flat_map};
 ghost use Rattle.gix_commitgraph.specs.Graph.{IsGraph, total};
 ghost use Rattle.graph_commands.specs.Answer.{WritesAnswer};
+ghost use Rattle.graph_commands.specs.Block.{with_block};
 ghost use Rattle.graph_commands.specs.Opening.{MayOpen};
 ghost use Rattle.history_commands.specs.Answer.{MayAnswer, MayBeRefused, MayFind};
 ghost use Rattle.history_commands.specs.Walk.{IsWalkOfIds, AreWithin, with_ids};
@@ -13,6 +14,7 @@ ghost use Rattle.history_commands.specs.Walk.{walk_text, walk_status};
 
 use crate::question::{Answer, Question, ask};
 use gix_commitgraph::Position;
+use graph_commands::block::Block;
 use graph_commands::line::write_line;
 use graph_commands::refusal::Refusal;
 use graph_commands::run::{WriteFailed, refuse};
@@ -52,30 +54,32 @@ pub fn run_walk<T: Folder, W: Write>(
         (W.contents writer.old) (W.contents writer.new)) }
     ensures tree { T.tree folder.new ≡ T.tree folder.old }
 {
-    match walk(alloc, folder, path, first, second) {
-        Ok((question, found)) => {
-            write_found(writer, &question.graph.as_checked(), &found)?;
+    match prepare(alloc, folder, path, first, second) {
+        Ok((question, found, mut block)) => {
+            write_found(&mut block, writer, &question.graph.as_checked(), &found)?;
             Ok(found.status())
         }
         Err(refusal) => refuse(writer, &refusal),
     }
 }
 
-/// What is found of the walk from the commit with the first id to the one with the second, and the
-/// question, which has the graph.
-fn walk<T: Folder>(
+/// The question, which has the graph, what is found of the walk from the commit with the first id
+/// to the one with the second, and a block to write it with. All that the lines need memory for is
+/// there before the first write.
+fn prepare<T: Folder>(
     alloc: Global,
     folder: &mut T,
     path: &str,
     first: &str,
     second: &str,
-) -> Result<(Question, Found), Refusal>
-    ensures found { IfOk result (λ answered. MayAnswer IsWalkOfIds first.now second.now
+) -> Result<(Question, Found, Block), Refusal>
+    ensures found { IfOk result (λ prepared. MayAnswer IsWalkOfIds first.now second.now
         (folder.new ≡ folder.old)
         (MayOpen (T.tree folder.old) path.now (T.failure_count folder.old)
         (T.failure_count folder.new))
-        (Ok (with_ids answered.0.graph answered.1))) }
-    ensures within { IfOk result (λ answered. AreWithin answered.0.graph answered.1) }
+        (Ok (with_ids prepared.0.graph prepared.1))) }
+    ensures within { IfOk result (λ prepared. AreWithin prepared.0.graph prepared.1) }
+    ensures block { IfOk result (λ prepared. prepared.2 ≡ []) }
     ensures refused { IfErr result (MayBeRefused first.now second.now (folder.new ≡ folder.old)
         (MayOpen (T.tree folder.old) path.now (T.failure_count folder.old)
         (T.failure_count folder.new))) }
@@ -83,7 +87,10 @@ fn walk<T: Folder>(
 {
     let question = ask(alloc, folder, path, first, second)?;
     let found = question.walk(alloc)?;
-    Ok((question, found))
+    match Block::new(alloc) {
+        Ok(block) => Ok((question, found, block)),
+        Err(_) => Err(Refusal::Walk),
+    }
 }
 
 impl Question {
@@ -122,51 +129,58 @@ impl Found {
     }
 }
 
-/// Writes what is found.
+/// Writes what is found. A walk goes through a block, which is empty before.
 fn write_found<W: Write>(
+    block: &mut Block,
     writer: &mut W,
     graph: &Checked<'_>,
     found: &Found,
 ) -> Result<(), WriteFailed>
-    requires { AreWithin graph.now found.now }
+    requires empty { block.old ≡ [] }
+    requires within { AreWithin graph.now found.now }
     ensures { OnOk result (Appends (W.contents writer.old) (W.contents writer.new)
         (found_text (with_ids graph.now found.now))) }
 {
     match found {
         Answer::FirstUnknown => write_line(writer, "unknown 1"),
         Answer::SecondUnknown => write_line(writer, "unknown 2"),
-        Answer::Known(reached) => write_reached(writer, graph, reached),
+        Answer::Known(reached) => write_reached(block, writer, graph, reached),
     }
 }
 
 /// Writes the ids on a walk, or that there is none.
 fn write_reached<W: Write>(
+    block: &mut Block,
     writer: &mut W,
     graph: &Checked<'_>,
     reached: &Option<Vec<Position>>,
 ) -> Result<(), WriteFailed>
-    requires { AreWithin graph.now (Answer.Known reached.now) }
+    requires empty { block.old ≡ [] }
+    requires within { AreWithin graph.now (Answer.Known reached.now) }
     ensures { OnOk result (Appends (W.contents writer.old) (W.contents writer.new)
         (found_text (with_ids graph.now (Answer.Known reached.now)))) }
 {
     match reached {
-        Some(walk) => write_ids(writer, graph, walk),
+        Some(walk) => write_ids(block, writer, graph, walk),
         None => write_line(writer, "none"),
     }
 }
 
 /// Writes the ids at these positions.
 fn write_ids<W: Write>(
+    block: &mut Block,
     writer: &mut W,
     graph: &Checked<'_>,
     walk: &[Position],
 ) -> Result<(), WriteFailed>
-    requires { All (λ pos. pos.0 < total graph.now) walk.now }
+    requires empty { block.old ≡ [] }
+    requires within { All (λ pos. pos.0 < total graph.now) walk.now }
     ensures { OnOk result (Appends (W.contents writer.old) (W.contents writer.new)
         (flat_map (λ pos. id_line (id_in graph.now pos.0)) walk.now)) }
 {
     for pos in walk {
-        write_line(writer, graph.id(*pos))?;
+        block.push_id(writer, graph.id(*pos))?;
+        block.push_byte(writer, b'\n')?;
     }
-    Ok(())
+    block.write_out(writer)
 }
