@@ -1,6 +1,6 @@
 -- From a walk by positions to one by ids.
 use Rattle.std.proofs.Common.{◌≡◌, ℕ, ◌<◌, List, [], ◌∷◌, All, IfNone, IfOk, IfSome, Option, Some, None, Result, Ok, Err, Vec}
-use Rattle.std.proofs.Common.{length, map, refl, ap, subst, ◌∙◌}
+use Rattle.std.proofs.Common.{length, map, refl, ap, sym, subst, ◌∙◌}
 use Rattle.std.specs.Global.{Global}
 use Rattle.std.specs.List.{flat_map}
 use Rattle.std.specs.Option.{option_map}
@@ -10,12 +10,16 @@ use Rattle.graph_walks.specs.History.{Node}
 use Rattle.graph_walks.specs.Walks.{IsWalk, Reaches}
 use Rattle.graph_format.specs.Layer.{Layer, IsOpened}
 use Rattle.graph_format.specs.StoredHistory.{history_of}
+use Rattle.graph_format.specs.Lookup.{scan}
 use Rattle.graph_format.specs.declared.Position.{Position}
+use Rattle.gix_commitgraph.specs.Graph.{graph_ids}
 use Rattle.gix_commitgraph.proofs.HistoryLemmas.{history-counted}
-use Rattle.graph_history.specs.Answer.{IsShortestWalk, numbers_of}
+use Rattle.graph_history.specs.Answer.{IsAnswer, IsShortestWalk, numbers_of}
+use Rattle.graph_history.specs.declared.Reached.{Reached}
 use Rattle.graph_history.proofs.RightGraphLemmas.{all_within}
 use Rattle.graph_commands.specs.Answer.{WritesAnswer, WritesRefusal}
 use Rattle.graph_commands.specs.declared.refusal.Refusal.{Refusal}
+use Rattle.history_commands.specs.Answer.{MayFind}
 use Rattle.history_commands.specs.Walk.{IsWalkOfIds, AreWithin, id_in, id_line, with_ids, found_text, found_status}
 use Rattle.history_commands.specs.Walk.{walk_text, walk_status}
 use Rattle.history_commands.specs.declared.question.Answer.{Answer}
@@ -33,7 +37,7 @@ ids_of layers [] = refl
 ids_of layers (pos ∷ steps) = ap (λ (rest : List (List ℕ)). id_in layers pos.0 ∷ rest) (ids_of layers steps)
 
 module _ (layers : List Layer) (p q : ℕ) where
-  pub are_within : (walk : Option (Vec Position Global)) → All IsOpened layers
+  are_within : (walk : Option (Vec Position Global)) → All IsOpened layers
       → IfSome walk (λ w. IsShortestWalk (history_of layers) p q (numbers_of w.items)) → AreWithin layers (Known walk)
   are_within None opened shortest = tt
   are_within (Some walk) opened shortest =
@@ -41,12 +45,24 @@ module _ (layers : List Layer) (p q : ℕ) where
       (all_within (length (history_of layers)) walk.items
       (walk_within (history_of layers) (numbers_of walk.items) shortest.between.is_walk))
 
-  pub walk_of_ids : (walk : Option (Vec Position Global))
+  walk_of_ids : (walk : Option (Vec Position Global))
       → IfSome walk (λ w. IsShortestWalk (history_of layers) p q (numbers_of w.items))
       → IfNone walk (¬ Reaches (history_of layers) p q)
       → IsWalkOfIds layers p q (option_map (λ w. map (λ (pos : Position). id_in layers pos.0) w.items) walk)
   walk_of_ids None shortest none = none
   walk_of_ids (Some walk) shortest none = (numbers_of walk.items, shortest, ids_of layers walk.items)
+
+-- the answer to the query between the positions where two ids are found
+pub known_walk : (layers : List Layer) (p q : ℕ) (a b : List ℕ) (reached : Reached)
+    → Some p ≡ scan (graph_ids layers) a → Some q ≡ scan (graph_ids layers) b → IsAnswer (history_of layers) p q reached
+    → MayFind IsWalkOfIds layers a b (with_ids layers (Known reached.walk))
+known_walk layers p q a b reached first second answer =
+    (p, q, sym first, sym second, walk_of_ids layers p q reached.walk answer.walk answer.none)
+
+-- its positions are those of commits
+pub known_within : (layers : List Layer) (p q : ℕ) (reached : Reached) → All IsOpened layers
+    → IsAnswer (history_of layers) p q reached → AreWithin layers (Known reached.walk)
+known_within layers p q reached opened answer = are_within layers p q reached.walk opened answer.walk
 
 pub ids_text : (layers : List Layer) (found : Answer (Option (Vec Position Global))) (walk : Vec Position Global)
     → found ≡ Known (Some walk)

@@ -1,18 +1,21 @@
 //! The commands, over a folder and a writer.
 
 ghost use Rattle.std.specs.Prelude.{◌≡◌, IfErr, IfOk};
+ghost use Rattle.gix_hash_core.specs.Oid.{oid_bytes};
 ghost use Rattle.graph_commands.specs.Answer.{WritesAnswer};
 ghost use Rattle.graph_commands.specs.Opening.{MayOpen};
 ghost use Rattle.history_commands.specs.Answer.{MayAnswer, MayFind};
 ghost use Rattle.history_commands.specs.IsAncestor.{IsTold, told_status, told_word};
 ghost use Rattle.history_commands.specs.IsAncestor.{is_ancestor_text, is_ancestor_status};
 
-use crate::question::{Answer, Question, ask};
+use crate::question::{Answer, ask};
 pub use crate::walk::run_walk;
+use gix_hash_core::oid;
 use graph_commands::line::write_line;
 use graph_commands::refusal::Refusal;
 use graph_commands::run::{WriteFailed, refuse};
 use graph_folder::folder::Folder;
+use graph_history::Checked;
 use std::alloc::Global;
 use std::io::Write;
 
@@ -67,27 +70,31 @@ fn is_ancestor<T: Folder>(
     ensures tree { T.tree folder.new ≡ T.tree folder.old }
 {
     let question = ask(alloc, folder, path, first, second)?;
-    question.is_ancestor(alloc)
+    let (first, second) = (question.first.as_oid(), question.second.as_oid());
+    told_in(alloc, &question.graph.as_checked(), first, second)
 }
 
-impl Question {
-    /// Whether the first commit is an ancestor of the second, or the same. The error is `Walk`,
-    /// where an allocation failed.
-    fn is_ancestor(&self, alloc: Global) -> Result<Answer<bool>, Refusal>
-        ensures found { IfOk result (MayFind IsTold self.now.graph self.now.first self.now.second) }
-        ensures refused { IfErr result (λ refusal. refusal ≡ Refusal.Walk) }
-    {
-        let checked = self.graph.as_checked();
-        let Some(first) = checked.find(self.first.as_oid()) else {
-            return Ok(Answer::FirstUnknown);
-        };
-        let Some(second) = checked.find(self.second.as_oid()) else {
-            return Ok(Answer::SecondUnknown);
-        };
-        match checked.is_ancestor(alloc, second, first) {
-            Ok(found) => Ok(Answer::Known(found)),
-            Err(_) => Err(Refusal::Walk),
-        }
+/// Whether the commit with the first id is an ancestor of the one with the second, or the same, in
+/// a graph that was checked. The error is `Walk`, where an allocation failed.
+fn told_in(
+    alloc: Global,
+    graph: &Checked<'_>,
+    first: oid<'_>,
+    second: oid<'_>,
+) -> Result<Answer<bool>, Refusal>
+    ensures found { IfOk result (MayFind IsTold
+        graph.now (oid_bytes first.entry) (oid_bytes second.entry)) }
+    ensures refused { IfErr result (λ refusal. refusal ≡ Refusal.Walk) }
+{
+    let Some(first) = graph.find(first) else {
+        return Ok(Answer::FirstUnknown);
+    };
+    let Some(second) = graph.find(second) else {
+        return Ok(Answer::SecondUnknown);
+    };
+    match graph.is_ancestor(alloc, second, first) {
+        Ok(told) => Ok(Answer::Known(told)),
+        Err(_) => Err(Refusal::Walk),
     }
 }
 

@@ -3,6 +3,7 @@
 ghost use Rattle.std.specs.Prelude.{◌≡◌, ◌<◌, [], All, IfErr, IfOk, OnOk, Ok};
 ghost use Rattle.std.specs.Io.KnownBytes.{Appends};
 ghost use Rattle.std.specs.List.{flat_map};
+ghost use Rattle.gix_hash_core.specs.Oid.{oid_bytes};
 ghost use Rattle.gix_commitgraph.specs.Graph.{IsGraph, total};
 ghost use Rattle.graph_commands.specs.Answer.{WritesAnswer};
 ghost use Rattle.graph_commands.specs.Block.{with_block};
@@ -14,6 +15,7 @@ ghost use Rattle.history_commands.specs.Walk.{walk_text, walk_status};
 
 use crate::question::{Answer, Question, ask};
 use gix_commitgraph::Position;
+use gix_hash_core::oid;
 use graph_commands::block::Block;
 use graph_commands::line::write_line;
 use graph_commands::refusal::Refusal;
@@ -86,34 +88,38 @@ fn prepare<T: Folder>(
     ensures tree { T.tree folder.new ≡ T.tree folder.old }
 {
     let question = ask(alloc, folder, path, first, second)?;
-    let found = question.walk(alloc)?;
+    let (first, second) = (question.first.as_oid(), question.second.as_oid());
+    let found = walk_in(alloc, &question.graph.as_checked(), first, second)?;
     match Block::new(alloc) {
         Ok(block) => Ok((question, found, block)),
         Err(_) => Err(Refusal::Walk),
     }
 }
 
-impl Question {
-    /// A shortest walk along parents from the first commit to the second. The error is `Walk`,
-    /// where an allocation failed.
-    fn walk(&self, alloc: Global) -> Result<Found, Refusal>
-        requires { IsGraph self.now.graph }
-        ensures found { IfOk result (λ found. MayFind IsWalkOfIds
-            self.now.graph self.now.first self.now.second (with_ids self.now.graph found)) }
-        ensures within { IfOk result (AreWithin self.now.graph) }
-        ensures refused { IfErr result (λ refusal. refusal ≡ Refusal.Walk) }
-    {
-        let checked = self.graph.as_checked();
-        let Some(first) = checked.find(self.first.as_oid()) else {
-            return Ok(Answer::FirstUnknown);
-        };
-        let Some(second) = checked.find(self.second.as_oid()) else {
-            return Ok(Answer::SecondUnknown);
-        };
-        match checked.ancestor_walk(alloc, first, second) {
-            Ok(reached) => Ok(Answer::Known(reached.walk)),
-            Err(_) => Err(Refusal::Walk),
-        }
+/// A shortest walk along parents from the commit with the first id to the one with the second, in a
+/// graph that was checked. The error is `Walk`, where an allocation failed.
+#[tactic(auto, using(crate::proofs::WalkLemmas::known_walk, crate::proofs::WalkLemmas::known_within))]
+fn walk_in(
+    alloc: Global,
+    graph: &Checked<'_>,
+    first: oid<'_>,
+    second: oid<'_>,
+) -> Result<Found, Refusal>
+    requires { IsGraph graph.now }
+    ensures found { IfOk result (λ found. MayFind IsWalkOfIds
+        graph.now (oid_bytes first.entry) (oid_bytes second.entry) (with_ids graph.now found)) }
+    ensures within { IfOk result (AreWithin graph.now) }
+    ensures refused { IfErr result (λ refusal. refusal ≡ Refusal.Walk) }
+{
+    let Some(first) = graph.find(first) else {
+        return Ok(Answer::FirstUnknown);
+    };
+    let Some(second) = graph.find(second) else {
+        return Ok(Answer::SecondUnknown);
+    };
+    match graph.ancestor_walk(alloc, first, second) {
+        Ok(reached) => Ok(Answer::Known(reached.walk)),
+        Err(_) => Err(Refusal::Walk),
     }
 }
 
