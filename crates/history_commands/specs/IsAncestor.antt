@@ -9,8 +9,8 @@ use Rattle.graph_commands.specs.declared.refusal.Refusal.{Refusal}
 use Rattle.history_commands.specs.declared.question.Answer.{Answer}
 use Rattle.history_commands.specs.declared.question.Answer.TheVariants.{FirstUnknown, SecondUnknown, Known}
 
--- it is told whether the first commit is an ancestor of the second, or the same: whether a walk along parents leads from the
--- second to the first
+-- it is told whether the first commit is an ancestor of the second, or the same, as `git merge-base --is-ancestor` tells it:
+-- whether a walk along parents leads from the second to the first
 abbrev pub IsTold : List Layer → ℕ → ℕ → Bool → Type 0
 IsTold layers first second told = IsTrue told ↔ Reaches (history_of layers) second first
 

@@ -53,8 +53,7 @@ abbrev pub walk_status : Result (Answer (Option (List (List ℕ)))) Refusal → 
 walk_status (Ok answer) = found_status answer
 walk_status (Err refusal) = refusal_status refusal
 
--- For private contracts: what is found by positions.
--- the same by ids
+-- For private contracts, where a walk is one of positions: what is found, with the ids in their place
 abbrev pub with_ids : List Layer → Answer (Option (Vec Position Global)) → Answer (Option (List (List ℕ)))
 with_ids layers FirstUnknown = FirstUnknown
 with_ids layers SecondUnknown = SecondUnknown

@@ -137,7 +137,7 @@ fn commit(
     })
 }
 
-/// The bytes of a file that holds the plan, or none where no file can.
+/// The bytes of a file that holds the plan, or no bytes where no file can.
 fn file_of(alloc: Global, plan: &LayerPlan) -> Result<Vec<u8>, AllocError> {
     if plan.is_buildable() {
         build(alloc, plan)
