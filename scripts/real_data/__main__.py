@@ -1,6 +1,6 @@
-"""Checks `graphtool` on real data: commit-graphs that the installed Git writes, and damaged ones.
+"""Checks `graphtool` and `historytool` on real data: commit-graphs that the installed Git writes, and damaged ones.
 
-usage: python3 scripts/real_data PROGRAM [every-value]
+usage: python3 scripts/real_data GRAPHTOOL HISTORYTOOL [every-value]
 
 - `list`: the listing of each layer, and the refusal of damaged ones.
 - `verify`: what it counts in each file and chain, and what it finds wrong with damaged ones, beside
@@ -9,6 +9,7 @@ usage: python3 scripts/real_data PROGRAM [every-value]
 - `find`: where each commit stands, in files and chains that are named in every way.
 - `ancestor`: a shortest walk between each pair of commits, or that there is none, as
   `git merge-base --is-ancestor` says, and how many commits were visited.
+- `is-ancestor` and `walk`: the same pairs and damaged folders, by ids.
 - `distinct`: the words of `verify`, and an id that was put into two layers or more, next to one another
   and far apart.
 - each byte of three small files, changed to some other values, or with `every-value` to all of them, beside
@@ -33,21 +34,24 @@ from checks import (
     distinct_checks,
     list_checks,
     path_checks,
+    question_checks,
     surroundings_checks,
     sweep_checks,
     verify_checks,
     word_checks,
 )
-from checks.program import Program
+from checks.program import HistoryProgram, Program
 from expected.differences import Differences
 from histories.repository import ID_LENGTH, Repository
 from tally import Tally
 
 
-def main(path, every_value=False):
-    """Runs all checks on the program at a path, and answers the exit status."""
-    program, tally, differences = Program(os.path.abspath(path)), Tally(), Differences()
+def main(path, history_path, every_value=False):
+    """Runs all checks on the two programs at these paths, and answers the exit status."""
+    program, histories = programs = Program(os.path.abspath(path)), HistoryProgram(os.path.abspath(history_path))
+    tally, differences = Tally(), Differences()
     word_checks.check_all(program, tally)
+    question_checks.check_all(histories, tally)
     surroundings_checks.check_all(program, tally)
     sweep_checks.check_all(program, tally, every_value)
     with tempfile.TemporaryDirectory() as folder:
@@ -56,9 +60,9 @@ def main(path, every_value=False):
             list_checks.check_all(program, tally, new)
             verify_checks.check_all(program, tally, new, differences)
             path_checks.check_all(program, tally, new, differences)
-            ancestor_checks.check_all(program, tally, new)
+            ancestor_checks.check_all(programs, tally, new)
             distinct_checks.check_all(program, tally, new, differences)
-            disk_checks.check_all(program, tally, new, differences)
+            disk_checks.check_all(programs, tally, new, differences)
     differences.check(tally)
     return tally.finish()
 
@@ -69,6 +73,6 @@ def new_repository(folder, object_format, name):
 
 
 if __name__ == "__main__":
-    if sys.argv[2:] not in ([], ["every-value"]) or len(sys.argv) < 2:
+    if sys.argv[3:] not in ([], ["every-value"]) or len(sys.argv) < 3:
         sys.exit(__doc__)
-    sys.exit(main(sys.argv[1], every_value=len(sys.argv) == 3))
+    sys.exit(main(sys.argv[1], sys.argv[2], every_value=len(sys.argv) == 4))

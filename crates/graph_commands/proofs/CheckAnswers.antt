@@ -1,5 +1,5 @@
 -- From what the check of a graph answers, and what is written of it, to the answers of `verify` and of `distinct`.
-use Rattle.std.proofs.Common.{◌≡◌, ℕ, List, Some, refl, inl, inr, false, true, ◌⊎◌}
+use Rattle.std.proofs.Common.{◌≡◌, ℕ, List, refl, inl, inr, false, true}
 use Rattle.std.specs.Prelude.{Option, Result, Ok, Err, IfOk, IfErr, MatchResult}
 use Rattle.std.specs.BTreeMap.{IsOrdered}
 use Rattle.std.specs.Io.KnownBytes.{Appends}

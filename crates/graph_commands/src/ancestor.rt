@@ -1,6 +1,6 @@
 //! The command `ancestor`, and the lines that it writes. Writing them allocates nothing.
 
-ghost use Rattle.std.specs.Prelude.{◌≡◌, ◌++◌, IfOk, OnOk, codes};
+ghost use Rattle.std.specs.Prelude.{◌≡◌, ◌++◌, [], IfErr, IfOk, Ok, OnOk, Err, codes};
 ghost use Rattle.std.specs.Io.KnownBytes.{Appends};
 ghost use Rattle.std.specs.List.{flat_map};
 ghost use Rattle.gix_hash_core.specs.Oid.{oid_bytes};
@@ -8,9 +8,11 @@ ghost use Rattle.graph_commands.specs.Ancestor.{MayAnswerIn, MayRelate, ancestor
 ghost use Rattle.graph_commands.specs.Ancestor.{ancestor_status, ancestry_text, ancestry_status};
 ghost use Rattle.graph_commands.specs.Ancestor.{step_text, walk_line, visits_line};
 ghost use Rattle.graph_commands.specs.Answer.{WritesAnswer};
+ghost use Rattle.graph_commands.specs.Block.{with_block};
 ghost use Rattle.graph_commands.specs.Opening.{MayOpen};
 ghost use Rattle.graph_commands.specs.Text.{newline};
 
+use crate::block::Block;
 use crate::line::write_line;
 use crate::refusal::Refusal;
 use crate::run::{WriteFailed, refuse};
@@ -51,12 +53,41 @@ pub fn run_ancestor<T: Folder, W: Write>(
         (W.contents writer.old) (W.contents writer.new)) }
     ensures tree { T.tree folder.new ≡ T.tree folder.old }
 {
-    match ancestor(alloc, folder, path, first, second) {
-        Ok(ancestry) => {
-            write_ancestry(writer, &ancestry)?;
+    match prepare(alloc, folder, path, first, second) {
+        Ok((ancestry, mut block)) => {
+            write_ancestry(&mut block, writer, &ancestry)?;
             Ok(ancestry.status())
         }
         Err(refusal) => refuse(writer, &refusal),
+    }
+}
+
+/// The answer to the query, and a block to write a walk with. All that the lines need memory for is
+/// there before the first write.
+fn prepare<T: Folder>(
+    alloc: Global,
+    folder: &mut T,
+    path: &str,
+    first: &str,
+    second: &str,
+) -> Result<(Ancestry, Block), Refusal>
+    ensures answer { IfOk result (λ prepared. MayRelate first.now second.now
+        (folder.new ≡ folder.old)
+        (MayOpen (T.tree folder.old) path.now (T.failure_count folder.old)
+        (T.failure_count folder.new))
+        (Ok prepared.0)) }
+    ensures block { IfOk result (λ prepared. prepared.1 ≡ []) }
+    ensures refused { IfErr result (λ refusal. MayRelate first.now second.now
+        (folder.new ≡ folder.old)
+        (MayOpen (T.tree folder.old) path.now (T.failure_count folder.old)
+        (T.failure_count folder.new))
+        (Err refusal)) }
+    ensures tree { T.tree folder.new ≡ T.tree folder.old }
+{
+    let ancestry = ancestor(alloc, folder, path, first, second)?;
+    match Block::new(alloc) {
+        Ok(block) => Ok((ancestry, block)),
+        Err(_) => Err(Refusal::Walk),
     }
 }
 
@@ -125,25 +156,35 @@ impl Ancestry {
     }
 }
 
-/// Writes what a query found.
-fn write_ancestry<W: Write>(writer: &mut W, ancestry: &Ancestry) -> Result<(), WriteFailed>
+/// Writes what a query found. A walk goes through a block, which is empty before.
+fn write_ancestry<W: Write>(
+    block: &mut Block,
+    writer: &mut W,
+    ancestry: &Ancestry,
+) -> Result<(), WriteFailed>
+    requires { block.old ≡ [] }
     ensures { OnOk result (Appends (W.contents writer.old) (W.contents writer.new)
         (ancestry_text ancestry.now)) }
 {
     match ancestry {
         Ancestry::FirstUnknown => write_line(writer, "unknown 1"),
         Ancestry::SecondUnknown => write_line(writer, "unknown 2"),
-        Ancestry::Known(reached) => write_reached(writer, reached),
+        Ancestry::Known(reached) => write_reached(block, writer, reached),
     }
 }
 
 /// Writes the line of the walk, and how many commits were visited.
-fn write_reached<W: Write>(writer: &mut W, reached: &Reached) -> Result<(), WriteFailed>
+fn write_reached<W: Write>(
+    block: &mut Block,
+    writer: &mut W,
+    reached: &Reached,
+) -> Result<(), WriteFailed>
+    requires { block.old ≡ [] }
     ensures { OnOk result (Appends (W.contents writer.old) (W.contents writer.new)
         (walk_line reached.now.walk ++ visits_line reached.now.visits)) }
 {
     match &reached.walk {
-        Some(walk) => write_walk(writer, walk)?,
+        Some(walk) => write_walk(block, writer, walk)?,
         None => write_line(writer, "none")?,
     }
     let visits = reached.visits;
@@ -151,14 +192,20 @@ fn write_reached<W: Write>(writer: &mut W, reached: &Reached) -> Result<(), Writ
 }
 
 /// Writes the positions of a walk.
-fn write_walk<W: Write>(writer: &mut W, walk: &[Position]) -> Result<(), WriteFailed>
+fn write_walk<W: Write>(
+    block: &mut Block,
+    writer: &mut W,
+    walk: &[Position],
+) -> Result<(), WriteFailed>
+    requires { block.old ≡ [] }
     ensures { OnOk result (Appends (W.contents writer.old) (W.contents writer.new)
         (codes "walk" ++ flat_map step_text walk.now ++ newline)) }
 {
-    write!(writer, "walk")?;
+    block.push_text(writer, "walk")?;
     for Position(position) in walk {
-        write!(writer, " {position}")?;
+        block.push_byte(writer, b' ')?;
+        block.push_decimal(writer, *position as u64)?;
     }
-    writeln!(writer)?;
-    Ok(())
+    block.push_byte(writer, b'\n')?;
+    block.write_out(writer)
 }

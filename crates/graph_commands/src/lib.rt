@@ -2,11 +2,11 @@
 //!
 //! [`run`] has the commands: the contract of each says what it may write, and with which exit
 //! status. [`refusal`] has the line that says why a command was refused, [`report`] the lines of
-//! what a check and a search found, and [`line`] writes a line whole.
+//! what a check and a search found, [`line`] writes a line whole, and [`block`] gathers many lines.
 #![tactic(auto)]
 
 mod ancestor;
-mod block;
+pub mod block;
 mod bytes;
 pub mod line;
 mod listing;

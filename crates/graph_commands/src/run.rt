@@ -215,8 +215,9 @@ fn found_in(graph: &Graph, id: oid<'_>) -> Option<Found>
     })
 }
 
-/// Writes the line of a refusal, and answers its exit status.
-pub(crate) fn refuse<W: Write>(writer: &mut W, refusal: &Refusal) -> Result<u8, WriteFailed>
+/// Writes the line of a refusal, and answers its exit status. `WriteFailed` comes where the writer
+/// fails.
+pub fn refuse<W: Write>(writer: &mut W, refusal: &Refusal) -> Result<u8, WriteFailed>
     ensures { IfOk result
         (WritesRefusal refusal.now (W.contents writer.old) (W.contents writer.new)) }
 {

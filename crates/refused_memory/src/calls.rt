@@ -9,6 +9,7 @@ use graph_commands::run::{run_ancestor, run_distinct, run_find, run_list, run_ve
 use graph_folder::folder::{Folder, Memory};
 use graph_history::Checked;
 use graph_vectors::build;
+use history_commands::run::{run_is_ancestor, run_walk};
 use std::alloc::Global;
 use std::convert::Infallible;
 use std::io::Write;
@@ -34,12 +35,7 @@ pub fn call(rt: &HostRuntime, alloc: Global, name: &[u8], stage: &mut Stage) -> 
         b"verify_integrity_with" => verify_integrity(rt, alloc, true, &stage.line),
         b"put_file" | b"put_dir" => put(rt, alloc, name, stage),
         b"ancestor_walk" | b"is_ancestor" => query(rt, alloc, name, &stage.line),
-        b"run_list"
-        | b"run_verify"
-        | b"run_verify_info"
-        | b"run_distinct"
-        | b"run_find"
-        | b"run_ancestor" => { run(rt, alloc, name, stage) }
+        _ if name.starts_with(b"run_") => run(rt, alloc, name, stage),
         _ => open(rt, alloc, name, stage),
     }
 }
@@ -148,7 +144,9 @@ fn run(rt: &HostRuntime, alloc: Global, name: &[u8], stage: &mut Stage) -> io::R
         b"run_verify_info" => run_verify(alloc, memory, "info", out),
         b"run_distinct" => run_distinct(alloc, memory, "chain", out),
         b"run_find" => run_find(alloc, memory, "chain", SECOND, out),
-        _ => run_ancestor(alloc, memory, "chain", SECOND, FIRST, out),
+        b"run_ancestor" => run_ancestor(alloc, memory, "chain", SECOND, FIRST, out),
+        b"run_is_ancestor" => run_is_ancestor(alloc, memory, "chain", FIRST, SECOND, out),
+        _ => run_walk(alloc, memory, "chain", SECOND, FIRST, out),
     };
     println!(rt; "{answer:?}")?;
     io::writer(rt).write_all(out)

@@ -1,4 +1,5 @@
-"""Checks `ancestor`: each pair of commits, in a file and in a chain, beside `git merge-base --is-ancestor`.
+"""Checks `ancestor`, and `is-ancestor` and `walk`: each pair of commits, in a file and in a chain, beside
+`git merge-base --is-ancestor`.
 
 And the two cases in which the answers differ: an id in two layers, and commits whose parents Git replaces.
 """
@@ -15,27 +16,29 @@ from histories import shapes
 UNKNOWN = "1" * 40
 
 
-def check_all(program, tally, new):
-    """The checks of walks to ancestors; a new repository comes from a function of its name."""
-    check_file(program, tally, new("ancestors in a file"))
-    check_chain(program, tally, new("ancestors in a chain"))
-    check_id_in_two_layers(program, tally, new("ancestors by an id in two layers"))
-    check_replaced_parents(program, tally, new("ancestors by replaced parents"))
+def check_all(programs, tally, new):
+    """The checks of walks to ancestors by both programs; a new repository comes from a function of its name."""
+    check_file(programs, tally, new("ancestors in a file"))
+    check_chain(programs, tally, new("ancestors in a chain"))
+    check_id_in_two_layers(programs, tally, new("ancestors by an id in two layers"))
+    check_replaced_parents(programs, tally, new("ancestors by replaced parents"))
 
 
-def check_file(program, tally, repository):
+def check_file(programs, tally, repository):
     """All pairs of commits of merges, in a single file; and ids that are not in it."""
     repository.add(shapes.diamonds(10))
     repository.write_graph()
     words = repository.words()
-    check_pairs(program, tally, repository, "merges", Walks(words, [list(words)]))
+    check_pairs(programs, tally, repository, "merges", Walks(words, [list(words)]))
     known, path = min(words), repository.graph_path()
+    commands = {"ancestor": programs[0].ancestor, "is-ancestor": programs[1].is_ancestor, "walk": programs[1].walk}
     for name, pair, number in (("first", (UNKNOWN, known), 1), ("second", (known, UNKNOWN), 2), ("both", (UNKNOWN,) * 2, 1)):
-        complaint = judge.exactly(1, "unknown %d\n" % number, "", program.ancestor(path, *pair))
-        tally.check("%s, ancestor, an id that is not there: %s" % (repository.object_format, name), complaint)
+        for command, run in commands.items():
+            complaint = judge.exactly(1, "unknown %d\n" % number, "", run(path, *pair))
+            tally.check("%s, %s, an id that is not there: %s" % (repository.object_format, command, name), complaint)
 
 
-def check_chain(program, tally, repository):
+def check_chain(programs, tally, repository):
     """All pairs of commits of a tangled history, in a chain of three layers."""
     history, size = shapes.tangled(36, seed=8), 12
     ids = []
@@ -43,29 +46,34 @@ def check_chain(program, tally, repository):
         ids += repository.add(history[: start + size], start)[start:]
         repository.write_graph("--split=no-merge")
     layers = [ids[start : start + size] for start in range(0, len(ids), size)]
-    check_pairs(program, tally, repository, "a tangled chain", Walks(repository.words(), layers))
+    check_pairs(programs, tally, repository, "a tangled chain", Walks(repository.words(), layers))
 
 
-def check_pairs(program, tally, repository, name, walks):
+def check_pairs(programs, tally, repository, name, walks):
     """What is said of each pair of commits."""
+    program, histories = programs
     path = repository.info_path()
 
     def answer(pair):
-        return repository.reaches(*pair), program.ancestor(path, *pair)
+        questions = (histories.is_ancestor(path, *reversed(pair)), histories.walk(path, *pair))
+        return repository.reaches(*pair), program.ancestor(path, *pair), *questions
 
     def complaint(pair, answers):
-        return walks.judge(*pair, *answers)
+        reached, ancestor, is_ancestor, walk = answers
+        told = judge.exactly(*((0, "yes\n") if reached else (1, "no\n")), "", is_ancestor)
+        return walks.judge(*pair, reached, ancestor) or told or walks.judge_ids(*pair, reached, walk)
 
     pairs = list(itertools.product(walks.words, repeat=2))
     runs = [(lambda pair=pair: answer(pair), lambda answers, pair=pair: complaint(pair, answers)) for pair in pairs]
-    check_runs(tally, "%s, ancestor, each pair of %s" % (repository.object_format, name), runs)
+    check_runs(tally, "%s, ancestor, is-ancestor and walk, each pair of %s" % (repository.object_format, name), runs)
 
 
-def check_id_in_two_layers(program, tally, repository):
+def check_id_in_two_layers(programs, tally, repository):
     """Three commits in a line, the second of them in both layers of a chain, and the third on its later position.
 
     `verify` and Git pass the chain. An id is looked up at its first position, to which no walk leads here.
     """
+    program, histories = programs
     root, middle, tip = ids = repository.add(shapes.linear(3))
     trees.lay_out(repository.info_path(), with_middle_in_both(repository, ids))
     position = sorted([root, middle]).index(middle)
@@ -79,8 +87,12 @@ def check_id_in_two_layers(program, tally, repository):
     tally.check(title + ", the tip reaches it, as Git says", complaint_of(True, repository.reaches(tip, middle)))
     nothing = judge.exactly(1, "none\nvisits 2\n", "", program.ancestor(path, tip, middle))
     tally.check(title + ", no walk to its first position", nothing)
+    told = judge.exactly(1, "no\n", "", histories.is_ancestor(path, middle, tip))
+    tally.check(title + ", told of its first position", told)
     walk = "walk %d %d %d\nvisits 3\n" % (5 - later, later, 1 - position)
     tally.check(title + ", a walk by its later one", judge.exactly(0, walk, "", program.ancestor(path, tip, root)))
+    ids = "%s\n%s\n%s\n" % (tip, middle, root)
+    tally.check(title + ", the ids on that walk", judge.exactly(0, ids, "", histories.walk(path, tip, root)))
 
 
 def with_middle_in_both(repository, ids):
@@ -103,11 +115,12 @@ def with_middle_in_both(repository, ids):
     return trees.chain([lower, trees.Layer("", content).renamed(kind)])
 
 
-def check_replaced_parents(program, tally, repository):
+def check_replaced_parents(programs, tally, repository):
     """A tip that `git replace --graft` takes off its parent, and puts on a root that is none of its ancestors.
 
     The commit-graph has the parents that stand in the commits, and so has Git where it replaces none.
     """
+    program, histories = programs
     root, tip, other = repository.add(shapes.ticking([[], [0], []]))
     repository.write_graph()
     place, path = sorted([root, tip, other]).index, repository.graph_path()
@@ -122,6 +135,8 @@ def check_replaced_parents(program, tally, repository):
             title = "%s, a tip %s, ancestor %d" % (repository.object_format, name, place(second))
             tally.check(title + ", as Git says", complaint_of(second == reached, repository.reaches(tip, second)))
             tally.check(title, judge.exactly(status, text, "", program.ancestor(path, tip, second)))
+            told = judge.exactly(status, "no\n" if status else "yes\n", "", histories.is_ancestor(path, second, tip))
+            tally.check(title + ", told", told)
 
 
 def complaint_of(expected, seen):

@@ -1,4 +1,4 @@
-"""Runs of `distinct` and `ancestor` beside one of `verify`: both check a graph before all else."""
+"""Runs of `distinct`, `ancestor`, `is-ancestor` and `walk` beside one of `verify`: all check a graph before all else."""
 
 import re
 
@@ -21,6 +21,19 @@ def complaint(program, path, verified):
         return "distinct: status %s and %r, beside %r" % (distinct.status, distinct.out[:60], verified.out[:60])
     if ancestor != unknown:
         return "ancestor: status %s and %r, beside %r" % (ancestor.status, ancestor.out[:60], verified.out[:60])
+    return None
+
+
+def complaint_of_questions(histories, path, verified):
+    """None where `is-ancestor` and `walk` of a path refuse what `verify` refused, or else a complaint.
+
+    Of a graph that passes they say, as `ancestor` does, that an id which is nowhere is unknown.
+    """
+    unknown = verified._replace(status=1, out=b"unknown 1\n") if verified.status == 0 else verified
+    for name, run in (("is-ancestor", histories.is_ancestor), ("walk", histories.walk)):
+        answer = run(path, UNKNOWN, UNKNOWN)
+        if answer != unknown:
+            return "%s: status %s and %r, beside %r" % (name, answer.status, answer.out[:60], verified.out[:60])
     return None
 
 

@@ -1,4 +1,4 @@
-"""Checks folders in which something is wrong: `verify` and `find` refuse the whole of them."""
+"""Checks folders in which something is wrong: each command of both programs refuses the whole of them."""
 
 import os
 from functools import partial
@@ -16,12 +16,13 @@ LAYER_SIZE = 5
 """The number of commits in each layer of the chain that is damaged."""
 
 
-def check_all(program, tally, new, differences):
+def check_all(programs, tally, new, differences):
     """The checks of damaged folders; a new repository comes from a function of its name."""
+    program = programs[0]
     repository = new("wrong folders")
     right = right_chain(repository)
     for case in all_wrong(right):
-        check_tree(program, tally, repository, case, differences)
+        check_tree(programs, tally, repository, case, differences)
     trees.lay_out(repository.info_path(), right.tree)
     check_missing(program, tally, repository)
     check_unreadable(program, tally, repository, right)
@@ -50,8 +51,9 @@ def write_chain(repository, tips):
     return [trees.Layer(checksum, content) for checksum, content in repository.chain()]
 
 
-def check_tree(program, tally, repository, case, differences):
+def check_tree(programs, tally, repository, case, differences):
     """What is said of a folder `info`, and of its folder of layers where no file stands beside it."""
+    program, histories = programs
     info = repository.info_path()
     trees.lay_out(info, case.tree)
     paths = [info] if trees.FILE in case.tree or not case.tree else [info, os.path.join(info, trees.GRAPHS)]
@@ -63,7 +65,8 @@ def check_tree(program, tally, repository, case, differences):
     title = "%s, %s, verified and found" % (repository.object_format, case.name)
     tally.check(title, next(filter(None, complaints), None))
     complaints = [beside.complaint(program, path, answer) for path, answer in zip(paths, answers)]
-    title = "%s, %s, distinct and ancestor" % (repository.object_format, case.name)
+    complaints += [beside.complaint_of_questions(histories, path, answer) for path, answer in zip(paths, answers)]
+    title = "%s, %s, distinct, ancestor, is-ancestor and walk" % (repository.object_format, case.name)
     tally.check(title, next(filter(None, complaints), None))
     differences.compare(case.listed_as or case.name, answers[0], repository.git_verdict())
 

@@ -1,4 +1,4 @@
-"""Runs of the program under test."""
+"""Runs of the programs under test."""
 
 import subprocess
 from typing import NamedTuple, Optional
@@ -20,8 +20,8 @@ class Answer(NamedTuple):
 HUNG = Answer(None, b"", b"")
 
 
-class Program:
-    """The program in the file at a path."""
+class AnyProgram:
+    """A program in the file at a path."""
 
     def __init__(self, path):
         self.path = path
@@ -38,6 +38,10 @@ class Program:
             self.hangs += 1
             return HUNG
         return Answer(run.returncode, run.stdout or b"", run.stderr)
+
+
+class Program(AnyProgram):
+    """The program `graphtool`."""
 
     def list(self, layer):
         """The answer to `list` with these bytes on standard input."""
@@ -58,3 +62,15 @@ class Program:
     def ancestor(self, path, first, second, **streams):
         """The answer to `ancestor` of two ids at a path."""
         return self.run("ancestor", path, first, second, stdin=subprocess.DEVNULL, **streams)
+
+
+class HistoryProgram(AnyProgram):
+    """The program `historytool`."""
+
+    def is_ancestor(self, path, first, second, **streams):
+        """The answer to `is-ancestor` of two ids at a path."""
+        return self.run("is-ancestor", path, first, second, stdin=subprocess.DEVNULL, **streams)
+
+    def walk(self, path, first, second, **streams):
+        """The answer to `walk` of two ids at a path."""
+        return self.run("walk", path, first, second, stdin=subprocess.DEVNULL, **streams)

@@ -1,4 +1,4 @@
-"""What `ancestor` has to say of a walk along parents, made from Git's own words alone."""
+"""What `ancestor` and `walk` have to say of a walk along parents, made from Git's own words alone."""
 
 import re
 from collections import deque
@@ -27,7 +27,8 @@ class Walks:
         steps = self.steps(first)
         if reached != (second in steps):
             return "Git says %s, and its own parents say otherwise" % reached
-        walk = [int(pos) for pos in match.group(1).split()] if match.group(1) else []
+        commit_at = {place: commit for commit, place in self.place.items()}
+        walk = [commit_at.get(int(pos)) for pos in match.group(1).split()] if match.group(1) else []
         complaint = self.no_walk(walk, first, second, steps[second] + 1) if reached else walk and "a walk %s" % walk
         level = self.generation[second]
         at_or_above = sum(self.generation[commit] >= level for commit in steps)
@@ -36,6 +37,15 @@ class Walks:
         visits = int(match.group(2))
         bounds = None if least <= visits <= at_or_above else "%d visits, not %d to %d" % (visits, least, at_or_above)
         return complaint or bounds
+
+    def judge_ids(self, first, second, reached, answer):
+        """The answer is the ids on a shortest walk, where Git says that the first commit reaches the second, or else `none`."""
+        if answer.err or answer.status != (0 if reached else 1) or not answer.out.endswith(b"\n"):
+            return "status %s and %r, where Git says %s" % (answer.status, answer.out[:60], reached)
+        ids = answer.out.decode().splitlines()
+        if reached:
+            return self.no_walk(ids, first, second, self.steps(first)[second] + 1)
+        return None if ids == ["none"] else "a walk %s" % ids
 
     def steps(self, first):
         """How many steps each commit that one reaches is away from it, by a plain search."""
@@ -49,10 +59,9 @@ class Walks:
         return found
 
     def no_walk(self, walk, first, second, length):
-        """A complaint where positions are no walk of this length from the one commit to the other."""
-        commit_at = {place: commit for commit, place in self.place.items()}
-        commits = [commit_at.get(pos) for pos in walk]
-        is_walk = all(later in self.words[commit].parents for commit, later in zip(commits, commits[1:]))
-        if is_walk and commits[0] == first and commits[-1] == second and len(commits) == length:
+        """A complaint where commits are no walk of this length from the one to the other, or None."""
+        parents = [self.words[commit].parents if commit in self.words else () for commit in walk]
+        is_walk = all(later in before for later, before in zip(walk[1:], parents))
+        if is_walk and len(walk) == length and walk[0] == first and walk[-1] == second:
             return None
         return "the walk %s, expected one of %d commits from %s to %s" % (walk, length, first, second)

@@ -1,0 +1,85 @@
+-- From a walk by positions to one by ids.
+use Rattle.std.proofs.Common.{◌≡◌, ℕ, ◌<◌, List, [], ◌∷◌, All, IfNone, IfOk, IfSome, Option, Some, None, Result, Ok, Err, Vec}
+use Rattle.std.proofs.Common.{length, map, refl, ap, sym, subst, ◌∙◌}
+use Rattle.std.specs.Global.{Global}
+use Rattle.std.specs.List.{flat_map}
+use Rattle.std.specs.Option.{option_map}
+use Rattle.std.proofs.lemmas.List.Folds.{flat_map-map}
+use Rattle.std.proofs.lemmas.List.Elements.{All-cons, All-nil}
+use Rattle.graph_walks.specs.History.{Node}
+use Rattle.graph_walks.specs.Walks.{IsWalk, Reaches}
+use Rattle.graph_format.specs.Layer.{Layer, IsOpened}
+use Rattle.graph_format.specs.StoredHistory.{history_of}
+use Rattle.graph_format.specs.Lookup.{scan}
+use Rattle.graph_format.specs.declared.Position.{Position}
+use Rattle.gix_commitgraph.specs.Graph.{graph_ids}
+use Rattle.gix_commitgraph.proofs.HistoryLemmas.{history-counted}
+use Rattle.graph_history.specs.Answer.{IsAnswer, IsShortestWalk, numbers_of}
+use Rattle.graph_history.specs.declared.Reached.{Reached}
+use Rattle.graph_history.proofs.RightGraphLemmas.{all_within}
+use Rattle.graph_commands.specs.Answer.{WritesAnswer, WritesRefusal}
+use Rattle.graph_commands.specs.declared.refusal.Refusal.{Refusal}
+use Rattle.history_commands.specs.Answer.{MayFind}
+use Rattle.history_commands.specs.Walk.{IsWalkOfIds, AreWithin, id_in, id_line, with_ids, found_text, found_status}
+use Rattle.history_commands.specs.Walk.{walk_text, walk_status}
+use Rattle.history_commands.specs.declared.question.Answer.{Answer}
+use Rattle.history_commands.specs.declared.question.Answer.TheVariants.{FirstUnknown, SecondUnknown, Known}
+
+-- each commit of a walk is there
+walk_within : (h : List Node) (walk : List ℕ) → IsWalk h walk → All (λ p. p < length h) walk
+walk_within h [] w = absurd w
+walk_within h (p ∷ []) w = All-cons (λ (q : ℕ). q < length h) p [] w (All-nil (λ (q : ℕ). q < length h))
+walk_within h (p ∷ q ∷ rest) w = All-cons (λ (k : ℕ). k < length h) p (q ∷ rest) w.0.0 (walk_within h (q ∷ rest) w.1)
+
+ids_of : (layers : List Layer) (steps : List Position)
+    → map (λ (pos : Position). id_in layers pos.0) steps ≡ map (id_in layers) (numbers_of steps)
+ids_of layers [] = refl
+ids_of layers (pos ∷ steps) = ap (λ (rest : List (List ℕ)). id_in layers pos.0 ∷ rest) (ids_of layers steps)
+
+module _ (layers : List Layer) (p q : ℕ) where
+  are_within : (walk : Option (Vec Position Global)) → All IsOpened layers
+      → IfSome walk (λ w. IsShortestWalk (history_of layers) p q (numbers_of w.items)) → AreWithin layers (Known walk)
+  are_within None opened shortest = tt
+  are_within (Some walk) opened shortest =
+      subst (λ (bound : ℕ). All (λ (pos : Position). pos.0 < bound) walk.items) (history-counted layers opened)
+      (all_within (length (history_of layers)) walk.items
+      (walk_within (history_of layers) (numbers_of walk.items) shortest.between.is_walk))
+
+  walk_of_ids : (walk : Option (Vec Position Global))
+      → IfSome walk (λ w. IsShortestWalk (history_of layers) p q (numbers_of w.items))
+      → IfNone walk (¬ Reaches (history_of layers) p q)
+      → IsWalkOfIds layers p q (option_map (λ w. map (λ (pos : Position). id_in layers pos.0) w.items) walk)
+  walk_of_ids None shortest none = none
+  walk_of_ids (Some walk) shortest none = (numbers_of walk.items, shortest, ids_of layers walk.items)
+
+-- the answer to the query between the positions where two ids are found
+pub known_walk : (layers : List Layer) (p q : ℕ) (a b : List ℕ) (reached : Reached)
+    → Some p ≡ scan (graph_ids layers) a → Some q ≡ scan (graph_ids layers) b → IsAnswer (history_of layers) p q reached
+    → MayFind IsWalkOfIds layers a b (with_ids layers (Known reached.walk))
+known_walk layers p q a b reached first second answer =
+    (p, q, sym first, sym second, walk_of_ids layers p q reached.walk answer.walk answer.none)
+
+-- its positions are those of commits
+pub known_within : (layers : List Layer) (p q : ℕ) (reached : Reached) → All IsOpened layers
+    → IsAnswer (history_of layers) p q reached → AreWithin layers (Known reached.walk)
+known_within layers p q reached opened answer = are_within layers p q reached.walk opened answer.walk
+
+pub ids_text : (layers : List Layer) (found : Answer (Option (Vec Position Global))) (walk : Vec Position Global)
+    → found ≡ Known (Some walk)
+    → found_text (with_ids layers found) ≡ flat_map (λ (pos : Position). id_line (id_in layers pos.0)) walk.items
+ids_text layers found walk is =
+    ap (λ (x : Answer (Option (Vec Position Global))). found_text (with_ids layers x)) is
+    ∙ flat_map-map id_line (λ (pos : Position). id_in layers pos.0) walk.items
+
+pub same_status : (layers : List Layer) (found : Answer (Option (Vec Position Global)))
+    → found_status found ≡ found_status (with_ids layers found)
+same_status layers FirstUnknown = refl
+same_status layers SecondUnknown = refl
+same_status layers (Known (Some walk)) = refl
+same_status layers (Known None) = refl
+
+pub writes_refused : {E : Type 0} (May : Result (Answer (Option (List (List ℕ)))) Refusal → Type 0) (refusal : Refusal)
+    (old new : Option (List ℕ)) (result : Result ℕ E) → May (Err refusal) → IfOk result (WritesRefusal refusal old new)
+    → IfOk result (WritesAnswer walk_text walk_status May old new)
+writes_refused May refusal old new (Ok status) may written = (Err refusal, may, written.0, written.1)
+writes_refused May refusal old new (Err error) may written = tt

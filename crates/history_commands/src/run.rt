@@ -1,0 +1,123 @@
+//! The commands, over a folder and a writer.
+
+ghost use Rattle.std.specs.Prelude.{◌≡◌, IfErr, IfOk};
+ghost use Rattle.gix_hash_core.specs.Oid.{oid_bytes};
+ghost use Rattle.graph_commands.specs.Answer.{WritesAnswer};
+ghost use Rattle.graph_commands.specs.Opening.{MayOpen};
+ghost use Rattle.history_commands.specs.Answer.{MayAnswer, MayFind};
+ghost use Rattle.history_commands.specs.IsAncestor.{IsTold, told_status, told_word};
+ghost use Rattle.history_commands.specs.IsAncestor.{is_ancestor_text, is_ancestor_status};
+
+use crate::question::{Answer, ask};
+pub use crate::walk::run_walk;
+use gix_hash_core::oid;
+use graph_commands::line::write_line;
+use graph_commands::refusal::Refusal;
+use graph_commands::run::{WriteFailed, refuse};
+use graph_folder::folder::Folder;
+use graph_history::Checked;
+use std::alloc::Global;
+use std::io::Write;
+
+/// The exit status of a question that is answered with a yes or with a walk.
+const YES: u8 = 0;
+
+/// The exit status of any other answer.
+const NO: u8 = 1;
+
+/// Tells whether the commit with the first id is an ancestor of the one with the second, or the
+/// same, in the graph that the path opens: `yes` or `no`. Both ids are given in hexadecimal digits
+/// of either case. The graph is checked first.
+///
+/// It writes one line: the answer, or which id is not in the graph, or why the question is refused.
+/// A text that is no id opens nothing. The answer is the exit status. `WriteFailed` comes where the
+/// writer fails.
+pub fn run_is_ancestor<T: Folder, W: Write>(
+    alloc: Global,
+    folder: &mut T,
+    path: &str,
+    first: &str,
+    second: &str,
+    writer: &mut W,
+) -> Result<u8, WriteFailed>
+    ensures written { IfOk result (WritesAnswer is_ancestor_text is_ancestor_status
+        (MayAnswer IsTold first.now second.now (folder.new ≡ folder.old)
+        (MayOpen (T.tree folder.old) path.now (T.failure_count folder.old)
+        (T.failure_count folder.new)))
+        (W.contents writer.old) (W.contents writer.new)) }
+    ensures tree { T.tree folder.new ≡ T.tree folder.old }
+{
+    match is_ancestor(alloc, folder, path, first, second) {
+        Ok(answer) => {
+            write_line(writer, answer.word())?;
+            Ok(answer.status())
+        }
+        Err(refusal) => refuse(writer, &refusal),
+    }
+}
+
+/// Whether the commit with the first id is an ancestor of the one with the second, or the same.
+fn is_ancestor<T: Folder>(
+    alloc: Global,
+    folder: &mut T,
+    path: &str,
+    first: &str,
+    second: &str,
+) -> Result<Answer<bool>, Refusal>
+    ensures may { MayAnswer IsTold first.now second.now (folder.new ≡ folder.old)
+        (MayOpen (T.tree folder.old) path.now (T.failure_count folder.old)
+        (T.failure_count folder.new)) result }
+    ensures tree { T.tree folder.new ≡ T.tree folder.old }
+{
+    let question = ask(alloc, folder, path, first, second)?;
+    let (first, second) = (question.first.as_oid(), question.second.as_oid());
+    told_in(alloc, &question.graph.as_checked(), first, second)
+}
+
+/// Whether the commit with the first id is an ancestor of the one with the second, or the same, in
+/// a graph that was checked. The error is `Walk`, where an allocation failed.
+fn told_in(
+    alloc: Global,
+    graph: &Checked<'_>,
+    first: oid<'_>,
+    second: oid<'_>,
+) -> Result<Answer<bool>, Refusal>
+    ensures found { IfOk result (MayFind IsTold
+        graph.now (oid_bytes first.entry) (oid_bytes second.entry)) }
+    ensures refused { IfErr result (λ refusal. refusal ≡ Refusal.Walk) }
+{
+    let Some(first) = graph.find(first) else {
+        return Ok(Answer::FirstUnknown);
+    };
+    let Some(second) = graph.find(second) else {
+        return Ok(Answer::SecondUnknown);
+    };
+    match graph.is_ancestor(alloc, second, first) {
+        Ok(told) => Ok(Answer::Known(told)),
+        Err(_) => Err(Refusal::Walk),
+    }
+}
+
+impl Answer<bool> {
+    /// The text of the line.
+    fn word(&self) -> &'static str
+        ensures { result.now ≡ told_word self.now }
+    {
+        match self {
+            Answer::FirstUnknown => "unknown 1",
+            Answer::SecondUnknown => "unknown 2",
+            Answer::Known(true) => "yes",
+            Answer::Known(false) => "no",
+        }
+    }
+
+    /// The exit status of the command.
+    fn status(&self) -> u8
+        ensures { result ≡ told_status self.now }
+    {
+        match self {
+            Answer::Known(true) => YES,
+            _ => NO,
+        }
+    }
+}

@@ -1,0 +1,172 @@
+//! `historytool`: answers questions about the histories of Git's commit-graphs, by the ids of two
+//! commits.
+//!
+//! The exit status is 0 where the answer is yes or a walk, 1 where it is no, where an id is not
+//! there or where the question was refused, and 2 for other words than a command, for a text that
+//! is no id and for a failed write. Wrong words and a failed write are reported on standard error.
+#![tactic(auto)]
+
+ghost use Rattle.std.specs.Prelude.{◌≡◌, MatchResult};
+
+#[cfg(test)]
+mod tests;
+
+use graph_commands::line::write_line;
+use graph_commands::run::WriteFailed;
+use graph_folder::folder::{Disk, Folder};
+use history_commands::run::{run_is_ancestor, run_walk};
+use std::alloc::Global;
+use std::io::Write;
+use std::process::ExitCode;
+use std::{env, io};
+
+const USAGE: &str = "usage: historytool is-ancestor PATH HEX HEX | walk PATH HEX HEX \
+    | --help | --version";
+
+const HELP: &str = "usage: historytool is-ancestor PATH HEX HEX | walk PATH HEX HEX \
+    | --help | --version\n\
+    \n\
+    PATH is a commit-graph file, a folder with a chain of them, or an info folder.\n\
+    HEX is the id of a commit in hexadecimal.\n\
+    \n\
+    is-ancestor  whether the first commit is an ancestor of the second: yes or no\n\
+    walk         the ids on a shortest walk along parents from the first commit to\n\
+    \x20            the second, a line for each; or none\n\
+    \n\
+    The exit status is 0 for yes or a walk, 1 for any other answer, and 2 for wrong\n\
+    words, a text that is no id or a failed write.";
+
+const VERSION: &str = "historytool 0.1.0, proved with rattle-kit-13b logic dac8208d650f15bf";
+
+const WRITE_FAILED: &str = "historytool: the answer could not be written";
+
+/// The exit status of a text that was asked for and written.
+const DONE: u8 = 0;
+
+/// The exit status of words that are no command, and of a failed write.
+const FAILED: u8 = 2;
+
+fn main(rt: HostRuntime) -> ExitCode {
+    let mut errors = rt.stderr();
+    let status = match words(&rt) {
+        Some(words) => {
+            let (mut disk, mut output) = (Disk::new(&rt), io::writer(&rt));
+            respond(rt.alloc(), &words, &mut disk, &mut output, &mut errors)
+        }
+        None => fail(&mut errors, USAGE),
+    };
+    ExitCode::from(status)
+}
+
+/// The words of the command line, unless they are no text or memory runs out.
+fn words(rt: &HostRuntime) -> Option<Vec<String>> {
+    env::args(rt).ok()?.collect(rt.alloc()).ok()
+}
+
+/// Runs the command that the words are, over a folder and both streams that are written to, and
+/// answers the exit status.
+fn respond<T: Folder, W: Write, E: Write>(
+    alloc: Global,
+    words: &[String],
+    folder: &mut T,
+    output: &mut W,
+    errors: &mut E,
+) -> u8 {
+    match Command::from_words(words) {
+        Some(command) => status_of(command.run(alloc, folder, output), errors),
+        None => fail(errors, USAGE),
+    }
+}
+
+/// The exit status of a command that was run. A failed write is reported.
+fn status_of<W: Write>(answer: Result<u8, WriteFailed>, errors: &mut W) -> u8
+    ensures { MatchResult answer (λ status. result ≡ status) (λ _. result ≡ 2) }
+{
+    match answer {
+        Ok(status) => status,
+        Err(WriteFailed) => fail(errors, WRITE_FAILED),
+    }
+}
+
+/// Writes why no command was run, or what became of it, in one line. Where that fails too, nothing
+/// more can be said.
+fn fail<W: Write>(errors: &mut W, why: &str) -> u8
+    ensures { result ≡ 2 }
+{
+    let _ = write_line(errors, why);
+    FAILED
+}
+
+/// What the program is asked to do.
+#[derive(Clone, Copy, Debug, PartialEq, Eq)]
+enum Command<'a> {
+    // The help text is to be written.
+    Help,
+    // The version is to be written.
+    Version,
+    // It is to be told whether the first commit is an ancestor of the second.
+    IsAncestor {
+        path: &'a str,
+        first: &'a str,
+        second: &'a str,
+    },
+    // A walk along parents from the first commit to the second is to be found.
+    Walk {
+        path: &'a str,
+        first: &'a str,
+        second: &'a str,
+    },
+}
+
+impl<'a> Command<'a> {
+    /// The first word is the program's own name.
+    fn from_words(words: &'a [String]) -> Option<Command<'a>> {
+        match words {
+            [_, name] if name.as_str() == "--help" || name.as_str() == "-h" => Some(Command::Help),
+            [_, name] if name.as_str() == "--version" => Some(Command::Version),
+            [_, name, path, first, second] if name.as_str() == "is-ancestor" => {
+                Some(Command::IsAncestor {
+                    path: path.as_str(),
+                    first: first.as_str(),
+                    second: second.as_str(),
+                })
+            }
+            [_, name, path, first, second] if name.as_str() == "walk" => Some(Command::Walk {
+                path: path.as_str(),
+                first: first.as_str(),
+                second: second.as_str(),
+            }),
+            _ => None,
+        }
+    }
+
+    /// Runs the command, and answers its exit status. `WriteFailed` comes where its output fails.
+    fn run<T: Folder, W: Write>(
+        self,
+        alloc: Global,
+        folder: &mut T,
+        output: &mut W,
+    ) -> Result<u8, WriteFailed> {
+        match self {
+            Command::Help => tell(output, HELP),
+            Command::Version => tell(output, VERSION),
+            Command::IsAncestor {
+                path,
+                first,
+                second,
+            } => run_is_ancestor(alloc, folder, path, first, second, output),
+            Command::Walk {
+                path,
+                first,
+                second,
+            } => run_walk(alloc, folder, path, first, second, output),
+        }
+    }
+}
+
+/// Writes a text that was asked for, and answers the exit status. `WriteFailed` comes where the
+/// writer fails.
+fn tell<W: Write>(output: &mut W, text: &str) -> Result<u8, WriteFailed> {
+    write_line(output, text)?;
+    Ok(DONE)
+}

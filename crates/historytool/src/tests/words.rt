@@ -1,0 +1,103 @@
+use crate::tests::streams::{Stream, WRITE_FAILED_LINE, command_line};
+use crate::{Command, respond, status_of};
+use graph_commands::run::WriteFailed;
+use graph_folder::folder::Memory;
+use std::test::Fail;
+
+#[test]
+fn reads_the_words_of_each_question(rt: HostRuntime) -> Result<(), Fail> {
+    let alloc = rt.alloc();
+    let (path, first, second) = ("a", "b", "walk");
+    let rows: [(&[&str], Command<'_>); 5] = [
+        (&["--help"], Command::Help),
+        (&["-h"], Command::Help),
+        (&["--version"], Command::Version),
+        (
+            &["is-ancestor", path, first, second],
+            Command::IsAncestor {
+                path,
+                first,
+                second,
+            },
+        ),
+        (
+            &["walk", path, first, second],
+            Command::Walk {
+                path,
+                first,
+                second,
+            },
+        ),
+    ];
+    for (words, want) in rows {
+        let line = command_line(alloc, words)?;
+        assert_eq!(rt; Command::from_words(&line), Some(want));
+    }
+    Ok(())
+}
+
+const USAGE_LINE: &str = "usage: historytool is-ancestor PATH HEX HEX | walk PATH HEX HEX \
+    | --help | --version\n";
+
+#[test]
+fn other_words_are_no_question(rt: HostRuntime) -> Result<(), Fail> {
+    let alloc = rt.alloc();
+    let rows: [&[&str]; 11] = [
+        &[],
+        &[""],
+        &["help"],
+        &["--help", "g"],
+        &["-v"],
+        &["Walk", "g", "h", "i"],
+        &["walk"],
+        &["walk", "g", "h"],
+        &["walk", "g", "h", "i", "j"],
+        &["is-ancestor", "g", "h"],
+        &["ancestor", "g", "h", "i"],
+    ];
+    for words in rows {
+        let line = command_line(alloc, words)?;
+        assert_eq!(rt; Command::from_words(&line), None);
+        let mut folder = Memory::new(alloc);
+        let (mut output, mut errors) = (Stream::open(alloc), Stream::open(alloc));
+        let status = respond(alloc, &line, &mut folder, &mut output, &mut errors);
+        assert_eq!(rt; status, 2);
+        assert_eq!(rt; (output.writes, errors.writes), (0, 1));
+        assert_eq!(rt; errors.text(), USAGE_LINE);
+    }
+    assert_eq!(rt; Command::from_words(&[]), None);
+    Ok(())
+}
+
+const VERSION_LINE: &str = "historytool 0.1.0, proved with rattle-kit-13b logic dac8208d650f15bf\n";
+
+#[test]
+fn tells_its_version_and_its_help(rt: HostRuntime) -> Result<(), Fail> {
+    let alloc = rt.alloc();
+    let mut folder = Memory::new(alloc);
+    for (word, want) in [
+        ("--version", VERSION_LINE),
+        ("--help", USAGE_LINE),
+        ("-h", USAGE_LINE),
+    ] {
+        let line = command_line(alloc, &[word])?;
+        let (mut output, mut errors) = (Stream::open(alloc), Stream::open(alloc));
+        let status = respond(alloc, &line, &mut folder, &mut output, &mut errors);
+        assert_eq!(rt; status, 0);
+        assert!(rt; output.text().starts_with(want));
+        assert_eq!(rt; errors.writes, 0);
+    }
+    Ok(())
+}
+
+#[test]
+fn reports_an_answer_that_could_not_be_written(rt: HostRuntime) -> Result<(), Fail> {
+    let alloc = rt.alloc();
+    let mut errors = Stream::open(alloc);
+    assert_eq!(rt; status_of(Err(WriteFailed), &mut errors), 2);
+    assert_eq!(rt; errors.text(), WRITE_FAILED_LINE);
+    // Standard error may be closed too.
+    let mut closed = Stream::closed(alloc);
+    assert_eq!(rt; status_of(Err(WriteFailed), &mut closed), 2);
+    Ok(())
+}

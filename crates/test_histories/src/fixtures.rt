@@ -1,0 +1,221 @@
+//! Graphs that are built from rows, and a writer that fails.
+
+use gix_hash_core::{Kind, ObjectId, digest};
+use graph_commands::run::{WriteFailed, run_ancestor};
+use graph_folder::folder::Memory;
+use graph_vectors::{LayerPlan, PlanCommit, build};
+use history_commands::run::{run_is_ancestor, run_walk};
+use std::alloc::{AllocError, Global};
+use std::io;
+use std::io::{ErrorKind, Write};
+
+/// A writer that takes at most so many bytes a write, and whose write of this number fails.
+#[derive(Drop)]
+pub(super) struct Sink {
+    pub(super) bytes: Vec<u8>,
+    most: usize,
+    fails_at: Option<usize>,
+    pub(super) writes: usize,
+}
+
+impl Sink {
+    pub(super) fn new(alloc: Global, most: usize, fails_at: Option<usize>) -> Sink {
+        Sink {
+            bytes: Vec::new(alloc),
+            most,
+            fails_at,
+            writes: 0,
+        }
+    }
+
+    /// What was written, as a text.
+    pub(super) fn text(&self) -> &str {
+        str::from_utf8(&self.bytes).unwrap_or("no text")
+    }
+}
+
+impl Write for Sink {
+    fn write(&mut self, buf: &[u8]) -> io::Result<usize> {
+        let write = self.writes;
+        self.writes = write.saturating_add(1);
+        if self.fails_at == Some(write) {
+            return Err(io::Error::from(ErrorKind::Other));
+        }
+        let count = self.most.min(buf.len());
+        self.bytes.extend_from_slice(&buf[..count])?;
+        Ok(count)
+    }
+
+    fn flush(&mut self) -> io::Result<()> {
+        Ok(())
+    }
+}
+
+/// A command that asks about the commits with two ids.
+#[derive(Clone, Copy, Debug)]
+pub(super) enum Command {
+    IsAncestor,
+    Walk,
+    /// That of `graphtool`.
+    Ancestor,
+}
+
+impl Command {
+    /// The answer of the command for a path and the texts of two ids.
+    pub(super) fn run(
+        self,
+        alloc: Global,
+        folder: &mut Memory,
+        (path, first, second): (&str, &str, &str),
+        out: &mut Sink,
+    ) -> Result<u8, WriteFailed> {
+        match self {
+            Command::IsAncestor => run_is_ancestor(alloc, folder, path, first, second, out),
+            Command::Walk => run_walk(alloc, folder, path, first, second, out),
+            Command::Ancestor => run_ancestor(alloc, folder, path, first, second, out),
+        }
+    }
+}
+
+/// A commit that is planned: the byte that its id repeats, its parents and its generation number.
+type Row = (u8, &'static [u32], u32);
+
+/// A file of two ways from the fourth commit to the first, one of them of a single step.
+const FILE: &[Row] = &[
+    (0x11, &[], 1),
+    (0x22, &[0], 2),
+    (0x33, &[1], 3),
+    (0xcc, &[2, 0], 4),
+    (0xdd, &[], 1),
+];
+
+/// The layers of a chain of the same commits.
+const LOWER: &[Row] = &[(0x11, &[], 1), (0x22, &[0], 2)];
+
+const UPPER: &[Row] = &[(0x33, &[1], 3), (0xcc, &[2, 0], 4), (0xdd, &[], 1)];
+
+const TWO: &[Row] = &[(0x11, &[], 1), (0xcc, &[0], 2)];
+
+/// The second generation number is not one more than the first.
+const WRONG: &[Row] = &[(0x11, &[], 1), (0xcc, &[0], 3)];
+
+/// The bytes of a file of these commits over these base layers.
+fn built(
+    alloc: Global,
+    kind: Kind,
+    bases: &[ObjectId],
+    rows: &[Row],
+) -> Result<Vec<u8>, AllocError> {
+    let mut commits = Vec::new(alloc);
+    for (byte, parents, generation) in rows {
+        commits.push(commit(alloc, id(kind, *byte), parents, *generation)?)?;
+    }
+    let bases = Vec::from_slice(alloc, bases)?;
+    file_of(
+        alloc,
+        &LayerPlan {
+            kind,
+            bases,
+            commits,
+        },
+    )
+}
+
+/// A commit with its own id as that of its root tree.
+fn commit(
+    alloc: Global,
+    id: ObjectId,
+    parents: &[u32],
+    generation: u32,
+) -> Result<PlanCommit, AllocError> {
+    Ok(PlanCommit {
+        id,
+        tree: id,
+        parents: Vec::from_slice(alloc, parents)?,
+        generation,
+        time: 7,
+    })
+}
+
+/// The bytes of a file that holds the plan, or no bytes where no file can.
+fn file_of(alloc: Global, plan: &LayerPlan) -> Result<Vec<u8>, AllocError> {
+    if plan.is_buildable() {
+        build(alloc, plan)
+    } else {
+        Ok(Vec::new(alloc))
+    }
+}
+
+/// A folder with a file `line`, of so many commits in a line. The first four bytes of the id of the
+/// commit at position P are the number P + 1, and the others are null.
+pub(super) fn line(alloc: Global, count: u32) -> Result<Memory, AllocError> {
+    let mut commits = Vec::new(alloc);
+    for place in 0..count {
+        let before = [place.saturating_sub(1)];
+        let parents = if place == 0 { &[] } else { before.as_slice() };
+        let number = place.saturating_add(1);
+        let mut id = [0; 20];
+        id[..4].copy_from_slice(&number.to_be_bytes());
+        commits.push(commit(alloc, ObjectId::from(id), parents, number)?)?;
+    }
+    let plan = LayerPlan {
+        kind: Kind::Sha1,
+        bases: Vec::new(alloc),
+        commits,
+    };
+    let file = file_of(alloc, &plan)?;
+    let mut memory = Memory::new(alloc);
+    put(alloc, &mut memory, "line", file)?;
+    Ok(memory)
+}
+
+/// Puts a file into a folder in memory.
+fn put(alloc: Global, memory: &mut Memory, path: &str, bytes: Vec<u8>) -> Result<(), AllocError> {
+    memory.put_file(String::from_str(alloc, path)?, bytes)
+}
+
+/// The id that repeats a byte.
+fn id(kind: Kind, byte: u8) -> ObjectId {
+    match kind {
+        Kind::Sha1 => ObjectId::from([byte; 20]),
+        Kind::Sha256 => ObjectId::from([byte; 32]),
+    }
+}
+
+/// A folder with the files `file`, `wrong`, `sha256` of two commits with SHA-256 ids, and `bytes`
+/// that are no layer, and with the folder `chain`.
+pub(super) fn graphs(alloc: Global) -> Result<Memory, AllocError> {
+    let mut memory = Memory::new(alloc);
+    let rows = [
+        ("file", Kind::Sha1, FILE),
+        ("sha256", Kind::Sha256, TWO),
+        ("wrong", Kind::Sha1, WRONG),
+    ];
+    for (path, kind, rows) in rows {
+        let file = built(alloc, kind, &[], rows)?;
+        put(alloc, &mut memory, path, file)?;
+    }
+    let bytes = Vec::from_slice(alloc, b"bytes")?;
+    put(alloc, &mut memory, "bytes", bytes)?;
+    put_chain(alloc, &mut memory)?;
+    Ok(memory)
+}
+
+/// Puts the folder `chain`.
+fn put_chain(alloc: Global, memory: &mut Memory) -> Result<(), AllocError> {
+    let lower = built(alloc, Kind::Sha1, &[], LOWER)?;
+    let base = checksum_of(&lower);
+    let upper = built(alloc, Kind::Sha1, &[base], UPPER)?;
+    let top = checksum_of(&upper);
+    memory.put_dir(String::from_str(alloc, "chain")?)?;
+    memory.put_file(format!(in alloc; "chain/graph-{base}.graph")?, lower)?;
+    memory.put_file(format!(in alloc; "chain/graph-{top}.graph")?, upper)?;
+    let lines = format!(in alloc; "{base}\n{top}\n")?.into_bytes();
+    put(alloc, memory, "chain/commit-graph-chain", lines)
+}
+
+/// The checksum of a SHA-1 file.
+fn checksum_of(bytes: &[u8]) -> ObjectId {
+    let end = bytes.len().saturating_sub(20);
+    digest(Kind::Sha1, &bytes[..end])
+}

@@ -1,0 +1,11 @@
+//! Tests of the commands of `historytool`, on layers and chains that are built for them.
+//!
+//! [`fixtures`] has the graphs, and a writer that fails.
+#![tactic(auto)]
+
+#[cfg(test)]
+mod answers;
+#[cfg(test)]
+mod fixtures;
+#[cfg(test)]
+mod writes;

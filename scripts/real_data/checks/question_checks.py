@@ -1,0 +1,49 @@
+"""Checks the words of `historytool`, its help and its version, and output that cannot be written."""
+
+import os
+import re
+from functools import partial
+
+from expected import judge
+from histories.repository import read_bytes
+
+USAGE = "usage: historytool is-ancestor PATH HEX HEX | walk PATH HEX HEX | --help | --version\n"
+"""What the program writes on standard error where its words are no command, and the first line of its help."""
+
+FAILED_WRITE = "historytool: the answer could not be written\n"
+ID = "0" * 40
+OTHER_WORDS = [
+    *([], [""], ["help"], ["version"], ["-v"], ["--help", "."], ["--version", "."], ["."], [b"\xff"]),
+    *(["walk", ".", ID], ["walk", ".", ID, ID, ID], ["Walk", ".", ID, ID], ["walk", b"\xff", ID, ID]),
+    *(["is-ancestor"], ["is-ancestor", ".", ID], ["ancestor", ".", ID, ID], ["verify", "."], ["--walk", ".", ID, ID]),
+]
+"""Words that are no command: too few, too many, others, or no text."""
+
+README = os.path.join(os.path.dirname(os.path.abspath(__file__)), *[os.pardir] * 3, "README.md")
+
+
+def check_all(histories, tally):
+    """The checks of words and streams."""
+    for words in OTHER_WORDS:
+        complaint = judge.exactly(2, "", USAGE, histories.run(*words, input=b""))
+        tally.check("historytool, usage after the words %r" % words, complaint)
+    kit = re.search(r"^ {4}(rattle-kit-\S+ logic \w+)$", read_bytes(README).decode(), re.MULTILINE).group(1)
+    version = "historytool 0.1.0, proved with %s\n" % kit
+    tally.check("historytool --version", judge.exactly(0, version, "", histories.run("--version")))
+    helps = [histories.run(word) for word in ("--help", "-h")]
+    text = helps[0].out.decode()
+    told = helps[0] == helps[1] and helps[0].status == 0 and not helps[0].err
+    tally.check("historytool --help and -h", None if told and text.startswith(USAGE + "\n") else "they are %r" % (helps,))
+    for command, run in (("is-ancestor", histories.is_ancestor), ("walk", histories.walk)):
+        exchanged = judge.exactly(2, "refused id 1\n", "", run(ID, ".", ID))
+        tally.check("%s, its path and its first id exchanged" % command, exchanged)
+        nothing = judge.exactly(1, "refused open 1\n", "", run(os.devnull, ID, ID))
+        tally.check("%s, a path with nothing that is a graph" % command, nothing)
+        check_failed_write(tally, command, partial(run, os.devnull, ID, ID))
+    check_failed_write(tally, "historytool --version", partial(histories.run, "--version"))
+
+
+def check_failed_write(tally, name, run):
+    """The answer of a run whose output is closed."""
+    answer = run(preexec_fn=partial(os.close, 1))
+    tally.check("%s, output that is closed" % name, judge.exactly(2, "", FAILED_WRITE, answer))
