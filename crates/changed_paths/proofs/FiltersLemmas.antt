@@ -13,8 +13,10 @@ use Rattle.graph_format.proofs.PieceLemmas.{get-map-range}
 use Rattle.graph_layout.specs.Numbers.{word_in}
 use Rattle.changed_paths.specs.declared.filters.HashVersion.{HashVersion}
 use Rattle.changed_paths.specs.declared.filters.LayerFiltersError.{LayerFiltersError}
-use Rattle.changed_paths.specs.declared.filters.LayerFiltersError.TheVariants.{IndexSize, DataSize, Version, Hashes, NoBits, LeftOver}
-use Rattle.changed_paths.specs.Filters.{Filters, version_of, start_of, end_of, filter_of, filters_of, filter_bytes, places_refusal, filters_refusal}
+use Rattle.changed_paths.specs.declared.filters.LayerFiltersError.TheVariants.{IndexSize, DataSize, Version, Hashes, NoBits}
+use Rattle.changed_paths.specs.declared.filters.LayerFiltersError.TheVariants.{LeftOver}
+use Rattle.changed_paths.specs.Filters.{Filters, version_of, start_of, end_of, filter_of, filters_of, filter_bytes}
+use Rattle.changed_paths.specs.Filters.{places_refusal, filters_refusal}
 use Rattle.changed_paths.proofs.PlaceLemmas.{not_less, placed, ends_within}
 
 -- What chunks that are not refused keep.

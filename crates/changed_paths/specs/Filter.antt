@@ -16,8 +16,8 @@ MayRead Two Unsigned = ⊤
 unfoldable pub probe : ByteReading → List ℕ → ℕ → ℕ
 probe reading path i = (murmur3 reading 0x293ae76f path + i * murmur3 reading 0x7e646e2c path) % 2 ^ 32
 
--- the bit of a filter that a probe hits: the filter's bits are counted byte by byte, each from its lowest bit up, and the probe is
--- taken modulo their number
+-- the bit of a filter that a probe hits: the filter's bits are counted byte by byte, each from its lowest bit up, and the probe
+-- is taken modulo their number
 unfoldable pub bit_hit : List ℕ → ℕ → ℕ
 bit_hit filter x = let bit = x % (8 * length filter) in slice_index filter (bit / 8) / 2 ^ (bit % 8) % 2
 

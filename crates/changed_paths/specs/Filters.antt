@@ -1,7 +1,7 @@
--- The filters of a layer ("Bloom Filter Index", "Bloom Filter Data"): where the filter of each commit lies, and why the two chunks
--- are refused.
-use Rattle.std.specs.Prelude.{◌==◌, ℕ, zero, suc, ◌+◌, ◌-◌, ◌*◌, ◌/◌, not, ◌||◌, List, map, length, slice_range, Option, Some, None}
-use Rattle.std.specs.Prelude.{is_none, nat_lt, if◌then◌else◌}
+-- The filters of a layer ("Bloom Filter Index", "Bloom Filter Data"): where the filter of each commit lies, and why the two
+-- chunks are refused.
+use Rattle.std.specs.Prelude.{◌==◌, ℕ, zero, suc, ◌+◌, ◌-◌, ◌*◌, ◌/◌, not, ◌||◌, List, map, length, slice_range, Option, Some}
+use Rattle.std.specs.Prelude.{None, is_none, nat_lt, if◌then◌else◌}
 use Rattle.std.specs.List.{range_with_len}
 use Rattle.first_faults.specs.First.{◌when◌, ◌otherwise◌, first_below}
 use Rattle.graph_format.specs.declared.file.Position.{Position}
@@ -12,7 +12,8 @@ use Rattle.changed_paths.specs.declared.filters.LayerFiltersError.{LayerFiltersE
 use Rattle.changed_paths.specs.declared.filters.LayerFiltersError.TheVariants.{IndexSize, DataSize, Version, Hashes, NoBits}
 use Rattle.changed_paths.specs.declared.filters.LayerFiltersError.TheVariants.{Falls, PastEnd, LeftOver}
 
--- the filters of a layer, in the order of its commits, with what is to be known to ask them; a filter of no bytes was not computed
+-- the filters of a layer, in the order of its commits, with what is to be known to ask them; a filter of no bytes was not
+-- computed
 pub record Filters : Type 0 where
   pub version : HashVersion
   pub hashes : ℕ

@@ -18,7 +18,8 @@ placed reading bytes i place = word_of reading (slice_index bytes i) * 2 ^ (8 * 
 -- the word of the four bytes from i on
 abbrev pub word_at : ByteReading → List ℕ → ℕ → ℕ
 word_at reading bytes i =
-    bit_or (bit_or (bit_or (word_of reading (slice_index bytes i)) (placed reading bytes (i + 1) 1)) (placed reading bytes (i + 2) 2))
+    bit_or
+    (bit_or (bit_or (word_of reading (slice_index bytes i)) (placed reading bytes (i + 1) 1)) (placed reading bytes (i + 2) 2))
     (placed reading bytes (i + 3) 3)
 
 -- the word of the bytes from i on, fewer than four
@@ -27,7 +28,8 @@ last_word reading bytes i count =
     if count == 0 then 0
     else if count == 1 then word_of reading (slice_index bytes i)
     else if count == 2 then bit_xor (placed reading bytes (i + 1) 1) (word_of reading (slice_index bytes i))
-    else bit_xor (bit_xor (placed reading bytes (i + 2) 2) (placed reading bytes (i + 1) 1)) (word_of reading (slice_index bytes i))
+    else
+    bit_xor (bit_xor (placed reading bytes (i + 2) 2) (placed reading bytes (i + 1) 1)) (word_of reading (slice_index bytes i))
 
 -- a word, scrambled before it goes into the hash
 abbrev pub scrambled : ℕ → ℕ

@@ -1,13 +1,13 @@
 //! The filters of a layer.
 
-ghost use Rattle.std.specs.Prelude.{◌≡◌, ◌↔◌, ◌*◌, ◌<◌, ◌≤◌, ◌^◌, List, length, slice_get, None, Some};
+ghost use Rattle.std.specs.Prelude.{◌≡◌, ◌↔◌, ◌*◌, ◌<◌, ◌≤◌, ◌^◌, List, length, slice_get, Some};
 ghost use Rattle.std.specs.Prelude.{IfOk};
 ghost use Rattle.graph_format.specs.Reports.{Reports};
 ghost use Rattle.graph_layout.specs.Numbers.{word_in};
 ghost use Rattle.changed_paths.specs.Filter.{IsPossible, IsAbsent};
 ghost use Rattle.changed_paths.specs.Filters.{version_of, start_of, filters_of, places_refusal};
 ghost use Rattle.changed_paths.specs.Filters.{filters_refusal};
-ghost use Rattle.changed_paths.specs.declared.filters.Answer.TheVariants.{NotComputed, Absent, Possible};
+ghost use Rattle.changed_paths.specs.declared.filters.Answer.TheVariants as answer;
 
 use crate::key::PathKey;
 use crate::murmur3::ByteReading;
@@ -96,7 +96,8 @@ impl<'a> Model for PathFilters<'a> {
       filters = filters_of a.index.now a.body.now;
     } };
 
-    ghost invariant = { λ a. filters_refusal (length a.index.now / 4) a.index.now a.body.now ≡ None };
+    ghost invariant = { λ a.
+        filters_refusal (length a.index.now / 4) a.index.now a.body.now ≡ None };
 }
 
 /// The version that a number names.
@@ -217,16 +218,17 @@ impl<'a> PathFilters<'a> {
         &self.body[HEADER_LEN + start as usize..HEADER_LEN + end as usize]
     }
 
-    /// What the filter of a commit of the layer says of a path: `Absent` only where the path is none
-    /// of those for which the filter's bits were set, whichever way version 1 read their bytes.
+    /// What the filter of a commit of the layer says of a path: `Absent` only where the path is
+    /// none of those for which the filter's bits were set, whichever way version 1 read their
+    /// bytes.
     pub fn probe(&self, pos: Position, path: &PathKey<'_>) -> Answer
         requires { pos.0 < length self.now.filters }
         ensures not_computed { (filter : List _) → slice_get self.now.filters pos.0 ≡ Some filter
-            → (result ≡ NotComputed) ↔ (length filter ≡ 0) }
+            → (result ≡ answer.NotComputed) ↔ (length filter ≡ 0) }
         ensures possible { (filter : List _) → slice_get self.now.filters pos.0 ≡ Some filter
-            → result ≡ Possible → IsPossible self.now.version self.now.hashes filter path.now }
+            → result ≡ answer.Possible → IsPossible self.now.version self.now.hashes filter path.now }
         ensures absent { (filter : List _) → slice_get self.now.filters pos.0 ≡ Some filter
-            → result ≡ Absent → IsAbsent self.now.version self.now.hashes filter path.now }
+            → result ≡ answer.Absent → IsAbsent self.now.version self.now.hashes filter path.now }
     {
         let filter = self.filter_at(pos);
         if filter.is_empty() {

@@ -7,8 +7,8 @@ ghost use Rattle.changed_paths.specs.Key.{AreHashes};
 use crate::murmur3::{ByteReading, murmur3};
 use std::marker::Model;
 
-/// Two hashes of a path, of which its probes are made: the first probe, and the step from one to the
-/// next.
+/// Two hashes of a path, of which its probes are made: the first probe, and the step from one to
+/// the next.
 #[derive(Clone, Copy)]
 pub(crate) struct Hashes {
     first: u32,
@@ -28,13 +28,14 @@ pub struct PathKey<'a> {
 impl<'a> Model for PathKey<'a> {
     ghost use Rattle.std.specs.Prelude.{ℕ, List};
     ghost use Rattle.changed_paths.specs.Key.{AreHashes};
-    ghost use Rattle.changed_paths.specs.declared.murmur3.ByteReading.TheVariants.{Signed, Unsigned};
+    ghost use Rattle.changed_paths.specs.declared.murmur3.ByteReading.TheVariants as reading;
 
     ghost Value = { List ℕ };
 
     ghost view = { λ a. a.path.now };
 
-    ghost invariant = { λ a. AreHashes Signed a.path.now a.signed × AreHashes Unsigned a.path.now a.unsigned };
+    ghost invariant = { λ a. AreHashes reading.Signed a.path.now a.signed
+        × AreHashes reading.Unsigned a.path.now a.unsigned };
 }
 
 /// The hashes of a path.
@@ -80,7 +81,8 @@ impl<'a> PathKey<'a> {
         }
     }
 
-    /// Whether each of so many probes of the path, read this way, hits a bit of the filter that is set.
+    /// Whether each of so many probes of the path, read this way, hits a bit of the filter that is
+    /// set.
     #[tactic(auto, unfolding(crate::specs::Filter::AllHit, crate::specs::Filter::SomeMisses, crate::specs::Filter::probe))]
     pub(crate) fn all_hit(&self, reading: ByteReading, count: u32, filter: &[u8]) -> bool
         requires some { 0 < length filter.now }

@@ -1,6 +1,7 @@
 //! What the answers of filters mean.
 
-ghost use Rattle.std.specs.Prelude.{◌≡◌, ◌∷◌, [], ℕ, ◌<◌, List, All, Contains, None, codes, drop, map};
+ghost use Rattle.std.specs.Prelude.{◌≡◌, ◌∷◌, [], ℕ, ◌<◌, List, All, Contains, None, codes, drop};
+ghost use Rattle.std.specs.Prelude.{map};
 ghost use Rattle.std.specs.List.{concat, range_with_len};
 ghost use Rattle.changed_paths.specs.Murmur3.{murmur3};
 ghost use Rattle.changed_paths.specs.Filter.{MayRead, IsAbsent, HasPaths, probe};
@@ -29,8 +30,8 @@ pub fn filters_are_all_of_the_data()
         → concat (filters_of index body) ≡ drop 12 body }
 {}
 
-/// Known hashes: published ones of murmur3, those of both readings, and the seven probes of the empty
-/// text.
+/// Known hashes: published ones of murmur3, those of both readings, and the seven probes of the
+/// empty text.
 pub fn known_hashes()
     ensures empty { murmur3 Unsigned 0 (codes "") ≡ 0 }
     ensures hello { murmur3 Unsigned 0 (codes "Hello world!") ≡ 0x627b0c2c }
@@ -44,5 +45,6 @@ pub fn known_hashes()
     ensures signed { murmur3 Signed 0x293ae76f
         (0x99 ∷ 0xaa ∷ 0xbb ∷ 0xcc ∷ 0xdd ∷ 0xee ∷ 0xff ∷ []) ≡ 0x9fd515d2 }
     ensures probes { map (probe Unsigned []) (range_with_len 0 7)
-        ≡ 0x5615800c ∷ 0x5b966560 ∷ 0x61174ab4 ∷ 0x66983008 ∷ 0x6c19155c ∷ 0x7199fab0 ∷ 0x771ae004 ∷ [] }
+        ≡ 0x5615800c ∷ 0x5b966560 ∷ 0x61174ab4 ∷ 0x66983008 ∷ 0x6c19155c ∷ 0x7199fab0
+        ∷ 0x771ae004 ∷ [] }
 {}

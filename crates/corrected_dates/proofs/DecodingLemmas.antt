@@ -57,7 +57,8 @@ unfolding dates_refusal
 refused offsets overflow times fault size whole here =
     ap (λ (b : Bool). option_or (then_some (not b) DataSize) (option_or (then_some (not (length overflow % 8 == 0)) OverflowSize)
     (first_below (date_fault offsets overflow times) (length times)))) (eq-eqb _ _ size)
-    ∙ ap (λ (b : Bool). option_or (then_some (not b) OverflowSize) (first_below (date_fault offsets overflow times) (length times))) (eq-eqb _ _ whole)
+    ∙ ap (λ (b : Bool). option_or (then_some (not b) OverflowSize)
+    (first_below (date_fault offsets overflow times) (length times))) (eq-eqb _ _ whole)
     ∙ here
 
 pub ruleset decoding_laws = (dates-none, dates-more, date-found, date-fine, date-first)

@@ -1,7 +1,7 @@
 -- The corrected commit dates that a layer stores ("Generation Data", "Generation Data Overflow"), and why its chunks are refused.
 -- Where the second chunk is missing, it is taken for an empty one.
-use Rattle.std.specs.Prelude.{◌==◌, ℕ, ◌+◌, ◌-◌, ◌*◌, ◌/◌, ◌%◌, ◌^◌, not, List, map, length, slice_index, Option, Some, None}
-use Rattle.std.specs.Prelude.{is_none, unwrap_or, nat_lt, if◌then◌else◌}
+use Rattle.std.specs.Prelude.{◌==◌, ⊤, ℕ, ◌+◌, ◌-◌, ◌*◌, ◌/◌, ◌%◌, ◌^◌, ◌<◌, not, List, map, length, slice_index, Option, Some}
+use Rattle.std.specs.Prelude.{None, is_none, unwrap_or, nat_lt, if◌then◌else◌}
 use Rattle.std.specs.List.{range_with_len}
 use Rattle.first_faults.specs.First.{◌when◌, ◌otherwise◌, first_below}
 use Rattle.graph_format.specs.declared.file.Position.{Position}
@@ -40,3 +40,9 @@ dates_refusal offsets overflow times =
     DataSize when not (length offsets == 4 * length times)
     otherwise OverflowSize when not (length overflow % 8 == 0)
     otherwise first_below (date_fault offsets overflow times) (length times)
+
+-- the commit that the error names, if it names one, is one of so many
+abbrev pub NamesOneOf : ℕ → LayerDatesError → Type 0
+NamesOneOf commits (OverflowIndex pos) = pos.0 < commits
+NamesOneOf commits (TooLarge pos) = pos.0 < commits
+NamesOneOf commits _ = ⊤

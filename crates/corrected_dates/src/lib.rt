@@ -1,12 +1,12 @@
-//! The corrected commit dates that the chunks of a layer store ("Generation Data" and "Generation Data
-//! Overflow" of Git's commit-graph format).
+//! The corrected commit dates that the chunks of a layer store ("Generation Data" and "Generation
+//! Data Overflow" of Git's commit-graph format).
 #![tactic(auto)]
 
-ghost use Rattle.std.specs.Prelude.{◌≡◌, ◌≢◌, ◌+◌, ◌*◌, ◌<◌, ◌≤◌, ◌^◌, ◌++◌, All, length, Some, None};
-ghost use Rattle.std.specs.Prelude.{IfOk, IfErr};
+ghost use Rattle.std.specs.Prelude.{◌≡◌, ◌≢◌, ◌+◌, ◌*◌, ◌<◌, ◌≤◌, ◌^◌, ◌++◌, All, length, Some};
+ghost use Rattle.std.specs.Prelude.{None, IfOk, IfErr};
 ghost use Rattle.graph_format.specs.Reports.{Reports};
 ghost use Rattle.corrected_dates.specs.StoredDates.{offset_of, date_of, date_fault, dates_refusal};
-ghost use Rattle.corrected_dates.specs.StoredDates.{stored_dates};
+ghost use Rattle.corrected_dates.specs.StoredDates.{stored_dates, NamesOneOf};
 ghost use Rattle.corrected_dates.specs.declared.LayerDatesError.TheVariants.{OutOfMemory};
 
 use graph_format::file::Position;
@@ -20,8 +20,8 @@ const OVERFLOW_BIT: u32 = 1 << 31;
 const DATE_LIMIT: u64 = 1 << 63;
 
 /// Why the chunks `GDA2` and `GDO2` of a layer are refused: the first of these that holds, where
-/// `OverflowIndex` and `TooLarge` are looked for together, commit by commit. Its text is the name of
-/// the variant alone.
+/// `OverflowIndex` and `TooLarge` are looked for together, commit by commit. Its text is the name
+/// of the variant alone.
 #[derive(Clone, Copy, Debug, PartialEq, Eq, Error)]
 pub enum LayerDatesError {
     /// `GDA2` has not four bytes for each commit ("Generation Data").
@@ -65,6 +65,7 @@ fn date_of(offsets: &[u8], overflow: &[u8], times: &[u64], pos: u32) -> Result<u
     ensures fault { Reports result (date_fault offsets.now overflow.now times.now pos) }
     ensures date { IfOk result (λ date. date ≡ date_of offsets.now overflow.now times.now pos) }
     ensures small { IfOk result (λ date. date < 2 ^ 63) }
+    ensures place { IfErr result (NamesOneOf (length times.now)) }
 {
     let Some(offset) = offset_of(offsets, overflow, pos as usize) else {
         return Err(LayerDatesError::OverflowIndex(Position(pos)));
@@ -75,13 +76,14 @@ fn date_of(offsets: &[u8], overflow: &[u8], times: &[u64], pos: u32) -> Result<u
     }
 }
 
-/// Puts the dates of a layer, in seconds since 1970-01-01 00:00:00 UTC, after those of the layers below
-/// it. They come from the chunks `GDA2` and `GDO2` (empty where the layer has none) and from the times of
-/// its commits, each in the order of the commits.
+/// Puts the dates of a layer, in seconds since 1970-01-01 00:00:00 UTC, after those of the layers
+/// below it. They come from the chunks `GDA2` and `GDO2` (empty where the layer has none) and from
+/// the times of its commits, each in the order of the commits.
 ///
 /// # Errors
 ///
-/// The first of [`LayerDatesError`] that holds, or `OutOfMemory`. Some dates may have been put there.
+/// The first of [`LayerDatesError`] that holds, or `OutOfMemory`. Some dates may have been put
+/// there.
 #[tactic(auto, using(crate::proofs::DecodingLemmas::decoding_laws), unfolding(crate::specs::StoredDates::dates_refusal))]
 pub fn decode_dates(
     dates: &mut Vec<u64>,
@@ -97,6 +99,7 @@ pub fn decode_dates(
     ensures none { IfOk result (λ _. dates_refusal offsets.now overflow.now times.now ≡ None) }
     ensures fault { IfErr result (λ fault. fault ≢ OutOfMemory
         → dates_refusal offsets.now overflow.now times.now ≡ Some fault) }
+    ensures place { IfErr result (NamesOneOf (length times.now)) }
 {
     if offsets.len() != 4 * times.len() {
         return Err(LayerDatesError::DataSize);

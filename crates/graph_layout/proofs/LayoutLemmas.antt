@@ -1,6 +1,6 @@
 -- what a layout says of the layer that the bytes are
-use Rattle.std.proofs.Common.{◌≡◌, ℕ, ◌*◌, ◌≤◌, List, [], map, length, Option, Some, None, option_map, IsSomeAnd, slice_range, refl}
-use Rattle.std.proofs.Common.{slice_index, sym, ap, subst, ◌∙◌, arith}
+use Rattle.std.proofs.Common.{◌≡◌, ℕ, ◌*◌, ◌≤◌, List, [], map, length, Option, Some, None, option_map, IsSomeAnd, slice_range}
+use Rattle.std.proofs.Common.{slice_index, refl, sym, ap, subst, ◌∙◌, arith}
 use Rattle.std.proofs.lemmas.Option.{same_Some}
 use Rattle.gix_hash_core.specs.declared.kind.Kind.{Kind}
 use Rattle.gix_chunk_core.specs.Table.{Chunks}

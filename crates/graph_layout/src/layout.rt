@@ -69,7 +69,8 @@ fn check_counts(
     Ok(())
 }
 
-/// Where the chunk with an id lies in bytes that are not refused. Their table of chunks is read again.
+/// Where the chunk with an id lies in bytes that are not refused. Their table of chunks is read
+/// again.
 #[tactic(auto, using(crate::proofs::LayoutLemmas::table_laws))]
 pub fn find_chunk(bytes: &[u8], id: [u8; 4]) -> Option<ChunkRange>
     requires { refusal bytes.now ≡ None }

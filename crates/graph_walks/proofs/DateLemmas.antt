@@ -122,8 +122,8 @@ greatest_from_right h ts ds right = record {
 
 -- Where they are the greatest over walks.
 
-bound_by_path : (h : List Node) (ts ds : List ℕ) → AreGreatest h ts ds → (p q : ℕ) (rest : List ℕ) → p < length h → Path h p q rest
-    → max 1 (number_at ts q) + length rest ≤ number_at ds p
+bound_by_path : (h : List Node) (ts ds : List ℕ) → AreGreatest h ts ds → (p q : ℕ) (rest : List ℕ) → p < length h
+    → Path h p q rest → max 1 (number_at ts q) + length rest ≤ number_at ds p
 bound_by_path h ts ds most p q rest within w =
     let bound = (most.each p within).greatest q (p ∷ rest) (between_from_path h p q rest w) in omega arith
 

@@ -1,5 +1,6 @@
-//! What generation numbers mean: laws of walks along parents ("topological level" in Git's
-//! commit-graph design). They hold of every history, whether or not it has cycles.
+//! What generation numbers and corrected dates mean: laws of walks along parents ("topological
+//! level" and "corrected commit date" in Git's commit-graph design). They hold of every history,
+//! whether or not it has cycles.
 
 ghost use Rattle.std.specs.Prelude.{◌≡◌, ◌↔◌, ◌<◌, ◌≤◌, ◌+◌, ◌-◌, ℕ, List, length, max};
 ghost use Rattle.graph_walks.specs.Counts.{greatest};
@@ -54,8 +55,9 @@ pub fn greatest_generation_is_the_longest_walk()
         → IsLongestWalk history (greatest (generations history) - 1) }
 {}
 
-/// Each corrected date is the commit's time, or one more than the greatest date of its parents, whichever
-/// is later, exactly where each is the greatest date that a walk from the commit asks for.
+/// Each corrected date is the commit's time, or one more than the greatest date of its parents,
+/// whichever is later, exactly where each is the greatest date that a walk from the commit asks
+/// for.
 pub fn dates_are_right_exactly_where_they_are_greatest()
     ensures { (history : List Node) (times dates : List ℕ)
         → AreRight history times dates ↔ AreGreatest history times dates }
@@ -75,12 +77,13 @@ pub fn right_dates_leave_no_cycle()
 
 /// A history with its times has one list of right corrected dates at most.
 pub fn right_dates_are_one()
-    ensures { (history : List Node) (times dates others : List ℕ) (p : ℕ) → AreRight history times dates
-        → AreRight history times others → number_at dates p ≡ number_at others p }
+    ensures { (history : List Node) (times dates others : List ℕ) (p : ℕ)
+        → AreRight history times dates → AreRight history times others
+        → number_at dates p ≡ number_at others p }
 {}
 
-/// Where corrected dates are right, each is at most the greatest of 1 and the times, and one second for
-/// each other commit of the history.
+/// Where corrected dates are right, each is at most the greatest of 1 and the times, and one second
+/// for each other commit of the history.
 pub fn right_dates_are_early()
     ensures { (history : List Node) (times dates : List ℕ) (p : ℕ) → AreRight history times dates
         → number_at dates p ≤ max 1 (greatest times) + (length history - 1) }

@@ -30,6 +30,7 @@ returns-in-Err-clause-fault c _ =
     let offsets = c.args.offsets.now in
     let overflow = c.args.overflow.now in
     let times = c.args.times.now in
-    refused offsets overflow times c.in-Err.fault (omega (arith, c.if-offsets-times.false)) (omega (arith, c.if-overflow-ne0.false))
+    refused offsets overflow times c.in-Err.fault (omega (arith, c.if-offsets-times.false))
+    (omega (arith, c.if-overflow-ne0.false))
     (date-found offsets overflow times c.loop-pos.pos c.in-Err.fault c.loop-pos.invariant.0 c.in-Err.ensures.fault
     (omega (arith, c.loop-pos-test.true, c.loop-pos.auto.pos-end)))

@@ -87,8 +87,8 @@ impl File {
         Commit::new(self, pos)
     }
 
-    /// The bytes of the chunk with an id, `None` where the file has no such chunk: the section "CHUNK
-    /// LOOKUP". The table of chunks is gone through at each call.
+    /// The bytes of the chunk with an id, `None` where the file has no such chunk: the section
+    /// "CHUNK LOOKUP". The table of chunks is gone through at each call.
     pub fn chunk(&self, id: [u8; 4]) -> Option<&[u8]>
         ensures { option_map (λ chunk. chunk.now) result ≡ chunk_of (bytes_of self.now) id }
     {
