@@ -226,9 +226,11 @@ impl<'a> PathFilters<'a> {
         ensures not_computed { (filter : List _) → slice_get self.now.filters pos.0 ≡ Some filter
             → (result ≡ answer.NotComputed) ↔ (length filter ≡ 0) }
         ensures possible { (filter : List _) → slice_get self.now.filters pos.0 ≡ Some filter
-            → result ≡ answer.Possible → IsPossible self.now.version self.now.hashes filter path.now }
+            → result ≡ answer.Possible
+            → IsPossible self.now.version self.now.hashes filter path.now }
         ensures absent { (filter : List _) → slice_get self.now.filters pos.0 ≡ Some filter
-            → result ≡ answer.Absent → IsAbsent self.now.version self.now.hashes filter path.now }
+            → result ≡ answer.Absent
+            → IsAbsent self.now.version self.now.hashes filter path.now }
     {
         let filter = self.filter_at(pos);
         if filter.is_empty() {
