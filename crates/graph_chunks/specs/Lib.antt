@@ -1,0 +1,3 @@
+pub mod StoredDates
+pub mod Dates
+pub mod Latest
