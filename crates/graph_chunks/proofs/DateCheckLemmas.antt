@@ -54,10 +54,12 @@ date-fine layers dates p none same =
 
 pub date-found : (layers : List Layer) (dates : List ℕ) (p expected : ℕ)
     → first_below (date_fault (history_of layers) (times_of layers) dates) p ≡ None
-    → expected ≡ expected_date (history_of layers) (times_of layers) dates p → (number_at dates p ≡ expected → ⊥) → p < total layers
+    → expected ≡ expected_date (history_of layers) (times_of layers) dates p → (number_at dates p ≡ expected → ⊥)
+    → p < total layers
     → first_below (date_fault (history_of layers) (times_of layers) dates) (total layers) ≡ Some (Date (position_of p) expected)
 date-found layers dates p expected none is apart below =
-    let other : number_at dates p ≡ expected_date (history_of layers) (times_of layers) dates p → ⊥ = λ same. apart (same ∙ sym is) in
+    let other : number_at dates p ≡ expected_date (history_of layers) (times_of layers) dates p → ⊥ =
+    λ same. apart (same ∙ sym is) in
     first_below-found (date_fault (history_of layers) (times_of layers) dates) p (total layers) _ none
     (ap (λ (b : Bool). then_some (not b) (Date (position_of p) (expected_date (history_of layers) (times_of layers) dates p)))
     (ne_eqb _ _ other)

@@ -57,7 +57,8 @@ module _ (dates : List ℕ) where
   passed_none all = record { passed = []; split = sym (append-nil all); last = refl; each = tt }
 
   pub passed_more : (all left rest : List ℕ) (last next : ℕ) (told : List ℕ) (word : ℕ) (before : HasPassed all left last told)
-      → left ≡ rest ++ word ∷ [] → next ≡ latest_of dates (listed (word ∷ before.passed)) → HasPassed all rest next (told ++ next ∷ [])
+      → left ≡ rest ++ word ∷ [] → next ≡ latest_of dates (listed (word ∷ before.passed))
+      → HasPassed all rest next (told ++ next ∷ [])
   passed_more all left rest last next told word before taken is = record {
     passed = word ∷ before.passed;
     split = before.split ∙ ap (λ (xs : List ℕ). xs ++ before.passed) taken ∙ append_assoc rest (word ∷ []) before.passed;

@@ -80,6 +80,8 @@ impl CorrectedDates {
         ensures stored { IfOk result (λ found. IfSome found (λ dates. dates ≡ dates_of graph.now)) }
         ensures right { IfOk result (λ found. IfSome found
             (AreRight (history_of graph.now) (times_of graph.now))) }
+        ensures commits { IfOk result (λ found. IfSome found
+            (λ dates. length dates ≡ total graph.now)) }
         ensures all { IfErr result (λ _. All HasDates graph.now) }
         ensures refusal { IfErr result (λ error. error ≢ OutOfMemory
             → graph_dates_refusal graph.now ≡ Some error) }

@@ -3,3 +3,4 @@
 #![tactic(auto)]
 
 pub mod dates;
+pub mod filters;

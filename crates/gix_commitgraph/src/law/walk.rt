@@ -1,5 +1,5 @@
-//! What generation numbers and corrected dates mean: laws of walks along parents, and the history to
-//! which they apply.
+//! What generation numbers and corrected dates mean: laws of walks along parents, and the history
+//! to which they apply.
 
 pub use crate::law::graph::the_history_of_a_graph_is_that_of_its_layers;
 pub use graph_walks::law::{

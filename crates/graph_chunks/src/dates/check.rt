@@ -1,6 +1,7 @@
 //! Whether corrected dates are right.
 
-ghost use Rattle.std.specs.Prelude.{◌≡◌, ◌≢◌, ◌+◌, ◌<◌, ◌^◌, ℕ, None, Some, IfOk, IfErr, length, max};
+ghost use Rattle.std.specs.Prelude.{◌≡◌, ◌≢◌, ◌+◌, ◌<◌, ◌^◌, ℕ, None, Some, IfOk, IfErr, length};
+ghost use Rattle.std.specs.Prelude.{max};
 ghost use Rattle.first_faults.specs.First.{first_below};
 ghost use Rattle.graph_format.specs.StoredHistory.{history_of};
 ghost use Rattle.graph_walks.specs.Dates.{number_at, AreRight};

@@ -7,3 +7,8 @@ check_dates-requires-clause-dates c =
     ap (λ (ds : List ℕ). length ds) c.deref.ensures.value
     ∙ ap (λ (ds : List ℕ). length ds) c.in-Ok.ensures.dates
     ∙ length-dates_of c.args.graph.now c.num_commits-commits.ensures.graph.opened
+
+pub returns-in-Ok-check_dates-clause-commits : goal.returns-in-Ok-check_dates-clause-commits
+returns-in-Ok-check_dates-clause-commits c =
+    ap (λ (ds : List ℕ). length ds) c.in-Ok.ensures.dates
+    ∙ length-dates_of c.args.graph.now c.num_commits-commits.ensures.graph.opened

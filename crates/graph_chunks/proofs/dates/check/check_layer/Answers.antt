@@ -46,7 +46,8 @@ loop-place-preserved c =
     c.expected_date-expected.result c.index-layers-layer.result c.commit_at-commit.result c.requires.graph.opened at.commit
     c.commit_at-commit.ensures.layer c.commit_at-commit.ensures.pos c.expected_date-expected.ensures in
     let next : c.args.before + c.loop-place.place + 1 ≡ c.args.before + (c.loop-place.place + 1) = omega arith in
-    subst (λ (n : ℕ). first_below (date_fault (history_of c.args.graph.now) (times_of c.args.graph.now) c.args.dates.now) n ≡ None)
+    let fault = date_fault (history_of c.args.graph.now) (times_of c.args.graph.now) c.args.dates.now in
+    subst (λ (n : ℕ). first_below fault n ≡ None)
     next
     (date-fine c.args.graph.now c.args.dates.now (c.args.before + c.loop-place.place) c.loop-place.invariant
     (c.if-dates-pos.false ∙ expected))
@@ -58,5 +59,6 @@ returns-clause-right c =
     c.requires.layer c.requires.before c.index-layers-layer.is in
     let all : c.loop-place.place ≡ length c.index-layers-layer.result.ids =
     omega (arith, c.loop-place-test.false, c.loop-place.auto.place-end, c.num_commits-place-end.ensures.ids) in
-    subst (λ (n : ℕ). first_below (date_fault (history_of c.args.graph.now) (times_of c.args.graph.now) c.args.dates.now) n ≡ None)
+    let fault = date_fault (history_of c.args.graph.now) (times_of c.args.graph.now) c.args.dates.now in
+    subst (λ (n : ℕ). first_below fault n ≡ None)
     (ap (λ (n : ℕ). c.args.before + n) all ∙ end) c.loop-place.invariant
