@@ -1,5 +1,6 @@
 use Rattle.std.proofs.Common.{◌≡◌, ◌+◌, ℕ, length, None, ap, ◌∙◌, subst, arith}
 use Rattle.first_faults.specs.First.{first_below}
+use Rattle.graph_walks.specs.Dates.{number_at}
 use Rattle.graph_format.specs.StoredHistory.{history_of}
 use Rattle.graph_chunks.specs.StoredDates.{times_of}
 use Rattle.graph_chunks.specs.Dates.{date_fault}
@@ -32,8 +33,10 @@ returns-then-dates-pos-clause-fault c _ =
     expected-of c.args.graph.now c.args.dates.now (c.args.before + c.loop-place.place) c.loop-place.place
     c.expected_date-expected.result c.index-layers-layer.result c.commit_at-commit.result c.requires.graph.opened at.commit
     c.commit_at-commit.ensures.layer c.commit_at-commit.ensures.pos c.expected_date-expected.ensures in
+    let date = number_at c.args.dates.now (c.args.before + c.loop-place.place) in
+    let apart : date ≡ c.expected_date-expected.result → ⊥ = λ same. absurd (omega (arith, same, c.if-dates-pos.true)) in
     date-found c.args.graph.now c.args.dates.now (c.args.before + c.loop-place.place) c.expected_date-expected.result
-    c.loop-place.invariant expected c.if-dates-pos.true at.below
+    c.loop-place.invariant expected apart at.below
 
 pub loop-place-preserved : goal.loop-place-preserved
 loop-place-preserved c =
@@ -50,7 +53,7 @@ loop-place-preserved c =
     subst (λ (n : ℕ). first_below fault n ≡ None)
     next
     (date-fine c.args.graph.now c.args.dates.now (c.args.before + c.loop-place.place) c.loop-place.invariant
-    (c.if-dates-pos.false ∙ expected))
+    (omega (arith, c.if-dates-pos.false, expected)))
 
 pub returns-clause-right : goal.returns-clause-right
 returns-clause-right c =
