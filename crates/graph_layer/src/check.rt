@@ -1,6 +1,6 @@
 //! What the check of a graph asks of a layer and of its commits.
 
-ghost use Rattle.std.specs.Prelude.{◌≡◌, ◌<◌, length, slice_get, option_map, Some};
+ghost use Rattle.std.specs.Prelude.{◌≡◌, ◌<◌, length, map, slice_get, option_map, Some};
 ghost use Rattle.gix_hash_core.specs.Oid.{oid_bytes};
 ghost use Rattle.graph_format.specs.Faults.{layer_fault, id_fault, tree_fault};
 ghost use Rattle.graph_format.specs.Format.{words};
@@ -48,6 +48,13 @@ pub fn extra_edges(file: &File) -> Option<&[u32]>
     ensures { option_map (λ edges. edges.now) result ≡ option_map words file.now.edges }
 {
     file.extra_edges()
+}
+
+/// The committer's times of a layer's commits, in the order of their positions ("Commit Data").
+pub fn times(file: &File) -> &[u64]
+    ensures { result.now ≡ map (λ r. r.time) file.now.records }
+{
+    file.times()
 }
 
 /// The id of a layer below this one ("Base Graphs List").

@@ -1,10 +1,12 @@
 -- what a layout says of the layer that the bytes are
-use Rattle.std.proofs.Common.{◌≡◌, ℕ, ◌*◌, List, map, length, Option, Some, None, option_map, IsSomeAnd, slice_range, refl}
-use Rattle.std.proofs.Common.{sym, ap, subst, ◌∙◌}
+use Rattle.std.proofs.Common.{◌≡◌, ℕ, ◌*◌, ◌≤◌, List, [], map, length, Option, Some, None, option_map, IsSomeAnd, slice_range}
+use Rattle.std.proofs.Common.{slice_index, refl, sym, ap, subst, ◌∙◌, arith}
 use Rattle.std.proofs.lemmas.Option.{same_Some}
 use Rattle.gix_hash_core.specs.declared.kind.Kind.{Kind}
-use Rattle.graph_format.specs.Format.{Record, record_of, record_len, commits_of, chunk_of, pieces, records_id, edges_id}
+use Rattle.gix_chunk_core.specs.Table.{Chunks}
+use Rattle.graph_format.specs.Format.{Record, record_of, record_len, commits_of, table_of, chunk_of, pieces, records_id, edges_id}
 use Rattle.graph_format.specs.Layer.{Layer, IsLayer, decoded_layer}
+use Rattle.graph_format.specs.Refusal.{refusal}
 use Rattle.graph_layout.specs.Layout.{IsLayout}
 use Rattle.graph_layout.specs.ChunkRanges.{IsAt, IsChunkRange}
 use Rattle.graph_layout.specs.declared.layout.Layout.{Layout}
@@ -52,3 +54,12 @@ view-edges bytes path layout layer kept view = edges-lie bytes layout.chunks.edg
     ∙ sym (is-layer bytes path layout layer kept view).edges
 
 pub ruleset decoded_laws = (view-decoded, view-edges)
+
+-- the table of chunks of bytes that are not refused
+pub table-stands : (bytes : List ℕ) → refusal bytes ≡ None → Chunks bytes 8 (slice_index bytes 6) (table_of bytes)
+table-stands bytes none = (accepted bytes [] none).table
+
+pub header-stands : (bytes : List ℕ) → refusal bytes ≡ None → 8 ≤ length bytes
+header-stands bytes none = omega (arith, (accepted bytes [] none).size)
+
+pub ruleset table_laws = (table-stands, header-stands)

@@ -5,3 +5,4 @@ pub use Rattle.graph_format.specs.Refusal
 pub mod ChunkRanges
 pub mod Layout
 pub mod DecodedRecords
+pub mod Numbers

@@ -158,9 +158,9 @@ fn check_edges(place: Option<ChunkRange>) -> Result<(), FileError>
     }
 }
 
-/// Where the chunk with this id lies.
+/// Where the chunk with an id lies, by a table that was read.
 #[tactic(auto, using(crate::proofs::ChunkLemmas::chunk_laws))]
-fn chunk_range(bytes: &[u8], index: &Index<'_>, id: [u8; 4]) -> Option<ChunkRange>
+pub(crate) fn chunk_range(bytes: &[u8], index: &Index<'_>, id: [u8; 4]) -> Option<ChunkRange>
     requires { Chunks bytes.now 8 (slice_index bytes.now 6) index.now }
     ensures { IsChunkRange bytes.now id result }
 {

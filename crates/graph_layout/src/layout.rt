@@ -1,14 +1,14 @@
 //! The layout of a file: what its header says, and where its parts lie.
 
-ghost use Rattle.std.specs.Prelude.{◌≡◌, ◌≤◌, length, IfOk};
+ghost use Rattle.std.specs.Prelude.{◌≡◌, ◌≤◌, length, None, IfOk};
 ghost use Rattle.graph_format.specs.Reports.{Reports};
 ghost use Rattle.graph_format.specs.Format.{table_of, fan_of, commits_of};
 ghost use Rattle.graph_format.specs.Refusal.{refusal};
 ghost use Rattle.graph_format.specs.RefusalSteps.{counts_refusal, trailer_refusal};
-ghost use Rattle.graph_layout.specs.ChunkRanges.{AreChunkRanges};
+ghost use Rattle.graph_layout.specs.ChunkRanges.{AreChunkRanges, IsChunkRange};
 ghost use Rattle.graph_layout.specs.Layout.{IsLayout};
 
-use crate::chunks::{ChunkRanges, chunk_ranges, record_len};
+use crate::chunks::{ChunkRange, ChunkRanges, chunk_range, chunk_ranges, record_len};
 use crate::fan::{check_rising, fan_at};
 use crate::header::{HEADER_LEN, kind_of_file};
 use gix_chunk_core::Index;
@@ -67,6 +67,19 @@ fn check_counts(
         return Err(FileError::RecordCount);
     }
     Ok(())
+}
+
+/// Where the chunk with an id lies in bytes that are not refused. Their table of chunks is read
+/// again.
+#[tactic(auto, using(crate::proofs::LayoutLemmas::table_laws))]
+pub fn find_chunk(bytes: &[u8], id: [u8; 4]) -> Option<ChunkRange>
+    requires { refusal bytes.now ≡ None }
+    ensures { IsChunkRange bytes.now id result }
+{
+    match Index::from_bytes(bytes, HEADER_LEN, bytes[6] as u32) {
+        Ok(index) => chunk_range(bytes, &index, id),
+        Err(_) => unreachable!(),
+    }
 }
 
 /// The layout of the bytes, or why they are refused.

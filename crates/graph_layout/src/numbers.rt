@@ -4,7 +4,7 @@ ghost use Rattle.std.specs.Prelude.{◌≡◌, ◌+◌, ◌≤◌, length, slice
 ghost use Rattle.std.specs.Int.{w32, w64, from_be_bytes};
 
 /// The number of four bytes at an offset.
-pub(crate) fn word_at(bytes: &[u8], at: usize) -> u32
+pub fn word_at(bytes: &[u8], at: usize) -> u32
     requires { at + 4 ≤ length bytes.now }
     ensures { result ≡ from_be_bytes w32 (slice_range bytes.now at (at + 4)) }
 {

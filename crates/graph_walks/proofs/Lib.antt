@@ -2,3 +2,4 @@ pub mod GreatestLemmas
 pub mod WalkPathLemmas
 pub mod WalkLemmas
 pub mod TallyLemmas
+pub mod DateLemmas

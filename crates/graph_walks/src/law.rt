@@ -1,11 +1,13 @@
-//! What generation numbers mean: laws of walks along parents ("topological level" in Git's
-//! commit-graph design). They hold of every history, whether or not it has cycles.
+//! What generation numbers and corrected dates mean: laws of walks along parents ("topological
+//! level" and "corrected commit date" in Git's commit-graph design). They hold of every history,
+//! whether or not it has cycles.
 
-ghost use Rattle.std.specs.Prelude.{◌≡◌, ◌<◌, ◌≤◌, ◌-◌, ℕ, List, length};
+ghost use Rattle.std.specs.Prelude.{◌≡◌, ◌↔◌, ◌<◌, ◌≤◌, ◌+◌, ◌-◌, ℕ, List, length, max};
 ghost use Rattle.graph_walks.specs.Counts.{greatest};
 ghost use Rattle.graph_walks.specs.History.{Node, generation_at, generations};
 ghost use Rattle.graph_walks.specs.Generations.{AreLocal};
 ghost use Rattle.graph_walks.specs.Walks.{Reaches, IsProperAncestor, CountWalks, IsLongestWalk};
+ghost use Rattle.graph_walks.specs.Dates.{AreRight, AreGreatest, number_at};
 
 use crate::GENERATION_NUMBER_MAX;
 
@@ -51,4 +53,38 @@ pub fn greatest_generation_is_the_longest_walk()
     ensures { (history : List Node) → CountWalks history
         → ((p : ℕ) → p < length history → generation_at history p < GENERATION_NUMBER_MAX)
         → IsLongestWalk history (greatest (generations history) - 1) }
+{}
+
+/// Each corrected date is the commit's time, or one more than the greatest date of its parents,
+/// whichever is later, exactly where each is the greatest date that a walk from the commit asks
+/// for.
+pub fn dates_are_right_exactly_where_they_are_greatest()
+    ensures { (history : List Node) (times dates : List ℕ)
+        → AreRight history times dates ↔ AreGreatest history times dates }
+{}
+
+/// Where corrected dates are right, each is above those of all ancestors of its commit.
+pub fn right_dates_fall_along_walks()
+    ensures { (history : List Node) (times dates : List ℕ) (p q : ℕ) → AreRight history times dates
+        → IsProperAncestor history p q → number_at dates q < number_at dates p }
+{}
+
+/// Where corrected dates are right, no commit lies on a cycle.
+pub fn right_dates_leave_no_cycle()
+    ensures { (history : List Node) (times dates : List ℕ) (p : ℕ) → AreRight history times dates
+        → ¬ IsProperAncestor history p p }
+{}
+
+/// A history with its times has one list of right corrected dates at most.
+pub fn right_dates_are_one()
+    ensures { (history : List Node) (times dates others : List ℕ) (p : ℕ)
+        → AreRight history times dates → AreRight history times others
+        → number_at dates p ≡ number_at others p }
+{}
+
+/// Where corrected dates are right, each is at most the greatest of 1 and the times, and one second
+/// for each other commit of the history.
+pub fn right_dates_are_early()
+    ensures { (history : List Node) (times dates : List ℕ) (p : ℕ) → AreRight history times dates
+        → number_at dates p ≤ max 1 (greatest times) + (length history - 1) }
 {}

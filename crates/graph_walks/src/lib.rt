@@ -1,4 +1,4 @@
-//! Walks along the parents of commits, and what generation numbers say of them.
+//! Walks along the parents of commits, and what generation numbers and corrected dates say of them.
 //!
 //! A history is a list of commits, each with its generation number and the positions of its
 //! parents. It need not come from a file, and may have cycles. The only code is laws, which join

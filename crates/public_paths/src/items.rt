@@ -29,9 +29,11 @@ use gix_commitgraph::law::stats::{
     the_parent_counts_of_a_graph_add_up, the_parent_counts_of_a_layer_add_up,
 };
 use gix_commitgraph::law::walk::{
-    cycles_are_at_the_cap, generations_fall_along_walks, generations_never_rise_along_walks,
+    cycles_are_at_the_cap, dates_are_right_exactly_where_they_are_greatest,
+    generations_fall_along_walks, generations_never_rise_along_walks,
     generations_that_count_walks_are_local, greatest_generation_is_the_longest_walk,
-    local_generations_count_walks, the_cap_is_this_number,
+    local_generations_count_walks, right_dates_are_early, right_dates_are_one,
+    right_dates_fall_along_walks, right_dates_leave_no_cycle, the_cap_is_this_number,
     walks_over_distinct_ids_are_walks_over_positions,
 };
 use gix_commitgraph::law::{

@@ -4,13 +4,14 @@ ghost use Rattle.std.specs.Prelude.{◌≡◌, ◌+◌, ◌<◌, ◌≤◌, leng
 ghost use Rattle.std.specs.Prelude.{slice_get, Some, IfSome, option_map, bytes_eq};
 ghost use Rattle.gix_hash_core.specs.Kind.{id_len};
 ghost use Rattle.gix_hash_core.specs.Oid.{oid_bytes};
-ghost use Rattle.graph_format.specs.Format.{words, commits_of};
+ghost use Rattle.graph_format.specs.Format.{words, commits_of, chunk_of};
 ghost use Rattle.graph_format.specs.Layer.{IsLayer, record_at, bytes_of};
 ghost use Rattle.graph_layer.specs.Commit.{commit_layer, commit_pos};
 
 use crate::file::{Commit, File, Position};
 use gix_hash_core::{Kind, oid};
 use graph_layout::chunks::{record_len, start_of};
+use graph_layout::layout::find_chunk;
 
 /// The id of this kind that begins at an offset.
 fn id_from(bytes: &[u8], start: usize, kind: Kind) -> oid<'_>
@@ -84,6 +85,17 @@ impl File {
         ensures pos { commit_pos result ≡ pos.0 }
     {
         Commit::new(self, pos)
+    }
+
+    /// The bytes of the chunk with an id, `None` where the file has no such chunk: the section
+    /// "CHUNK LOOKUP". The table of chunks is gone through at each call.
+    pub fn chunk(&self, id: [u8; 4]) -> Option<&[u8]>
+        ensures { option_map (λ chunk. chunk.now) result ≡ chunk_of (bytes_of self.now) id }
+    {
+        match find_chunk(&self.bytes, id) {
+            Some(place) => Some(&self.bytes[place.start..place.end]),
+            None => None,
+        }
     }
 
     /// The ids of the layers below this one, the lowest first: the section "Base Graphs List".

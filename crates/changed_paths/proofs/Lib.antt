@@ -1,0 +1,4 @@
+pub mod FilterLemmas
+pub mod Murmur3Lemmas
+pub mod PlaceLemmas
+pub mod FiltersLemmas

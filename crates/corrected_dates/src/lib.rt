@@ -1,0 +1,120 @@
+//! The corrected commit dates that the chunks of a layer store ("Generation Data" and "Generation
+//! Data Overflow" of Git's commit-graph format).
+#![tactic(auto)]
+
+ghost use Rattle.std.specs.Prelude.{◌≡◌, ◌≢◌, ◌+◌, ◌*◌, ◌<◌, ◌≤◌, ◌^◌, ◌++◌, All, length, Some};
+ghost use Rattle.std.specs.Prelude.{None, IfOk, IfErr};
+ghost use Rattle.graph_format.specs.Reports.{Reports};
+ghost use Rattle.corrected_dates.specs.StoredDates.{offset_of, date_of, date_fault, dates_refusal};
+ghost use Rattle.corrected_dates.specs.StoredDates.{stored_dates, NamesOneOf};
+ghost use Rattle.corrected_dates.specs.declared.LayerDatesError.TheVariants.{OutOfMemory};
+
+use graph_format::file::Position;
+use graph_layout::numbers::{long_at, word_at};
+use thiserror::Error;
+
+/// Where the words of `GDA2` begin that name numbers of the overflow list.
+const OVERFLOW_BIT: u32 = 1 << 31;
+
+/// Where the dates begin that are refused. Right dates are far below it.
+const DATE_LIMIT: u64 = 1 << 63;
+
+/// Why the chunks `GDA2` and `GDO2` of a layer are refused: the first of these that holds, where
+/// `OverflowIndex` and `TooLarge` are looked for together, commit by commit. Its text is the name
+/// of the variant alone.
+#[derive(Clone, Copy, Debug, PartialEq, Eq, Error)]
+pub enum LayerDatesError {
+    /// `GDA2` has not four bytes for each commit ("Generation Data").
+    #[error("DataSize")]
+    DataSize,
+    /// The length of `GDO2` is no multiple of eight ("Generation Data Overflow").
+    #[error("OverflowSize")]
+    OverflowSize,
+    /// The word of this commit names a number that `GDO2` does not have.
+    #[error("OverflowIndex")]
+    OverflowIndex(Position),
+    /// The date of this commit is 2^63 or more.
+    #[error("TooLarge")]
+    TooLarge(Position),
+    /// An allocation failed.
+    #[error("OutOfMemory")]
+    OutOfMemory,
+}
+
+/// The offset of a commit, if it has one.
+fn offset_of(offsets: &[u8], overflow: &[u8], pos: usize) -> Option<u64>
+    requires { 4 * pos + 4 ≤ length offsets.now }
+    ensures { result ≡ offset_of offsets.now overflow.now pos }
+{
+    let word = word_at(offsets, 4 * pos);
+    if word < OVERFLOW_BIT {
+        return Some(word as u64);
+    }
+    let index = (word - OVERFLOW_BIT) as usize;
+    if index < overflow.len() / 8 {
+        Some(long_at(overflow, 8 * index))
+    } else {
+        None
+    }
+}
+
+/// The date of a commit, or why it has none.
+fn date_of(offsets: &[u8], overflow: &[u8], times: &[u64], pos: u32) -> Result<u64, LayerDatesError>
+    requires offsets { 4 * pos + 4 ≤ length offsets.now }
+    requires times { pos < length times.now }
+    ensures fault { Reports result (date_fault offsets.now overflow.now times.now pos) }
+    ensures date { IfOk result (λ date. date ≡ date_of offsets.now overflow.now times.now pos) }
+    ensures small { IfOk result (λ date. date < 2 ^ 63) }
+    ensures place { IfErr result (NamesOneOf (length times.now)) }
+{
+    let Some(offset) = offset_of(offsets, overflow, pos as usize) else {
+        return Err(LayerDatesError::OverflowIndex(Position(pos)));
+    };
+    match times[pos as usize].checked_add(offset) {
+        Some(date) if date < DATE_LIMIT => Ok(date),
+        _ => Err(LayerDatesError::TooLarge(Position(pos))),
+    }
+}
+
+/// Puts the dates of a layer, in seconds since 1970-01-01 00:00:00 UTC, after those of the layers
+/// below it. They come from the chunks `GDA2` and `GDO2` (empty where the layer has none) and from
+/// the times of its commits, each in the order of the commits.
+///
+/// # Errors
+///
+/// The first of [`LayerDatesError`] that holds, or `OutOfMemory`. Some dates may have been put
+/// there.
+#[tactic(auto, using(crate::proofs::DecodingLemmas::decoding_laws), unfolding(crate::specs::StoredDates::dates_refusal))]
+pub fn decode_dates(
+    dates: &mut Vec<u64>,
+    offsets: &[u8],
+    overflow: &[u8],
+    times: &[u64],
+) -> Result<(), LayerDatesError>
+    requires { length times.now < 2 ^ 32 }
+    ensures dates { IfOk result (λ _. dates.new.items
+        ≡ dates.old.items ++ stored_dates offsets.now overflow.now times.now) }
+    ensures small { IfOk result (λ _. All (λ date. date < 2 ^ 63) dates.old.items
+        → All (λ date. date < 2 ^ 63) dates.new.items) }
+    ensures none { IfOk result (λ _. dates_refusal offsets.now overflow.now times.now ≡ None) }
+    ensures fault { IfErr result (λ fault. fault ≢ OutOfMemory
+        → dates_refusal offsets.now overflow.now times.now ≡ Some fault) }
+    ensures place { IfErr result (NamesOneOf (length times.now)) }
+{
+    if offsets.len() != 4 * times.len() {
+        return Err(LayerDatesError::DataSize);
+    }
+    if overflow.len() % 8 != 0 {
+        return Err(LayerDatesError::OverflowSize);
+    }
+    for pos in 0..times.len() as u32 {
+        let date = match date_of(offsets, overflow, times, pos) {
+            Ok(date) => date,
+            Err(fault) => return Err(fault),
+        };
+        let Ok(()) = dates.push(date) else {
+            return Err(LayerDatesError::OutOfMemory);
+        };
+    }
+    Ok(())
+}

@@ -1,0 +1,138 @@
+-- the check of the dates of a graph
+use Rattle.std.proofs.Common.{◌≡◌, ℕ, ◌+◌, ◌<◌, not, max, Bool, true, false, List, map, length, All, Some, None}
+use Rattle.std.proofs.Common.{option_map, get_or, slice_get, refl, sym, ap, ◌∙◌, arith}
+use Rattle.std.specs.Bool.{then_some}
+use Rattle.std.specs.Option.{option_or}
+use Rattle.std.proofs.lemmas.Bool.{eqb-true, eq-eqb, ne_eqb}
+use Rattle.std.proofs.lemmas.Option.{slice_get-map, slice_get_read, get_or_from_slice_get}
+use Rattle.first_faults.specs.First.{first_below}
+use Rattle.first_faults.proofs.FirstLemmas.{first_below-none_more, first_below-found, first_below-none_at, then_some-none}
+use Rattle.first_faults.proofs.FirstLemmas.{then_some-false}
+use Rattle.graph_walks.specs.Counts.{greatest}
+use Rattle.graph_walks.specs.Dates.{number_at, expected_date, AreRight}
+use Rattle.graph_format.specs.Layer.{Layer, IsOpened, record_at}
+use Rattle.graph_format.specs.Parents.{parents_of, position_of}
+use Rattle.graph_format.specs.StoredHistory.{history_of}
+use Rattle.gix_commitgraph.specs.Graph.{graph_commits, start, stop, total}
+use Rattle.gix_commitgraph.proofs.GraphHistoryLemmas.{parents-at, length-history}
+use Rattle.gix_commitgraph.proofs.LayerListLemmas.{graph_commits-counted, start-more, start-fits}
+use Rattle.graph_layer.specs.Commit.{commit_layer, commit_pos, commit_record, commit_parents}
+use Rattle.graph_layer.specs.declared.file.commit.Commit.{Commit}
+use Rattle.graph_chunks.specs.StoredDates.{times_of, dates_of}
+use Rattle.graph_chunks.specs.Dates.{reading_fault, date_fault, graph_dates_refusal}
+use Rattle.graph_chunks.specs.declared.dates.DatesError.{DatesError}
+use Rattle.graph_chunks.specs.Latest.{latest_of}
+use Rattle.graph_chunks.specs.declared.dates.DatesError.TheVariants.{Date}
+
+-- the time of the commit at a position
+time-at : (layers : List Layer) (p j : ℕ) (layer : Layer) → slice_get (graph_commits layers) p ≡ Some (layer, j)
+    → (record_at layer j).time ≡ number_at (times_of layers) p
+unfolding times_of
+time-at layers p j layer here =
+    let time : (Layer × ℕ) → ℕ = λ c. (record_at c.0 c.1).time in
+    let at : slice_get (map time (graph_commits layers)) p ≡ Some (record_at layer j).time =
+    slice_get-map time (graph_commits layers) p ∙ ap (option_map time) here in
+    sym (get_or_from_slice_get (map time (graph_commits layers)) p (record_at layer j).time 0 at)
+
+-- the date that is expected of it
+pub expected-at : (layers : List Layer) (dates : List ℕ) (p j latest : ℕ) (layer : Layer) → All IsOpened layers
+    → slice_get (graph_commits layers) p ≡ Some (layer, j) → latest ≡ latest_of dates (parents_of (record_at layer j) layer.edges)
+    → max (record_at layer j).time (1 + latest) ≡ expected_date (history_of layers) (times_of layers) dates p
+unfolding expected_date
+expected-at layers dates p j latest layer opened here is =
+    let time = time-at layers p j layer here in
+    let parents = ap (λ (ps : List ℕ). greatest (map (number_at dates) ps)) (parents-at layers p j layer opened here) in
+    omega (arith, time, parents, is)
+
+pub date-fine : (layers : List Layer) (dates : List ℕ) (p : ℕ)
+    → first_below (date_fault (history_of layers) (times_of layers) dates) p ≡ None
+    → number_at dates p ≡ expected_date (history_of layers) (times_of layers) dates p
+    → first_below (date_fault (history_of layers) (times_of layers) dates) (p + 1) ≡ None
+date-fine layers dates p none same =
+    first_below-none_more (date_fault (history_of layers) (times_of layers) dates) p none
+    (then_some-false _ _ (ap not (eq-eqb _ _ same)))
+
+pub date-found : (layers : List Layer) (dates : List ℕ) (p expected : ℕ)
+    → first_below (date_fault (history_of layers) (times_of layers) dates) p ≡ None
+    → expected ≡ expected_date (history_of layers) (times_of layers) dates p → (number_at dates p ≡ expected → ⊥)
+    → p < total layers
+    → first_below (date_fault (history_of layers) (times_of layers) dates) (total layers) ≡ Some (Date (position_of p) expected)
+date-found layers dates p expected none is apart below =
+    let other : number_at dates p ≡ expected_date (history_of layers) (times_of layers) dates p → ⊥ =
+    λ same. apart (same ∙ sym is) in
+    first_below-found (date_fault (history_of layers) (times_of layers) dates) p (total layers) _ none
+    (ap (λ (b : Bool). then_some (not b) (Date (position_of p) (expected_date (history_of layers) (times_of layers) dates p)))
+    (ne_eqb _ _ other)
+    ∙ ap (λ (n : ℕ). Some (Date (position_of p) n)) (sym is)) below
+
+pub dates-right : (layers : List Layer) (dates : List ℕ) → All IsOpened layers → length dates ≡ total layers
+    → first_below (date_fault (history_of layers) (times_of layers) dates) (total layers) ≡ None
+    → AreRight (history_of layers) (times_of layers) dates
+dates-right layers dates opened many none =
+    let counted = length-history layers opened in
+    record {
+      as_many = omega arith;
+      expected = λ p within.
+          let here =
+          first_below-none_at (date_fault (history_of layers) (times_of layers) dates) p (total layers) none (omega arith) in
+          eqb-true _ _ (not_false _ (then_some-none _ _ here));
+    } where
+      not_false : (b : Bool) → not b ≡ false → b ≡ true
+      not_false true h = refl
+      not_false false h = cc
+
+-- the commit at a place of a layer, before which so many commits stand, at its position of the graph
+pub record IsPlace (layers : List Layer) (before place : ℕ) (layer : Layer) : Type 0 where
+  pub commit : slice_get (graph_commits layers) (before + place) ≡ Some (layer, place)
+  pub below : before + place < total layers
+
+pub is_place : (layers files : List Layer) (i before place : ℕ) (layer : Layer) → files ≡ layers → i < length layers
+    → before ≡ start layers i → layer ≡ get_or files i layer → place < length layer.ids → IsPlace layers before place layer
+is_place layers files i before place layer same within counted is inside =
+    let here : slice_get layers i ≡ Some layer =
+    slice_get_read layers (length layers) i layer refl within
+    (is ∙ ap (λ (ls : List Layer). get_or ls i layer) same) in
+    record {
+      commit = graph_commits-counted layers i before place layer counted here inside;
+      below = omega (arith, counted, inside, start-more layers i layer here, start-fits layers (i + 1));
+    }
+
+-- the end of a layer is the start of the next one
+pub stop-is : (layers files : List Layer) (i before : ℕ) (layer : Layer) → files ≡ layers → i < length layers
+    → before ≡ start layers i → layer ≡ get_or files i layer → before + length layer.ids ≡ stop layers i
+stop-is layers files i before layer same within counted is =
+    let here : slice_get layers i ≡ Some layer =
+    slice_get_read layers (length layers) i layer refl within
+    (is ∙ ap (λ (ls : List Layer). get_or ls i layer) same) in
+    omega (arith, counted, start-more layers i layer here)
+
+-- the date that is expected of a commit that was read
+pub expected-of : (layers : List Layer) (dates : List ℕ) (p place expected : ℕ) (layer : Layer) (commit : Commit)
+    → All IsOpened layers → slice_get (graph_commits layers) p ≡ Some (layer, place) → commit_layer commit ≡ layer
+    → commit_pos commit ≡ place
+    → expected ≡ max (commit_record commit).time (1 + latest_of dates (commit_parents commit))
+    → expected ≡ expected_date (history_of layers) (times_of layers) dates p
+expected-of layers dates p place expected layer commit opened here in_layer at is =
+    is
+    ∙ expected-at layers dates p (commit_pos commit) (latest_of dates (commit_parents commit)) (commit_layer commit) opened
+    (here
+    ∙ ap (λ (l : Layer). Some (l, place)) (sym in_layer)
+    ∙ ap (λ (n : ℕ). Some (commit_layer commit, n)) (sym at)) refl
+
+pub refusal-reading : (layers : List Layer) (error : DatesError)
+    → first_below (reading_fault layers) (length layers) ≡ Some error → graph_dates_refusal layers ≡ Some error
+unfolding graph_dates_refusal
+refusal-reading layers error found =
+    ap (λ o. option_or o (first_below (date_fault (history_of layers) (times_of layers) (dates_of layers)) (total layers))) found
+
+pub refusal-date : (layers : List Layer) (dates : List ℕ) (error : DatesError) → dates ≡ dates_of layers
+    → first_below (reading_fault layers) (length layers) ≡ None
+    → first_below (date_fault (history_of layers) (times_of layers) dates) (total layers) ≡ Some error
+    → graph_dates_refusal layers ≡ Some error
+unfolding graph_dates_refusal
+refusal-date layers dates error same read found =
+    ap (λ o. option_or o (first_below (date_fault (history_of layers) (times_of layers) (dates_of layers)) (total layers))) read
+    ∙ ap (λ (ds : List ℕ). first_below (date_fault (history_of layers) (times_of layers) ds) (total layers)) (sym same)
+    ∙ found
+
+pub ruleset refusal_laws = (refusal-reading, refusal-date)

@@ -1,0 +1,3 @@
+pub mod StoredDateLemmas
+pub mod LatestLemmas
+pub mod DateCheckLemmas

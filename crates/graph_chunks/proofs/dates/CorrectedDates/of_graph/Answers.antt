@@ -1,0 +1,14 @@
+use Rattle.std.proofs.Common.{List, ℕ, length, ap, ◌∙◌}
+use Rattle.graph_chunks.proofs.StoredDateLemmas.{length-dates_of}
+use Rattle.graph_chunks.proofs.dates.CorrectedDates.of_graph.Goals as goal
+
+pub check_dates-requires-clause-dates : goal.check_dates-requires-clause-dates
+check_dates-requires-clause-dates c =
+    ap (λ (ds : List ℕ). length ds) c.deref.ensures.value
+    ∙ ap (λ (ds : List ℕ). length ds) c.in-Ok.ensures.dates
+    ∙ length-dates_of c.args.graph.now c.num_commits-commits.ensures.graph.opened
+
+pub returns-in-Ok-check_dates-clause-commits : goal.returns-in-Ok-check_dates-clause-commits
+returns-in-Ok-check_dates-clause-commits c =
+    ap (λ (ds : List ℕ). length ds) c.in-Ok.ensures.dates
+    ∙ length-dates_of c.args.graph.now c.num_commits-commits.ensures.graph.opened

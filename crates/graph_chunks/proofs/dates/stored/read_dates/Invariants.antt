@@ -1,0 +1,14 @@
+use Rattle.std.proofs.Common.{◌≡◌, ◌<◌, ◌^◌, All, None}
+use Rattle.first_faults.specs.First.{first_below}
+use Rattle.gix_commitgraph.specs.Graph.{start}
+use Rattle.graph_chunks.specs.Dates.{reading_fault}
+use Rattle.graph_chunks.proofs.StoredDateLemmas.{dates_below}
+use Rattle.graph_chunks.proofs.dates.stored.read_dates.Given as goal
+
+abbrev pub invariant-loop-layer : goal.invariant-loop-layer
+invariant-loop-layer l = record {
+  dates : l.dates.items ≡ dates_below l.layers l.layer;
+  small : All (λ date. date < 2 ^ 63) l.dates.items;
+  read : first_below (reading_fault l.layers) l.layer ≡ None;
+  counted : l.before ≡ start l.layers l.layer;
+}

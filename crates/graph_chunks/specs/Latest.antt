@@ -1,0 +1,15 @@
+-- the latest date of the parents of a commit, and of those that each suffix of an extra edge list names; for private contracts
+-- alone
+use Rattle.std.specs.Prelude.{◌≡◌, ℕ, List, map, slice_index, Option}
+use Rattle.graph_walks.specs.Counts.{greatest}
+use Rattle.graph_walks.specs.Dates.{number_at}
+use Rattle.graph_format.specs.Parents.{DecodedParents, second_parents}
+use Rattle.graph_format.specs.declared.parents.ParentEdge.TheVariants.{ExtraEdgeIndex}
+
+-- the latest date of these parents, 0 where there are none
+abbrev pub latest_of : List ℕ → DecodedParents → ℕ
+latest_of dates parents = greatest (map (number_at dates) (map (λ pos. pos.0) parents.positions))
+
+-- for each word of an extra edge list the latest date of the parents that are listed from it on
+pub record AreLatest (dates : List ℕ) (edges : Option (List ℕ)) (latest : List ℕ) : Type 0 where
+  pub each : (index : ℕ) → slice_index latest index ≡ latest_of dates (second_parents (ExtraEdgeIndex index) edges)

@@ -1,0 +1,4 @@
+pub mod StoredDates
+pub mod Dates
+pub mod Latest
+pub mod StoredFilters

@@ -1,0 +1,99 @@
+//! Reading the corrected dates that layers store.
+
+ghost use Rattle.std.specs.Prelude.{◌≡◌, ◌≢◌, ◌+◌, ◌<◌, ◌^◌, ◌++◌, All, None, Some, IsTrue, length};
+ghost use Rattle.std.specs.Bool.{OnTrue, OnFalse};
+ghost use Rattle.std.specs.Prelude.{IfOk, IfErr};
+ghost use Rattle.corrected_dates.specs.StoredDates.{NamesOneOf};
+ghost use Rattle.corrected_dates.specs.declared.LayerDatesError.TheVariants as layer_error;
+ghost use Rattle.first_faults.specs.First.{first_below};
+ghost use Rattle.graph_chunks.specs.StoredDates.{HasDates, dates_in, dates_of, layer_refusal};
+ghost use Rattle.graph_chunks.specs.Dates.{in_graph, reading_fault};
+ghost use Rattle.graph_chunks.specs.declared.dates.DatesError.TheVariants as error;
+
+use crate::dates::DatesError;
+use corrected_dates::{LayerDatesError, decode_dates};
+use gix_commitgraph::file::File;
+use gix_commitgraph::{Graph, Position};
+use graph_layer::check::times;
+use std::alloc::Global;
+
+/// The chunk of the section "Generation Data".
+const GENERATION_DATA_CHUNK_ID: [u8; 4] = *b"GDA2";
+
+/// The chunk of the section "Generation Data Overflow".
+const GENERATION_OVERFLOW_CHUNK_ID: [u8; 4] = *b"GDO2";
+
+/// Whether each layer has corrected dates.
+pub(super) fn has_dates(graph: &Graph) -> bool
+    ensures yes { OnTrue result (All HasDates graph.now) }
+    ensures no { OnFalse result (¬ All HasDates graph.now) }
+{
+    let layers = graph.layers();
+    for layer in 0..layers.len() {
+        if layers[layer].chunk(GENERATION_DATA_CHUNK_ID).is_none() {
+            return false;
+        }
+    }
+    true
+}
+
+/// Puts the dates of a layer after those of the layers below it.
+#[tactic(auto, unfolding(crate::specs::StoredDates::dates_in, crate::specs::StoredDates::layer_refusal))]
+fn read_layer(dates: &mut Vec<u64>, file: &File) -> Result<(), LayerDatesError>
+    ensures dates { IfOk result (λ _. dates.new.items ≡ dates.old.items ++ dates_in file.now) }
+    ensures small { IfOk result (λ _. All (λ date. date < 2 ^ 63) dates.old.items
+        → All (λ date. date < 2 ^ 63) dates.new.items) }
+    ensures none { IfOk result (λ _. layer_refusal file.now ≡ None) }
+    ensures fault { IfErr result (λ fault. fault ≢ layer_error.OutOfMemory
+        → layer_refusal file.now ≡ Some fault) }
+    ensures place { IfErr result (NamesOneOf (length file.now.ids)) }
+{
+    let offsets = file.chunk(GENERATION_DATA_CHUNK_ID).unwrap_or(&[]);
+    let overflow = file.chunk(GENERATION_OVERFLOW_CHUNK_ID).unwrap_or(&[]);
+    let _commits = file.num_commits();
+    decode_dates(dates, offsets, overflow, times(file))
+}
+
+/// The error of a layer, before which so many commits stand, as one of the graph.
+fn in_graph(layer: usize, before: u32, error: LayerDatesError, commits: u32) -> DatesError
+    requires place { NamesOneOf commits error }
+    requires fits { before + commits < 2 ^ 32 }
+    ensures { result ≡ in_graph layer before error }
+{
+    let _commits = commits;
+    match error {
+        LayerDatesError::DataSize => DatesError::DataSize { layer },
+        LayerDatesError::OverflowSize => DatesError::OverflowSize { layer },
+        LayerDatesError::OverflowIndex(place) => DatesError::OverflowIndex {
+            pos: Position(before + place.0),
+        },
+        LayerDatesError::TooLarge(place) => DatesError::TooLarge {
+            pos: Position(before + place.0),
+        },
+        LayerDatesError::OutOfMemory => DatesError::OutOfMemory,
+    }
+}
+
+/// The dates that the layers of a graph store.
+#[tactic(auto, using(crate::proofs::StoredDateLemmas::reading_laws))]
+pub(super) fn read_dates(alloc: Global, graph: &Graph) -> Result<Vec<u64>, DatesError>
+    ensures dates { IfOk result (λ dates. dates.items ≡ dates_of graph.now) }
+    ensures small { IfOk result (λ dates. All (λ date. date < 2 ^ 63) dates.items) }
+    ensures none { IfOk result (λ _.
+        first_below (reading_fault graph.now) (length graph.now) ≡ None) }
+    ensures fault { IfErr result (λ fault. fault ≢ error.OutOfMemory
+        → first_below (reading_fault graph.now) (length graph.now) ≡ Some fault) }
+{
+    let mut dates = Vec::new(alloc);
+    let _commits = graph.num_commits();
+    let layers = graph.layers();
+    let mut before = 0;
+    for layer in 0..layers.len() {
+        let commits = layers[layer].num_commits();
+        if let Err(error) = read_layer(&mut dates, &layers[layer]) {
+            return Err(in_graph(layer, before, error, commits));
+        }
+        before += commits;
+    }
+    Ok(dates)
+}
