@@ -11,3 +11,9 @@ pub mod VisitLemmas
 pub mod QueryLemmas
 pub mod KnownAnswerLemmas
 pub mod DescentLemmas
+pub mod ReachLemmas
+pub mod PaintLemmas
+pub mod CoatLemmas
+pub mod PassLemmas
+pub mod BaseLemmas
+pub mod FoundLemmas

@@ -10,18 +10,22 @@
 
 mod access;
 mod ancestor;
+mod bases;
 mod checked;
 mod commits;
 pub mod law;
 mod lists;
 mod marks;
 mod owned;
+mod paint;
+mod painting;
 mod parents;
 mod search;
 mod searcher;
 mod walk;
 mod words;
 
+pub use bases::{Bases, Comparison, Divergence};
 pub use checked::{Checked, NoFault};
 use gix_commitgraph::Position;
 pub use owned::CheckedGraph;

@@ -1,0 +1,19 @@
+use Rattle.graph_format.specs.StoredHistory.{history_of}
+use Rattle.graph_history.specs.Answer.{numbers_of}
+use Rattle.graph_history.proofs.FoundLemmas.{ahead_number, behind_number, bases_are}
+use Rattle.graph_history.proofs.checked.Checked.compare.Goals as goal
+
+pub returns-clause-bases : goal.returns-clause-bases
+returns-clause-bases c =
+    bases_are (history_of c.args.self.now) c.args.first.0 (numbers_of c.args.others.now) c.in_ok-painting.painting.coats.all.items
+    c.in_ok-painting.ensures.painted (numbers_of c.in_ok-positions.positions.items) c.in_ok-positions.ensures
+
+pub returns-clause-ahead : goal.returns-clause-ahead
+returns-clause-ahead c =
+    ahead_number (history_of c.args.self.now) c.args.first.0 (numbers_of c.args.others.now) c.in_ok-painting.painting.coats.all.items
+    c.in_ok-painting.ensures.painted c.divergence-divergence.result.ahead c.divergence-divergence.ensures.ahead
+
+pub returns-clause-behind : goal.returns-clause-behind
+returns-clause-behind c =
+    behind_number (history_of c.args.self.now) c.args.first.0 (numbers_of c.args.others.now) c.in_ok-painting.painting.coats.all.items
+    c.in_ok-painting.ensures.painted c.divergence-divergence.result.behind c.divergence-divergence.ensures.behind
