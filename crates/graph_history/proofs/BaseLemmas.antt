@@ -8,11 +8,14 @@ use Rattle.graph_history.specs.declared.paint.Coat.{Coat}
 use Rattle.graph_history.specs.declared.paint.Paint.{Paint}
 use Rattle.graph_history.specs.declared.paint.Paint.TheVariants.{First, Others, Both}
 use Rattle.graph_history.specs.Bases.{IsReachedFromSome, IsCommonAncestor, IsMergeBase, IsAhead, IsBehind}
-use Rattle.graph_history.specs.Paint.{is_ahead, is_behind, is_base, first_leads, others_lead, is_stale, is_painted, passed, paint_at, is_queued, IsPaint}
+use Rattle.graph_history.specs.Paint.{is_ahead, is_behind, is_base, first_leads, others_lead, is_stale, is_painted, passed}
+use Rattle.graph_history.specs.Paint.{paint_at, is_queued, IsPaint}
 use Rattle.graph_history.specs.Paint.{Grows}
 use Rattle.graph_history.specs.Painting.{IsSpread, IsDone, IsPainted}
-use Rattle.graph_history.proofs.ReachLemmas.{proper_reaches, proper_then, reaches_then, from_some_then, IsBelowQueued, carried, first_step}
-use Rattle.graph_history.proofs.PaintLemmas.{stale_first, stale_others, both_of, first_of, others_of, is_both, is_first, is_others, passed_first, passed_others}
+use Rattle.graph_history.proofs.ReachLemmas.{proper_reaches, proper_then, reaches_then, from_some_then, IsBelowQueued, carried}
+use Rattle.graph_history.proofs.ReachLemmas.{first_step}
+use Rattle.graph_history.proofs.PaintLemmas.{stale_first, stale_others, both_of, first_of, others_of, is_both, is_first}
+use Rattle.graph_history.proofs.PaintLemmas.{is_others, passed_first, passed_others}
 use Rattle.graph_history.proofs.PaintLemmas.{passed_stale}
 
 -- what a commit passes on

@@ -1,11 +1,14 @@
 -- Coats that change one at a time, and the queue beside them.
-use Rattle.std.proofs.Common.{◌≡◌, ◌≢◌, ◌⊎◌, ℕ, ◌<◌, ◌≤◌, zero, suc, List, [], ◌∷◌, ◌++◌, if◌then◌else◌, Bool, true, false, not, cond, length, set}
-use Rattle.std.proofs.Common.{◌+◌, get_or, All, Contains, IsPermutation, sum_by, count_by, refl, sym, ap, ◌∙◌, subst, inl, inr, ⊎_elim, arith}
+use Rattle.std.proofs.Common.{◌≡◌, ◌≢◌, ◌⊎◌, ℕ, ◌<◌, ◌≤◌, zero, suc, List, [], ◌∷◌, ◌++◌, if◌then◌else◌, Bool, true, false, not}
+use Rattle.std.proofs.Common.{cond, length, set}
+use Rattle.std.proofs.Common.{◌+◌, get_or, All, Contains, IsPermutation, sum_by, count_by, refl, sym, ap, ◌∙◌, subst, inl, inr}
+use Rattle.std.proofs.Common.{⊎_elim, arith}
 use Rattle.std.specs.Ordering.{nat_cmp}
 use Rattle.std.specs.BinaryHeap.{IsHeap, IsUpperBound}
 use Rattle.std.proofs.lemmas.Bool.{cases_eq, cases_lt, false≢true, both_ways, and_from, not_from_false}
 use Rattle.std.proofs.lemmas.List.{length-set, get_or-set_same, get_or-set_other, get_or_read, length-map}
-use Rattle.std.proofs.lemmas.List.Elements.{All-nil, All-cons, All-head, All-tail, All-contains, Contains-get_or, Contains-push, Contains-push_cases, Contains-append_left}
+use Rattle.std.proofs.lemmas.List.Elements.{All-nil, All-cons, All-head, All-tail, All-contains, Contains-get_or, Contains-push}
+use Rattle.std.proofs.lemmas.List.Elements.{Contains-push_cases, Contains-append_left}
 use Rattle.std.proofs.lemmas.List.Quantifiers.{all_pairs_push}
 use Rattle.std.proofs.lemmas.List.Sorted.{All-permutation, Contains-permutation, length_permutation, first_le_from_greatest}
 use Rattle.std.proofs.lemmas.List.Sums.{sum_by-set, get_or-le-sum_by}
@@ -18,10 +21,12 @@ use Rattle.graph_history.specs.declared.paint.Paint.{Paint}
 use Rattle.graph_history.specs.declared.paint.Paint.TheVariants.{First, Others}
 use Rattle.graph_history.specs.Paint.{is_base, first_leads, others_lead, is_stale, is_painted, covers, joined, passed, unknown}
 use Rattle.graph_history.specs.Paint.{is_fresh, bare, coat_at, paint_at, is_queued, IsSo, IsPaint, Grows}
-use Rattle.graph_history.specs.Painting.{AreGathered, IsSpread, IsSpreadBut, entry_cmp, IsEntry, IsWaiting, IsLevel, Joins, Adds, IsDone}
+use Rattle.graph_history.specs.Painting.{AreGathered, IsSpread, IsSpreadBut, entry_cmp, IsEntry, IsWaiting, IsLevel, Joins}
+use Rattle.graph_history.specs.Painting.{Adds, IsDone}
 use Rattle.graph_history.specs.Painting.{work}
 use Rattle.graph_history.proofs.ReachLemmas.{reaches_itself}
-use Rattle.graph_history.proofs.PaintLemmas.{grows_refl, grows_trans, grows_left, grows_right, covers_grows, joined_knows, so_joined, base_is_new, base_first, base_others}
+use Rattle.graph_history.proofs.PaintLemmas.{grows_refl, grows_trans, grows_left, grows_right, covers_grows, joined_knows}
+use Rattle.graph_history.proofs.PaintLemmas.{so_joined, base_is_new, base_first, base_others}
 
 abbrev pub coat_with : Paint → Bool → Coat
 coat_with paint queued = record { paint = paint; queued = queued }
@@ -45,6 +50,16 @@ module _ (coats : List Coat) (p : ℕ) (coat : Coat) (within : p < length coats)
   coat_there : (q : ℕ) → q ≢ p → coat_at (set coats p coat) q ≡ coat_at coats q
   coat_there q apart = get_or-set_other coats p q coat bare apart
 
+-- What is so after paint was added to a commit.
+pub record AddedBy (h : List Node) (a : ℕ) (bs : List ℕ) (p : ℕ) (x : Paint) (coats after : List Coat) (queue more : List (ℕ × ℕ))
+    (old : List ℕ) : Type 0 where
+  pub paint : IsPaint h a bs after
+  pub waiting : IsWaiting h after more
+  pub gathered : AreGathered after (if is_base (joined (paint_at coats p) x) then old ++ p ∷ [] else old)
+  pub adds : Adds p x coats after
+  pub level : (level : ℕ) → generation_at h p ≤ level → IsLevel h coats queue level → IsLevel h after more level
+  pub work : work after more ≤ work coats queue
+
 -- Paint is added to a commit, which is then queued.
 module _ (h : List Node) (a : ℕ) (bs : List ℕ) (coats : List Coat) (queue more : List (ℕ × ℕ)) (p : ℕ) (x : Paint)
     (paint : IsPaint h a bs coats) (waiting : IsWaiting h coats queue) (within : p < length h) (so : IsSo h a bs p x)
@@ -59,7 +74,7 @@ module _ (h : List Node) (a : ℕ) (bs : List ℕ) (coats : List Coat) (queue mo
   there : (q : ℕ) → q ≢ p → coat_at after q ≡ coat_at coats q
   there q apart = ap (λ (ms : List Coat). coat_at ms q) is_after ∙ coat_there coats p new inside q apart
 
-  pub added_paint : IsPaint h a bs after
+  added_paint : IsPaint h a bs after
   added_paint = record {
     coats_len = ap length is_after ∙ length-set coats p new ∙ paint.coats_len;
     each = λ q.
@@ -72,7 +87,7 @@ module _ (h : List Node) (a : ℕ) (bs : List ℕ) (coats : List Coat) (queue mo
         (cases_eq q p);
   }
 
-  pub added : Adds p x coats after
+  added : Adds p x coats after
   added = record {
     kept = λ q settled.
         ⊎_elim
@@ -90,7 +105,7 @@ module _ (h : List Node) (a : ℕ) (bs : List ℕ) (coats : List Coat) (queue mo
     has = subst (Grows x) (sym (ap (λ (m : Coat). m.paint) (here p refl))) (grows_right (paint_at coats p) x);
   }
 
-  pub added_waiting : IsWaiting h after more
+  added_waiting : IsWaiting h after more
   added_waiting = record {
     order = joins.order waiting.order;
     entries = joins.entries waiting.entries;
@@ -102,7 +117,7 @@ module _ (h : List Node) (a : ℕ) (bs : List ℕ) (coats : List Coat) (queue mo
         (cases_eq q p);
   }
 
-  pub added_level : (level : ℕ) → generation_at h p ≤ level → IsLevel h coats queue level → IsLevel h after more level
+  added_level : (level : ℕ) → generation_at h p ≤ level → IsLevel h coats queue level → IsLevel h after more level
   added_level level low is = record {
     above = λ q settled painted.
         (let same = added.kept q settled in
@@ -157,7 +172,7 @@ module _ (h : List Node) (a : ℕ) (bs : List ℕ) (coats : List Coat) (queue mo
           (cases_eq q p);
     }
 
-    pub added_all : covers (paint_at coats p) x ≡ false
+    added_all : covers (paint_at coats p) x ≡ false
         → AreGathered after (if is_base (joined (paint_at coats p) x) then gathered ++ p ∷ [] else gathered)
     added_all uncovered = by_cases (is_base (joined (paint_at coats p) x)) refl where
       by_cases : (b : Bool) → is_base (joined (paint_at coats p) x) ≡ b
@@ -165,7 +180,7 @@ module _ (h : List Node) (a : ℕ) (bs : List ℕ) (coats : List Coat) (queue mo
       by_cases true e = added_base uncovered e
       by_cases false e = added_gathered e
 
-  pub added_work : covers (paint_at coats p) x ≡ false → work after more ≤ work coats queue
+  added_work : covers (paint_at coats p) x ≡ false → work after more ≤ work coats queue
   added_work uncovered =
       let less = joined_knows (paint_at coats p) x uncovered in
       let sums = sum_by-set (λ (m : Coat). unknown m.paint) coats p new bare inside in
@@ -174,6 +189,17 @@ module _ (h : List Node) (a : ℕ) (bs : List ℕ) (coats : List Coat) (queue mo
       let same : unknown new.paint ≡ unknown (joined (paint_at coats p) x) = ap (λ (m : Coat). unknown m.paint) is_new in
       let longer = joins.longer in
       omega arith
+
+  pub added_by : (gathered : List ℕ) → AreGathered coats gathered → covers (paint_at coats p) x ≡ false
+      → AddedBy h a bs p x coats after queue more gathered
+  added_by gathered are uncovered = record {
+    paint = added_paint;
+    waiting = added_waiting;
+    gathered = added_all gathered are uncovered;
+    adds = added;
+    level = added_level;
+    work = added_work uncovered;
+  }
 
 -- Those that were gathered, where no paint changes, and where nothing is known.
 pub gathered_same : (coats after : List Coat) (gathered : List ℕ) → ((q : ℕ) → paint_at after q ≡ paint_at coats q)
@@ -244,6 +270,16 @@ module _ (h : List Node) (a : ℕ) (bs : List ℕ) (p : ℕ) (x : Paint) (old ne
     passes = λ q r other settled parent. passes_added q r settled (λ was. spread.passes q r other was parent);
   }
 
+-- What is so after a commit was taken from the queue.
+pub record TakenBy (h : List Node) (a : ℕ) (bs : List ℕ) (coats after : List Coat) (queue rest : List (ℕ × ℕ)) (next : ℕ × ℕ)
+    : Type 0 where
+  pub same : (q : ℕ) → paint_at after q ≡ paint_at coats q
+  pub paint : IsPaint h a bs after
+  pub waiting : IsWaiting h after rest
+  pub spread : IsSpreadBut h a bs after next.1
+  pub level : IsLevel h after rest (generation_at h next.1)
+  pub work : work after rest < work coats queue
+
 -- A commit is taken from the queue.
 module _ (h : List Node) (a : ℕ) (bs : List ℕ) (coats : List Coat) (queue rest : List (ℕ × ℕ)) (next : ℕ × ℕ) (paint : IsPaint h a bs coats)
     (spread : IsSpread h a bs coats) (waiting : IsWaiting h coats queue) (level : ℕ) (levelled : IsLevel h coats queue level)
@@ -291,20 +327,20 @@ module _ (h : List Node) (a : ℕ) (bs : List ℕ) (coats : List Coat) (queue re
     taken_there : (q : ℕ) → q ≢ next.1 → coat_at after q ≡ coat_at coats q
     taken_there q apart = ap (λ (ms : List Coat). coat_at ms q) is_after ∙ coat_there coats next.1 coat next_inside q apart
 
-    pub same_paint : (q : ℕ) → paint_at after q ≡ paint_at coats q
+    same_paint : (q : ℕ) → paint_at after q ≡ paint_at coats q
     same_paint q =
         ⊎_elim
         (λ (e : q ≡ next.1). ap (λ (m : Coat). m.paint) (taken_here q e) ∙ ap (paint_at coats) (sym e))
         (λ (apart : q ≢ next.1). ap (λ (m : Coat). m.paint) (taken_there q apart))
         (cases_eq q next.1)
 
-    pub taken_paint : IsPaint h a bs after
+    taken_paint : IsPaint h a bs after
     taken_paint = record {
       coats_len = ap length is_after ∙ length-set coats next.1 coat ∙ paint.coats_len;
       each = λ q. subst (IsSo h a bs q) (sym (same_paint q)) (paint.each q);
     }
 
-    pub taken_waiting : IsHeap entry_cmp rest → IsWaiting h after rest
+    taken_waiting : IsHeap entry_cmp rest → IsWaiting h after rest
     taken_waiting order = record {
       order = order;
       entries = All-tail (IsEntry h) next rest taken_entries;
@@ -322,7 +358,7 @@ module _ (h : List Node) (a : ℕ) (bs : List ℕ) (coats : List Coat) (queue re
           (cases_eq q next.1);
     }
 
-    pub taken_spread : IsSpreadBut h a bs after next.1
+    taken_spread : IsSpreadBut h a bs after next.1
     taken_spread = record {
       first = ap first_leads (same_paint a) ∙ spread.first;
       others = λ s start. ap others_lead (same_paint s) ∙ spread.others s start;
@@ -332,7 +368,7 @@ module _ (h : List Node) (a : ℕ) (bs : List ℕ) (coats : List Coat) (queue re
           (subst (Grows (passed (paint_at coats p))) (sym (same_paint q)) was));
     }
 
-    pub taken_level : IsLevel h after rest (generation_at h next.1)
+    taken_level : IsLevel h after rest (generation_at h next.1)
     taken_level = record {
       above = λ q settled painted.
           ⊎_elim
@@ -348,7 +384,7 @@ module _ (h : List Node) (a : ℕ) (bs : List ℕ) (coats : List Coat) (queue re
       below = subst (λ (g : ℕ). All (λ (e : ℕ × ℕ). e.0 ≤ g) rest) taken_entry.1 rest_low;
     }
 
-    pub taken_work : work after rest < work coats queue
+    taken_work : work after rest < work coats queue
     taken_work =
         let sums = sum_by-set (λ (m : Coat). unknown m.paint) coats next.1 coat bare next_inside in
         let now : sum_by (λ (m : Coat). unknown m.paint) after ≡ sum_by (λ (m : Coat). unknown m.paint) (set coats next.1 coat) =
@@ -356,6 +392,16 @@ module _ (h : List Node) (a : ℕ) (bs : List ℕ) (coats : List Coat) (queue re
         let same : unknown coat.paint ≡ unknown (paint_at coats next.1) = ap (λ (m : Coat). unknown m.paint) is_coat in
         let len = length_permutation queue (next ∷ rest) moved in
         omega arith
+
+    pub taken_by : IsHeap entry_cmp rest → TakenBy h a bs coats after queue rest next
+    taken_by order = record {
+      same = same_paint;
+      paint = taken_paint;
+      waiting = taken_waiting order;
+      spread = taken_spread;
+      level = taken_level;
+      work = taken_work;
+    }
 
 -- Where no coat is counted, none that is queued is fresh.
 pub none_fresh : (h : List Node) (coats : List Coat) (queue : List (ℕ × ℕ)) → IsWaiting h coats queue → length coats ≡ length h

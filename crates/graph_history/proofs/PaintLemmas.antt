@@ -4,7 +4,8 @@ use Rattle.std.proofs.Common.{lit<}
 use Rattle.std.proofs.lemmas.Bool.{true≢false, false≢true, or_cases, or_left, or_right, and_parts, cond-true}
 use Rattle.graph_walks.specs.History.{Node, IsParent}
 use Rattle.graph_history.specs.Bases.{IsCommonAncestor}
-use Rattle.graph_history.specs.Paint.{is_ahead, is_behind, is_base, first_leads, others_lead, is_stale, covers, joined, passed, unknown, IsSo, Grows}
+use Rattle.graph_history.specs.Paint.{is_ahead, is_behind, is_base, first_leads, others_lead, is_stale, covers, joined, passed}
+use Rattle.graph_history.specs.Paint.{unknown, IsSo, Grows}
 use Rattle.graph_history.specs.declared.paint.Paint.{Paint}
 use Rattle.graph_history.specs.declared.paint.Paint.TheVariants.{Bare, First, Others, Both, Stale}
 use Rattle.graph_history.proofs.ReachLemmas.{proper_step, proper_reaches, reaches_itself, from_some_then, step_reaches}

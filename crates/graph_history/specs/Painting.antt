@@ -1,6 +1,7 @@
 -- The state of a painting of a graph: the paint of all commits, and the queue of those that have not passed on all that is
 -- known of them. For private contracts alone.
-use Rattle.std.specs.Prelude.{◌≡◌, ◌≢◌, ◌↔◌, ℕ, ◌+◌, ◌*◌, ◌^◌, ◌<◌, ◌≤◌, true, false, List, All, AllPairs, Contains, length, sum_by}
+use Rattle.std.specs.Prelude.{◌≡◌, ◌≢◌, ◌↔◌, ℕ, ◌+◌, ◌*◌, ◌^◌, ◌<◌, ◌≤◌, true, false, List, All, AllPairs, Contains, length}
+use Rattle.std.specs.Prelude.{sum_by}
 use Rattle.std.specs.List.Sorted.{IsStrictlyIncreasing}
 use Rattle.std.specs.BinaryHeap.{IsHeap, heap_items}
 use Rattle.std.specs.Ordering.{nat_cmp, ordering_then}
@@ -12,7 +13,8 @@ use Rattle.gix_commitgraph.specs.Graph.{total}
 use Rattle.gix_commitgraph.specs.Sound.{Sound}
 use Rattle.graph_history.specs.Answer.{numbers_of}
 use Rattle.graph_history.specs.Bases.{IsMergeBase, IsAhead, IsBehind}
-use Rattle.graph_history.specs.Paint.{first_leads, others_lead, is_stale, is_painted, is_ahead, is_behind, is_base, passed, unknown}
+use Rattle.graph_history.specs.Paint.{first_leads, others_lead, is_stale, is_painted, is_ahead, is_behind, is_base, passed}
+use Rattle.graph_history.specs.Paint.{unknown}
 use Rattle.graph_history.specs.Paint.{paint_at, coat_at, is_queued, Grows, IsCounted, IsPaint}
 use Rattle.graph_history.specs.declared.paint.Coat.{Coat}
 use Rattle.graph_history.specs.declared.paint.Paint.{Paint}
