@@ -256,7 +256,8 @@ joins_already h p old has = record {
 -- What was passed on stays so, as paint is added.
 module _ (h : List Node) (a : ℕ) (bs : List ℕ) (p : ℕ) (x : Paint) (old new : List Coat) (adds : Adds p x old new) where
   pub passes_added : (q r : ℕ) → is_queued new q ≡ false
-      → (is_queued old q ≡ false → Grows (passed (paint_at old q)) (paint_at old r)) → Grows (passed (paint_at new q)) (paint_at new r)
+      → (is_queued old q ≡ false → Grows (passed (paint_at old q)) (paint_at old r))
+      → Grows (passed (paint_at new q)) (paint_at new r)
   passes_added q r settled passes =
       let same = adds.kept q settled in
       subst (λ (m : Coat). Grows (passed m.paint) (paint_at new r)) (sym same)
@@ -281,9 +282,10 @@ pub record TakenBy (h : List Node) (a : ℕ) (bs : List ℕ) (coats after : List
   pub work : work after rest < work coats queue
 
 -- A commit is taken from the queue.
-module _ (h : List Node) (a : ℕ) (bs : List ℕ) (coats : List Coat) (queue rest : List (ℕ × ℕ)) (next : ℕ × ℕ) (paint : IsPaint h a bs coats)
-    (spread : IsSpread h a bs coats) (waiting : IsWaiting h coats queue) (level : ℕ) (levelled : IsLevel h coats queue level)
-    (moved : IsPermutation queue (next ∷ rest)) (greatest : IsUpperBound entry_cmp next rest) where
+module _ (h : List Node) (a : ℕ) (bs : List ℕ) (coats : List Coat) (queue rest : List (ℕ × ℕ)) (next : ℕ × ℕ)
+    (paint : IsPaint h a bs coats) (spread : IsSpread h a bs coats) (waiting : IsWaiting h coats queue) (level : ℕ)
+    (levelled : IsLevel h coats queue level) (moved : IsPermutation queue (next ∷ rest))
+    (greatest : IsUpperBound entry_cmp next rest) where
   taken_entries : All (IsEntry h) (next ∷ rest)
   taken_entries = All-permutation (IsEntry h) queue (next ∷ rest) moved waiting.entries
 
@@ -416,14 +418,15 @@ none_fresh h coats queue waiting len none p queued =
       by_cases true at bound = refl
       by_cases false at bound =
           let fresh : is_fresh (coat_at coats p) ≡ true =
-          and_from (is_queued coats p) (not (is_stale (paint_at coats p))) queued (not_from_false (is_stale (paint_at coats p)) at) in
+          and_from (is_queued coats p) (not (is_stale (paint_at coats p))) queued
+          (not_from_false (is_stale (paint_at coats p)) at) in
           let some : 1 ≤ count_by is_fresh coats =
           subst (λ (t : Bool). cond {A = ℕ} t 1 0 ≤ count_by is_fresh coats) fresh bound in
           absurd (omega arith)
 
 -- An empty queue.
-pub none_queued : (h : List Node) (coats : List Coat) (queue : List (ℕ × ℕ)) → IsWaiting h coats queue → length queue ≡ 0 → (p : ℕ)
-    → is_queued coats p ≡ true → ⊥
+pub none_queued : (h : List Node) (coats : List Coat) (queue : List (ℕ × ℕ)) → IsWaiting h coats queue → length queue ≡ 0
+    → (p : ℕ) → is_queued coats p ≡ true → ⊥
 none_queued h coats queue waiting none p queued =
     let has = waiting.queued p queued in let lt = has.1 in omega arith
 
@@ -510,7 +513,8 @@ module _ (h : List Node) (coats : List Coat) (queue : List (ℕ × ℕ)) (none :
   }
 
 -- The others, by number.
-pub number_at : (positions : List Position) (i : ℕ) → get_or (numbers_of positions) i 0 ≡ (get_or positions i (record { 0 = 0 })).0
+pub number_at : (positions : List Position) (i : ℕ)
+    → get_or (numbers_of positions) i 0 ≡ (get_or positions i (record { 0 = 0 })).0
 number_at [] i = refl
 number_at (p ∷ ps) zero = refl
 number_at (p ∷ ps) (suc i) = number_at ps i

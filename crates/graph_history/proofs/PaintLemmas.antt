@@ -132,7 +132,8 @@ base_others Both e = refl
 base_others _ e = absurd (false≢true e)
 
 -- what joins to the paint of a base, and was not known, comes to one that not both led to
-pub base_is_new : (x y : Paint) → covers x y ≡ false → is_base (joined x y) ≡ true → first_leads x ≡ true → others_lead x ≡ true → ⊥
+pub base_is_new : (x y : Paint) → covers x y ≡ false → is_base (joined x y) ≡ true → first_leads x ≡ true
+    → others_lead x ≡ true → ⊥
 base_is_new Both Stale e base f s = false≢true base
 base_is_new Both _ e base f s = true≢false e
 base_is_new Stale Bare e base f s = true≢false e
@@ -190,7 +191,8 @@ pub covers_grows : (x y : Paint) → covers x y ≡ true → Grows y x
 covers_grows x y e =
     subst (Grows y) (cond-true (covers x y) x _ e) (grows_right x y)
 
-pub so_joined : (h : List Node) (a : ℕ) (bs : List ℕ) (p : ℕ) (x y : Paint) → IsSo h a bs p x → IsSo h a bs p y → IsSo h a bs p (joined x y)
+pub so_joined : (h : List Node) (a : ℕ) (bs : List ℕ) (p : ℕ) (x y : Paint) → IsSo h a bs p x → IsSo h a bs p y
+    → IsSo h a bs p (joined x y)
 so_joined h a bs p x y sx sy = record {
   first = λ e. ⊎_elim sx.first sy.first (or_cases (first_leads x) (first_leads y) (sym (joined_first x y) ∙ e));
   others = λ e. ⊎_elim sx.others sy.others (or_cases (others_lead x) (others_lead y) (sym (joined_others x y) ∙ e));
@@ -198,7 +200,8 @@ so_joined h a bs p x y sx sy = record {
 }
 
 -- what a commit says of a parent is so
-pub so_passed : (h : List Node) (a : ℕ) (bs : List ℕ) (p q : ℕ) (x : Paint) → IsSo h a bs p x → IsParent h p q → IsSo h a bs q (passed x)
+pub so_passed : (h : List Node) (a : ℕ) (bs : List ℕ) (p q : ℕ) (x : Paint) → IsSo h a bs p x → IsParent h p q
+    → IsSo h a bs q (passed x)
 so_passed h a bs p q x so parent = record {
   first = λ e. proper_reaches h a q (proper_step h a p q (so.first (sym (passed_first x) ∙ e)) parent);
   others = λ e. from_some_then h bs p q (so.others (sym (passed_others x) ∙ e)) (step_reaches h p q parent);

@@ -63,7 +63,8 @@ loop-other-preserved c =
     let below = c.requires.others l.other-index (record { 0 = 0 }) c.loop-other-test.true in
     let other = get_or c.args.others.now l.other-index (record { 0 = 0 }) in
     let within : other.0 < length h = omega (arith, commits, below) in
-    let capped : generation_at h other.0 ≤ GENERATION_NUMBER_MAX = ((rw i.graph at i.painting.sound).generations other.0 within).capped in
+    let sound = rw i.graph at i.painting.sound in
+    let capped : generation_at h other.0 ≤ GENERATION_NUMBER_MAX = (sound.generations other.0 within).capped in
     let level = rw i.graph at c.in_ok-add-2.ensures.level in
     record {
       graph = c.add-in-loop-other.ensures.graph ∙ i.graph;

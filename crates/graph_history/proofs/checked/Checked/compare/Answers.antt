@@ -5,15 +5,18 @@ use Rattle.graph_history.proofs.checked.Checked.compare.Goals as goal
 
 pub returns-clause-bases : goal.returns-clause-bases
 returns-clause-bases c =
-    bases_are (history_of c.args.self.now) c.args.first.0 (numbers_of c.args.others.now) c.in_ok-painting.painting.coats.all.items
+    let coats = c.in_ok-painting.painting.coats.all.items in
+    bases_are (history_of c.args.self.now) c.args.first.0 (numbers_of c.args.others.now) coats
     c.in_ok-painting.ensures.painted (numbers_of c.in_ok-positions.positions.items) c.in_ok-positions.ensures
 
 pub returns-clause-ahead : goal.returns-clause-ahead
 returns-clause-ahead c =
-    ahead_number (history_of c.args.self.now) c.args.first.0 (numbers_of c.args.others.now) c.in_ok-painting.painting.coats.all.items
+    let coats = c.in_ok-painting.painting.coats.all.items in
+    ahead_number (history_of c.args.self.now) c.args.first.0 (numbers_of c.args.others.now) coats
     c.in_ok-painting.ensures.painted c.divergence-divergence.result.ahead c.divergence-divergence.ensures.ahead
 
 pub returns-clause-behind : goal.returns-clause-behind
 returns-clause-behind c =
-    behind_number (history_of c.args.self.now) c.args.first.0 (numbers_of c.args.others.now) c.in_ok-painting.painting.coats.all.items
+    let coats = c.in_ok-painting.painting.coats.all.items in
+    behind_number (history_of c.args.self.now) c.args.first.0 (numbers_of c.args.others.now) coats
     c.in_ok-painting.ensures.painted c.divergence-divergence.result.behind c.divergence-divergence.ensures.behind

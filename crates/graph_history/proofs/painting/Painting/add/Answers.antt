@@ -1,4 +1,4 @@
-use Rattle.std.proofs.Common.{◌<◌, true, length, set, sym, ap, ◌∙◌, heap_items, List, arith}
+use Rattle.std.proofs.Common.{◌<◌, true, length, set, sym, ap, ◌∙◌, heap_items, arith}
 use Rattle.std.proofs.lemmas.List.{length-set}
 use Rattle.graph_format.specs.StoredHistory.{history_of}
 use Rattle.graph_history.specs.Answer.{numbers_of}

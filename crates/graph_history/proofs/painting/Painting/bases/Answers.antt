@@ -16,7 +16,8 @@ at-requires c =
     let xs = c.deref-number-items.result.now in
     let i = c.loop-number.number-index in
     let sorted : Contains c.sort_unstable.new.self.items (get_or xs i 0) =
-    subst (λ (ys : List ℕ). Contains ys (get_or xs i 0)) c.deref-number-items.ensures.value (Contains-get_or xs i 0 c.loop-number-test.true) in
+    subst (λ (ys : List ℕ). Contains ys (get_or xs i 0)) c.deref-number-items.ensures.value
+    (Contains-get_or xs i 0 c.loop-number-test.true) in
     let gathered =
     Contains-permutation c.sort_unstable.new.self.items s.gathered.items (get_or xs i 0)
     (IsPermutation-sym s.gathered.items c.sort_unstable.new.self.items c.sort_unstable.ensures.permutation) sorted in

@@ -21,8 +21,8 @@ at-paint-requires c =
     let level : IsLevel h coats (heap_items s.queue) i.level.0 = rw i.graph i.level.1 in
     let greatest = c.in-Some.ensures.below_top i.painting.waiting.order in
     let entry =
-    taken_entry h a bs coats (heap_items s.queue) (heap_items c.pop.new.self) c.in-Some.next i.painting.paint spread i.painting.waiting
-    i.level.0 level c.in-Some.ensures.permutation greatest in
+    taken_entry h a bs coats (heap_items s.queue) (heap_items c.pop.new.self) c.in-Some.next i.painting.paint spread
+    i.painting.waiting i.level.0 level c.in-Some.ensures.permutation greatest in
     omega (arith, entry.0, i.painting.paint.coats_len)
 
 pub set-requires-clause-within : goal.set-requires-clause-within
@@ -38,8 +38,8 @@ set-requires-clause-within c =
     let level : IsLevel h coats (heap_items s.queue) i.level.0 = rw i.graph i.level.1 in
     let greatest = c.in-Some.ensures.below_top i.painting.waiting.order in
     let entry =
-    taken_entry h a bs coats (heap_items s.queue) (heap_items c.pop.new.self) c.in-Some.next i.painting.paint spread i.painting.waiting
-    i.level.0 level c.in-Some.ensures.permutation greatest in
+    taken_entry h a bs coats (heap_items s.queue) (heap_items c.pop.new.self) c.in-Some.next i.painting.paint spread
+    i.painting.waiting i.level.0 level c.in-Some.ensures.permutation greatest in
     omega (arith, entry.0, i.painting.paint.coats_len)
 
 pub visit-requires : goal.visit-requires
@@ -56,13 +56,13 @@ visit-requires c =
     let greatest = c.in-Some.ensures.below_top i.painting.waiting.order in
     let new = coat_with c.at-paint.result.paint false in
     let after =
-    taken_by h a bs coats (heap_items s.queue) (heap_items c.pop.new.self) c.in-Some.next i.painting.paint spread i.painting.waiting
-    i.level.0 level c.in-Some.ensures.permutation greatest new
+    taken_by h a bs coats (heap_items s.queue) (heap_items c.pop.new.self) c.in-Some.next i.painting.paint spread
+    i.painting.waiting i.level.0 level c.in-Some.ensures.permutation greatest new
     (ap (λ (m : Coat). coat_with m.paint false) c.at-paint.ensures) c.set.new.self.all.items c.set.ensures.coats
     (c.in-Some.ensures.heap_order i.painting.waiting.order).0 in
     let entry =
-    taken_entry h a bs coats (heap_items s.queue) (heap_items c.pop.new.self) c.in-Some.next i.painting.paint spread i.painting.waiting
-    i.level.0 level c.in-Some.ensures.permutation greatest in
+    taken_entry h a bs coats (heap_items s.queue) (heap_items c.pop.new.self) c.in-Some.next i.painting.paint spread
+    i.painting.waiting i.level.0 level c.in-Some.ensures.permutation greatest in
     record {
       painting = record {
         sound = i.painting.sound;
@@ -93,8 +93,8 @@ loop-next-smaller c =
     let greatest = c.in-Some.ensures.below_top i.painting.waiting.order in
     let new = coat_with c.at-paint.result.paint false in
     let after =
-    taken_by h a bs coats (heap_items s.queue) (heap_items c.pop.new.self) c.in-Some.next i.painting.paint spread i.painting.waiting
-    i.level.0 level c.in-Some.ensures.permutation greatest new
+    taken_by h a bs coats (heap_items s.queue) (heap_items c.pop.new.self) c.in-Some.next i.painting.paint spread
+    i.painting.waiting i.level.0 level c.in-Some.ensures.permutation greatest new
     (ap (λ (m : Coat). coat_with m.paint false) c.at-paint.ensures) c.set.new.self.all.items c.set.ensures.coats
     (c.in-Some.ensures.heap_order i.painting.waiting.order).0 in
     lt_of_le_of_lt c.in_ok-visit.ensures.work after.work

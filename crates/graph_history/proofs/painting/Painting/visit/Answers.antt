@@ -21,8 +21,8 @@ loop-parent-init c =
       level = r.level;
       work = omega arith;
       passing = rw c.into_iter-parent-iterator.ensures.into_iter_gives
-          (passing_begins h s.first.0 (numbers_of s.others.now) p c.args.paint s.coats.all.items c.parents-parent-items.result within
-          r.spread (rw r.paint at (r.painting.paint.each p)) r.paint c.parents-parent-items.ensures.exact
+          (passing_begins h s.first.0 (numbers_of s.others.now) p c.args.paint s.coats.all.items c.parents-parent-items.result
+          within r.spread (rw r.paint at (r.painting.paint.each p)) r.paint c.parents-parent-items.ensures.exact
           (rw r.painting.commits at c.parents-parent-items.ensures.within));
     }
 
@@ -56,8 +56,8 @@ loop-parent-preserved c =
       level = level (generation_at h p) low l.invariant.level;
       work = omega (arith, c.in_ok-add.ensures.work, l.invariant.work);
       passing =
-          passing_next h s.first.0 (numbers_of s.others.now) p c.args.paint l.self.coats.all.items l.parent-iterator c.next.new.self q
-          l.invariant.passing c.in-Some.ensures.steps c.add.new.self.coats.all.items adds;
+          passing_next h s.first.0 (numbers_of s.others.now) p c.args.paint l.self.coats.all.items l.parent-iterator
+          c.next.new.self q l.invariant.passing c.in-Some.ensures.steps c.add.new.self.coats.all.items adds;
     }
 
 pub returns-clause-spread : goal.returns-clause-spread

@@ -16,6 +16,6 @@ invariant-loop-parent l = record {
   level : IsLevel (history_of l.fn.self.graph.now) l.self.coats.all.items (heap_items l.self.queue)
       (generation_at (history_of l.fn.self.graph.now) l.fn.commit.0);
   work : work l.self.coats.all.items (heap_items l.self.queue) ≤ work l.fn.self.coats.all.items (heap_items l.fn.self.queue);
-  passing : IsPassing (history_of l.fn.self.graph.now) l.fn.self.first.0 (numbers_of l.fn.self.others.now) l.fn.commit.0 l.fn.paint
-      l.self.coats.all.items l.parent-iterator;
+  passing : IsPassing (history_of l.fn.self.graph.now) l.fn.self.first.0 (numbers_of l.fn.self.others.now) l.fn.commit.0
+      l.fn.paint l.self.coats.all.items l.parent-iterator;
 }
