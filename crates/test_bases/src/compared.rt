@@ -157,11 +157,13 @@ fn bases_and_counts_are_those_of_git(rt: HostRuntime) {
         let graph = graph(&rt, alloc, layers);
         let checked = Checked::new(alloc, &graph).expect(&rt, "a right graph");
         let first = checked.position(*first).expect(&rt, "a commit");
-        let mut positions = Vec::new(alloc);
-        for other in *others {
-            let other = checked.position(*other).expect(&rt, "a commit");
-            positions.push(other).expect(&rt, "memory");
-        }
+        let positions: Result<Vec<Position>, _> = others
+            .iter()
+            .map(|other| Position(*other))
+            .collect(alloc);
+        let positions = positions.expect(&rt, "memory");
+        let commits = checked.num_commits();
+        assert!(rt; positions.iter().all(|other| other.0 < commits));
         let answer = checked
             .compare(alloc, first, &positions)
             .expect(&rt, "memory");
