@@ -1,12 +1,13 @@
 -- What is read off a painting at its end: how many commits have a paint, and which are merge bases.
 use Rattle.std.proofs.Common.{◌≡◌, ◌≢◌, ◌↔◌, ℕ, ◌+◌, ◌<◌, ◌≤◌, suc, zero, List, [], ◌∷◌, ◌++◌, length, Bool, true, false, get_or}
-use Rattle.std.proofs.Common.{AllPairs, Contains, IsPermutation, take, count_by, refl, sym, ap, ◌∙◌, subst, ⊎_elim, arith}
+use Rattle.std.proofs.Common.{All, AllPairs, Contains, IsPermutation, take, count_by, refl, sym, ap, ◌∙◌, subst, ⊎_elim, arith}
 use Rattle.std.specs.List.{filter}
 use Rattle.std.specs.List.Sorted.{IsSorted}
 use Rattle.std.specs.Ordering.{nat_cmp}
 use Rattle.std.specs.Cmp.{unsigned_Decides, nat_eq_equiv}
 use Rattle.std.proofs.lemmas.Bool.{cases_Bool, cases_lt, both_ways, false≢true, cond-true, cond-false}
 use Rattle.std.proofs.lemmas.List.{length_push, take_all, append-nil}
+use Rattle.std.proofs.lemmas.List.Elements.{All-nil, All-cons, All-head, All-tail, All-weaker, All-contains_itself}
 use Rattle.std.proofs.lemmas.List.Elements.{Contains-push, Contains-push_cases, Contains-append_left, Contains-get_or}
 use Rattle.std.proofs.lemmas.List.Elements.{filter_more}
 use Rattle.std.proofs.lemmas.List.Kept.{IsStrictlyIncreasing-filter}
@@ -130,6 +131,20 @@ module _ (h : List Node) (a : ℕ) (bs : List ℕ) (coats : List Coat) (painted 
       (λ base. (are.those p).1 ((painted.base p).1 base)),
     );
   }
+
+-- merge bases are commits
+pub bases_within : (h : List Node) (a : ℕ) (bs : List ℕ) (n : ℕ) (bases : List Position) → n ≡ length h
+    → AreMergeBases h a bs (numbers_of bases) → All (λ base. base.0 < n) bases
+bases_within h a bs n bases commits are =
+    below bases
+    (All-weaker (Contains (numbers_of bases)) (λ p. p < n)
+    (λ p contained. omega (arith, commits, reaches_within h a p ((are.those p).0 contained).common.0)) (numbers_of bases)
+    (All-contains_itself (numbers_of bases))) where
+      below : (xs : List Position) → All (λ p. p < n) (numbers_of xs) → All (λ (x : Position). x.0 < n) xs
+      below [] all = All-nil (λ (x : Position). x.0 < n)
+      below (x ∷ xs) all =
+          All-cons (λ (y : Position). y.0 < n) x xs (All-head (λ p. p < n) x.0 (numbers_of xs) all)
+          (below xs (All-tail (λ p. p < n) x.0 (numbers_of xs) all))
 
 -- The merge bases among those that were gathered.
 

@@ -57,8 +57,10 @@ impl<'g> Checked<'g> {
     ) -> Result<Bases, AllocError>
         requires first { first.0 < total self.now }
         requires others { All (λ other. other.0 < total self.now) others.now }
-        ensures { IfOk result (λ bases. AreMergeBases (history_of self.now) first.0
+        ensures exact { IfOk result (λ bases. AreMergeBases (history_of self.now) first.0
             (numbers_of others.now) (numbers_of bases.positions.items)) }
+        ensures within { IfOk result (λ bases.
+            All (λ base. base.0 < total self.now) bases.positions.items) }
     {
         Ok(self.compare(alloc, first, others)?.bases)
     }
@@ -101,6 +103,8 @@ impl<'g> Checked<'g> {
         requires others { All (λ other. other.0 < total self.now) others.now }
         ensures bases { IfOk result (λ c. AreMergeBases (history_of self.now) first.0
             (numbers_of others.now) (numbers_of c.bases.positions.items)) }
+        ensures within { IfOk result (λ c.
+            All (λ base. base.0 < total self.now) c.bases.positions.items) }
         ensures ahead { IfOk result (λ c. IsNumberOf c.divergence.ahead
             (IsAhead (history_of self.now) first.0 (numbers_of others.now))) }
         ensures behind { IfOk result (λ c. IsNumberOf c.divergence.behind

@@ -1,7 +1,7 @@
 //! To which commits of a graph a commit and some others lead, as paint that commits pass on to their
 //! parents.
 
-ghost use Rattle.std.specs.Prelude.{◌≡◌, ◌<◌, ◌≤◌, ◌++◌, ◌∷◌, if◌then◌else◌, ℕ, [], All};
+ghost use Rattle.std.specs.Prelude.{◌≡◌, ◌<◌, ◌≤◌, ◌++◌, ◌∷◌, if◌then◌else◌, ℕ, [], All, length};
 ghost use Rattle.std.specs.Prelude.{count_by, OnOk, IfOk};
 ghost use Rattle.std.specs.BinaryHeap.{heap_items};
 ghost use Rattle.graph_walks.specs.History.{generation_at};
@@ -241,6 +241,7 @@ pub(crate) fn paint_from<'p, 'g>(
 ) -> Result<Painting<'p, 'g>, AllocError>
     requires first { first.0 < total graph.now }
     requires others { All (λ other. other.0 < total graph.now) others.now }
+    ensures commits { IfOk result (λ _. total graph.now ≡ length (history_of graph.now)) }
     ensures counted { IfOk result (λ s. IsCounted s.coats) }
     ensures gathered { IfOk result (λ s. AreGathered s.coats.all.items s.gathered.items) }
     ensures painted { IfOk result (λ s. IsPainted (history_of graph.now) first.0

@@ -6,6 +6,7 @@
 #![tactic(auto)]
 
 pub mod checked;
+pub mod comparing;
 pub mod error;
 pub mod finding;
 pub mod in_memory;
