@@ -1,5 +1,5 @@
-//! To which commits of a graph a commit and some others lead, as paint that commits pass on to their
-//! parents.
+//! To which commits of a graph a commit and some others lead, as paint that commits pass on to
+//! their parents.
 
 ghost use Rattle.std.specs.Prelude.{◌≡◌, ◌<◌, ◌≤◌, ◌++◌, ◌∷◌, if◌then◌else◌, ℕ, [], All, length};
 ghost use Rattle.std.specs.Prelude.{count_by, OnOk, IfOk};
@@ -188,7 +188,8 @@ impl<'p, 'g> Painting<'p, 'g> {
             self.new.coats.all.items) }
     {
         while let Some(next) = self.queue.pop() {
-            if self.coats.fresh == 0 && next.0 < GENERATION_NUMBER_MAX {
+            let is_below_cap = next.0 < GENERATION_NUMBER_MAX;
+            if self.coats.fresh == 0 && is_below_cap {
                 return Ok(());
             }
             let commit = Position(next.1);

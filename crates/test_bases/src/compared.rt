@@ -1,6 +1,7 @@
 use gix_commitgraph::{File, GENERATION_NUMBER_MAX, Graph, Position};
 use gix_hash_core::{Kind, ObjectId};
 use graph_history::{Checked, Comparison};
+use graph_uses::comparing::merge_bases;
 use graph_vectors::{LayerPlan, PlanCommit, build};
 use std::alloc::Global;
 use std::process::Abort;
@@ -190,4 +191,16 @@ fn two_commits_turned_round_have_the_same_bases(rt: HostRuntime) {
         .divergence(alloc, three, &[six])
         .expect(&rt, "memory");
     assert!(rt; apart.ahead == 1 && apart.behind == 2);
+}
+
+#[test]
+fn the_ids_of_merge_bases_are_told(rt: HostRuntime) {
+    let alloc = rt.alloc();
+    let graph = graph(&rt, alloc, CRISS_CROSS);
+    let checked = Checked::new(alloc, &graph).expect(&rt, "a right graph");
+    let sixth = ObjectId::from([0x66; 20]);
+    let seventh = ObjectId::from([0x77; 20]);
+    let bases = merge_bases(alloc, &checked, sixth.as_oid(), seventh.as_oid());
+    let wanted = [ObjectId::from([0x22; 20]), ObjectId::from([0x33; 20])];
+    assert!(rt; bases.expect(&rt, "memory").as_slice() == wanted.as_slice());
 }

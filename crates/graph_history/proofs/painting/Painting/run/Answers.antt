@@ -1,5 +1,6 @@
-use Rattle.std.proofs.Common.{List, false, length, sym, ap, ◌∙◌, subst, lt_of_le_of_lt, heap_items, arith}
+use Rattle.std.proofs.Common.{◌<◌, List, false, length, sym, ap, ◌∙◌, subst, lt_of_le_of_lt, heap_items, arith}
 use Rattle.std.proofs.lemmas.List.{length-set}
+use Rattle.graph_walks.specs.declared.TheConstants.{GENERATION_NUMBER_MAX}
 use Rattle.graph_format.specs.Layer.{Layer}
 use Rattle.graph_format.specs.StoredHistory.{history_of}
 use Rattle.graph_history.specs.Answer.{numbers_of}
@@ -99,8 +100,8 @@ loop-next-smaller c =
     (c.in-Some.ensures.heap_order i.painting.waiting.order).0 in
     lt_of_le_of_lt c.in_ok-visit.ensures.work after.work
 
-pub returns-then-next-lt-GENERATION_NUMBER_MAX-clause-done : goal.returns-then-next-lt-GENERATION_NUMBER_MAX-clause-done
-returns-then-next-lt-GENERATION_NUMBER_MAX-clause-done c =
+pub returns-then-is_below_cap-clause-done : goal.returns-then-is_below_cap-clause-done
+returns-then-is_below_cap-clause-done c =
     let l = c.loop-next in
     let s = l.self in
     let h = history_of s.graph.now in
@@ -111,10 +112,11 @@ returns-then-next-lt-GENERATION_NUMBER_MAX-clause-done c =
     let spread : IsSpread h a bs coats = rw (i.graph, i.first, i.others) i.spread in
     let level : IsLevel h coats (heap_items s.queue) i.level.0 = rw i.graph i.level.1 in
     let greatest = c.in-Some.ensures.below_top i.painting.waiting.order in
+    let below : c.in-Some.next.0 < GENERATION_NUMBER_MAX = omega arith in
     let stale =
     none_fresh h coats (heap_items s.queue) i.painting.waiting i.painting.paint.coats_len
     (sym i.painting.counted.fresh ∙ c.if-self-eq0.true) in
     subst (λ (layers : List Layer). IsDone (history_of layers) coats) i.graph
     (stops h a bs coats (heap_items s.queue) (heap_items c.pop.new.self) c.in-Some.next i.painting.paint spread i.painting.waiting
     i.level.0 level c.in-Some.ensures.permutation greatest stale
-    c.if-next-lt-GENERATION_NUMBER_MAX.true)
+    below)
