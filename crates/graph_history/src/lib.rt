@@ -5,8 +5,8 @@
 //! ancestor of another, and by which shortest walk along parents. A [`Searcher`] answers many such
 //! queries over one memory. A checked graph also says which merge bases some commits have, and how
 //! far they have come apart: a [`Comparison`] is both. Queries rely on the generation numbers,
-//! which the check has found right, and leave out each commit whose number is too low to lead to the
-//! one that is looked for ("topological level" in Git's commit-graph design).
+//! which the check has found right, and leave out each commit whose number is too low to lead to
+//! the one that is looked for ("topological level" in Git's commit-graph design).
 #![tactic(auto)]
 
 mod access;
