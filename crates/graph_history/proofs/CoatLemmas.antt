@@ -50,6 +50,10 @@ module _ (coats : List Coat) (p : ℕ) (coat : Coat) (within : p < length coats)
   coat_there : (q : ℕ) → q ≢ p → coat_at (set coats p coat) q ≡ coat_at coats q
   coat_there q apart = get_or-set_other coats p q coat bare apart
 
+one_or_none : (b : Bool) → cond {A = ℕ} b 1 0 + cond {A = ℕ} b 0 1 ≡ 1
+one_or_none true = refl
+one_or_none false = refl
+
 -- What is so after paint was added to a commit.
 pub record AddedBy (h : List Node) (a : ℕ) (bs : List ℕ) (p : ℕ) (x : Paint) (coats after : List Coat) (queue more : List (ℕ × ℕ))
     (old : List ℕ) : Type 0 where
@@ -57,6 +61,7 @@ pub record AddedBy (h : List Node) (a : ℕ) (bs : List ℕ) (p : ℕ) (x : Pain
   pub waiting : IsWaiting h after more
   pub gathered : AreGathered after (if is_base (joined (paint_at coats p) x) then old ++ p ∷ [] else old)
   pub adds : Adds p x coats after
+  pub here : coat_at after p ≡ record { paint = joined (paint_at coats p) x; queued = true }
   pub level : (level : ℕ) → generation_at h p ≤ level → IsLevel h coats queue level → IsLevel h after more level
   pub work : work after more ≤ work coats queue
 
@@ -103,10 +108,11 @@ module _ (h : List Node) (a : ℕ) (bs : List ℕ) (coats : List Coat) (queue mo
         subst (Grows (paint_at coats q)) (sym (ap (λ (m : Coat). m.paint) (there q apart))) (grows_refl (paint_at coats q)))
         (cases_eq q p);
     has = subst (Grows x) (sym (ap (λ (m : Coat). m.paint) (here p refl))) (grows_right (paint_at coats p) x);
+    others = there;
   }
 
-  added_waiting : IsWaiting h after more
-  added_waiting = record {
+  added_waiting : length more ≡ length queue + cond (is_queued coats p) 0 1 → IsWaiting h after more
+  added_waiting len = record {
     order = joins.order waiting.order;
     entries = joins.entries waiting.entries;
     queued = λ q is.
@@ -115,6 +121,14 @@ module _ (h : List Node) (a : ℕ) (bs : List ℕ) (coats : List Coat) (queue mo
         (λ (apart : q ≢ p).
         joins.keeps (generation_at h q, q) (waiting.queued q (sym (ap (λ (m : Coat). m.queued) (there q apart)) ∙ is)))
         (cases_eq q p);
+    count =
+        let f : Coat → ℕ = λ m. cond m.queued 1 0 in
+        let sums = sum_by-set f coats p new bare inside in
+        let now : sum_by f after ≡ sum_by f (set coats p new) = ap (sum_by f) is_after in
+        let one : f new ≡ 1 = ap f is_new in
+        let flip = one_or_none (is_queued coats p) in
+        let was = waiting.count in
+        omega arith;
   }
 
   added_level : (level : ℕ) → generation_at h p ≤ level → IsLevel h coats queue level → IsLevel h after more level
@@ -190,13 +204,14 @@ module _ (h : List Node) (a : ℕ) (bs : List ℕ) (coats : List Coat) (queue mo
       let longer = joins.longer in
       omega arith
 
-  pub added_by : (gathered : List ℕ) → AreGathered coats gathered → covers (paint_at coats p) x ≡ false
+  pub added_by : length more ≡ length queue + cond (is_queued coats p) 0 1 → (gathered : List ℕ) → AreGathered coats gathered → covers (paint_at coats p) x ≡ false
       → AddedBy h a bs p x coats after queue more gathered
-  added_by gathered are uncovered = record {
+  added_by len gathered are uncovered = record {
     paint = added_paint;
-    waiting = added_waiting;
+    waiting = added_waiting len;
     gathered = added_all gathered are uncovered;
     adds = added;
+    here = here p refl;
     level = added_level;
     work = added_work uncovered;
   }
@@ -225,6 +240,7 @@ nothing_added coats p x covered = record {
   kept = λ q _. refl;
   grows = λ q. grows_refl (paint_at coats q);
   has = covers_grows (paint_at coats p) x covered;
+  others = λ q _. refl;
 }
 
 -- The queue, where a commit was pushed, or stood already.
@@ -277,6 +293,8 @@ pub record TakenBy (h : List Node) (a : ℕ) (bs : List ℕ) (coats after : List
   pub same : (q : ℕ) → paint_at after q ≡ paint_at coats q
   pub paint : IsPaint h a bs after
   pub waiting : IsWaiting h after rest
+  pub here : is_queued after next.1 ≡ false
+  pub there : (q : ℕ) → q ≢ next.1 → coat_at after q ≡ coat_at coats q
   pub spread : IsSpreadBut h a bs after next.1
   pub level : IsLevel h after rest (generation_at h next.1)
   pub work : work after rest < work coats queue
@@ -300,7 +318,7 @@ module _ (h : List Node) (a : ℕ) (bs : List ℕ) (coats : List Coat) (queue re
   rest_low : All (λ e. e.0 ≤ next.0) rest
   rest_low = first_le_from_greatest nat_cmp next rest greatest
 
-  all_low : (p : ℕ) → is_queued coats p ≡ true → generation_at h p ≤ next.0
+  pub all_low : (p : ℕ) → is_queued coats p ≡ true → generation_at h p ≤ next.0
   all_low p queued =
       All-contains (λ (e : ℕ × ℕ). e.0 ≤ next.0) (next ∷ rest) (generation_at h p, p)
       (All-cons (λ (e : ℕ × ℕ). e.0 ≤ next.0) next rest (omega arith) rest_low)
@@ -342,8 +360,8 @@ module _ (h : List Node) (a : ℕ) (bs : List ℕ) (coats : List Coat) (queue re
       each = λ q. subst (IsSo h a bs q) (sym (same_paint q)) (paint.each q);
     }
 
-    taken_waiting : IsHeap entry_cmp rest → IsWaiting h after rest
-    taken_waiting order = record {
+    taken_waiting : IsHeap entry_cmp rest → is_queued coats next.1 ≡ true → IsWaiting h after rest
+    taken_waiting order queued = record {
       order = order;
       entries = All-tail (IsEntry h) next rest taken_entries;
       queued = λ q is.
@@ -358,6 +376,15 @@ module _ (h : List Node) (a : ℕ) (bs : List ℕ) (coats : List Coat) (queue re
           (Contains-permutation queue (next ∷ rest) (generation_at h q, q) moved
           (waiting.queued q (sym (ap (λ (m : Coat). m.queued) (taken_there q apart)) ∙ is)))))
           (cases_eq q next.1);
+      count =
+          let f : Coat → ℕ = λ m. cond m.queued 1 0 in
+          let sums = sum_by-set f coats next.1 coat bare next_inside in
+          let now : sum_by f after ≡ sum_by f (set coats next.1 coat) = ap (sum_by f) is_after in
+          let none : f coat ≡ 0 = ap f is_coat in
+          let one : f (coat_at coats next.1) ≡ 1 = ap (λ (b : Bool). cond {A = ℕ} b 1 0) queued in
+          let len = length_permutation queue (next ∷ rest) moved in
+          let was = waiting.count in
+          omega arith;
     }
 
     taken_spread : IsSpreadBut h a bs after next.1
@@ -395,11 +422,13 @@ module _ (h : List Node) (a : ℕ) (bs : List ℕ) (coats : List Coat) (queue re
         let len = length_permutation queue (next ∷ rest) moved in
         omega arith
 
-    pub taken_by : IsHeap entry_cmp rest → TakenBy h a bs coats after queue rest next
-    taken_by order = record {
+    pub taken_by : IsHeap entry_cmp rest → is_queued coats next.1 ≡ true → TakenBy h a bs coats after queue rest next
+    taken_by order queued = record {
       same = same_paint;
       paint = taken_paint;
-      waiting = taken_waiting order;
+      waiting = taken_waiting order queued;
+      here = ap (λ (m : Coat). m.queued) (taken_here next.1 refl);
+      there = taken_there;
       spread = taken_spread;
       level = taken_level;
       work = taken_work;

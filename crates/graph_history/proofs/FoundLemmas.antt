@@ -112,6 +112,22 @@ module _ (t : Coat → Bool) (coats : List Coat) where
         all.1.count ∙ ap (count_by t) (take_all (length coats) coats (omega arith)) ∙ sym is,
       )
 
+  -- where it is not 0, one of them passes
+  pub some_counted : 0 < count_by t coats → (p : ℕ) × (t (coat_at coats p) ≡ true)
+  some_counted lt =
+      let all = places_below (length coats) (omega arith) in
+      let len = all.1.count ∙ ap (count_by t) (take_all (length coats) coats (omega arith)) in
+      by_cases all.0 (omega arith) all.1 where
+        by_cases : (ps : List ℕ) → 0 < length ps → ArePlaces t coats (length coats) ps → (p : ℕ) × (t (coat_at coats p) ≡ true)
+        by_cases [] some are = absurd (omega arith)
+        by_cases (p ∷ ps) some are = (p, ((are.those p).0 (head_contained p ps)).1)
+
+-- a coat that passes a test which the bare one does not is that of a commit
+pub tested_within : (t : Coat → Bool) → t bare ≡ false → (coats : List Coat) (p : ℕ) → t (coat_at coats p) ≡ true → p < length coats
+tested_within t none [] p e = absurd (both_ways (t bare) none e)
+tested_within t none (c ∷ cs) zero e = omega arith
+tested_within t none (c ∷ cs) (suc p) e = let more = tested_within t none cs p e in omega arith
+
 module _ (h : List Node) (a : ℕ) (bs : List ℕ) (coats : List Coat) (painted : IsPainted h a bs coats) where
   pub ahead_number : (n : ℕ) → n ≡ count_by (λ coat. is_ahead coat.paint) coats → IsNumberOf n (IsAhead h a bs)
   ahead_number n is =
@@ -150,9 +166,7 @@ bases_within h a bs n bases commits are =
 
 -- a commit of which something is known
 pub known_within : (coats : List Coat) (p : ℕ) → first_leads (paint_at coats p) ≡ true → p < length coats
-known_within [] p e = absurd (false≢true e)
-known_within (c ∷ cs) zero e = omega arith
-known_within (c ∷ cs) (suc p) e = let more = known_within cs p e in omega arith
+known_within coats p e = tested_within (λ (c : Coat). first_leads c.paint) refl coats p e
 
 filter_contains : (t : ℕ → Bool) (xs : List ℕ) (p : ℕ) → Contains xs p → t p ≡ true → Contains (filter t xs) p
 filter_contains t [] p contained met = absurd (let lt = contained.1 in omega arith)

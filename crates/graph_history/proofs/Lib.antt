@@ -17,3 +17,4 @@ pub mod CoatLemmas
 pub mod PassLemmas
 pub mod BaseLemmas
 pub mod FoundLemmas
+pub mod EdgeLemmas

@@ -1,9 +1,10 @@
 -- What paint says, joined and passed on.
 use Rattle.std.proofs.Common.{◌≡◌, ℕ, ◌<◌, List, true, false, ◌&&◌, ◌||◌, refl, sym, ◌∙◌, subst, ⊎_elim}
-use Rattle.std.proofs.Common.{lit<}
-use Rattle.std.proofs.lemmas.Bool.{true≢false, false≢true, or_cases, or_left, or_right, and_parts, cond-true}
+use Rattle.std.proofs.Common.{◌⊎◌, inl, inr, lit<}
+use Rattle.std.proofs.lemmas.Bool.{both_ways, false_from_ne_true, true≢false, false≢true, or_cases, or_left, or_right, and_parts, cond-true}
 use Rattle.graph_walks.specs.History.{Node, IsParent}
 use Rattle.graph_history.specs.Bases.{IsCommonAncestor}
+use Rattle.graph_history.specs.Paint.{is_painted, is_on_one_side}
 use Rattle.graph_history.specs.Paint.{is_ahead, is_behind, is_base, first_leads, others_lead, is_stale, covers, joined, passed}
 use Rattle.graph_history.specs.Paint.{unknown, IsSo, Grows}
 use Rattle.graph_history.specs.declared.paint.Paint.{Paint}
@@ -141,6 +142,61 @@ base_is_new Stale _ e base f s = true≢false e
 base_is_new Bare _ e base f s = false≢true f
 base_is_new First _ e base f s = false≢true s
 base_is_new Others _ e base f s = false≢true f
+
+-- paint that is joined to what does not say it
+pub joined_painted : (x y : Paint) → covers x y ≡ false → is_painted (joined x y) ≡ true
+joined_painted Bare Bare e = absurd (true≢false e)
+joined_painted Bare _ e = refl
+joined_painted First Bare e = absurd (true≢false e)
+joined_painted First _ e = refl
+joined_painted Others Bare e = absurd (true≢false e)
+joined_painted Others _ e = refl
+joined_painted Both Bare e = absurd (true≢false e)
+joined_painted Both _ e = refl
+joined_painted Stale Bare e = absurd (true≢false e)
+joined_painted Stale _ e = refl
+
+-- what joins to paint that is not stale is not stale
+pub joined_fresh : (x y : Paint) → is_stale (joined x y) ≡ false → is_stale y ≡ false
+joined_fresh x y e =
+    false_from_ne_true (is_stale y) (λ (stale : is_stale y ≡ true).
+    both_ways (is_stale (joined x y)) e (joined_stale x y ∙ or_right (is_stale x) (is_stale y) stale))
+
+pub one_side_painted : (x : Paint) → is_on_one_side x ≡ true → is_painted x ≡ true
+one_side_painted First e = refl
+one_side_painted Others e = refl
+one_side_painted _ e = absurd (false≢true e)
+
+pub passed_one_side : (x : Paint) → is_painted x ≡ true → is_stale (passed x) ≡ false → is_on_one_side x ≡ true
+passed_one_side Bare p e = p
+passed_one_side First p e = refl
+passed_one_side Others p e = refl
+passed_one_side Both p e = absurd (true≢false e)
+passed_one_side Stale p e = absurd (true≢false e)
+
+pub painted_leads : (x : Paint) → is_painted x ≡ true → (first_leads x ≡ true) ⊎ (others_lead x ≡ true)
+painted_leads Bare e = absurd (false≢true e)
+painted_leads First e = inl refl
+painted_leads Others e = inr refl
+painted_leads Both e = inl refl
+painted_leads Stale e = inl refl
+
+pub one_side : (x : Paint) → is_on_one_side x ≡ true → (is_ahead x ≡ true) ⊎ (is_behind x ≡ true)
+one_side First e = inl refl
+one_side Others e = inr refl
+one_side _ e = absurd (false≢true e)
+
+pub ahead_live : (x : Paint) → is_ahead x ≡ true → (is_painted x ≡ true) × (is_stale x ≡ false)
+ahead_live First e = (refl, refl)
+ahead_live _ e = absurd (false≢true e)
+
+pub behind_live : (x : Paint) → is_behind x ≡ true → (is_painted x ≡ true) × (is_stale x ≡ false)
+behind_live Others e = (refl, refl)
+behind_live _ e = absurd (false≢true e)
+
+pub base_live : (x : Paint) → is_base x ≡ true → (is_painted x ≡ true) × (is_stale x ≡ false)
+base_live Both e = (refl, refl)
+base_live _ e = absurd (false≢true e)
 
 pub passed_first : (x : Paint) → first_leads (passed x) ≡ first_leads x
 passed_first Bare = refl

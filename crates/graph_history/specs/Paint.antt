@@ -63,6 +63,14 @@ is_base Others = false
 is_base Both = true
 is_base Stale = false
 
+-- one side alone leads to it, as far as is known
+abbrev pub is_on_one_side : Paint → Bool
+is_on_one_side Bare = false
+is_on_one_side First = true
+is_on_one_side Others = true
+is_on_one_side Both = false
+is_on_one_side Stale = false
+
 -- x says all that y says
 abbrev pub covers : Paint → Paint → Bool
 covers x Bare = true
@@ -106,6 +114,10 @@ pub record Grows (before after : Paint) : Type 0 where
 -- a commit that is queued while a base may lie there or below it
 abbrev pub is_fresh : Coat → Bool
 is_fresh coat = coat.queued && not (is_stale coat.paint)
+
+-- a commit that was taken from the queue, and is not there again
+abbrev pub is_visited : Coat → Bool
+is_visited coat = is_painted coat.paint && not coat.queued
 
 -- the coat of a commit of which nothing is known
 abbrev pub bare : Coat

@@ -1,5 +1,6 @@
 -- The state of a painting of a graph: the paint of all commits, and the queue of those that have not passed on all that is
 -- known of them. For private contracts alone.
+use Rattle.std.specs.Prelude.{◌⊎◌, count_by}
 use Rattle.std.specs.Prelude.{◌≡◌, ◌≢◌, ◌↔◌, ℕ, ◌+◌, ◌*◌, ◌^◌, ◌<◌, ◌≤◌, true, false, List, All, AllPairs, Contains, length}
 use Rattle.std.specs.Prelude.{sum_by}
 use Rattle.std.specs.List.Sorted.{IsStrictlyIncreasing}
@@ -12,7 +13,8 @@ use Rattle.graph_format.specs.StoredHistory.{history_of}
 use Rattle.gix_commitgraph.specs.Graph.{total}
 use Rattle.gix_commitgraph.specs.Sound.{Sound}
 use Rattle.graph_history.specs.Answer.{numbers_of}
-use Rattle.graph_history.specs.Bases.{IsMergeBase, IsAhead, IsBehind}
+use Rattle.graph_history.specs.Bases.{IsMergeBase, IsAhead, IsBehind, IsStart, AreBelowCap}
+use Rattle.graph_history.specs.Paint.{is_on_one_side, is_visited}
 use Rattle.graph_history.specs.Paint.{first_leads, others_lead, is_stale, is_painted, is_ahead, is_behind, is_base, passed}
 use Rattle.graph_history.specs.Paint.{unknown}
 use Rattle.graph_history.specs.Paint.{paint_at, coat_at, is_queued, Grows, IsCounted, IsPaint}
@@ -45,6 +47,7 @@ pub record IsWaiting (history : List Node) (coats : List Coat) (queue : List (�
   pub order : IsHeap entry_cmp queue
   pub entries : All (IsEntry history) queue
   pub queued : (p : ℕ) → is_queued coats p ≡ true → Contains queue (generation_at history p, p)
+  pub count : length queue ≡ count_by (λ coat. coat.queued) coats
 
 -- A generation number that no queued commit is above, and no painted one below that is not queued.
 pub record IsLevel (history : List Node) (coats : List Coat) (queue : List (ℕ × ℕ)) (level : ℕ) : Type 0 where
@@ -65,6 +68,7 @@ pub record Adds (p : ℕ) (paint : Paint) (old new : List Coat) : Type 0 where
   pub kept : (q : ℕ) → is_queued new q ≡ false → coat_at new q ≡ coat_at old q
   pub grows : (q : ℕ) → Grows (paint_at old q) (paint_at new q)
   pub has : Grows paint (paint_at new p)
+  pub others : (q : ℕ) → q ≢ p → coat_at new q ≡ coat_at old q
 
 -- All commits that are merge bases as far as is known were gathered, with others to which both lead, each once.
 pub record AreGathered (coats : List Coat) (gathered : List ℕ) : Type 0 where
@@ -82,6 +86,22 @@ pub record IsDone (history : List Node) (coats : List Coat) : Type 0 where
   pub below : (p : ℕ) → is_queued coats p ≡ true → generation_at history p ≤ level
   pub uncapped : (p : ℕ) → is_queued coats p ≡ true → generation_at history p < GENERATION_NUMBER_MAX
 
+-- e is a commit that the painting starts from, or a parent of one that was visited, to which one side alone leads as far as is
+-- known
+abbrev pub IsKnownEdge : List Node → ℕ → List ℕ → List Coat → ℕ → Type 0
+IsKnownEdge history start starts coats e =
+    IsStart start starts e
+    ⊎ ((c : ℕ) × (is_queued coats c ≡ false) × (is_on_one_side (paint_at coats c) ≡ true) × IsParent history c e)
+
+-- What was visited, where no commit that the painting starts from is at the cap.
+pub record IsVisiting (history : List Node) (start : ℕ) (starts : List ℕ) (coats : List Coat) (visits : ℕ) : Type 0 where
+  pub painted : (p : ℕ) → is_queued coats p ≡ true → is_painted (paint_at coats p) ≡ true
+  pub edge : (p : ℕ) → is_painted (paint_at coats p) ≡ true → is_stale (paint_at coats p) ≡ false
+      → IsKnownEdge history start starts coats p
+  pub above : (p : ℕ) → is_queued coats p ≡ false → is_painted (paint_at coats p) ≡ true
+      → (e : ℕ) × IsKnownEdge history start starts coats e × (generation_at history e ≤ generation_at history p)
+  pub count : visits ≡ count_by is_visited coats
+
 -- what is left to do: a bound on how often a commit is taken from the queue
 abbrev pub work : List Coat → List (ℕ × ℕ) → ℕ
 work coats queue = 2 * sum_by (λ coat. unknown coat.paint) coats + length queue
@@ -95,6 +115,8 @@ pub record IsPainting (s : Painting) : Type 0 where
   pub paint : IsPaint (history_of s.graph.now) s.first.0 (numbers_of s.others.now) s.coats.all.items
   pub waiting : IsWaiting (history_of s.graph.now) s.coats.all.items (heap_items s.queue)
   pub gathered : AreGathered s.coats.all.items s.gathered.items
+  pub visiting : AreBelowCap (history_of s.graph.now) s.first.0 (numbers_of s.others.now)
+      → IsVisiting (history_of s.graph.now) s.first.0 (numbers_of s.others.now) s.coats.all.items s.visits
 
 -- What the paint says when all is done.
 pub record IsPainted (history : List Node) (first : ℕ) (others : List ℕ) (coats : List Coat) : Type 0 where

@@ -4,7 +4,7 @@ ghost use Rattle.std.specs.Prelude.{◌<◌, All, IfOk};
 ghost use Rattle.graph_format.specs.StoredHistory.{history_of};
 ghost use Rattle.gix_commitgraph.specs.Graph.{total};
 ghost use Rattle.graph_history.specs.Answer.{numbers_of};
-ghost use Rattle.graph_history.specs.Bases.{AreMergeBases, IsAhead, IsBehind};
+ghost use Rattle.graph_history.specs.Bases.{AreMergeBases, IsAhead, IsBehind, AreBelowCap, AreVisits};
 ghost use Rattle.graph_history.specs.Counts.{IsNumberOf};
 
 use crate::checked::Checked;
@@ -17,6 +17,8 @@ use std::alloc::{AllocError, Global};
 pub struct Bases {
     /// Each once, the least position first.
     pub positions: Vec<Position>,
+    /// How many commits were visited: taken from the queue of the search.
+    pub visits: u64,
 }
 
 /// How far a commit and some others have come apart.
@@ -61,6 +63,9 @@ impl<'g> Checked<'g> {
             (numbers_of others.now) (numbers_of bases.positions.items)) }
         ensures within { IfOk result (λ bases.
             All (λ base. base.0 < total self.now) bases.positions.items) }
+        ensures visits { IfOk result (λ bases. AreBelowCap (history_of self.now) first.0
+            (numbers_of others.now) → AreVisits (history_of self.now) first.0
+            (numbers_of others.now) bases.visits) }
     {
         Ok(self.compare(alloc, first, others)?.bases)
     }
@@ -105,6 +110,9 @@ impl<'g> Checked<'g> {
             (numbers_of others.now) (numbers_of c.bases.positions.items)) }
         ensures within { IfOk result (λ c.
             All (λ base. base.0 < total self.now) c.bases.positions.items) }
+        ensures visits { IfOk result (λ c. AreBelowCap (history_of self.now) first.0
+            (numbers_of others.now) → AreVisits (history_of self.now) first.0
+            (numbers_of others.now) c.bases.visits) }
         ensures ahead { IfOk result (λ c. IsNumberOf c.divergence.ahead
             (IsAhead (history_of self.now) first.0 (numbers_of others.now))) }
         ensures behind { IfOk result (λ c. IsNumberOf c.divergence.behind
@@ -112,9 +120,10 @@ impl<'g> Checked<'g> {
     {
         let mut painting = paint_from(alloc, self, first, others)?;
         let divergence = painting.divergence();
+        let visits = painting.visits();
         let positions = painting.bases(alloc)?;
         Ok(Comparison {
-            bases: Bases { positions },
+            bases: Bases { positions, visits },
             divergence,
         })
     }

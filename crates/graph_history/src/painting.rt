@@ -1,6 +1,7 @@
 //! To which commits of a graph a commit and some others lead, as paint that commits pass on to
 //! their parents.
 
+ghost use Rattle.std.specs.Prelude.{◌+◌, true, false, cond};
 ghost use Rattle.std.specs.Prelude.{◌≡◌, ◌<◌, ◌≤◌, ◌++◌, ◌∷◌, if◌then◌else◌, ℕ, [], All, length};
 ghost use Rattle.std.specs.Prelude.{count_by, OnOk, IfOk};
 ghost use Rattle.std.specs.BinaryHeap.{heap_items};
@@ -8,6 +9,9 @@ ghost use Rattle.graph_walks.specs.History.{generation_at};
 ghost use Rattle.graph_format.specs.StoredHistory.{history_of};
 ghost use Rattle.gix_commitgraph.specs.Graph.{total};
 ghost use Rattle.graph_history.specs.Answer.{numbers_of};
+ghost use Rattle.graph_history.specs.Bases.{AreBelowCap, AreVisits};
+ghost use Rattle.graph_history.specs.Painting.{IsKnownEdge, IsVisiting};
+ghost use Rattle.graph_history.specs.Paint.{is_painted, is_stale, is_queued};
 ghost use Rattle.graph_history.specs.Paint.{is_ahead, is_behind, is_base, bare, coat_at, paint_at};
 ghost use Rattle.graph_history.specs.Paint.{IsSo, IsCounted, IsPaint};
 ghost use Rattle.graph_history.specs.Painting.{IsSpread, IsSpreadBut, IsLevel, Joins, Adds};
@@ -38,6 +42,8 @@ pub(crate) struct Painting<'p, 'g> {
     /// The positions of the commits that came to be merge bases as far as was known, and may still
     /// be.
     gathered: Vec<u32>,
+    /// How many commits were taken from the queue.
+    visits: u64,
 }
 
 impl<'p, 'g> Painting<'p, 'g> {
@@ -64,6 +70,7 @@ impl<'p, 'g> Painting<'p, 'g> {
             coats,
             queue: BinaryHeap::new(alloc),
             gathered: Vec::new(alloc),
+            visits: 0,
         })
     }
 
@@ -76,6 +83,10 @@ impl<'p, 'g> Painting<'p, 'g> {
         ensures others { self.new.others.now ≡ self.old.others.now }
         ensures coats { self.new.coats ≡ self.old.coats }
         ensures gathered { self.new.gathered.items ≡ self.old.gathered.items }
+        ensures visits { self.new.visits ≡ self.old.visits }
+        ensures len { OnOk result (length (heap_items self.new.queue)
+            ≡ length (heap_items self.old.queue)
+            + cond (is_queued self.old.coats.all.items commit.0) 0 1) }
         ensures joins { OnOk result (Joins (history_of self.old.graph.now) commit.0
             (heap_items self.old.queue) (heap_items self.new.queue)) }
     {
@@ -93,6 +104,7 @@ impl<'p, 'g> Painting<'p, 'g> {
         ensures others { self.new.others.now ≡ self.old.others.now }
         ensures coats { self.new.coats ≡ self.old.coats }
         ensures queue { heap_items self.new.queue ≡ heap_items self.old.queue }
+        ensures visits { self.new.visits ≡ self.old.visits }
         ensures gathered { OnOk result (self.new.gathered.items
             ≡ (if is_base paint then self.old.gathered.items ++ commit.0 ∷ []
             else self.old.gathered.items)) }
@@ -109,6 +121,14 @@ impl<'p, 'g> Painting<'p, 'g> {
         requires within { commit.0 < total self.old.graph.now }
         requires so { IsSo (history_of self.old.graph.now) self.old.first.0
             (numbers_of self.old.others.now) commit.0 paint }
+        requires waits { AreBelowCap (history_of self.old.graph.now)
+            self.old.first.0 (numbers_of self.old.others.now)
+            → is_painted (paint_at self.old.coats.all.items commit.0) ≡ true
+            → is_queued self.old.coats.all.items commit.0 ≡ true }
+        requires edge { AreBelowCap (history_of self.old.graph.now)
+            self.old.first.0 (numbers_of self.old.others.now)
+            → is_stale paint ≡ false → IsKnownEdge (history_of self.old.graph.now)
+            self.old.first.0 (numbers_of self.old.others.now) self.old.coats.all.items commit.0 }
         ensures graph { self.new.graph.now ≡ self.old.graph.now }
         ensures first { self.new.first ≡ self.old.first }
         ensures others { self.new.others.now ≡ self.old.others.now }
@@ -141,6 +161,13 @@ impl<'p, 'g> Painting<'p, 'g> {
         requires painting { IsPainting self.old }
         requires within { commit.0 < total self.old.graph.now }
         requires paint { paint_at self.old.coats.all.items commit.0 ≡ paint }
+        requires taken { is_queued self.old.coats.all.items commit.0 ≡ false }
+        requires uncapped { AreBelowCap (history_of self.old.graph.now)
+            self.old.first.0 (numbers_of self.old.others.now)
+            → generation_at (history_of self.old.graph.now) commit.0 < GENERATION_NUMBER_MAX }
+        requires painted { AreBelowCap (history_of self.old.graph.now)
+            self.old.first.0 (numbers_of self.old.others.now)
+            → is_painted paint ≡ true }
         requires spread { IsSpreadBut (history_of self.old.graph.now) self.old.first.0
             (numbers_of self.old.others.now) self.old.coats.all.items commit.0 }
         requires level { IsLevel (history_of self.old.graph.now) self.old.coats.all.items
@@ -159,6 +186,7 @@ impl<'p, 'g> Painting<'p, 'g> {
             ≤ work self.old.coats.all.items (heap_items self.old.queue)) }
     {
         generations_never_rise_along_walks();
+        generations_fall_along_walks();
         let passed = paint.passed();
         for parent in self.graph.parents(commit) {
             self.add(parent, passed)?;
@@ -184,9 +212,14 @@ impl<'p, 'g> Painting<'p, 'g> {
             (numbers_of self.old.others.now) self.new.coats.all.items) }
         ensures spread { OnOk result (IsSpread (history_of self.old.graph.now) self.old.first.0
             (numbers_of self.old.others.now) self.new.coats.all.items) }
+        ensures visiting { OnOk result (AreBelowCap (history_of self.old.graph.now)
+            self.old.first.0 (numbers_of self.old.others.now)
+            → IsVisiting (history_of self.old.graph.now) self.old.first.0
+            (numbers_of self.old.others.now) self.new.coats.all.items self.new.visits) }
         ensures done { OnOk result (IsDone (history_of self.old.graph.now)
             self.new.coats.all.items) }
     {
+        generations_never_rise_along_walks();
         while let Some(next) = self.queue.pop() {
             let is_below_cap = next.0 < GENERATION_NUMBER_MAX;
             if self.coats.fresh == 0 && is_below_cap {
@@ -196,6 +229,7 @@ impl<'p, 'g> Painting<'p, 'g> {
             let paint = self.coats.at(commit).paint;
             let queued = false;
             self.coats.set(commit, Coat { paint, queued });
+            self.visits = self.visits.saturating_add(1);
             self.visit(commit, paint)?;
         }
         Ok(())
@@ -213,6 +247,13 @@ impl<'p, 'g> Painting<'p, 'g> {
             ahead: self.coats.ahead,
             behind: self.coats.behind,
         }
+    }
+
+    /// How many commits were taken from the queue.
+    pub(crate) fn visits(&self) -> u64
+        ensures { result ≡ self.now.visits }
+    {
+        self.visits
     }
 
     /// The commits that are merge bases as far as is known, in the order of their positions.
@@ -247,6 +288,9 @@ pub(crate) fn paint_from<'p, 'g>(
     ensures gathered { IfOk result (λ s. AreGathered s.coats.all.items s.gathered.items) }
     ensures painted { IfOk result (λ s. IsPainted (history_of graph.now) first.0
         (numbers_of others.now) s.coats.all.items) }
+    ensures visits { IfOk result (λ s. AreBelowCap (history_of graph.now) first.0
+        (numbers_of others.now) → AreVisits (history_of graph.now) first.0
+        (numbers_of others.now) s.visits) }
 {
     generations_never_rise_along_walks();
     generations_fall_along_walks();

@@ -1,4 +1,4 @@
-use Rattle.std.proofs.Common.{◌<◌, ◌≤◌, length, get_or, ◌∙◌, heap_items, arith}
+use Rattle.std.proofs.Common.{inr, ◌<◌, ◌≤◌, length, get_or, ◌∙◌, heap_items, arith}
 use Rattle.std.proofs.lemmas.List.{length-map}
 use Rattle.graph_format.specs.declared.Position.{Position}
 use Rattle.graph_walks.specs.declared.TheConstants.{GENERATION_NUMBER_MAX}
@@ -7,6 +7,7 @@ use Rattle.graph_format.specs.StoredHistory.{history_of}
 use Rattle.graph_history.specs.Answer.{numbers_of}
 use Rattle.graph_history.proofs.CoatLemmas.{so_first, so_other, bare_level, begun_first, begun_more, begun_all}
 use Rattle.graph_history.proofs.CoatLemmas.{number_at, number_contained}
+use Rattle.graph_history.proofs.EdgeLemmas.{painted_queued, visits_told}
 use Rattle.graph_history.proofs.BaseLemmas.{painted_is_exact}
 use Rattle.graph_history.proofs.painting.paint_from.Goals as goal
 
@@ -102,3 +103,32 @@ returns-clause-painted c =
     (rw (i.graph, i.first, i.others) at e.paint) (rw (i.graph, i.first, i.others) at e.spread) (rw i.graph at e.done)
     (λ x y. c.generations_never_rise_along_walks.ensures h x y sound.generations)
     (λ x y. c.generations_fall_along_walks.ensures h x y sound.generations)
+
+pub add-requires-in-loop-other-clause-waits : goal.add-requires-in-loop-other-clause-waits
+add-requires-in-loop-other-clause-waits c =
+    let l = c.loop-other in
+    let i = l.invariant in
+    let h = history_of c.args.graph.now in
+    let other = get_or c.args.others.now l.other-index (record { 0 = 0 }) in
+    rw (i.graph, i.first, i.others)
+    (λ below painted.
+    painted_queued h l.painting.coats.all.items (heap_items l.painting.queue) GENERATION_NUMBER_MAX other.0 i.level
+    (below other.0 (inr (number_contained c.args.others.now l.other-index c.loop-other-test.true))) painted)
+
+pub returns-clause-visits : goal.returns-clause-visits
+returns-clause-visits c =
+    let h = history_of c.args.graph.now in
+    let a = c.args.first.0 in
+    let bs = numbers_of c.args.others.now in
+    let coats = c.run.new.self.coats.all.items in
+    let i = c.loop-other.invariant in
+    let e = c.in_ok-run.ensures in
+    let sound = rw i.graph at i.painting.sound in
+    let paint = rw (i.graph, i.first, i.others) at e.paint in
+    let done = rw i.graph at e.done in
+    let visiting = rw (i.graph, i.first, i.others) at e.visiting in
+    let painted =
+    painted_is_exact h a bs coats paint (rw (i.graph, i.first, i.others) at e.spread) done
+    (λ x y. c.generations_never_rise_along_walks.ensures h x y sound.generations)
+    (λ x y. c.generations_fall_along_walks.ensures h x y sound.generations) in
+    λ below. visits_told h a bs coats c.run.new.self.visits painted paint done (visiting below)

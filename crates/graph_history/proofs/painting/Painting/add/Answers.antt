@@ -7,6 +7,7 @@ use Rattle.graph_history.specs.declared.paint.Coat.{Coat}
 use Rattle.graph_history.specs.declared.paint.Coats.{Coats}
 use Rattle.graph_history.specs.declared.paint.Paint.{Paint}
 use Rattle.graph_history.proofs.CoatLemmas.{coat_with, added_by}
+use Rattle.graph_history.proofs.EdgeLemmas.{visiting_added}
 use Rattle.graph_history.proofs.painting.Painting.add.Goals as goal
 
 pub set-requires-clause-few : goal.set-requires-clause-few
@@ -31,10 +32,12 @@ returns c =
     let graph = c.gather.ensures.graph ∙ c.enqueue.ensures.graph in
     let first = c.gather.ensures.first ∙ c.enqueue.ensures.first in
     let others = c.gather.ensures.others ∙ c.enqueue.ensures.others in
+    let visits = c.gather.ensures.visits ∙ c.enqueue.ensures.visits in
+    let inside : p < length s.coats.all.items = omega (arith, within, r.painting.paint.coats_len) in
     let after =
     added_by h s.first.0 (numbers_of s.others.now) s.coats.all.items (heap_items s.queue) (heap_items c.enqueue.new.self.queue)
     p x r.painting.paint r.painting.waiting within r.so c.in_ok-enqueue.ensures.joins new is_new c.set.new.self.all.items is_after
-    s.gathered.items r.painting.gathered uncovered in
+    c.in_ok-enqueue.ensures.len s.gathered.items r.painting.gathered uncovered in
     record {
       graph = graph;
       first = first;
@@ -48,6 +51,11 @@ returns c =
         waiting = rw (graph, c.gather.ensures.queue) after.waiting;
         gathered =
             rw (c.in_ok-gather.ensures.gathered, c.enqueue.ensures.gathered, c.join-paint.ensures, known) after.gathered;
+        visiting =
+            rw (graph, first, others, visits)
+            (λ below.
+            visiting_added h s.first.0 (numbers_of s.others.now) s.coats.all.items c.set.new.self.all.items p x s.visits new inside
+            is_new is_after after.here after.adds.others (r.waits below) (r.edge below) uncovered (r.painting.visiting below));
       };
       adds = after.adds;
       level = rw c.gather.ensures.queue after.level;
