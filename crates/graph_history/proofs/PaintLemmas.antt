@@ -1,7 +1,8 @@
 -- What paint says, joined and passed on.
 use Rattle.std.proofs.Common.{◌≡◌, ℕ, ◌<◌, List, true, false, ◌&&◌, ◌||◌, refl, sym, ◌∙◌, subst, ⊎_elim}
 use Rattle.std.proofs.Common.{◌⊎◌, inl, inr, lit<}
-use Rattle.std.proofs.lemmas.Bool.{both_ways, false_from_ne_true, true≢false, false≢true, or_cases, or_left, or_right, and_parts, cond-true}
+use Rattle.std.proofs.lemmas.Bool.{both_ways, false_from_ne_true, true≢false, false≢true, or_cases, or_left, or_right}
+use Rattle.std.proofs.lemmas.Bool.{and_parts, cond-true}
 use Rattle.graph_walks.specs.History.{Node, IsParent}
 use Rattle.graph_history.specs.Bases.{IsCommonAncestor}
 use Rattle.graph_history.specs.Paint.{is_painted, is_on_one_side}

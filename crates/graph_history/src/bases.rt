@@ -46,7 +46,9 @@ impl<'g> Checked<'g> {
     /// `git merge-base --all FIRST OTHERS..` names. Each comes once, the least position first.
     ///
     /// The search visits commits with the highest generation numbers first, until none is left but
-    /// ancestors of common ancestors.
+    /// ancestors of common ancestors. Where no generation number of the first and the others is at
+    /// the cap, it visits no commit twice, and none below all of the first, the others and the
+    /// parents of the commits on one side alone.
     ///
     /// # Errors
     ///

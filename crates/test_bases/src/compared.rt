@@ -191,6 +191,10 @@ fn two_commits_turned_round_have_the_same_bases(rt: HostRuntime) {
         .divergence(alloc, three, &[six])
         .expect(&rt, "memory");
     assert!(rt; apart.ahead == 1 && apart.behind == 2);
+
+    // Of a commit and itself nothing else is visited.
+    let same = checked.merge_bases(alloc, three, &[three]).expect(&rt, "memory");
+    assert!(rt; same.visits == 1);
 }
 
 #[test]

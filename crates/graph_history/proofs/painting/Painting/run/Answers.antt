@@ -1,4 +1,5 @@
-use Rattle.std.proofs.Common.{◌≡◌, ◌+◌, ◌≤◌, ℕ, count_by, ◌<◌, List, false, length, sym, ap, ◌∙◌, subst, lt_of_le_of_lt, heap_items, arith}
+use Rattle.std.proofs.Common.{◌≡◌, ◌+◌, ◌≤◌, ℕ, count_by, ◌<◌, List, false, length, sym, ap, ◌∙◌, subst, lt_of_le_of_lt}
+use Rattle.std.proofs.Common.{heap_items, arith}
 use Rattle.std.proofs.lemmas.List.{length-set}
 use Rattle.std.proofs.lemmas.List.Sums.{count_by-le-length}
 use Rattle.graph_walks.specs.declared.TheConstants.{GENERATION_NUMBER_MAX}
@@ -9,9 +10,7 @@ use Rattle.graph_history.specs.declared.paint.Coat.{Coat}
 use Rattle.graph_history.specs.Painting.{IsSpread, IsLevel, IsDone}
 use Rattle.graph_walks.specs.History.{generation_at}
 use Rattle.graph_walks.specs.Walks.{Reaches}
-use Rattle.graph_history.specs.Bases.{AreBelowCap}
 use Rattle.graph_history.specs.Paint.{is_painted, is_fresh, is_visited}
-use Rattle.graph_history.specs.Painting.{IsVisiting}
 use Rattle.graph_history.proofs.EdgeLemmas.{next_queued, painted_below_cap, visiting_taken}
 use Rattle.graph_history.proofs.CoatLemmas.{coat_with, none_fresh, stops, taken_entry, all_low, taken_by, gathered_same}
 use Rattle.graph_history.proofs.painting.Painting.run.Goals as goal
