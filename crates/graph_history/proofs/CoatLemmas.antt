@@ -204,7 +204,8 @@ module _ (h : List Node) (a : ℕ) (bs : List ℕ) (coats : List Coat) (queue mo
       let longer = joins.longer in
       omega arith
 
-  pub added_by : length more ≡ length queue + cond (is_queued coats p) 0 1 → (gathered : List ℕ) → AreGathered coats gathered → covers (paint_at coats p) x ≡ false
+  pub added_by : length more ≡ length queue + cond (is_queued coats p) 0 1 → (gathered : List ℕ) → AreGathered coats gathered
+      → covers (paint_at coats p) x ≡ false
       → AddedBy h a bs p x coats after queue more gathered
   added_by len gathered are uncovered = record {
     paint = added_paint;

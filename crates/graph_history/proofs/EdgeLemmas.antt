@@ -45,7 +45,8 @@ painted_below_cap h a bs coats paint never_rises below p painted =
     (painted_leads (paint_at coats p) painted)
 
 -- a parent of a commit below the cap
-pub falls_to_parent : (h : List Node) (p q : ℕ) → generation_at h q ≤ generation_at h p → generation_at h p < GENERATION_NUMBER_MAX
+pub falls_to_parent : (h : List Node) (p q : ℕ) → generation_at h q ≤ generation_at h p
+    → generation_at h p < GENERATION_NUMBER_MAX
     → ((p q : ℕ) → IsProperAncestor h p q → generation_at h q < GENERATION_NUMBER_MAX → generation_at h q < generation_at h p)
     → IsParent h p q → generation_at h q < generation_at h p
 falls_to_parent h p q low below falls parent =
@@ -353,7 +354,8 @@ module _ (h : List Node) (a : ℕ) (bs : List ℕ) (coats : List Coat) (visits :
         least = λ ps once told.
             (let bound =
             no_more ps all.0 once (λ p contained.
-            (all.1.those p).1 (told_visited p (All-contains (λ q. IsOnOneSide h a bs q ⊎ IsMergeBase h a bs q) ps p told contained))) in
+            (all.1.those p).1
+            (told_visited p (All-contains (λ q. IsOnOneSide h a bs q ⊎ IsMergeBase h a bs q) ps p told contained))) in
             let len = all.2 in
             omega arith);
       }

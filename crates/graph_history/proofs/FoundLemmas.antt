@@ -123,7 +123,8 @@ module _ (t : Coat → Bool) (coats : List Coat) where
         by_cases (p ∷ ps) some are = (p, ((are.those p).0 (head_contained p ps)).1)
 
 -- a coat that passes a test which the bare one does not is that of a commit
-pub tested_within : (t : Coat → Bool) → t bare ≡ false → (coats : List Coat) (p : ℕ) → t (coat_at coats p) ≡ true → p < length coats
+pub tested_within : (t : Coat → Bool) → t bare ≡ false → (coats : List Coat) (p : ℕ) → t (coat_at coats p) ≡ true
+    → p < length coats
 tested_within t none [] p e = absurd (both_ways (t bare) none e)
 tested_within t none (c ∷ cs) zero e = omega arith
 tested_within t none (c ∷ cs) (suc p) e = let more = tested_within t none cs p e in omega arith

@@ -193,7 +193,9 @@ fn two_commits_turned_round_have_the_same_bases(rt: HostRuntime) {
     assert!(rt; apart.ahead == 1 && apart.behind == 2);
 
     // Of a commit and itself nothing else is visited.
-    let same = checked.merge_bases(alloc, three, &[three]).expect(&rt, "memory");
+    let same = checked
+        .merge_bases(alloc, three, &[three])
+        .expect(&rt, "memory");
     assert!(rt; same.visits == 1);
 }
 

@@ -89,10 +89,12 @@ visit-requires c =
         visiting = λ below.
             (let old = i.painting.visiting below in
             let cap =
-            painted_below_cap h a bs coats i.painting.paint never_rises below c.in-Some.next.1 (old.painted c.in-Some.next.1 queued) in
+            painted_below_cap h a bs coats i.painting.paint never_rises below c.in-Some.next.1
+            (old.painted c.in-Some.next.1 queued) in
             let some : 0 < count_by is_fresh coats =
             elim c.else-self-eq0.branch [
-              | else-self-eq0-via-then-self-eq0+else-is_below_cap w ↦ absurd (omega (arith, w.if-is_below_cap.false, cap, entry.1))
+              | else-self-eq0-via-then-self-eq0+else-is_below_cap w ↦
+                  absurd (omega (arith, w.if-is_below_cap.false, cap, entry.1))
               | else-self-eq0-via-else-self-eq0 w ↦ omega (arith, w.if-self-eq0.false, i.painting.counted.fresh)
             ] in
             let least = count_by-le-length is_visited coats in
