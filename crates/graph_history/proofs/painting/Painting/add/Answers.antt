@@ -55,7 +55,8 @@ returns c =
             rw (graph, first, others, visits)
             (λ below.
             visiting_added h s.first.0 (numbers_of s.others.now) s.coats.all.items c.set.new.self.all.items p x s.visits new
-            inside is_new is_after after.here after.adds.others (r.waits below) (r.edge below) uncovered (r.painting.visiting below));
+            inside is_new is_after after.here after.adds.others (r.waits below) (r.edge below) uncovered
+            (r.painting.visiting below));
       };
       adds = after.adds;
       level = rw c.gather.ensures.queue after.level;
