@@ -259,7 +259,9 @@ impl<'p, 'g> Painting<'p, 'g> {
     /// The commits that are merge bases as far as is known, in the order of their positions.
     pub(crate) fn bases(&mut self, alloc: Global) -> Result<Vec<Position>, AllocError>
         requires { AreGathered self.old.coats.all.items self.old.gathered.items }
-        ensures { IfOk result (λ bases. AreBases self.old.coats.all.items
+        ensures coats { self.new.coats ≡ self.old.coats }
+        ensures visits { self.new.visits ≡ self.old.visits }
+        ensures bases { IfOk result (λ bases. AreBases self.old.coats.all.items
             (numbers_of bases.items)) }
     {
         self.gathered.sort_unstable();

@@ -8,7 +8,7 @@ pub returns-clause-bases : goal.returns-clause-bases
 returns-clause-bases c =
     let coats = c.in_ok-painting.painting.coats.all.items in
     bases_are (history_of c.args.self.now) c.args.first.0 (numbers_of c.args.others.now) coats
-    c.in_ok-painting.ensures.painted (numbers_of c.in_ok-positions.positions.items) c.in_ok-positions.ensures
+    c.in_ok-painting.ensures.painted (numbers_of c.in_ok-positions.positions.items) c.in_ok-positions.ensures.bases
 
 pub returns-clause-within : goal.returns-clause-within
 returns-clause-within c =
@@ -17,7 +17,7 @@ returns-clause-within c =
     bases_within (history_of c.args.self.now) c.args.first.0 (numbers_of c.args.others.now) (total c.args.self.now) bases
     c.in_ok-painting.ensures.commits
     (bases_are (history_of c.args.self.now) c.args.first.0 (numbers_of c.args.others.now) coats
-    c.in_ok-painting.ensures.painted (numbers_of bases) c.in_ok-positions.ensures)
+    c.in_ok-painting.ensures.painted (numbers_of bases) c.in_ok-positions.ensures.bases)
 
 pub returns-clause-ahead : goal.returns-clause-ahead
 returns-clause-ahead c =

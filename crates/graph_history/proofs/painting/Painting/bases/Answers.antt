@@ -39,8 +39,8 @@ loop-number-preserved c =
           rw (w.bases-is, l.invariant) (sym (filter_skip t xs i c.loop-number-test.true (test ∙ w.if-is_base.false)))
     ]
 
-pub returns : goal.returns
-returns c =
+pub returns-clause-bases : goal.returns-clause-bases
+returns-clause-bases c =
     let s = c.args.self.now in
     let l = c.loop-number in
     let xs = c.deref-number-items.result.now in
