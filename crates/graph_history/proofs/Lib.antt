@@ -12,3 +12,10 @@ pub mod QueryLemmas
 pub mod KnownAnswerLemmas
 pub mod DescentLemmas
 pub mod PushLemmas
+pub mod ReachLemmas
+pub mod PaintLemmas
+pub mod CoatLemmas
+pub mod PassLemmas
+pub mod BaseLemmas
+pub mod FoundLemmas
+pub mod EdgeLemmas

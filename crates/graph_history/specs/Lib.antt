@@ -7,3 +7,6 @@ pub mod Queue
 pub mod BreadthFirst
 pub mod Commits
 pub mod Search
+pub mod Bases
+pub mod Paint
+pub mod Painting

@@ -3,25 +3,30 @@
 //! A [`Checked`] borrows a graph, and a [`CheckedGraph`] owns it. Both are made by a check alone. A
 //! checked graph says of each of its commits what the file says, and whether one commit is an
 //! ancestor of another, and by which shortest walk along parents. A [`Searcher`] answers many such
-//! queries over one memory. Queries rely on the generation numbers, which the check has found
-//! right, and leave out each commit whose number is too low to lead to the one that is looked for
-//! ("topological level" in Git's commit-graph design).
+//! queries over one memory. A checked graph also says which merge bases some commits have, and how
+//! far they have come apart: a [`Comparison`] is both. Queries rely on the generation numbers,
+//! which the check has found right, and leave out each commit whose number is too low to lead to
+//! the one that is looked for ("topological level" in Git's commit-graph design).
 #![tactic(auto)]
 
 mod access;
 mod ancestor;
+mod bases;
 mod checked;
 mod commits;
 pub mod law;
 mod lists;
 mod marks;
 mod owned;
+mod paint;
+mod painting;
 mod parents;
 mod search;
 mod searcher;
 mod walk;
 mod words;
 
+pub use bases::{Bases, Comparison, Divergence};
 pub use checked::{Checked, NoFault};
 use gix_commitgraph::Position;
 pub use owned::{CheckedGraph, PushError};

@@ -1,7 +1,6 @@
-use Rattle.std.proofs.Common.{◌≡◌, ◌<◌, ℕ, List, [], All, Option, map, sym, ap, subst, ◌∙◌}
+use Rattle.std.proofs.Common.{◌<◌, ℕ, List, [], All, Option, map, sym, ap, subst, ◌∙◌}
 use Rattle.std.specs.Option.{option_map_or}
-use Rattle.graph_walks.specs.History.{Node, parents_at}
-use Rattle.graph_format.specs.StoredHistory.{history_of}
+use Rattle.graph_walks.specs.History.{Node}
 use Rattle.graph_format.specs.declared.Position.{Position}
 use Rattle.graph_layer.specs.Commit.{commit_layer, commit_parents, commit_pos}
 use Rattle.graph_layer.specs.RemainingParents.{parents_left}

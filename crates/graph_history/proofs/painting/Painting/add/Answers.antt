@@ -1,0 +1,64 @@
+use Rattle.std.proofs.Common.{◌<◌, true, length, set, sym, ap, ◌∙◌, heap_items, arith}
+use Rattle.std.proofs.lemmas.List.{length-set}
+use Rattle.graph_format.specs.StoredHistory.{history_of}
+use Rattle.graph_history.specs.Answer.{numbers_of}
+use Rattle.graph_history.specs.Paint.{joined, covers}
+use Rattle.graph_history.specs.declared.paint.Coat.{Coat}
+use Rattle.graph_history.specs.declared.paint.Coats.{Coats}
+use Rattle.graph_history.specs.declared.paint.Paint.{Paint}
+use Rattle.graph_history.proofs.CoatLemmas.{coat_with, added_by}
+use Rattle.graph_history.proofs.EdgeLemmas.{visiting_added}
+use Rattle.graph_history.proofs.painting.Painting.add.Goals as goal
+
+pub set-requires-clause-few : goal.set-requires-clause-few
+set-requires-clause-few c =
+    let same = c.gather.ensures.coats ∙ c.enqueue.ensures.coats in
+    omega (arith, c.requires.painting.few, ap (λ (m : Coats). length m.all.items) same)
+
+pub returns : goal.returns
+returns c =
+    let s = c.args.self.now in
+    let r = c.requires in
+    let h = history_of s.graph.now in
+    let x = c.args.paint in
+    let p = c.args.commit.0 in
+    let new = coat_with c.join-paint.result true in
+    let within : p < length h = omega (arith, r.within, r.painting.commits) in
+    let known = c.at-known.ensures in
+    let is_new = ap (λ (y : Paint). coat_with y true) (c.join-paint.ensures ∙ ap (λ (m : Coat). joined m.paint x) known) in
+    let same = c.gather.ensures.coats ∙ c.enqueue.ensures.coats in
+    let is_after = c.set.ensures.coats ∙ ap (λ (ms : Coats). set ms.all.items p new) same in
+    let uncovered = ap (λ (m : Coat). covers m.paint x) (sym known) ∙ sym c.covers.ensures ∙ c.if-covers.false in
+    let graph = c.gather.ensures.graph ∙ c.enqueue.ensures.graph in
+    let first = c.gather.ensures.first ∙ c.enqueue.ensures.first in
+    let others = c.gather.ensures.others ∙ c.enqueue.ensures.others in
+    let visits = c.gather.ensures.visits ∙ c.enqueue.ensures.visits in
+    let inside : p < length s.coats.all.items = omega (arith, within, r.painting.paint.coats_len) in
+    let after =
+    added_by h s.first.0 (numbers_of s.others.now) s.coats.all.items (heap_items s.queue) (heap_items c.enqueue.new.self.queue)
+    p x r.painting.paint r.painting.waiting within r.so c.in_ok-enqueue.ensures.joins new is_new c.set.new.self.all.items is_after
+    c.in_ok-enqueue.ensures.len s.gathered.items r.painting.gathered uncovered in
+    record {
+      graph = graph;
+      first = first;
+      others = others;
+      painting = record {
+        sound = rw graph r.painting.sound;
+        commits = rw graph r.painting.commits;
+        few = omega (arith, r.painting.few, ap length is_after, length-set s.coats.all.items p new);
+        counted = c.set.ensures.counted;
+        paint = rw (graph, first, others) after.paint;
+        waiting = rw (graph, c.gather.ensures.queue) after.waiting;
+        gathered =
+            rw (c.in_ok-gather.ensures.gathered, c.enqueue.ensures.gathered, c.join-paint.ensures, known) after.gathered;
+        visiting =
+            rw (graph, first, others, visits)
+            (λ below.
+            visiting_added h s.first.0 (numbers_of s.others.now) s.coats.all.items c.set.new.self.all.items p x s.visits new
+            inside is_new is_after after.here after.adds.others (r.waits below) (r.edge below) uncovered
+            (r.painting.visiting below));
+      };
+      adds = after.adds;
+      level = rw c.gather.ensures.queue after.level;
+      work = rw c.gather.ensures.queue after.work;
+    }

@@ -1,0 +1,134 @@
+use Rattle.std.proofs.Common.{inr, ◌<◌, ◌≤◌, length, get_or, ◌∙◌, heap_items, arith}
+use Rattle.std.proofs.lemmas.List.{length-map}
+use Rattle.graph_format.specs.declared.Position.{Position}
+use Rattle.graph_walks.specs.declared.TheConstants.{GENERATION_NUMBER_MAX}
+use Rattle.graph_walks.specs.History.{generation_at}
+use Rattle.graph_format.specs.StoredHistory.{history_of}
+use Rattle.graph_history.specs.Answer.{numbers_of}
+use Rattle.graph_history.proofs.CoatLemmas.{so_first, so_other, bare_level, begun_first, begun_more, begun_all}
+use Rattle.graph_history.proofs.CoatLemmas.{number_at, number_contained}
+use Rattle.graph_history.proofs.EdgeLemmas.{painted_queued, visits_told}
+use Rattle.graph_history.proofs.BaseLemmas.{painted_is_exact}
+use Rattle.graph_history.proofs.painting.paint_from.Goals as goal
+
+pub add-requires-clause-so : goal.add-requires-clause-so
+add-requires-clause-so c =
+    let p = c.in_ok-painting.ensures in
+    let commits = rw p.graph at p.painting.commits in
+    let within : c.args.first.0 < length (history_of c.args.graph.now) = omega (arith, commits, c.requires.first) in
+    rw (p.graph, p.first)
+    (so_first (history_of c.args.graph.now) c.args.first.0 (numbers_of c.in_ok-painting.painting.others.now) within)
+
+pub loop-other-init : goal.loop-other-init
+loop-other-init c =
+    let p = c.in_ok-painting.ensures in
+    let s = c.in_ok-painting.painting in
+    let h = history_of c.args.graph.now in
+    let commits = rw p.graph at p.painting.commits in
+    let sound = rw p.graph at p.painting.sound in
+    let within : c.args.first.0 < length h = omega (arith, commits, c.requires.first) in
+    let capped : generation_at h c.args.first.0 ≤ GENERATION_NUMBER_MAX =
+    (sound.generations c.args.first.0 within).capped in
+    let none = bare_level h s.coats.all.items (heap_items s.queue) p.bare p.empty GENERATION_NUMBER_MAX in
+    let level = rw p.graph at c.in_ok-add.ensures.level in
+    record {
+      graph = c.add.ensures.graph ∙ p.graph;
+      first = c.add.ensures.first ∙ p.first;
+      others = c.add.ensures.others ∙ p.others;
+      painting = c.in_ok-add.ensures.painting;
+      begun =
+          begun_first h s.coats.all.items (heap_items s.queue) p.bare p.empty c.args.first.0 (numbers_of c.args.others.now)
+          c.add.new.self.coats.all.items c.in_ok-add.ensures.adds;
+      level = level GENERATION_NUMBER_MAX capped none;
+    }
+
+pub add-requires-in-loop-other-clause-so : goal.add-requires-in-loop-other-clause-so
+add-requires-in-loop-other-clause-so c =
+    let l = c.loop-other in
+    let i = l.invariant in
+    let h = history_of c.args.graph.now in
+    let commits = rw i.graph at i.painting.commits in
+    let below = c.requires.others l.other-index (record { 0 = 0 }) c.loop-other-test.true in
+    let other = get_or c.args.others.now l.other-index (record { 0 = 0 }) in
+    let within : other.0 < length h = omega (arith, commits, below) in
+    rw (i.graph, i.first, i.others)
+    (so_other h c.args.first.0 (numbers_of c.args.others.now) other.0
+    (number_contained c.args.others.now l.other-index c.loop-other-test.true) within)
+
+pub loop-other-preserved : goal.loop-other-preserved
+loop-other-preserved c =
+    let l = c.loop-other in
+    let i = l.invariant in
+    let h = history_of c.args.graph.now in
+    let commits = rw i.graph at i.painting.commits in
+    let below = c.requires.others l.other-index (record { 0 = 0 }) c.loop-other-test.true in
+    let other = get_or c.args.others.now l.other-index (record { 0 = 0 }) in
+    let within : other.0 < length h = omega (arith, commits, below) in
+    let sound = rw i.graph at i.painting.sound in
+    let capped : generation_at h other.0 ≤ GENERATION_NUMBER_MAX = (sound.generations other.0 within).capped in
+    let level = rw i.graph at c.in_ok-add-2.ensures.level in
+    record {
+      graph = c.add-in-loop-other.ensures.graph ∙ i.graph;
+      first = c.add-in-loop-other.ensures.first ∙ i.first;
+      others = c.add-in-loop-other.ensures.others ∙ i.others;
+      painting = c.in_ok-add-2.ensures.painting;
+      begun =
+          begun_more h c.args.first.0 (numbers_of c.args.others.now) l.other-index other.0 l.painting.coats.all.items
+          c.add-in-loop-other.new.self.coats.all.items i.begun (number_at c.args.others.now l.other-index)
+          c.in_ok-add-2.ensures.adds;
+      level = level GENERATION_NUMBER_MAX capped i.level;
+    }
+
+pub run-requires-clause-spread : goal.run-requires-clause-spread
+run-requires-clause-spread c =
+    let l = c.loop-other in
+    let i = l.invariant in
+    rw (i.graph, i.first, i.others)
+    (begun_all (history_of c.args.graph.now) c.args.first.0 (numbers_of c.args.others.now) l.other-index
+    l.painting.coats.all.items i.begun
+    (omega (arith, c.loop-other-test.false, c.loop-other.auto, length-map c.args.others.now (λ (p : Position). p.0))))
+
+pub run-requires-clause-level : goal.run-requires-clause-level
+run-requires-clause-level c =
+    let i = c.loop-other.invariant in
+    (GENERATION_NUMBER_MAX, rw i.graph i.level)
+
+pub returns-clause-painted : goal.returns-clause-painted
+returns-clause-painted c =
+    let h = history_of c.args.graph.now in
+    let i = c.loop-other.invariant in
+    let e = c.in_ok-run.ensures in
+    let sound = rw i.graph at i.painting.sound in
+    painted_is_exact h c.args.first.0 (numbers_of c.args.others.now) c.run.new.self.coats.all.items
+    (rw (i.graph, i.first, i.others) at e.paint) (rw (i.graph, i.first, i.others) at e.spread) (rw i.graph at e.done)
+    (λ x y. c.generations_never_rise_along_walks.ensures h x y sound.generations)
+    (λ x y. c.generations_fall_along_walks.ensures h x y sound.generations)
+
+pub add-requires-in-loop-other-clause-waits : goal.add-requires-in-loop-other-clause-waits
+add-requires-in-loop-other-clause-waits c =
+    let l = c.loop-other in
+    let i = l.invariant in
+    let h = history_of c.args.graph.now in
+    let other = get_or c.args.others.now l.other-index (record { 0 = 0 }) in
+    rw (i.graph, i.first, i.others)
+    (λ below painted.
+    painted_queued h l.painting.coats.all.items (heap_items l.painting.queue) GENERATION_NUMBER_MAX other.0 i.level
+    (below other.0 (inr (number_contained c.args.others.now l.other-index c.loop-other-test.true))) painted)
+
+pub returns-clause-visits : goal.returns-clause-visits
+returns-clause-visits c =
+    let h = history_of c.args.graph.now in
+    let a = c.args.first.0 in
+    let bs = numbers_of c.args.others.now in
+    let coats = c.run.new.self.coats.all.items in
+    let i = c.loop-other.invariant in
+    let e = c.in_ok-run.ensures in
+    let sound = rw i.graph at i.painting.sound in
+    let paint = rw (i.graph, i.first, i.others) at e.paint in
+    let done = rw i.graph at e.done in
+    let visiting = rw (i.graph, i.first, i.others) at e.visiting in
+    let painted =
+    painted_is_exact h a bs coats paint (rw (i.graph, i.first, i.others) at e.spread) done
+    (λ x y. c.generations_never_rise_along_walks.ensures h x y sound.generations)
+    (λ x y. c.generations_fall_along_walks.ensures h x y sound.generations) in
+    λ below. visits_told h a bs coats c.run.new.self.visits painted paint done (visiting below)

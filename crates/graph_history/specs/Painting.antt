@@ -1,0 +1,131 @@
+-- The state of a painting of a graph: the paint of all commits, and the queue of those that have not passed on all that is
+-- known of them. For private contracts alone.
+use Rattle.std.specs.Prelude.{◌⊎◌, count_by}
+use Rattle.std.specs.Prelude.{◌≡◌, ◌≢◌, ◌↔◌, ℕ, ◌+◌, ◌*◌, ◌^◌, ◌<◌, ◌≤◌, true, false, List, All, AllPairs, Contains, length}
+use Rattle.std.specs.Prelude.{sum_by}
+use Rattle.std.specs.List.Sorted.{IsStrictlyIncreasing}
+use Rattle.std.specs.BinaryHeap.{IsHeap, heap_items}
+use Rattle.std.specs.Ordering.{nat_cmp, ordering_then}
+use Rattle.std.specs.declared.cmp.Ordering.{Ordering}
+use Rattle.graph_walks.specs.declared.TheConstants.{GENERATION_NUMBER_MAX}
+use Rattle.graph_walks.specs.History.{Node, IsParent, generation_at}
+use Rattle.graph_format.specs.StoredHistory.{history_of}
+use Rattle.gix_commitgraph.specs.Graph.{total}
+use Rattle.gix_commitgraph.specs.Sound.{Sound}
+use Rattle.graph_history.specs.Answer.{numbers_of}
+use Rattle.graph_history.specs.Bases.{IsMergeBase, IsAhead, IsBehind, IsStart, AreBelowCap}
+use Rattle.graph_history.specs.Paint.{is_on_one_side, is_visited}
+use Rattle.graph_history.specs.Paint.{first_leads, others_lead, is_stale, is_painted, is_ahead, is_behind, is_base, passed}
+use Rattle.graph_history.specs.Paint.{unknown}
+use Rattle.graph_history.specs.Paint.{paint_at, coat_at, is_queued, Grows, IsCounted, IsPaint}
+use Rattle.graph_history.specs.declared.paint.Coat.{Coat}
+use Rattle.graph_history.specs.declared.paint.Paint.{Paint}
+use Rattle.graph_history.specs.declared.painting.Painting.{Painting}
+
+-- What is known is passed on by all that are not queued.
+pub record IsSpread (history : List Node) (start : ℕ) (starts : List ℕ) (coats : List Coat) : Type 0 where
+  pub first : first_leads (paint_at coats start) ≡ true
+  pub others : (s : ℕ) → Contains starts s → others_lead (paint_at coats s) ≡ true
+  pub passes : (p q : ℕ) → is_queued coats p ≡ false → IsParent history p q → Grows (passed (paint_at coats p)) (paint_at coats q)
+
+-- What is known is passed on by all that are not queued, but for one.
+pub record IsSpreadBut (history : List Node) (start : ℕ) (starts : List ℕ) (coats : List Coat) (one : ℕ) : Type 0 where
+  pub first : first_leads (paint_at coats start) ≡ true
+  pub others : (s : ℕ) → Contains starts s → others_lead (paint_at coats s) ≡ true
+  pub passes : (p q : ℕ) → ¬ (p ≡ one) → is_queued coats p ≡ false → IsParent history p q
+      → Grows (passed (paint_at coats p)) (paint_at coats q)
+
+-- the order of the queue, whose entries are a generation number and a position each
+abbrev pub entry_cmp : ℕ × ℕ → ℕ × ℕ → Ordering
+entry_cmp x y = ordering_then (nat_cmp x.0 y.0) (nat_cmp x.1 y.1)
+
+abbrev pub IsEntry : List Node → ℕ × ℕ → Type 0
+IsEntry history e = (e.1 < length history) × (e.0 ≡ generation_at history e.1)
+
+-- The queue has each commit that is marked as queued.
+pub record IsWaiting (history : List Node) (coats : List Coat) (queue : List (ℕ × ℕ)) : Type 0 where
+  pub order : IsHeap entry_cmp queue
+  pub entries : All (IsEntry history) queue
+  pub queued : (p : ℕ) → is_queued coats p ≡ true → Contains queue (generation_at history p, p)
+  pub count : length queue ≡ count_by (λ coat. coat.queued) coats
+
+-- A generation number that no queued commit is above, and no painted one below that is not queued.
+pub record IsLevel (history : List Node) (coats : List Coat) (queue : List (ℕ × ℕ)) (level : ℕ) : Type 0 where
+  pub above : (p : ℕ) → is_queued coats p ≡ false → is_painted (paint_at coats p) ≡ true → level ≤ generation_at history p
+  pub below : All (λ e. e.0 ≤ level) queue
+
+-- A queue to which a commit was added, or that had it.
+pub record Joins (history : List Node) (p : ℕ) (old new : List (ℕ × ℕ)) : Type 0 where
+  pub order : IsHeap entry_cmp old → IsHeap entry_cmp new
+  pub entries : All (IsEntry history) old → All (IsEntry history) new
+  pub below : (level : ℕ) → generation_at history p ≤ level → All (λ e. e.0 ≤ level) old → All (λ e. e.0 ≤ level) new
+  pub holds : Contains new (generation_at history p, p)
+  pub keeps : (e : ℕ × ℕ) → Contains old e → Contains new e
+  pub longer : length new ≤ length old + 1
+
+-- The coats after paint was added to one commit.
+pub record Adds (p : ℕ) (paint : Paint) (old new : List Coat) : Type 0 where
+  pub kept : (q : ℕ) → is_queued new q ≡ false → coat_at new q ≡ coat_at old q
+  pub grows : (q : ℕ) → Grows (paint_at old q) (paint_at new q)
+  pub has : Grows paint (paint_at new p)
+  pub others : (q : ℕ) → q ≢ p → coat_at new q ≡ coat_at old q
+
+-- All commits that are merge bases as far as is known were gathered, with others to which both lead, each once.
+pub record AreGathered (coats : List Coat) (gathered : List ℕ) : Type 0 where
+  pub once : AllPairs (λ p q. p ≢ q) gathered
+  pub first : (p : ℕ) → Contains gathered p → first_leads (paint_at coats p) ≡ true
+  pub others : (p : ℕ) → Contains gathered p → others_lead (paint_at coats p) ≡ true
+  pub all : (p : ℕ) → is_base (paint_at coats p) ≡ true → Contains gathered p
+
+-- The painting may stop: all that are queued are stale, and stand below the cap and no higher than those that are painted
+-- and not queued.
+pub record IsDone (history : List Node) (coats : List Coat) : Type 0 where
+  pub level : ℕ
+  pub above : (p : ℕ) → is_queued coats p ≡ false → is_painted (paint_at coats p) ≡ true → level ≤ generation_at history p
+  pub queued : (p : ℕ) → is_queued coats p ≡ true → is_stale (paint_at coats p) ≡ true
+  pub below : (p : ℕ) → is_queued coats p ≡ true → generation_at history p ≤ level
+  pub uncapped : (p : ℕ) → is_queued coats p ≡ true → generation_at history p < GENERATION_NUMBER_MAX
+
+-- e is a commit that the painting starts from, or a parent of one that was visited, to which one side alone leads as far as is
+-- known
+abbrev pub IsKnownEdge : List Node → ℕ → List ℕ → List Coat → ℕ → Type 0
+IsKnownEdge history start starts coats e =
+    IsStart start starts e
+    ⊎ ((c : ℕ) × (is_queued coats c ≡ false) × (is_on_one_side (paint_at coats c) ≡ true) × IsParent history c e)
+
+-- What was visited, where no commit that the painting starts from is at the cap.
+pub record IsVisiting (history : List Node) (start : ℕ) (starts : List ℕ) (coats : List Coat) (visits : ℕ) : Type 0 where
+  pub painted : (p : ℕ) → is_queued coats p ≡ true → is_painted (paint_at coats p) ≡ true
+  pub edge : (p : ℕ) → is_painted (paint_at coats p) ≡ true → is_stale (paint_at coats p) ≡ false
+      → IsKnownEdge history start starts coats p
+  pub above : (p : ℕ) → is_queued coats p ≡ false → is_painted (paint_at coats p) ≡ true
+      → (e : ℕ) × IsKnownEdge history start starts coats e × (generation_at history e ≤ generation_at history p)
+  pub count : visits ≡ count_by is_visited coats
+
+-- what is left to do: a bound on how often a commit is taken from the queue
+abbrev pub work : List Coat → List (ℕ × ℕ) → ℕ
+work coats queue = 2 * sum_by (λ coat. unknown coat.paint) coats + length queue
+
+-- The state of a painting.
+pub record IsPainting (s : Painting) : Type 0 where
+  pub sound : Sound s.graph.now
+  pub commits : total s.graph.now ≡ length (history_of s.graph.now)
+  pub few : length s.coats.all.items < 2 ^ 31
+  pub counted : IsCounted s.coats
+  pub paint : IsPaint (history_of s.graph.now) s.first.0 (numbers_of s.others.now) s.coats.all.items
+  pub waiting : IsWaiting (history_of s.graph.now) s.coats.all.items (heap_items s.queue)
+  pub gathered : AreGathered s.coats.all.items s.gathered.items
+  pub visiting : AreBelowCap (history_of s.graph.now) s.first.0 (numbers_of s.others.now)
+      → IsVisiting (history_of s.graph.now) s.first.0 (numbers_of s.others.now) s.coats.all.items s.visits
+
+-- What the paint says when all is done.
+pub record IsPainted (history : List Node) (first : ℕ) (others : List ℕ) (coats : List Coat) : Type 0 where
+  pub coats_len : length coats ≡ length history
+  pub base : (p : ℕ) → (is_base (paint_at coats p) ≡ true) ↔ IsMergeBase history first others p
+  pub ahead : (p : ℕ) → (is_ahead (paint_at coats p) ≡ true) ↔ IsAhead history first others p
+  pub behind : (p : ℕ) → (is_behind (paint_at coats p) ≡ true) ↔ IsBehind history first others p
+
+-- These are the commits that are merge bases as far as is known, each once, in the order of their positions.
+pub record AreBases (coats : List Coat) (bases : List ℕ) : Type 0 where
+  pub ascending : IsStrictlyIncreasing bases
+  pub those : (p : ℕ) → Contains bases p ↔ (is_base (paint_at coats p) ≡ true)

@@ -1,0 +1,306 @@
+//! To which commits of a graph a commit and some others lead, as paint that commits pass on to
+//! their parents.
+
+ghost use Rattle.std.specs.Prelude.{◌+◌, true, false, cond};
+ghost use Rattle.std.specs.Prelude.{◌≡◌, ◌<◌, ◌≤◌, ◌++◌, ◌∷◌, if◌then◌else◌, ℕ, [], All, length};
+ghost use Rattle.std.specs.Prelude.{count_by, OnOk, IfOk};
+ghost use Rattle.std.specs.BinaryHeap.{heap_items};
+ghost use Rattle.graph_walks.specs.History.{generation_at};
+ghost use Rattle.graph_format.specs.StoredHistory.{history_of};
+ghost use Rattle.gix_commitgraph.specs.Graph.{total};
+ghost use Rattle.graph_history.specs.Answer.{numbers_of};
+ghost use Rattle.graph_history.specs.Bases.{AreBelowCap, AreVisits};
+ghost use Rattle.graph_history.specs.Painting.{IsKnownEdge, IsVisiting};
+ghost use Rattle.graph_history.specs.Paint.{is_painted, is_stale, is_queued};
+ghost use Rattle.graph_history.specs.Paint.{is_ahead, is_behind, is_base, bare, coat_at, paint_at};
+ghost use Rattle.graph_history.specs.Paint.{IsSo, IsCounted, IsPaint};
+ghost use Rattle.graph_history.specs.Painting.{IsSpread, IsSpreadBut, IsLevel, Joins, Adds};
+ghost use Rattle.graph_history.specs.Painting.{AreGathered, IsDone, IsPainting, IsPainted};
+ghost use Rattle.graph_history.specs.Painting.{AreBases, work};
+
+use crate::bases::Divergence;
+use crate::checked::Checked;
+use crate::paint::{Coat, Coats, Paint};
+use gix_commitgraph::law::walk::{
+    generations_fall_along_walks, generations_never_rise_along_walks,
+    the_history_of_a_graph_is_that_of_its_layers,
+};
+use gix_commitgraph::{GENERATION_NUMBER_MAX, Position};
+use std::alloc::{AllocError, Global};
+use std::collections::BinaryHeap;
+
+/// The painting of a graph from one of its commits and some others.
+#[derive(Drop)]
+pub(crate) struct Painting<'p, 'g> {
+    graph: &'p Checked<'g>,
+    first: Position,
+    others: &'p [Position],
+    coats: Coats,
+    /// The commits whose parents have not heard all that is known of them: of each its generation
+    /// number and its position.
+    queue: BinaryHeap<(u32, u32)>,
+    /// The positions of the commits that came to be merge bases as far as was known, and may still
+    /// be.
+    gathered: Vec<u32>,
+    /// How many commits were taken from the queue.
+    visits: u64,
+}
+
+impl<'p, 'g> Painting<'p, 'g> {
+    /// A painting that knows nothing.
+    fn new(
+        alloc: Global,
+        graph: &'p Checked<'g>,
+        first: Position,
+        others: &'p [Position],
+    ) -> Result<Painting<'p, 'g>, AllocError>
+        ensures graph { IfOk result (λ s. s.graph.now ≡ graph.now) }
+        ensures first { IfOk result (λ s. s.first ≡ first) }
+        ensures others { IfOk result (λ s. s.others.now ≡ others.now) }
+        ensures painting { IfOk result IsPainting }
+        ensures bare { IfOk result (λ s. (p : ℕ) → coat_at s.coats.all.items p ≡ bare) }
+        ensures empty { IfOk result (λ s. heap_items s.queue ≡ []) }
+    {
+        the_history_of_a_graph_is_that_of_its_layers();
+        let coats = Coats::new(alloc, graph.num_commits())?;
+        Ok(Painting {
+            graph,
+            first,
+            others,
+            coats,
+            queue: BinaryHeap::new(alloc),
+            gathered: Vec::new(alloc),
+            visits: 0,
+        })
+    }
+
+    /// Puts a commit into the queue, where it is not there.
+    fn enqueue(&mut self, commit: Position) -> Result<(), AllocError>
+        requires painting { IsPainting self.old }
+        requires within { commit.0 < total self.old.graph.now }
+        ensures graph { self.new.graph.now ≡ self.old.graph.now }
+        ensures first { self.new.first ≡ self.old.first }
+        ensures others { self.new.others.now ≡ self.old.others.now }
+        ensures coats { self.new.coats ≡ self.old.coats }
+        ensures gathered { self.new.gathered.items ≡ self.old.gathered.items }
+        ensures visits { self.new.visits ≡ self.old.visits }
+        ensures len { OnOk result (length (heap_items self.new.queue)
+            ≡ length (heap_items self.old.queue)
+            + cond (is_queued self.old.coats.all.items commit.0) 0 1) }
+        ensures joins { OnOk result (Joins (history_of self.old.graph.now) commit.0
+            (heap_items self.old.queue) (heap_items self.new.queue)) }
+    {
+        if !self.coats.at(commit).queued {
+            let generation = self.graph.generation(commit);
+            self.queue.push((generation, commit.0))?;
+        }
+        Ok(())
+    }
+
+    /// Gathers a commit with this paint, where that is the paint of a merge base.
+    fn gather(&mut self, commit: Position, paint: Paint) -> Result<(), AllocError>
+        ensures graph { self.new.graph.now ≡ self.old.graph.now }
+        ensures first { self.new.first ≡ self.old.first }
+        ensures others { self.new.others.now ≡ self.old.others.now }
+        ensures coats { self.new.coats ≡ self.old.coats }
+        ensures queue { heap_items self.new.queue ≡ heap_items self.old.queue }
+        ensures visits { self.new.visits ≡ self.old.visits }
+        ensures gathered { OnOk result (self.new.gathered.items
+            ≡ (if is_base paint then self.old.gathered.items ++ commit.0 ∷ []
+            else self.old.gathered.items)) }
+    {
+        if paint.is_base() {
+            self.gathered.push(commit.0)?;
+        }
+        Ok(())
+    }
+
+    /// Adds paint to a commit, and puts it into the queue where that says more than was known.
+    fn add(&mut self, commit: Position, paint: Paint) -> Result<(), AllocError>
+        requires painting { IsPainting self.old }
+        requires within { commit.0 < total self.old.graph.now }
+        requires so { IsSo (history_of self.old.graph.now) self.old.first.0
+            (numbers_of self.old.others.now) commit.0 paint }
+        requires waits { AreBelowCap (history_of self.old.graph.now)
+            self.old.first.0 (numbers_of self.old.others.now)
+            → is_painted (paint_at self.old.coats.all.items commit.0) ≡ true
+            → is_queued self.old.coats.all.items commit.0 ≡ true }
+        requires edge { AreBelowCap (history_of self.old.graph.now)
+            self.old.first.0 (numbers_of self.old.others.now)
+            → is_stale paint ≡ false → IsKnownEdge (history_of self.old.graph.now)
+            self.old.first.0 (numbers_of self.old.others.now) self.old.coats.all.items commit.0 }
+        ensures graph { self.new.graph.now ≡ self.old.graph.now }
+        ensures first { self.new.first ≡ self.old.first }
+        ensures others { self.new.others.now ≡ self.old.others.now }
+        ensures painting { OnOk result (IsPainting self.new) }
+        ensures adds { OnOk result (Adds commit.0 paint self.old.coats.all.items
+            self.new.coats.all.items) }
+        ensures level { OnOk result ((level : ℕ)
+            → generation_at (history_of self.old.graph.now) commit.0 ≤ level
+            → IsLevel (history_of self.old.graph.now) self.old.coats.all.items
+            (heap_items self.old.queue) level
+            → IsLevel (history_of self.old.graph.now) self.new.coats.all.items
+            (heap_items self.new.queue) level) }
+        ensures work { OnOk result (work self.new.coats.all.items (heap_items self.new.queue)
+            ≤ work self.old.coats.all.items (heap_items self.old.queue)) }
+    {
+        let known = self.coats.at(commit).paint;
+        if known.covers(paint) {
+            return Ok(());
+        }
+        let paint = known.join(paint);
+        self.enqueue(commit)?;
+        self.gather(commit, paint)?;
+        let queued = true;
+        self.coats.set(commit, Coat { paint, queued });
+        Ok(())
+    }
+
+    /// Passes on what is known of a commit that was taken from the queue.
+    fn visit(&mut self, commit: Position, paint: Paint) -> Result<(), AllocError>
+        requires painting { IsPainting self.old }
+        requires within { commit.0 < total self.old.graph.now }
+        requires paint { paint_at self.old.coats.all.items commit.0 ≡ paint }
+        requires taken { is_queued self.old.coats.all.items commit.0 ≡ false }
+        requires uncapped { AreBelowCap (history_of self.old.graph.now)
+            self.old.first.0 (numbers_of self.old.others.now)
+            → generation_at (history_of self.old.graph.now) commit.0 < GENERATION_NUMBER_MAX }
+        requires painted { AreBelowCap (history_of self.old.graph.now)
+            self.old.first.0 (numbers_of self.old.others.now)
+            → is_painted paint ≡ true }
+        requires spread { IsSpreadBut (history_of self.old.graph.now) self.old.first.0
+            (numbers_of self.old.others.now) self.old.coats.all.items commit.0 }
+        requires level { IsLevel (history_of self.old.graph.now) self.old.coats.all.items
+            (heap_items self.old.queue)
+            (generation_at (history_of self.old.graph.now) commit.0) }
+        ensures graph { self.new.graph.now ≡ self.old.graph.now }
+        ensures first { self.new.first ≡ self.old.first }
+        ensures others { self.new.others.now ≡ self.old.others.now }
+        ensures painting { OnOk result (IsPainting self.new) }
+        ensures spread { OnOk result (IsSpread (history_of self.old.graph.now) self.old.first.0
+            (numbers_of self.old.others.now) self.new.coats.all.items) }
+        ensures level { OnOk result (IsLevel (history_of self.old.graph.now)
+            self.new.coats.all.items (heap_items self.new.queue)
+            (generation_at (history_of self.old.graph.now) commit.0)) }
+        ensures work { OnOk result (work self.new.coats.all.items (heap_items self.new.queue)
+            ≤ work self.old.coats.all.items (heap_items self.old.queue)) }
+    {
+        generations_never_rise_along_walks();
+        generations_fall_along_walks();
+        let passed = paint.passed();
+        for parent in self.graph.parents(commit) {
+            self.add(parent, passed)?;
+        }
+        Ok(())
+    }
+
+    /// Visits commits, those with the highest generation numbers first, until none that is queued
+    /// can lead to a base.
+    fn run(&mut self) -> Result<(), AllocError>
+        requires painting { IsPainting self.old }
+        requires spread { IsSpread (history_of self.old.graph.now) self.old.first.0
+            (numbers_of self.old.others.now) self.old.coats.all.items }
+        requires level { (level : ℕ) × IsLevel (history_of self.old.graph.now)
+            self.old.coats.all.items (heap_items self.old.queue) level }
+        ensures graph { self.new.graph.now ≡ self.old.graph.now }
+        ensures first { self.new.first ≡ self.old.first }
+        ensures others { self.new.others.now ≡ self.old.others.now }
+        ensures counted { OnOk result (IsCounted self.new.coats) }
+        ensures gathered { OnOk result (AreGathered self.new.coats.all.items
+            self.new.gathered.items) }
+        ensures paint { OnOk result (IsPaint (history_of self.old.graph.now) self.old.first.0
+            (numbers_of self.old.others.now) self.new.coats.all.items) }
+        ensures spread { OnOk result (IsSpread (history_of self.old.graph.now) self.old.first.0
+            (numbers_of self.old.others.now) self.new.coats.all.items) }
+        ensures visiting { OnOk result (AreBelowCap (history_of self.old.graph.now)
+            self.old.first.0 (numbers_of self.old.others.now)
+            → IsVisiting (history_of self.old.graph.now) self.old.first.0
+            (numbers_of self.old.others.now) self.new.coats.all.items self.new.visits) }
+        ensures done { OnOk result (IsDone (history_of self.old.graph.now)
+            self.new.coats.all.items) }
+    {
+        generations_never_rise_along_walks();
+        while let Some(next) = self.queue.pop() {
+            let is_below_cap = next.0 < GENERATION_NUMBER_MAX;
+            if self.coats.fresh == 0 && is_below_cap {
+                return Ok(());
+            }
+            let commit = Position(next.1);
+            let paint = self.coats.at(commit).paint;
+            let queued = false;
+            self.coats.set(commit, Coat { paint, queued });
+            self.visits = self.visits.saturating_add(1);
+            self.visit(commit, paint)?;
+        }
+        Ok(())
+    }
+
+    /// How many commits are ahead and behind, as far as is known.
+    pub(crate) fn divergence(&self) -> Divergence
+        requires { IsCounted self.now.coats }
+        ensures ahead { result.ahead
+            ≡ count_by (λ coat. is_ahead coat.paint) self.now.coats.all.items }
+        ensures behind { result.behind
+            ≡ count_by (λ coat. is_behind coat.paint) self.now.coats.all.items }
+    {
+        Divergence {
+            ahead: self.coats.ahead,
+            behind: self.coats.behind,
+        }
+    }
+
+    /// How many commits were taken from the queue.
+    pub(crate) fn visits(&self) -> u64
+        ensures { result ≡ self.now.visits }
+    {
+        self.visits
+    }
+
+    /// The commits that are merge bases as far as is known, in the order of their positions.
+    pub(crate) fn bases(&mut self, alloc: Global) -> Result<Vec<Position>, AllocError>
+        requires { AreGathered self.old.coats.all.items self.old.gathered.items }
+        ensures coats { self.new.coats ≡ self.old.coats }
+        ensures visits { self.new.visits ≡ self.old.visits }
+        ensures bases { IfOk result (λ bases. AreBases self.old.coats.all.items
+            (numbers_of bases.items)) }
+    {
+        self.gathered.sort_unstable();
+        let mut bases = Vec::new(alloc);
+        for number in self.gathered.iter() {
+            let commit = Position(*number);
+            if self.coats.at(commit).paint.is_base() {
+                bases.push(commit)?;
+            }
+        }
+        Ok(bases)
+    }
+}
+
+/// Paints a graph from a commit and some others.
+pub(crate) fn paint_from<'p, 'g>(
+    alloc: Global,
+    graph: &'p Checked<'g>,
+    first: Position,
+    others: &'p [Position],
+) -> Result<Painting<'p, 'g>, AllocError>
+    requires first { first.0 < total graph.now }
+    requires others { All (λ other. other.0 < total graph.now) others.now }
+    ensures commits { IfOk result (λ _. total graph.now ≡ length (history_of graph.now)) }
+    ensures counted { IfOk result (λ s. IsCounted s.coats) }
+    ensures gathered { IfOk result (λ s. AreGathered s.coats.all.items s.gathered.items) }
+    ensures painted { IfOk result (λ s. IsPainted (history_of graph.now) first.0
+        (numbers_of others.now) s.coats.all.items) }
+    ensures visits { IfOk result (λ s. AreBelowCap (history_of graph.now) first.0
+        (numbers_of others.now) → AreVisits (history_of graph.now) first.0
+        (numbers_of others.now) s.visits) }
+{
+    generations_never_rise_along_walks();
+    generations_fall_along_walks();
+    let mut painting = Painting::new(alloc, graph, first, others)?;
+    painting.add(first, Paint::First)?;
+    for other in others {
+        painting.add(*other, Paint::Others)?;
+    }
+    painting.run()?;
+    Ok(painting)
+}
