@@ -28,4 +28,5 @@ pub mod LayerStartLemmas
 pub mod DuplicateLemmas
 pub mod DistinctLemmas
 pub mod DuplicateNameLemmas
+pub mod ElementLemmas
 pub mod IdPlaceLemmas
