@@ -1,7 +1,7 @@
 -- Ids with their positions: gathered, sorted, and gone over.
-use Rattle.std.proofs.Common.{◌≡◌, ◌⊎◌, inl, inr, ℕ, zero, suc, ◌+◌, ◌-◌, ◌<◌, ◌≤◌, Bool, true, false, List, [], ◌∷◌, ◌++◌}
-use Rattle.std.proofs.Common.{length, get_or, drop, slice_get, Option, Some, option_map, refl, sym, ap}
-use Rattle.std.proofs.Common.{◌∙◌, add-one, arith, ⊎_elim}
+use Rattle.std.proofs.Common.{◌≡◌, inl, inr, ℕ, ◌+◌, ◌-◌, ◌<◌, ◌≤◌, Bool, true, false, List, [], ◌∷◌, ◌++◌}
+use Rattle.std.proofs.Common.{length, get_or, slice_get, Option, Some, option_map, refl, sym, ap}
+use Rattle.std.proofs.Common.{◌∙◌, arith, ⊎_elim}
 use Rattle.std.specs.List.Sorted.{IsPermutation, IsSortedBy}
 use Rattle.std.specs.Ordering.{nat_cmp, ordering_reverse, ordering_then, is_lt, is_eq}
 use Rattle.std.specs.Cmp.Lexicographic.{slice_cmp}
@@ -20,32 +20,8 @@ use Rattle.gix_commitgraph.specs.GraphRemaining.{id_of}
 use Rattle.gix_commitgraph.specs.Distinct.{AreDistinctBelow}
 use Rattle.gix_commitgraph.specs.IdPlaces.{AreIdPlaces, ComesBeforeRepeats}
 use Rattle.gix_commitgraph.specs.declared.verify.distinct.IdPlace.{IdPlace}
+use Rattle.gix_commitgraph.proofs.ElementLemmas.{pushed, some-place}
 use Rattle.gix_commitgraph.proofs.PositionLemmas.{ids-of_commits, id_of-is}
-
--- what stands at a place of a list with one element more
-pub pushed : {X : Type 0} (xs : List X) (y z : X) (k : ℕ) → slice_get (xs ++ y ∷ []) k ≡ Some z
-    → (slice_get xs k ≡ Some z) ⊎ ((k ≡ length xs) × (y ≡ z))
-pushed [] y z zero here = inr (refl, same_Some y z here)
-pushed [] y z (suc k) here = cc
-pushed (x ∷ xs) y z zero here = inl here
-pushed (x ∷ xs) y z (suc k) here =
-    elim (pushed xs y z k here) [
-      | inl before ↦ inl before
-      | inr last ↦ inr (ap suc last.0, last.1)
-    ]
-
-left-suc : {X : Type 0} (xs left : List X) (k : ℕ) (x : X) → drop k xs ≡ x ∷ left
-    → (slice_get xs k ≡ Some x) × (drop (suc k) xs ≡ left)
-left-suc [] left zero x h = cc
-left-suc [] left (suc k) x h = cc
-left-suc (y ∷ ys) left zero x h = (cc, cc)
-left-suc (y ∷ ys) left (suc k) x h = left-suc ys left k x h
-
--- what is left from a place on begins with what stands there
-pub left-first : {X : Type 0} (xs left : List X) (k : ℕ) (x : X) → drop k xs ≡ x ∷ left
-    → (slice_get xs k ≡ Some x) × (drop (k + 1) xs ≡ left)
-left-first xs left k x h =
-    let is = left-suc xs left k x h in (is.0, ap (λ (n : ℕ). drop n xs) (add-one k) ∙ is.1)
 
 -- the id of the commit at a position
 pub id-at_commit : (layers : List Layer) (p i : ℕ) (layer : Layer) (id : List ℕ)
@@ -153,11 +129,6 @@ record Sorted (layers : List Layer) (places : List IdPlace) (p : ℕ) (id : List
   there : slice_get places index ≡ Some place
   position : place.pos.0 ≡ p
   holds : oid_bytes place.id ≡ id
-
-some-place : {X : Type 0} (xs : List X) (k : ℕ) → k < length xs → (x : X) × (slice_get xs k ≡ Some x)
-some-place [] k h = absurd (omega (arith, h))
-some-place (x ∷ xs) zero h = (x, refl)
-some-place (x ∷ xs) (suc k) h = some-place xs k (omega (arith, h))
 
 sorted-place : (layers : List Layer) (places sorted : List IdPlace) (p : ℕ) (id : List ℕ) → AreIdPlaces layers places
     → IsPermutation places sorted → p < length places → slice_get (graph_ids layers) p ≡ Some id → Sorted layers sorted p id

@@ -30,5 +30,6 @@ pub mod DistinctLemmas
 pub mod DuplicateNameLemmas
 pub mod OutcomeLemmas
 pub mod RightBelowLemmas
+pub mod ElementLemmas
 pub mod IdPlaceLemmas
 pub mod IdWalkLemmas
