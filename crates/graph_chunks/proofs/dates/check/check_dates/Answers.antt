@@ -30,7 +30,8 @@ overflow_add-before c =
     let fits =
     layer-fits c.args.graph.now c.layers.result.now c.loop-layer.layer c.loop-layer.before c.index-layers-layer.result
     c.num_commits-commits.ensures.graph c.layers.ensures.same (omega (arith, c.loop-layer-test.true, all, same))
-    (c.loop-layer.invariant.counted ∙ ap (λ (layers : List Layer). start layers c.loop-layer.layer) (sym c.layers.ensures.same)) in
+    (c.loop-layer.invariant.counted
+    ∙ ap (λ (layers : List Layer). start layers c.loop-layer.layer) (sym c.layers.ensures.same)) in
     omega (arith, fits, c.num_commits-before.ensures.ids, ap (λ (l : Layer). length l.ids) c.index-layers-layer.is)
 
 pub loop-layer-preserved : goal.loop-layer-preserved
