@@ -1,6 +1,6 @@
 -- From ids one after another to all of them.
-use Rattle.std.proofs.Common.{◌≡◌, ℕ, zero, suc, ◌+◌, ◌<◌, List, [], ◌∷◌, ◌++◌, All, Some, None, length, map, take, get_or, slice_get, inl, inr}
-use Rattle.std.proofs.Common.{refl, ap, sym, subst, ◌∙◌, arith, option_map, string_bytes, Option}
+use Rattle.std.proofs.Common.{◌≡◌, ℕ, zero, suc, ◌+◌, ◌<◌, List, [], ◌∷◌, ◌++◌, All, Option, Some, None, length, map, take}
+use Rattle.std.proofs.Common.{get_or, slice_get, option_map, string_bytes, inl, inr, refl, ap, sym, subst, ◌∙◌, arith}
 use Rattle.std.specs.Prelude.{Result, Ok, Err, IfOk}
 use Rattle.std.specs.Global.{Global}
 use Rattle.std.specs.List.{AllZip}
@@ -52,7 +52,8 @@ zip_more {A} {B} R xs ys i x y all at here =
 pub text_at : (texts : List (String Global)) (i : ℕ) (text : String Global) → i < length texts → text ≡ get_or texts i text
     → slice_get (map string_bytes texts) i ≡ Some (string_bytes text)
 text_at texts i text within read =
-    slice_get-map string_bytes texts i ∙ ap (option_map string_bytes) (slice_get_read texts (length texts) i text refl within read)
+    slice_get-map string_bytes texts i
+    ∙ ap (option_map string_bytes) (slice_get_read texts (length texts) i text refl within read)
 
 module _ (layers : List Layer) where
   -- one more id, and the position where it was found

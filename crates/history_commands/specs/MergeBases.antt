@@ -29,8 +29,8 @@ use Rattle.history_commands.specs.declared.bases.Compared.TheVariants.{Unknown, 
 use Rattle.history_commands.specs.declared.bases.NotFound.{NotFound}
 use Rattle.history_commands.specs.declared.bases.NotFound.TheVariants as missing
 
--- What a commit and some others of a history have in common, and how far they have come apart: what `git merge-base --all` names,
--- and `git rev-list --left-right --count` counts for one other.
+-- What a commit and some others of a history have in common, and how far they have come apart: what `git merge-base --all`
+-- names, and `git rev-list --left-right --count` counts for one other.
 pub record IsComparison (history : List Node) (first : ℕ) (others : List ℕ) (comparison : Comparison) : Type 0 where
   pub bases : AreMergeBases history first others (numbers_of comparison.bases.positions.items)
   pub ahead : IsNumberOf comparison.divergence.ahead (IsAhead history first others)
@@ -47,8 +47,8 @@ IsFirstUnknown layers ids place =
     All (λ id. (p : ℕ) × IsAt layers id p) (take place ids)
     × ((id : List ℕ) × (slice_get ids place ≡ Some id) × (scan (graph_ids layers) id ≡ None))
 
--- what may be found of ids in a graph: the first of them that is not there, by its number, which is 1 for the first id; else how
--- the commit with the first id compares with those with the others
+-- what may be found of ids in a graph: the first of them that is not there, by its number, which is 1 for the first id; else
+-- how the commit with the first id compares with those with the others
 abbrev pub MayFindOfAll : List Layer → List (List ℕ) → Compared → Type 0
 MayFindOfAll layers ids (Unknown number) =
     (place : ℕ) × IsFirstUnknown layers ids place × (number ≡ place + 1)
@@ -71,7 +71,8 @@ abbrev pub MayRefuseAll : List (List ℕ) → Type 0 → (Result (List Layer) Op
 MayRefuseAll texts IsLeftAlone MayOpen (Id error) = SpellNotAll texts error × IsLeftAlone
 MayRefuseAll texts IsLeftAlone MayOpen (Open error) = (ids : List (List ℕ)) × AllZip SpellsId texts ids × MayOpen (Err error)
 MayRefuseAll texts IsLeftAlone MayOpen (Check error) =
-    (ids : List (List ℕ)) × (layers : List Layer) × AllZip SpellsId texts ids × MayOpen (Ok layers) × MayRefuseGraph layers error
+    (ids : List (List ℕ)) × (layers : List Layer) × AllZip SpellsId texts ids × MayOpen (Ok layers)
+    × MayRefuseGraph layers error
 MayRefuseAll texts IsLeftAlone MayOpen Walk =
     IsLeftAlone ⊎ ((ids : List (List ℕ)) × (layers : List Layer) × MayBeAskedOfAll texts MayOpen layers ids)
 MayRefuseAll texts IsLeftAlone MayOpen (Read error) = ⊥
@@ -130,7 +131,7 @@ abbrev pub AreBasesWithin : List Layer → Compared → Type 0
 AreBasesWithin layers (Unknown number) = ⊤
 AreBasesWithin layers (Known comparison) = All (λ base. base.0 < total layers) comparison.bases.positions.items
 
--- where ids are not all found: this is so of the place of the one that is not
+-- For private contracts, where ids are not all found: this is so of the place of the one that is not
 abbrev pub OnUnknown : (ℕ → Type 0) → NotFound → Type 0
 OnUnknown IsSo (missing.Unknown place) = IsSo place
 OnUnknown IsSo missing.OutOfMemory = ⊤

@@ -1,7 +1,7 @@
 //! The command `merge-base`, and the lines that it writes. Writing them allocates nothing.
 
-ghost use Rattle.std.specs.Prelude.{◌≡◌, ◌⊎◌, ◌+◌, ◌<◌, [], ◌∷◌, All, IfErr, IfOk, OnOk, Ok, map, length};
-ghost use Rattle.std.specs.Prelude.{MatchResult, string_bytes};
+ghost use Rattle.std.specs.Prelude.{◌≡◌, ◌⊎◌, ◌<◌, [], ◌∷◌, All, IfErr, IfOk, OnOk, Ok};
+ghost use Rattle.std.specs.Prelude.{length, map, string_bytes};
 ghost use Rattle.std.specs.Io.KnownBytes.{Appends};
 ghost use Rattle.std.specs.List.{AllZip};
 ghost use Rattle.gix_hash_core.specs.Hexadecimal.{SpellsId};
@@ -12,7 +12,8 @@ ghost use Rattle.graph_commands.specs.Answer.{WritesAnswer};
 ghost use Rattle.graph_commands.specs.Block.{with_block};
 ghost use Rattle.graph_commands.specs.Opening.{MayOpen};
 ghost use Rattle.graph_commands.specs.declared.refusal.Refusal.TheVariants.{Id, Walk};
-ghost use Rattle.history_commands.specs.MergeBases.{AreBasesWithin, IsAt, IsFirstUnknown, OnUnknown};
+ghost use Rattle.history_commands.specs.MergeBases.{AreBasesWithin, IsAt, IsFirstUnknown};
+ghost use Rattle.history_commands.specs.MergeBases.{OnUnknown};
 ghost use Rattle.history_commands.specs.MergeBases.{MayBeAskedOfAll, MayCompare, MayFindOfAll};
 ghost use Rattle.history_commands.specs.MergeBases.{MayRefuseAll};
 ghost use Rattle.history_commands.specs.MergeBases.{SpellNotAll, bases_text, base_line};

@@ -207,8 +207,8 @@ fn id(kind: Kind, byte: u8) -> ObjectId {
     }
 }
 
-/// A folder with the files `file`, `criss-cross`, `wrong`, `sha256` of two commits with SHA-256 ids, and `bytes`
-/// that are no layer, and with the folder `chain`.
+/// A folder with the files `file`, `criss-cross`, `wrong`, `sha256` of two commits with SHA-256
+/// ids, and `bytes` that are no layer, and with the folder `chain`.
 pub(super) fn graphs(alloc: Global) -> Result<Memory, AllocError> {
     let mut memory = Memory::new(alloc);
     let rows = [
