@@ -67,7 +67,7 @@ def check_pairs(programs, tally, repository, name, walks):
     pairs = list(itertools.product(walks.words, repeat=2))
     runs = [(lambda pair=pair: answer(pair), lambda answers, pair=pair: complaint(pair, answers)) for pair in pairs]
     check_runs(tally, "%s, ancestor, is-ancestor and walk, each pair of %s" % (repository.object_format, name), runs)
-    base_checks.check_all(histories, tally, repository, name, walks.place)
+    base_checks.check_all(histories, tally, repository, name, walks)
 
 
 def check_id_in_two_layers(programs, tally, repository):

@@ -1,4 +1,8 @@
-"""Checks `merge-base`: pairs of commits and larger sets, beside `git merge-base --all` and `git rev-list --left-right --count`."""
+"""Checks `merge-base`: pairs of commits and larger sets, beside `git merge-base --all` and the parents that Git lists.
+
+Where no commit is older than its parents, also beside `git rev-list --left-right --count`. Where some are, Git may count
+commits to which an excluded one leads, since its search goes by times.
+"""
 
 import random
 import re
@@ -11,16 +15,23 @@ UNKNOWN = "1" * 40
 ANSWER = re.compile(r"((?:base \d+ [0-9a-f]+\n)+|none\n)ahead (\d+) behind (\d+)\nvisits (\d+)\n")
 
 
-def check_all(histories, tally, repository, name, place):
-    """What is said of some commits of a graph, whose positions are given by id; and of ids that are not in it."""
-    path, commits, choice = repository.info_path(), sorted(place), random.Random(25)
+def check_all(histories, tally, repository, name, walks):
+    """What is said of some commits of a graph; and of ids that are not in it."""
+    path, place, choice = repository.info_path(), walks.place, random.Random(25)
+    commits = sorted(place)
+    in_order = all(walks.words[parent].time <= words.time for words in walks.words.values() for parent in words.parents)
     sets = [choice.choices(commits, k=size) for size, count in ((2, 150), (4, 50)) for _ in range(count)]
 
     def answer(ids):
-        return repository.merge_bases(*ids), repository.divergence(*ids), histories.merge_base(path, *ids)
+        listed = divergence(walks, *ids)
+        counted = repository.divergence(*ids) if in_order else listed
+        return repository.merge_bases(*ids), listed, counted, histories.merge_base(path, *ids)
 
     def complaint(answers):
-        return complaint_of(*answers, place)
+        bases, listed, counted, told = answers
+        if listed != counted:
+            return "Git counts %s, and its own parents say %s" % (counted, listed)
+        return complaint_of(bases, counted, told, place)
 
     runs = [(lambda ids=ids: answer(ids), complaint) for ids in sets]
     check_runs(tally, "%s, merge-base, sets of commits of %s" % (repository.object_format, name), runs)
@@ -28,6 +39,12 @@ def check_all(histories, tally, repository, name, place):
         ids = [UNKNOWN if place + 1 == number else commits[place] for place in range(4)] + [UNKNOWN]
         unknown = judge.exactly(1, "unknown %d\n" % number, "", histories.merge_base(path, *ids))
         tally.check("%s, merge-base, id %d of %s is not there" % (repository.object_format, number, name), unknown)
+
+
+def divergence(walks, first, *others):
+    """How many commits one commit leads to and none of the others does, and the other way round."""
+    ahead, behind = set(walks.steps(first)), set().union(*map(walks.steps, others))
+    return len(ahead - behind), len(behind - ahead)
 
 
 def complaint_of(bases, counts, answer, place):
