@@ -45,14 +45,15 @@ fn reads_two_ids_or_more_of_a_merge_base(rt: HostRuntime) -> Result<(), Fail> {
     let rows: [&[&str]; 2] = [&["c"], &["c", "d", "merge-base"]];
     for ids in rows {
         let mut line = command_line(alloc, &["merge-base", "a", "b"])?;
-        let others = command_line(alloc, ids)?;
-        for id in &others[1..] {
-            line.push(id.clone()?)?;
+        let mut others = Vec::new(alloc);
+        for id in ids {
+            line.push(String::from_str(alloc, id)?)?;
+            others.push(String::from_str(alloc, id)?)?;
         }
         let want = Command::MergeBase {
             path: "a",
             first: "b",
-            others: &others[1..],
+            others: &others,
         };
         assert_eq!(rt; Command::from_words(&line), Some(want));
     }
