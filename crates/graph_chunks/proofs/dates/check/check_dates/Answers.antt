@@ -21,24 +21,25 @@ loop-layer-init c = record {
 
 pub check_layer-requires-clause-layer : goal.check_layer-requires-clause-layer
 check_layer-requires-clause-layer c =
-    omega (arith, c.loop-layer-test.true, ap (λ (layers : List Layer). length layers) c.layers-layer-end.ensures)
+    omega (arith, c.loop-layer-test.true, ap (λ (layers : List Layer). length layers) c.layers-layer-end.ensures.same)
 
 pub overflow_add-before : goal.overflow_add-before
 overflow_add-before c =
-    let all = ap (λ (layers : List Layer). length layers) c.layers-layer-end.ensures in
-    let same = ap (λ (layers : List Layer). length layers) c.layers.ensures in
+    let all = ap (λ (layers : List Layer). length layers) c.layers-layer-end.ensures.same in
+    let same = ap (λ (layers : List Layer). length layers) c.layers.ensures.same in
     let fits =
     layer-fits c.args.graph.now c.layers.result.now c.loop-layer.layer c.loop-layer.before c.index-layers-layer.result
-    c.num_commits-commits.ensures.graph c.layers.ensures (omega (arith, c.loop-layer-test.true, all, same))
-    (c.loop-layer.invariant.counted ∙ ap (λ (layers : List Layer). start layers c.loop-layer.layer) (sym c.layers.ensures)) in
+    c.num_commits-commits.ensures.graph c.layers.ensures.same (omega (arith, c.loop-layer-test.true, all, same))
+    (c.loop-layer.invariant.counted
+    ∙ ap (λ (layers : List Layer). start layers c.loop-layer.layer) (sym c.layers.ensures.same)) in
     omega (arith, fits, c.num_commits-before.ensures.ids, ap (λ (l : Layer). length l.ids) c.index-layers-layer.is)
 
 pub loop-layer-preserved : goal.loop-layer-preserved
 loop-layer-preserved c =
-    let all = ap (λ (layers : List Layer). length layers) c.layers-layer-end.ensures in
+    let all = ap (λ (layers : List Layer). length layers) c.layers-layer-end.ensures.same in
     let end =
     stop-is c.args.graph.now c.layers.result.now c.loop-layer.layer c.loop-layer.before c.index-layers-layer.result
-    c.layers.ensures (omega (arith, c.loop-layer-test.true, all)) c.loop-layer.invariant.counted c.index-layers-layer.is in
+    c.layers.ensures.same (omega (arith, c.loop-layer-test.true, all)) c.loop-layer.invariant.counted c.index-layers-layer.is in
     record {
       counted = ap (λ (n : ℕ). c.loop-layer.before + n) c.num_commits-before.ensures.ids ∙ end;
       right = c.in_ok-check_layer.ensures.right;
@@ -47,7 +48,7 @@ loop-layer-preserved c =
 pub returns-clause-right : goal.returns-clause-right
 returns-clause-right c =
     let layers = c.args.graph.now in
-    let all = ap (λ (items : List Layer). length items) c.layers-layer-end.ensures in
+    let all = ap (λ (items : List Layer). length items) c.layers-layer-end.ensures.same in
     let fault = date_fault (history_of layers) (times_of layers) c.args.dates.now in
     dates-right layers c.args.dates.now c.num_commits-commits.ensures.graph.opened c.requires.dates
     (subst (λ (n : ℕ). first_below fault n ≡ None)

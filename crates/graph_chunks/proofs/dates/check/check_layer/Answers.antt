@@ -11,7 +11,7 @@ pub overflow_add-pos : goal.overflow_add-pos
 overflow_add-pos c =
     let at =
     is_place c.args.graph.now c.layers.result.now c.args.layer c.args.before c.loop-place.place c.index-layers-layer.result
-    c.layers.ensures c.requires.layer c.requires.before c.index-layers-layer.is
+    c.layers.ensures.same c.requires.layer c.requires.before c.index-layers-layer.is
     (omega (arith, c.loop-place-test.true, c.loop-place.auto.place-end, c.num_commits-place-end.ensures.ids)) in
     omega (arith, at.below, c.requires.graph.makes.few)
 
@@ -19,7 +19,7 @@ pub bounds-dates-pos : goal.bounds-dates-pos
 bounds-dates-pos c =
     let at =
     is_place c.args.graph.now c.layers.result.now c.args.layer c.args.before c.loop-place.place c.index-layers-layer.result
-    c.layers.ensures c.requires.layer c.requires.before c.index-layers-layer.is
+    c.layers.ensures.same c.requires.layer c.requires.before c.index-layers-layer.is
     (omega (arith, c.loop-place-test.true, c.loop-place.auto.place-end, c.num_commits-place-end.ensures.ids)) in
     omega (arith, at.below, c.requires.dates)
 
@@ -27,7 +27,7 @@ pub returns-then-dates-pos-clause-fault : goal.returns-then-dates-pos-clause-fau
 returns-then-dates-pos-clause-fault c _ =
     let at =
     is_place c.args.graph.now c.layers.result.now c.args.layer c.args.before c.loop-place.place c.index-layers-layer.result
-    c.layers.ensures c.requires.layer c.requires.before c.index-layers-layer.is
+    c.layers.ensures.same c.requires.layer c.requires.before c.index-layers-layer.is
     (omega (arith, c.loop-place-test.true, c.loop-place.auto.place-end, c.num_commits-place-end.ensures.ids)) in
     let expected =
     expected-of c.args.graph.now c.args.dates.now (c.args.before + c.loop-place.place) c.loop-place.place
@@ -42,7 +42,7 @@ pub loop-place-preserved : goal.loop-place-preserved
 loop-place-preserved c =
     let at =
     is_place c.args.graph.now c.layers.result.now c.args.layer c.args.before c.loop-place.place c.index-layers-layer.result
-    c.layers.ensures c.requires.layer c.requires.before c.index-layers-layer.is
+    c.layers.ensures.same c.requires.layer c.requires.before c.index-layers-layer.is
     (omega (arith, c.loop-place-test.true, c.loop-place.auto.place-end, c.num_commits-place-end.ensures.ids)) in
     let expected =
     expected-of c.args.graph.now c.args.dates.now (c.args.before + c.loop-place.place) c.loop-place.place
@@ -58,7 +58,7 @@ loop-place-preserved c =
 pub returns-clause-right : goal.returns-clause-right
 returns-clause-right c =
     let end =
-    stop-is c.args.graph.now c.layers.result.now c.args.layer c.args.before c.index-layers-layer.result c.layers.ensures
+    stop-is c.args.graph.now c.layers.result.now c.args.layer c.args.before c.index-layers-layer.result c.layers.ensures.same
     c.requires.layer c.requires.before c.index-layers-layer.is in
     let all : c.loop-place.place ≡ length c.index-layers-layer.result.ids =
     omega (arith, c.loop-place-test.false, c.loop-place.auto.place-end, c.num_commits-place-end.ensures.ids) in

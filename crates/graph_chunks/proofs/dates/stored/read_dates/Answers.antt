@@ -17,7 +17,7 @@ pub in_graph-requires-clause-fits : goal.in_graph-requires-clause-fits
 in_graph-requires-clause-fits c =
     let fits =
     layer-fits c.args.graph.now c.layers-layers.result.now c.loop-layer.layer c.loop-layer.before c.index-layers-layer.result
-    c.num_commits-commits.ensures.graph c.layers-layers.ensures
+    c.num_commits-commits.ensures.graph c.layers-layers.ensures.same
     (omega (arith, c.loop-layer-test.true, c.loop-layer.auto.layer-end))
     c.loop-layer.invariant.counted in
     omega (arith, fits, c.num_commits-commits-in-loop-layer.ensures.ids, ap (λ (l : Layer). length l.ids) c.index-layers-layer.is)
@@ -26,7 +26,7 @@ pub overflow_add-before : goal.overflow_add-before
 overflow_add-before c =
     let fits =
     layer-fits c.args.graph.now c.layers-layers.result.now c.loop-layer.layer c.loop-layer.before c.index-layers-layer.result
-    c.num_commits-commits.ensures.graph c.layers-layers.ensures
+    c.num_commits-commits.ensures.graph c.layers-layers.ensures.same
     (omega (arith, c.loop-layer-test.true, c.loop-layer.auto.layer-end))
     c.loop-layer.invariant.counted in
     omega (arith, fits, c.num_commits-commits-in-loop-layer.ensures.ids, ap (λ (l : Layer). length l.ids) c.index-layers-layer.is)
