@@ -6,6 +6,7 @@ ghost use Rattle.std.specs.Io.KnownBytes.{Appends};
 ghost use Rattle.std.specs.List.{AllZip};
 ghost use Rattle.gix_hash_core.specs.Hexadecimal.{SpellsId};
 ghost use Rattle.gix_hash_core.specs.Oid.{oid_bytes};
+ghost use Rattle.gix_hash_core.specs.declared.object_id.IdError.{IdError};
 ghost use Rattle.gix_commitgraph.specs.Graph.{IsGraph, total};
 ghost use Rattle.graph_history.specs.Answer.{numbers_of};
 ghost use Rattle.graph_commands.specs.Answer.{WritesAnswer};
@@ -149,8 +150,8 @@ fn ask_of_all<T: Folder>(
 fn read_ids(alloc: Global, texts: &[String]) -> Result<Vec<ObjectId>, Refusal>
     ensures spelled { IfOk result (λ ids.
         AllZip SpellsId (map string_bytes texts.now) ids.items) }
-    ensures refused { IfErr result (λ refusal. (refusal ≡ Walk)
-        ⊎ ((error : _) × (refusal ≡ Id error) × SpellNotAll (map string_bytes texts.now) error)) }
+    ensures refused { IfErr result (λ refusal. (refusal ≡ Walk) ⊎ ((error : IdError)
+        × (refusal ≡ Id error) × SpellNotAll (map string_bytes texts.now) error)) }
 {
     let mut ids = Vec::new(alloc);
     for text in texts {
