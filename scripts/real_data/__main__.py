@@ -10,6 +10,8 @@ usage: python3 scripts/real_data GRAPHTOOL HISTORYTOOL [every-value]
 - `ancestor`: a shortest walk between each pair of commits, or that there is none, as
   `git merge-base --is-ancestor` says, and how many commits were visited.
 - `is-ancestor` and `walk`: the same pairs and damaged folders, by ids.
+- `merge-base`: the bases that `git merge-base --all` names, and how many commits are ahead and behind by the
+  parents that Git lists; where times are in order, also as `git rev-list --left-right --count` counts them.
 - `distinct`: the words of `verify`, and an id that was put into two layers or more, next to one another
   and far apart.
 - each byte of three small files, changed to some other values, or with `every-value` to all of them, beside

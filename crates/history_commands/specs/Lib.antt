@@ -1,3 +1,4 @@
 pub mod Answer
 pub mod IsAncestor
+pub mod MergeBases
 pub mod Walk

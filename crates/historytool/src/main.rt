@@ -1,9 +1,10 @@
 //! `historytool`: answers questions about the histories of Git's commit-graphs, by the ids of two
-//! commits.
+//! commits or more.
 //!
-//! The exit status is 0 where the answer is yes or a walk, 1 where it is no, where an id is not
-//! there or where the question was refused, and 2 for other words than a command, for a text that
-//! is no id and for a failed write. Wrong words and a failed write are reported on standard error.
+//! The exit status is 0 where the answer is yes, a walk or merge bases, 1 where it is no or none,
+//! where an id is not there or where the question was refused, and 2 for other words than a
+//! command, for a text that is no id and for a failed write. Wrong words and a failed write are
+//! reported on standard error.
 #![tactic(auto)]
 
 ghost use Rattle.std.specs.Prelude.{◌≡◌, MatchResult};
@@ -14,17 +15,17 @@ mod tests;
 use graph_commands::line::write_line;
 use graph_commands::run::WriteFailed;
 use graph_folder::folder::{Disk, Folder};
-use history_commands::run::{run_is_ancestor, run_walk};
+use history_commands::run::{run_is_ancestor, run_merge_base, run_walk};
 use std::alloc::Global;
 use std::io::Write;
 use std::process::ExitCode;
 use std::{env, io};
 
 const USAGE: &str = "usage: historytool is-ancestor PATH HEX HEX | walk PATH HEX HEX \
-    | --help | --version";
+    | merge-base PATH HEX HEX.. | --help | --version";
 
 const HELP: &str = "usage: historytool is-ancestor PATH HEX HEX | walk PATH HEX HEX \
-    | --help | --version\n\
+    | merge-base PATH HEX HEX.. | --help | --version\n\
     \n\
     PATH is a commit-graph file, a folder with a chain of them, or an info folder.\n\
     HEX is the id of a commit in hexadecimal.\n\
@@ -32,9 +33,13 @@ const HELP: &str = "usage: historytool is-ancestor PATH HEX HEX | walk PATH HEX 
     is-ancestor  whether the first commit is an ancestor of the second: yes or no\n\
     walk         the ids on a shortest walk along parents from the first commit to\n\
     \x20            the second, a line for each; or none\n\
+    merge-base   the position and the id of each merge base of the first commit and\n\
+    \x20            the others, a line for each, or none; then how many commits are\n\
+    \x20            ahead and behind: how many the first leads to and no other does,\n\
+    \x20            and the other way round; then how many were visited\n\
     \n\
-    The exit status is 0 for yes or a walk, 1 for any other answer, and 2 for wrong\n\
-    words, a text that is no id or a failed write.";
+    The exit status is 0 for yes, a walk or merge bases, 1 for any other answer, and\n\
+    2 for wrong words, a text that is no id or a failed write.";
 
 const VERSION: &str = "historytool 0.1.0, proved with rattle-kit-13b logic dac8208d650f15bf";
 
@@ -116,6 +121,12 @@ enum Command<'a> {
         first: &'a str,
         second: &'a str,
     },
+    // What the first commit and the others have in common is to be told.
+    MergeBase {
+        path: &'a str,
+        first: &'a str,
+        others: &'a [String],
+    },
 }
 
 impl<'a> Command<'a> {
@@ -136,6 +147,14 @@ impl<'a> Command<'a> {
                 first: first.as_str(),
                 second: second.as_str(),
             }),
+            [_, name, path, first, others @ ..]
+                if name.as_str() == "merge-base" && !others.is_empty() => {
+                Some(Command::MergeBase {
+                    path: path.as_str(),
+                    first: first.as_str(),
+                    others,
+                })
+            }
             _ => None,
         }
     }
@@ -160,6 +179,11 @@ impl<'a> Command<'a> {
                 first,
                 second,
             } => run_walk(alloc, folder, path, first, second, output),
+            Command::MergeBase {
+                path,
+                first,
+                others,
+            } => run_merge_base(alloc, folder, path, first, others, output),
         }
     }
 }

@@ -8,17 +8,17 @@ use std::test::Fail;
 
 pub const ONES: &str = "1111111111111111111111111111111111111111";
 
-const TWOS: &str = "2222222222222222222222222222222222222222";
+pub const TWOS: &str = "2222222222222222222222222222222222222222";
 
-const CS: &str = "cccccccccccccccccccccccccccccccccccccccc";
+pub const CS: &str = "cccccccccccccccccccccccccccccccccccccccc";
 
-const LARGE_CS: &str = "CCCCCCCCCCCCCCCCCCCCCCCCCCCCCCCCCCCCCCCC";
+pub const LARGE_CS: &str = "CCCCCCCCCCCCCCCCCCCCCCCCCCCCCCCCCCCCCCCC";
 
-const DS: &str = "dddddddddddddddddddddddddddddddddddddddd";
+pub const DS: &str = "dddddddddddddddddddddddddddddddddddddddd";
 
-const ONES_OF_SHA256: &str = "1111111111111111111111111111111111111111111111111111111111111111";
+pub const ONES_OF_SHA256: &str = "1111111111111111111111111111111111111111111111111111111111111111";
 
-const CS_OF_SHA256: &str = "cccccccccccccccccccccccccccccccccccccccccccccccccccccccccccccccc";
+pub const CS_OF_SHA256: &str = "cccccccccccccccccccccccccccccccccccccccccccccccccccccccccccccccc";
 
 /// The shortest walk from the fourth commit to the first, which is one step.
 const STEP: &str = "cccccccccccccccccccccccccccccccccccccccc\n\
@@ -79,7 +79,7 @@ fn tells_whether_there_is_a_walk_and_which(rt: HostRuntime) -> Result<(), Fail> 
 }
 
 /// A path and the texts of two ids, with the status and the line of each command.
-const NO_ANSWERS: &[((&str, &str, &str), u8, &str)] = &[
+pub const NO_ANSWERS: &[((&str, &str, &str), u8, &str)] = &[
     (("file", TWOS, ONES_OF_SHA256), 1, "unknown 2\n"),
     (("file", ONES_OF_SHA256, "cc"), 2, "refused id 1\n"),
     (("sha256", CS, CS_OF_SHA256), 1, "unknown 1\n"),

@@ -4,7 +4,7 @@ use gix_hash_core::{Kind, ObjectId, digest};
 use graph_commands::run::{WriteFailed, run_ancestor};
 use graph_folder::folder::Memory;
 use graph_vectors::{LayerPlan, PlanCommit, build};
-use history_commands::run::{run_is_ancestor, run_walk};
+use history_commands::run::{run_is_ancestor, run_merge_base, run_walk};
 use std::alloc::{AllocError, Global};
 use std::io;
 use std::io::{ErrorKind, Write};
@@ -77,6 +77,20 @@ impl Command {
     }
 }
 
+/// The answer of `merge-base` for a path and the texts of an id and of others.
+pub(super) fn merge_base(
+    alloc: Global,
+    folder: &mut Memory,
+    (path, first, others): (&str, &str, &[&str]),
+    out: &mut Sink,
+) -> Result<Result<u8, WriteFailed>, AllocError> {
+    let mut ids = Vec::new(alloc);
+    for id in others {
+        ids.push(String::from_str(alloc, id)?)?;
+    }
+    Ok(run_merge_base(alloc, folder, path, first, &ids, out))
+}
+
 /// A commit that is planned: the byte that its id repeats, its parents and its generation number.
 type Row = (u8, &'static [u32], u32);
 
@@ -89,7 +103,18 @@ const FILE: &[Row] = &[
     (0xdd, &[], 1),
 ];
 
-/// The layers of a chain of the same commits.
+/// Two lines that merge each other, and a commit on each merge.
+const CRISS_CROSS: &[Row] = &[
+    (0x11, &[], 1),
+    (0x22, &[0], 2),
+    (0x33, &[0], 2),
+    (0x44, &[1, 2], 3),
+    (0x55, &[2, 1], 3),
+    (0x66, &[3], 4),
+    (0x77, &[4], 4),
+];
+
+/// The layers of a chain of the same commits as those of `FILE`.
 const LOWER: &[Row] = &[(0x11, &[], 1), (0x22, &[0], 2)];
 
 const UPPER: &[Row] = &[(0x33, &[1], 3), (0xcc, &[2, 0], 4), (0xdd, &[], 1)];
@@ -182,12 +207,13 @@ fn id(kind: Kind, byte: u8) -> ObjectId {
     }
 }
 
-/// A folder with the files `file`, `wrong`, `sha256` of two commits with SHA-256 ids, and `bytes`
-/// that are no layer, and with the folder `chain`.
+/// A folder with the files `file`, `criss-cross`, `wrong`, `sha256` of two commits with SHA-256
+/// ids, and `bytes` that are no layer, and with the folder `chain`.
 pub(super) fn graphs(alloc: Global) -> Result<Memory, AllocError> {
     let mut memory = Memory::new(alloc);
     let rows = [
         ("file", Kind::Sha1, FILE),
+        ("criss-cross", Kind::Sha1, CRISS_CROSS),
         ("sha256", Kind::Sha256, TWO),
         ("wrong", Kind::Sha1, WRONG),
     ];

@@ -8,4 +8,6 @@ mod answers;
 #[cfg(test)]
 mod fixtures;
 #[cfg(test)]
+mod merge_bases;
+#[cfg(test)]
 mod writes;

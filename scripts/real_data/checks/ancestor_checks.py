@@ -1,11 +1,12 @@
 """Checks `ancestor`, and `is-ancestor` and `walk`: each pair of commits, in a file and in a chain, beside
-`git merge-base --is-ancestor`.
+`git merge-base --is-ancestor`; and `merge-base`, of some sets of them.
 
 And the two cases in which the answers differ: an id in two layers, and commits whose parents Git replaces.
 """
 
 import itertools
 
+from checks import base_checks
 from checks.runs import check_runs
 from damage import trees
 from damage.layer import big_endian, contents, exact_fan, with_chunks
@@ -66,6 +67,7 @@ def check_pairs(programs, tally, repository, name, walks):
     pairs = list(itertools.product(walks.words, repeat=2))
     runs = [(lambda pair=pair: answer(pair), lambda answers, pair=pair: complaint(pair, answers)) for pair in pairs]
     check_runs(tally, "%s, ancestor, is-ancestor and walk, each pair of %s" % (repository.object_format, name), runs)
+    base_checks.check_all(histories, tally, repository, name, walks)
 
 
 def check_id_in_two_layers(programs, tally, repository):

@@ -25,12 +25,13 @@ def complaint(program, path, verified):
 
 
 def complaint_of_questions(histories, path, verified):
-    """None where `is-ancestor` and `walk` of a path refuse what `verify` refused, or else a complaint.
+    """None where `is-ancestor`, `walk` and `merge-base` of a path refuse what `verify` refused, or else a complaint.
 
     Of a graph that passes they say, as `ancestor` does, that an id which is nowhere is unknown.
     """
     unknown = verified._replace(status=1, out=b"unknown 1\n") if verified.status == 0 else verified
-    for name, run in (("is-ancestor", histories.is_ancestor), ("walk", histories.walk)):
+    runs = {"is-ancestor": histories.is_ancestor, "walk": histories.walk, "merge-base": histories.merge_base}
+    for name, run in runs.items():
         answer = run(path, UNKNOWN, UNKNOWN)
         if answer != unknown:
             return "%s: status %s and %r, beside %r" % (name, answer.status, answer.out[:60], verified.out[:60])

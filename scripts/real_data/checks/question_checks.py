@@ -7,7 +7,7 @@ from functools import partial
 from expected import judge
 from histories.repository import read_bytes
 
-USAGE = "usage: historytool is-ancestor PATH HEX HEX | walk PATH HEX HEX | --help | --version\n"
+USAGE = "usage: historytool is-ancestor PATH HEX HEX | walk PATH HEX HEX | merge-base PATH HEX HEX.. | --help | --version\n"
 """What the program writes on standard error where its words are no command, and the first line of its help."""
 
 FAILED_WRITE = "historytool: the answer could not be written\n"
@@ -16,6 +16,7 @@ OTHER_WORDS = [
     *([], [""], ["help"], ["version"], ["-v"], ["--help", "."], ["--version", "."], ["."], [b"\xff"]),
     *(["walk", ".", ID], ["walk", ".", ID, ID, ID], ["Walk", ".", ID, ID], ["walk", b"\xff", ID, ID]),
     *(["is-ancestor"], ["is-ancestor", ".", ID], ["ancestor", ".", ID, ID], ["verify", "."], ["--walk", ".", ID, ID]),
+    *(["merge-base"], ["merge-base", "."], ["merge-base", ".", ID], ["merge-base", ".", ID, b"\xff"]),
 ]
 """Words that are no command: too few, too many, others, or no text."""
 
@@ -34,7 +35,8 @@ def check_all(histories, tally):
     text = helps[0].out.decode()
     told = helps[0] == helps[1] and helps[0].status == 0 and not helps[0].err
     tally.check("historytool --help and -h", None if told and text.startswith(USAGE + "\n") else "they are %r" % (helps,))
-    for command, run in (("is-ancestor", histories.is_ancestor), ("walk", histories.walk)):
+    runs = {"is-ancestor": histories.is_ancestor, "walk": histories.walk, "merge-base": histories.merge_base}
+    for command, run in runs.items():
         exchanged = judge.exactly(2, "refused id 1\n", "", run(ID, ".", ID))
         tally.check("%s, its path and its first id exchanged" % command, exchanged)
         nothing = judge.exactly(1, "refused open 1\n", "", run(os.devnull, ID, ID))

@@ -94,6 +94,23 @@ class Repository:
             raise RuntimeError("git merge-base: " + run.stderr.decode())
         return run.returncode == 0
 
+    def merge_bases(self, first, *others):
+        """The merge bases that Git names of a commit and others, in its own order."""
+        command = ("git", "-c", "core.commitGraph=false", "merge-base", "--all", first, *others)
+        run = subprocess.run(command, env=self.surroundings, capture_output=True, check=False)
+        if run.returncode not in (0, 1):
+            raise RuntimeError("git merge-base: " + run.stderr.decode())
+        return run.stdout.decode().split()
+
+    def divergence(self, first, *others):
+        """How many commits Git counts that one commit leads to and none of the others does, and the other way round."""
+        count = ("-c", "core.commitGraph=false", "rev-list", "--count")
+        if len(others) == 1:
+            words = self.git(*count, "--left-right", "%s...%s" % (first, others[0])).split()
+            return int(words[0]), int(words[1])
+        ahead = self.git(*count, first, *["^" + other for other in others])
+        return int(ahead), int(self.git(*count, *others, "^" + first))
+
     def info_path(self):
         """The folder in which Git looks for commit-graphs."""
         return os.path.join(self.folder, "objects", "info")

@@ -37,12 +37,33 @@ fn reads_the_words_of_each_question(rt: HostRuntime) -> Result<(), Fail> {
 }
 
 const USAGE_LINE: &str = "usage: historytool is-ancestor PATH HEX HEX | walk PATH HEX HEX \
-    | --help | --version\n";
+    | merge-base PATH HEX HEX.. | --help | --version\n";
+
+#[test]
+fn reads_two_ids_or_more_of_a_merge_base(rt: HostRuntime) -> Result<(), Fail> {
+    let alloc = rt.alloc();
+    let rows: [&[&str]; 2] = [&["c"], &["c", "d", "merge-base"]];
+    for ids in rows {
+        let mut line = command_line(alloc, &["merge-base", "a", "b"])?;
+        let mut others = Vec::new(alloc);
+        for id in ids {
+            line.push(String::from_str(alloc, id)?)?;
+            others.push(String::from_str(alloc, id)?)?;
+        }
+        let want = Command::MergeBase {
+            path: "a",
+            first: "b",
+            others: &others,
+        };
+        assert_eq!(rt; Command::from_words(&line), Some(want));
+    }
+    Ok(())
+}
 
 #[test]
 fn other_words_are_no_question(rt: HostRuntime) -> Result<(), Fail> {
     let alloc = rt.alloc();
-    let rows: [&[&str]; 11] = [
+    let rows: [&[&str]; 13] = [
         &[],
         &[""],
         &["help"],
@@ -53,6 +74,8 @@ fn other_words_are_no_question(rt: HostRuntime) -> Result<(), Fail> {
         &["walk", "g", "h"],
         &["walk", "g", "h", "i", "j"],
         &["is-ancestor", "g", "h"],
+        &["merge-base", "g"],
+        &["merge-base", "g", "h"],
         &["ancestor", "g", "h", "i"],
     ];
     for words in rows {

@@ -1,0 +1,28 @@
+-- Why a question is refused, once the ids were read.
+use Rattle.std.proofs.Common.{◌∷◌}
+use Rattle.std.proofs.lemmas.Result.{err_from_is_err_and}
+use Rattle.history_commands.proofs.bases.ask_of_all.Goals as goal
+
+pub returns-in_err-open_in-clause-refused : goal.returns-in_err-open_in-clause-refused
+returns-in_err-open_in-clause-refused g c =
+    let answered = err_from_is_err_and c.from_residual-in_err-open_in.result c.from_residual-in_err-open_in.ensures.1 in
+    let first = rw c.as_bytes.ensures.value at c.in_ok-first.ensures.ok in
+    let opened = c.in_err-open_in.ensures in
+    rw (answered.1, answered.2) (
+      c.in_ok-first.first ∷ c.in_ok-others.others.items,
+      (first, c.in_ok-others.ensures.spelled),
+      (opened.opens, opened.graph, opened.device),
+    )
+
+pub returns-in_err-graph-clause-refused : goal.returns-in_err-graph-clause-refused
+returns-in_err-graph-clause-refused g c =
+    let answered = err_from_is_err_and c.from_residual-in_err-graph.result c.from_residual-in_err-graph.ensures.1 in
+    let first = rw c.as_bytes.ensures.value at c.in_ok-first.ensures.ok in
+    let opened = c.in_ok-open_in.ensures in
+    rw (answered.1, answered.2) (
+      c.in_ok-first.first ∷ c.in_ok-others.others.items,
+      c.in_ok-open_in.field-0,
+      (first, c.in_ok-others.ensures.spelled),
+      (opened.opens, opened.graph, opened.device),
+      c.in_err-graph.ensures.refusal,
+    )

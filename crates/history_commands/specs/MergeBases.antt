@@ -1,0 +1,137 @@
+-- the answers of `merge-base`, their texts and their exit statuses
+use Rattle.std.specs.Prelude.{◌≡◌, ◌⊎◌, ℕ, ◌+◌, ◌<◌, List, [], ◌∷◌, All, Some, None, Result, Ok, Err, ⊤, codes, decimal}
+use Rattle.std.specs.Prelude.{slice_get, take}
+use Rattle.std.specs.List.{AllZip, flat_map}
+use Rattle.hex.specs.Hex.{encode_lower}
+use Rattle.gix_hash_core.specs.Hexadecimal.{SpellsId, SpellsNone}
+use Rattle.gix_hash_core.specs.declared.object_id.IdError.{IdError}
+use Rattle.graph_walks.specs.History.{Node}
+use Rattle.graph_format.specs.Layer.{Layer}
+use Rattle.graph_format.specs.Lookup.{scan}
+use Rattle.graph_format.specs.StoredHistory.{history_of}
+use Rattle.graph_format.specs.declared.Position.{Position}
+use Rattle.graph_layer.specs.declared.opening.error.OpenError.{OpenError}
+use Rattle.gix_commitgraph.specs.Graph.{graph_ids, total}
+use Rattle.gix_commitgraph.specs.Sound.{Sound}
+use Rattle.graph_history.specs.Answer.{numbers_of}
+use Rattle.graph_history.specs.Bases.{AreMergeBases, IsAhead, IsBehind, AreBelowCap, AreVisits}
+use Rattle.graph_history.specs.Checked.{MayRefuseGraph}
+use Rattle.graph_history.specs.Counts.{IsNumberOf}
+use Rattle.graph_history.specs.declared.bases.Comparison.{Comparison}
+use Rattle.graph_commands.specs.Ancestor.{visits_line}
+use Rattle.graph_commands.specs.Refusal.{refusal_text, refusal_status}
+use Rattle.graph_commands.specs.Text.{◌⧺◌, newline}
+use Rattle.graph_commands.specs.declared.refusal.Refusal.{Refusal}
+use Rattle.graph_commands.specs.declared.refusal.Refusal.TheVariants.{Id, Read, File, Open, Verify, Check, Walk}
+use Rattle.history_commands.specs.Walk.{id_in}
+use Rattle.history_commands.specs.declared.bases.Compared.{Compared}
+use Rattle.history_commands.specs.declared.bases.Compared.TheVariants.{Unknown, Known}
+use Rattle.history_commands.specs.declared.bases.NotFound.{NotFound}
+use Rattle.history_commands.specs.declared.bases.NotFound.TheVariants as missing
+
+-- What a commit and some others of a history have in common, and how far they have come apart: what `git merge-base --all`
+-- names, and `git rev-list --left-right --count` counts for one other.
+pub record IsComparison (history : List Node) (first : ℕ) (others : List ℕ) (comparison : Comparison) : Type 0 where
+  pub bases : AreMergeBases history first others (numbers_of comparison.bases.positions.items)
+  pub ahead : IsNumberOf comparison.divergence.ahead (IsAhead history first others)
+  pub behind : IsNumberOf comparison.divergence.behind (IsBehind history first others)
+  pub visits : AreBelowCap history first others → AreVisits history first others comparison.bases.visits
+
+-- the least position where an id is
+abbrev pub IsAt : List Layer → List ℕ → ℕ → Type 0
+IsAt layers id p = scan (graph_ids layers) id ≡ Some p
+
+-- the first id that is not in a graph stands at this place
+abbrev pub IsFirstUnknown : List Layer → List (List ℕ) → ℕ → Type 0
+IsFirstUnknown layers ids place =
+    All (λ id. (p : ℕ) × IsAt layers id p) (take place ids)
+    × ((id : List ℕ) × (slice_get ids place ≡ Some id) × (scan (graph_ids layers) id ≡ None))
+
+-- what may be found of ids in a graph: the first of them that is not there, by its number, which is 1 for the first id; else
+-- how the commit with the first id compares with those with the others
+abbrev pub MayFindOfAll : List Layer → List (List ℕ) → Compared → Type 0
+MayFindOfAll layers ids (Unknown number) =
+    (place : ℕ) × IsFirstUnknown layers ids place × (number ≡ place + 1)
+MayFindOfAll layers ids (Known comparison) =
+    (first : ℕ) × (others : List ℕ) × AllZip (IsAt layers) ids (first ∷ others)
+    × IsComparison (history_of layers) first others comparison
+
+-- the first of the texts that is no id, and why
+abbrev pub SpellNotAll : List (List ℕ) → IdError → Type 0
+SpellNotAll [] error = ⊥
+SpellNotAll (text ∷ texts) error = SpellsNone text error ⊎ ((id : List ℕ) × SpellsId text id × SpellNotAll texts error)
+
+-- the texts spell these ids, and the graph of these layers, which the opener may answer, is right
+abbrev pub MayBeAskedOfAll : List (List ℕ) → (Result (List Layer) OpenError → Type 0) → List Layer → List (List ℕ) → Type 0
+MayBeAskedOfAll texts MayOpen layers ids = AllZip SpellsId texts ids × MayOpen (Ok layers) × Sound layers
+
+-- why it may be refused. For a text that is no id the folder is left as it was: nothing is opened. Memory may run out before
+-- that too, while the ids are read, and else in the search
+abbrev pub MayRefuseAll : List (List ℕ) → Type 0 → (Result (List Layer) OpenError → Type 0) → Refusal → Type 0
+MayRefuseAll texts IsLeftAlone MayOpen (Id error) = SpellNotAll texts error × IsLeftAlone
+MayRefuseAll texts IsLeftAlone MayOpen (Open error) = (ids : List (List ℕ)) × AllZip SpellsId texts ids × MayOpen (Err error)
+MayRefuseAll texts IsLeftAlone MayOpen (Check error) =
+    (ids : List (List ℕ)) × (layers : List Layer) × AllZip SpellsId texts ids × MayOpen (Ok layers)
+    × MayRefuseGraph layers error
+MayRefuseAll texts IsLeftAlone MayOpen Walk =
+    IsLeftAlone ⊎ ((ids : List (List ℕ)) × (layers : List Layer) × MayBeAskedOfAll texts MayOpen layers ids)
+MayRefuseAll texts IsLeftAlone MayOpen (Read error) = ⊥
+MayRefuseAll texts IsLeftAlone MayOpen (File error) = ⊥
+MayRefuseAll texts IsLeftAlone MayOpen (Verify error) = ⊥
+
+-- what `merge-base` may answer for the texts of ids, given what the opener may answer: what is found of them in a right graph
+-- that it may open, with the layers of the graph; or a refusal
+abbrev pub MayCompare : List (List ℕ) → Type 0 → (Result (List Layer) OpenError → Type 0)
+    → Result (List Layer × Compared) Refusal → Type 0
+MayCompare texts IsLeftAlone MayOpen (Ok (layers, compared)) =
+    (ids : List (List ℕ)) × MayBeAskedOfAll texts MayOpen layers ids × MayFindOfAll layers ids compared
+MayCompare texts IsLeftAlone MayOpen (Err refusal) = MayRefuseAll texts IsLeftAlone MayOpen refusal
+
+-- the line of a base: its position and its id
+abbrev pub base_line : List Layer → Position → List ℕ
+base_line layers base = codes "base " ⧺ decimal base.0 ⧺ codes " " ⧺ encode_lower (id_in layers base.0) ⧺ newline
+
+-- the lines of the bases, or that there is none
+abbrev pub bases_text : List Layer → List Position → List ℕ
+bases_text layers [] = codes "none" ⧺ newline
+bases_text layers (base ∷ bases) = flat_map (base_line layers) (base ∷ bases)
+
+-- how many commits are on one side alone
+abbrev pub divergence_line : ℕ → ℕ → List ℕ
+divergence_line ahead behind = codes "ahead " ⧺ decimal ahead ⧺ codes " behind " ⧺ decimal behind ⧺ newline
+
+-- what is found
+abbrev pub compared_text : List Layer → Compared → List ℕ
+compared_text layers (Unknown number) = codes "unknown " ⧺ decimal number ⧺ newline
+compared_text layers (Known comparison) =
+    bases_text layers comparison.bases.positions.items
+    ⧺ divergence_line comparison.divergence.ahead comparison.divergence.behind ⧺ visits_line comparison.bases.visits
+
+-- 0 for bases, and 1 where there is none or an id is not there
+abbrev pub bases_status : List Position → ℕ
+bases_status [] = 1
+bases_status (base ∷ bases) = 0
+
+abbrev pub compared_status : Compared → ℕ
+compared_status (Unknown number) = 1
+compared_status (Known comparison) = bases_status comparison.bases.positions.items
+
+-- the lines of what is found, or of a refusal
+abbrev pub merge_base_text : Result (List Layer × Compared) Refusal → List ℕ
+merge_base_text (Ok (layers, compared)) = compared_text layers compared
+merge_base_text (Err refusal) = refusal_text refusal ⧺ newline
+
+-- the status of what is found, and else that of the refusal
+abbrev pub merge_base_status : Result (List Layer × Compared) Refusal → ℕ
+merge_base_status (Ok (layers, compared)) = compared_status compared
+merge_base_status (Err refusal) = refusal_status refusal
+
+-- For private contracts: each base is at a position of the graph's
+abbrev pub AreBasesWithin : List Layer → Compared → Type 0
+AreBasesWithin layers (Unknown number) = ⊤
+AreBasesWithin layers (Known comparison) = All (λ base. base.0 < total layers) comparison.bases.positions.items
+
+-- For private contracts, where ids are not all found: this is so of the place of the one that is not
+abbrev pub OnUnknown : (ℕ → Type 0) → NotFound → Type 0
+OnUnknown IsSo (missing.Unknown place) = IsSo place
+OnUnknown IsSo missing.OutOfMemory = ⊤

@@ -1,0 +1,92 @@
+//! Merge bases, and how far commits have come apart.
+
+use crate::answers::{CS, CS_OF_SHA256, DS, LARGE_CS, NO_ANSWERS, ONES, ONES_OF_SHA256, TWOS};
+use crate::fixtures::{Sink, graphs, merge_base};
+use graph_commands::run::WriteFailed;
+use std::test::Fail;
+
+const SIXES: &str = "6666666666666666666666666666666666666666";
+
+const SEVENS: &str = "7777777777777777777777777777777777777777";
+
+/// A path and the texts of an id and of others, with the status and the lines of `merge-base`.
+type Row = (
+    (&'static str, &'static str, &'static [&'static str]),
+    u8,
+    &'static str,
+);
+
+const TWO_BASES: &str = "base 1 2222222222222222222222222222222222222222\n\
+    base 2 3333333333333333333333333333333333333333\n\
+    ahead 2 behind 2\n\
+    visits 6\n";
+
+const ROWS: &[Row] = &[
+    (("criss-cross", SIXES, &[SEVENS]), 0, TWO_BASES),
+    (
+        ("file", ONES, &[LARGE_CS]),
+        0,
+        "base 0 1111111111111111111111111111111111111111\nahead 0 behind 3\nvisits 4\n",
+    ),
+    (
+        ("chain", CS, &[ONES]),
+        0,
+        "base 0 1111111111111111111111111111111111111111\nahead 3 behind 0\nvisits 4\n",
+    ),
+    (
+        ("file", ONES, &[DS, CS]),
+        0,
+        "base 0 1111111111111111111111111111111111111111\nahead 0 behind 4\nvisits 5\n",
+    ),
+    (
+        ("file", DS, &[CS, DS, TWOS]),
+        0,
+        "base 4 dddddddddddddddddddddddddddddddddddddddd\nahead 0 behind 4\nvisits 5\n",
+    ),
+    (("file", CS, &[DS]), 1, "none\nahead 4 behind 1\nvisits 5\n"),
+    (
+        ("sha256", CS_OF_SHA256, &[ONES_OF_SHA256]),
+        0,
+        "base 0 1111111111111111111111111111111111111111111111111111111111111111\n\
+            ahead 1 behind 0\n\
+            visits 2\n",
+    ),
+    (("file", SEVENS, &[SIXES, CS]), 1, "unknown 1\n"),
+    (("file", CS, &[DS, SIXES, CS, SEVENS]), 1, "unknown 3\n"),
+    (("file", CS, &[DS, SIXES, "cc"]), 2, "refused id 1\n"),
+];
+
+#[test]
+fn tells_merge_bases_and_how_far_commits_have_come_apart(rt: HostRuntime) -> Result<(), Fail> {
+    let alloc = rt.alloc();
+    let mut folder = graphs(alloc)?;
+    for (words, status, text) in ROWS {
+        let mut out = Sink::new(alloc, usize::MAX, None);
+        let answer = merge_base(alloc, &mut folder, *words, &mut out)?;
+        assert_eq!(rt; answer, Ok(*status), "{words:?}");
+        assert_eq!(rt; out.text(), *text, "{words:?}");
+    }
+    for ((path, first, second), status, text) in NO_ANSWERS {
+        let mut out = Sink::new(alloc, usize::MAX, None);
+        let answer = merge_base(alloc, &mut folder, (path, first, &[*second]), &mut out)?;
+        assert_eq!(rt; answer, Ok(*status), "{path} {first} {second}");
+        assert_eq!(rt; out.text(), *text, "{path} {first} {second}");
+    }
+    Ok(())
+}
+
+#[test]
+fn reports_each_write_of_merge_bases_that_fails(rt: HostRuntime) -> Result<(), Fail> {
+    let alloc = rt.alloc();
+    let mut folder = graphs(alloc)?;
+    let words: (&str, &str, &[&str]) = ("criss-cross", SIXES, &[SEVENS]);
+    let mut whole = Sink::new(alloc, 20, None);
+    let answer = merge_base(alloc, &mut folder, words, &mut whole)?;
+    assert_eq!(rt; (answer, whole.text()), (Ok(0), TWO_BASES));
+    for write in 0..whole.writes {
+        let mut out = Sink::new(alloc, 20, Some(write));
+        let answer = merge_base(alloc, &mut folder, words, &mut out)?;
+        assert_eq!(rt; answer, Err(WriteFailed));
+    }
+    Ok(())
+}
