@@ -1,5 +1,5 @@
 -- How the check of a graph goes over the points of its layers.
-use Rattle.std.proofs.Common.{◌≡◌, ℕ, ◌+◌, ◌≤◌, false, List, [], ◌++◌, length, drop, Some, Result, nat_lt, slice_get, refl, ap}
+use Rattle.std.proofs.Common.{◌≡◌, ℕ, ◌+◌, ◌≤◌, false, List, [], ◌++◌, length, Some, Result, nat_lt, slice_get, refl, ap}
 use Rattle.std.proofs.Common.{subst}
 use Rattle.std.specs.List.{flat_map, enumerate_from}
 use Rattle.std.specs.Fn.{Mut}

@@ -1,5 +1,5 @@
 -- Where no id stands at two positions, walks over positions are walks over ids.
-use Rattle.std.proofs.Common.{◌≡◌, ℕ, ◌<◌, List, [], ◌∷◌, length, slice_get, slice_index_or, get_or, All, Some, sym, ap, subst}
+use Rattle.std.proofs.Common.{◌≡◌, ℕ, ◌<◌, List, [], ◌∷◌, length, slice_get, slice_index_or, get_or, All, Some, ap, subst}
 use Rattle.std.proofs.Common.{◌∙◌, arith}
 use Rattle.std.specs.Prelude.{◌↔◌}
 use Rattle.std.proofs.lemmas.Option.{slice_get_within, slice_get-get_or, get_or_from_slice_get}
@@ -8,7 +8,7 @@ use Rattle.graph_walks.specs.Walks.{IsWalk}
 use Rattle.graph_format.specs.Layer.{Layer, IsOpened}
 use Rattle.graph_format.specs.StoredHistory.{history_of}
 use Rattle.gix_commitgraph.specs.Distinct.{AreDistinct}
-use Rattle.gix_commitgraph.specs.Graph.{graph_ids, total}
+use Rattle.gix_commitgraph.specs.Graph.{graph_ids}
 use Rattle.gix_commitgraph.specs.IdWalks.{IsParentId, IsIdWalk, ids_at}
 use Rattle.gix_commitgraph.proofs.GraphLemmas.{counted}
 use Rattle.gix_commitgraph.proofs.HistoryLemmas.{history-counted}

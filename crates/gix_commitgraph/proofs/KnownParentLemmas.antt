@@ -1,5 +1,5 @@
 -- In a graph that is right, the parents of each commit are there.
-use Rattle.std.proofs.Common.{◌≡◌, ℕ, ◌+◌, ◌-◌, ◌<◌, List, [], length, map, slice_get, All, Option, Some, None}
+use Rattle.std.proofs.Common.{◌≡◌, ℕ, ◌+◌, ◌-◌, ◌<◌, List, [], length, slice_get, All, Option, Some, None}
 use Rattle.std.proofs.Common.{option_map, unwrap_or}
 use Rattle.std.proofs.Common.{refl, sym, ap, subst, ◌∙◌, arith}
 use Rattle.std.specs.Option.{option_map_or}
@@ -13,7 +13,8 @@ use Rattle.graph_format.specs.declared.Position.{Position}
 use Rattle.gix_commitgraph.specs.Graph.{graph_commits, start, total}
 use Rattle.gix_commitgraph.specs.GraphLaw.{LiesIn}
 use Rattle.gix_commitgraph.specs.Sound.{AreParentsKnown, Sound}
-use Rattle.gix_commitgraph.proofs.GraphHistoryLemmas.{node_at, history-places, length-records}
+use Rattle.gix_commitgraph.proofs.GraphHistoryLemmas.{length-records}
+use Rattle.gix_commitgraph.proofs.HistoryLemmas.{all-paired, node_at, history-places}
 use Rattle.gix_commitgraph.proofs.GraphLemmas.{counted, lies-in_one, place-in}
 use Rattle.gix_commitgraph.proofs.LayerListLemmas.{start-fits}
 use Rattle.gix_commitgraph.proofs.PositionLemmas.{length-graph_commits}
@@ -66,7 +67,7 @@ parents_at-places : (layers : List Layer) (p : ℕ) → All IsOpened layers
     → parents_at (history_of layers) p ≡ parents_in (slice_get (graph_commits layers) p)
 unfolding parents_in
 parents_at-places layers p opened =
-    ap (λ (nodes : List Node). parents_at nodes p) (history-places layers opened)
+    ap (λ (nodes : List Node). parents_at nodes p) (history-places layers (all-paired layers opened))
     ∙ ap (λ (o : Option Node). option_map_or (λ (node : Node). node.parents) o [])
     (slice_get-map node_at (graph_commits layers) p)
 

@@ -15,7 +15,8 @@ use Rattle.gix_commitgraph.specs.LayerSpans.{IsSpan, IsInSpan}
 use Rattle.graph_layer.specs.declared.file.commit.Commit.{Commit}
 use Rattle.gix_commitgraph.specs.declared.verify.layer.LayerSpan.{LayerSpan}
 use Rattle.gix_commitgraph.proofs.LayerListLemmas.{size, start-more, start-fits, graph_commits-counted}
-use Rattle.gix_commitgraph.proofs.GraphHistoryLemmas.{node_at, generation-at, parents-at, take-history}
+use Rattle.gix_commitgraph.proofs.GraphHistoryLemmas.{generation-at, parents-at, take-history}
+use Rattle.gix_commitgraph.proofs.HistoryLemmas.{node_at}
 use Rattle.graph_layer.proofs.ParentCountLemmas.{both-few}
 use Rattle.graph_layer.proofs.ParentItemLemmas.{numbers_of, numbers-parents}
 

@@ -18,6 +18,7 @@ pub mod LayerSpanLemmas
 pub mod BaseIdLemmas
 pub mod CommitCheckLemmas
 pub mod EdgeListLemmas
+pub mod FrontLemmas
 pub mod GatherLemmas
 pub mod LayerCheckLemmas
 pub mod GraphCheckLemmas

@@ -1,5 +1,5 @@
 -- The errors of openers, carried from one opener to the next.
-use Rattle.std.proofs.Common.{◌≡◌, ◌<◌, ◌+◌, ℕ, List, [], ◌∷◌, length, Option, Some, None, inl, inr, ap, subst, arith, ◌∙◌}
+use Rattle.std.proofs.Common.{◌≡◌, ◌<◌, ◌+◌, ℕ, List, ◌∷◌, length, Option, Some, None, inl, inr, ap, subst, arith, ◌∙◌}
 use Rattle.std.specs.Prelude.{MatchOption, ◌⊎◌}
 use Rattle.graph_format.specs.Layer.{Layer}
 use Rattle.gix_commitgraph.specs.Graph.{MakesGraph}

@@ -1,5 +1,5 @@
 -- Where the lowest layers of a graph are right, the check of the graph finds no fault in them.
-use Rattle.std.proofs.Common.{◌≡◌, ℕ, zero, suc, ◌+◌, ◌<◌, ◌≤◌, min, Bool, if◌then◌else◌, List, [], ◌∷◌, ◌++◌, map, length}
+use Rattle.std.proofs.Common.{◌≡◌, ℕ, zero, suc, ◌+◌, ◌<◌, ◌≤◌, min, if◌then◌else◌, List, [], ◌∷◌, ◌++◌, map, length}
 use Rattle.std.proofs.Common.{take, drop, slice_get, get_or, nat_lt, All, Option, Some, None, option_map, refl, sym, ap, subst}
 use Rattle.std.proofs.Common.{◌∙◌, arith, ⊎_elim}
 use Rattle.std.specs.List.{flat_map}
@@ -9,9 +9,9 @@ use Rattle.std.proofs.Math.Seq.{take-append_seam}
 use Rattle.std.proofs.lemmas.List.{take-take, take-append-drop}
 use Rattle.first_faults.specs.First.{◌when◌}
 use Rattle.std.proofs.lemmas.List.Elements.{All-take, All-head, All-tail}
-use Rattle.std.proofs.lemmas.Option.{get_or_from_slice_get, slice_get-get_or, slice_get_within, slice_get_cases}
+use Rattle.std.proofs.lemmas.Option.{slice_get-get_or, slice_get_cases}
 use Rattle.graph_walks.specs.Counts.{greatest}
-use Rattle.graph_walks.specs.Generations.{expected_generation, AreLocal}
+use Rattle.graph_walks.specs.Generations.{expected_generation}
 use Rattle.graph_walks.specs.History.{Node, generation_at, parents_at}
 use Rattle.graph_walks.specs.declared.TheConstants.{GENERATION_NUMBER_MAX}
 use Rattle.graph_walks.proofs.WalkLemmas.{local_from_counts}
@@ -21,7 +21,6 @@ use Rattle.graph_format.specs.Lookup.{scan}
 use Rattle.graph_format.specs.Parents.{position_of, parents_of}
 use Rattle.graph_format.specs.Points.{Point, check, first_fault}
 use Rattle.graph_format.specs.StoredHistory.{layer_history, history_of}
-use Rattle.graph_format.specs.declared.Position.{Position}
 use Rattle.graph_format.proofs.PointLemmas.{first_fault-append}
 use Rattle.gix_commitgraph.specs.Distinct.{IsSoundWith}
 use Rattle.gix_commitgraph.specs.Graph.{graph_ids, total, start, stop}
@@ -37,9 +36,9 @@ use Rattle.gix_commitgraph.proofs.DuplicateLemmas.{take-layer, start-take}
 use Rattle.gix_commitgraph.proofs.GraphCheckLemmas.{layers_from-next}
 use Rattle.gix_commitgraph.proofs.HistoryLemmas.{all-paired, history-counted}
 use Rattle.gix_commitgraph.proofs.KnownParentLemmas.{known-within}
-use Rattle.gix_commitgraph.proofs.LayerListLemmas.{size, get-front, start-more, start-fits, start-all}
+use Rattle.gix_commitgraph.proofs.LayerListLemmas.{get-front, start-more, start-fits}
 use Rattle.gix_commitgraph.proofs.ParentFaultFreeLemmas.{unrefused, known-unrefused, generation-at}
-use Rattle.gix_commitgraph.proofs.SoundLemmas.{IsPassedCommit, IsPassedLayer, passed-from_sound, layer_points-iff}
+use Rattle.gix_commitgraph.proofs.SoundLemmas.{IsPassedLayer, passed-from_sound, layer_points-iff}
 
 -- what the first commits of a history say
 generation-front : (a b : List Node) (p : ℕ) → p < length a → generation_at (a ++ b) p ≡ generation_at a p

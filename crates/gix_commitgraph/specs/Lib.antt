@@ -44,6 +44,7 @@ pub mod LayerStarts
 pub mod Headline
 pub mod Distinct
 pub mod IdWalks
+pub mod Fronts
 pub mod IdPlaces
 pub mod InGraph
 pub use Rattle.gix_hash_core.specs.Digest

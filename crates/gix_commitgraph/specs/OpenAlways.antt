@@ -6,7 +6,6 @@ use Rattle.gix_commitgraph.specs.Opening.{info_file, info_chain}
 use Rattle.graph_layer.specs.LayerOpening.{IsLayerError}
 use Rattle.gix_commitgraph.specs.Paths.{layer_path}
 use Rattle.graph_format.specs.declared.TheConstants.{MAX_COMMITS}
-use Rattle.graph_format.specs.declared.error.GraphError.{GraphError}
 use Rattle.graph_format.specs.declared.error.GraphError.TheVariants.{NoFiles, TooManyCommits, HashMismatch}
 use Rattle.graph_format.specs.declared.error.GraphError.TheVariants.{OutOfMemory as graph_OutOfMemory}
 use Rattle.graph_layer.specs.declared.opening.error.OpenError.{OpenError}

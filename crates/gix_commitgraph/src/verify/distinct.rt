@@ -1,10 +1,13 @@
 //! Up to which position the ids of a graph are distinct.
 //!
-//! All ids are sorted once, so that equal ones stand side by side. A lookup of each id in each
-//! layer below would take time that grows with the number of layers.
+//! All ids are sorted once, so that equal ones stand side by side: first their fronts alone, and
+//! whole only where two have the same front. A lookup of each id in each layer below would take
+//! time that grows with the number of layers.
 
-ghost use Rattle.std.specs.Prelude.{◌^◌, ◌<◌, length, IfOk};
+ghost use Rattle.std.specs.Prelude.{◌≡◌, ◌^◌, ◌<◌, length, IfOk, IsTrue};
+ghost use Rattle.gix_hash_core.specs.Oid.{oid_bytes};
 ghost use Rattle.gix_commitgraph.specs.IdPlaces.{ComesBeforeRepeats};
+ghost use Rattle.gix_commitgraph.specs.Fronts.{front_of};
 
 use crate::Position;
 use crate::graph::Graph;
@@ -21,7 +24,7 @@ pub(super) struct IdPlace<'a> {
 }
 
 impl Graph {
-    ghost use Rattle.gix_commitgraph.specs.Distinct.{AreDistinctBelow};
+    ghost use Rattle.gix_commitgraph.specs.Distinct.{AreDistinct, AreDistinctBelow};
     ghost use Rattle.gix_commitgraph.specs.IdPlaces.{AreIdPlaces};
 
     /// A position below which no two commits have one id. Where distinct ids are asked for in more
@@ -40,9 +43,25 @@ impl Graph {
         if !options.distinct_ids || first > 0 || self.files.len() == 1 {
             return Ok(0);
         }
+        if self.has_distinct_fronts(alloc)? {
+            return Ok(self.num_commits());
+        }
         let mut places = self.id_places(alloc)?;
         places.sort()?;
         Ok(first_repeat(&places))
+    }
+
+    /// Whether no two ids have the same front. Then all are distinct.
+    fn has_distinct_fronts(&self, alloc: Global) -> Result<bool, AllocError>
+        ensures { IfOk result (λ are. IsTrue are → AreDistinct self.now) }
+    {
+        let mut fronts = Vec::new(alloc);
+        fronts.reserve(self.num_commits() as usize)?;
+        for id in self.iter_ids() {
+            fronts.push(front(id))?;
+        }
+        fronts.sort()?;
+        Ok(fronts.is_sorted_by(|front, next| front < next))
     }
 
     /// The ids of the first commits, up to one whose own id has a fault: the check gets no further.
@@ -65,6 +84,14 @@ impl Graph {
         }
         Ok(places)
     }
+}
+
+/// The number that the first eight bytes of an id make.
+fn front(id: oid<'_>) -> u64
+    ensures { result ≡ front_of (oid_bytes id.entry) }
+{
+    let id = id.as_bytes();
+    u64::from_be_bytes([id[0], id[1], id[2], id[3], id[4], id[5], id[6], id[7]])
 }
 
 /// The least position of a place whose id is that of the place before it, and else the number of

@@ -1,6 +1,5 @@
 use Rattle.std.proofs.Common.{◌≡◌, ◌∷◌, ◌++◌, [], refl, sym, ap, ◌∙◌}
 use Rattle.gix_commitgraph.specs.Graph.{total}
-use Rattle.gix_commitgraph.specs.LayerStarts.{AreStarts}
 use Rattle.gix_commitgraph.proofs.LayerListLemmas.{graph-accepted}
 use Rattle.gix_commitgraph.proofs.LayerStartLemmas.{starts-pushed}
 use Rattle.gix_commitgraph.proofs.graph.Graph.push.Goals as goal

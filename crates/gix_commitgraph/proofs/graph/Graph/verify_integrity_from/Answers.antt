@@ -1,4 +1,4 @@
-use Rattle.std.proofs.Common.{refl, rules}
+use Rattle.std.proofs.Common.{rules}
 use Rattle.gix_commitgraph.proofs.HeadlineLemmas.{judged_with, right_stats}
 use Rattle.gix_commitgraph.proofs.RightBelowLemmas.{numbered, whole_fault}
 use Rattle.gix_commitgraph.proofs.SoundLemmas.{ordered-all}

@@ -6,7 +6,7 @@ use Rattle.graph_format.specs.StoredHistory.{history_of}
 use Rattle.graph_layer.specs.Remaining.{commits_left}
 use Rattle.graph_format.specs.Layer.{positions_from}
 use Rattle.graph_format.proofs.PointLemmas.{ran_out}
-use Rattle.gix_commitgraph.proofs.GraphHistoryLemmas.{node_at}
+use Rattle.gix_commitgraph.proofs.HistoryLemmas.{node_at}
 use Rattle.gix_commitgraph.proofs.LayerSpanLemmas.{span-commit, span-stop, take-next, take-fits, parents-told}
 use Rattle.gix_commitgraph.proofs.LayerCheckLemmas.{turn, place-none, refused_by_bases, reached_first, stops_at_commit}
 use Rattle.gix_commitgraph.proofs.LayerCheckLemmas.{reached_next, layer_passed}

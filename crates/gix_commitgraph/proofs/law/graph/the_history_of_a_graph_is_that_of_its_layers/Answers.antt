@@ -1,5 +1,5 @@
-use Rattle.gix_commitgraph.proofs.HistoryLemmas.{history-counted, history-placed}
+use Rattle.gix_commitgraph.proofs.GraphHistoryLemmas.{length-history, history-placed}
 use Rattle.gix_commitgraph.proofs.law.graph.the_history_of_a_graph_is_that_of_its_layers.Goals as goal
 
 pub returns : goal.returns
-returns c = record { counted = history-counted; placed = history-placed }
+returns c = record { counted = length-history; placed = history-placed }
