@@ -29,7 +29,6 @@ import time
 import lookup
 
 SOURCES = os.path.join(lookup.TOP, "bench", "ancestor")
-PROGRAM = "ancestor_bench"
 PROGRAM_LIBRARIES = ["gix_hash_core", "gix_commitgraph", "graph_history", "anyhow"]
 PAIRS = 1000
 FIRST_PAIRS = PAIRS // 10
@@ -134,29 +133,30 @@ def commit_of(place):
     return "\n".join(lines + ["", ""]).encode()
 
 
-def baseline_program(folder):
-    """The path of the baseline, built."""
-    program = os.path.join(folder, "ancestor_baseline")
+def baseline_program(folder, sources=SOURCES):
+    """The path of the baseline in a folder of sources, built."""
+    program = os.path.join(folder, os.path.basename(sources) + "_baseline")
     flags = ["--edition", "2024", "-O", "-C", "target-cpu=x86-64-v2", "-C", "codegen-units=1"]
-    subprocess.check_call(["rustc"] + flags + [os.path.join(SOURCES, "baseline.rs"), "-o", program])
+    subprocess.check_call(["rustc"] + flags + [os.path.join(sources, "baseline.rs"), "-o", program])
     return program
 
 
-def our_program(folder):
-    """The path of our program, proved and built in a repository of its own over copies of the crates."""
-    repository = os.path.join(folder, "ancestor_repository")
-    crate = os.path.join(repository, "crates", PROGRAM)
+def our_program(folder, sources=SOURCES):
+    """The path of our program in a folder of sources, proved and built in a repository of its own over copies of crates."""
+    name = os.path.basename(sources)
+    repository, program = os.path.join(folder, name + "_repository"), name + "_bench"
+    crate = os.path.join(repository, "crates", program)
     os.makedirs(os.path.join(crate, "src"), exist_ok=True)
     if not os.path.exists(os.path.join(repository, ".git")):
         subprocess.check_call(["git", "init", "--quiet", repository])
     libraries = lookup.needed(PROGRAM_LIBRARIES, lookup.crates())
     with open(os.path.join(repository, "crates.txt"), "w") as file:
-        for name, uses in [*libraries.items(), (PROGRAM, PROGRAM_LIBRARIES)]:
+        for name, uses in [*libraries.items(), (program, PROGRAM_LIBRARIES)]:
             file.write("%s: %s\n" % (name, " ".join(uses)))
     for library in libraries:
         lookup.copy_crate(library, repository)
-    shutil.copyfile(os.path.join(SOURCES, "main.rt.txt"), os.path.join(crate, "src", "main.rt"))
-    built = os.path.join(crate, "out", PROGRAM)
+    shutil.copyfile(os.path.join(sources, "main.rt.txt"), os.path.join(crate, "src", "main.rt"))
+    built = os.path.join(crate, "out", program)
     if os.path.exists(built):
         os.remove(built)
     # With no arguments the program says how it is called, and fails.

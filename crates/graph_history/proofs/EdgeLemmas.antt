@@ -100,7 +100,7 @@ module _ (h : List Node) (coats : List Coat) (queue rest : List (ℕ × ℕ)) (n
 
 -- Nothing is visited yet.
 module _ (h : List Node) (a : ℕ) (bs : List ℕ) (coats : List Coat) (none : (p : ℕ) → coat_at coats p ≡ bare) where
-  none_counted : (t : Coat → Bool) → t bare ≡ false → count_by t coats ≡ 0
+  pub none_counted : (t : Coat → Bool) → t bare ≡ false → count_by t coats ≡ 0
   none_counted t unmet =
       ⊎_elim
       (λ (lt : 0 < count_by t coats).

@@ -15,6 +15,7 @@ pub mod PushLemmas
 pub mod ReachLemmas
 pub mod PaintLemmas
 pub mod CoatLemmas
+pub mod TouchLemmas
 pub mod PassLemmas
 pub mod BaseLemmas
 pub mod FoundLemmas

@@ -1,12 +1,12 @@
 -- A file that is put on top of a checked graph, and taken off again where its check fails.
-use Rattle.std.proofs.Common.{◌≡◌, ℕ, ◌+◌, ◌<◌, List, [], ◌∷◌, ◌++◌, length, take, Option, Some, None, Result, Ok, Err, refl, sym}
+use Rattle.std.proofs.Common.{◌≡◌, ℕ, ◌<◌, List, [], ◌∷◌, ◌++◌, length, take, Option, Some, None, Result, Err, sym}
 use Rattle.std.proofs.Common.{ap, ◌∙◌, arith}
 use Rattle.std.specs.Prelude.{MatchOption}
 use Rattle.std.proofs.Math.Seq.{take-append_seam}
 use Rattle.std.proofs.lemmas.List.{length_push}
 use Rattle.graph_format.specs.Layer.{Layer}
 use Rattle.graph_format.specs.Points.{Point, Agrees, first_fault}
-use Rattle.gix_commitgraph.specs.Distinct.{IsSoundWith, IsDeservedWith}
+use Rattle.gix_commitgraph.specs.Distinct.{IsDeservedWith}
 use Rattle.gix_commitgraph.specs.Verify.{points_with, cause_of}
 use Rattle.gix_commitgraph.specs.declared.verify.Outcome.{Outcome}
 use Rattle.gix_commitgraph.specs.declared.verify.VerifyError.{VerifyError}

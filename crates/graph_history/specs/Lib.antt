@@ -8,5 +8,6 @@ pub mod BreadthFirst
 pub mod Commits
 pub mod Search
 pub mod Bases
+pub mod Comparison
 pub mod Paint
 pub mod Painting

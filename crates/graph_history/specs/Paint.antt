@@ -142,3 +142,9 @@ pub record IsCounted (coats : Coats) : Type 0 where
 pub record IsPaint (history : List Node) (start : ℕ) (starts : List ℕ) (coats : List Coat) : Type 0 where
   pub coats_len : length coats ≡ length history
   pub each : (p : ℕ) → IsSo history start starts p (paint_at coats p)
+
+-- Nothing is known of any of n commits.
+pub record AreIdle (n : ℕ) (coats : Coats) : Type 0 where
+  pub coats_len : length coats.all.items ≡ n
+  pub bare : (p : ℕ) → coat_at coats.all.items p ≡ bare
+  pub counted : IsCounted coats

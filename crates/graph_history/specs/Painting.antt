@@ -16,7 +16,7 @@ use Rattle.graph_history.specs.Answer.{numbers_of}
 use Rattle.graph_history.specs.Bases.{IsMergeBase, IsAhead, IsBehind, IsStart, AreBelowCap}
 use Rattle.graph_history.specs.Paint.{is_on_one_side, is_visited}
 use Rattle.graph_history.specs.Paint.{first_leads, others_lead, is_stale, is_painted, is_ahead, is_behind, is_base, passed}
-use Rattle.graph_history.specs.Paint.{unknown}
+use Rattle.graph_history.specs.Paint.{unknown, bare}
 use Rattle.graph_history.specs.Paint.{paint_at, coat_at, is_queued, Grows, IsCounted, IsPaint}
 use Rattle.graph_history.specs.declared.paint.Coat.{Coat}
 use Rattle.graph_history.specs.declared.paint.Paint.{Paint}
@@ -102,6 +102,13 @@ pub record IsVisiting (history : List Node) (start : ℕ) (starts : List ℕ) (c
       → (e : ℕ) × IsKnownEdge history start starts coats e × (generation_at history e ≤ generation_at history p)
   pub count : visits ≡ count_by is_visited coats
 
+-- nothing is known of p, or it was taken from the queue, or is there
+abbrev pub IsTouched : List Coat → List ℕ → List (ℕ × ℕ) → ℕ → Type 0
+IsTouched coats taken queue p = (coat_at coats p ≡ bare) ⊎ (Contains taken p ⊎ ((g : ℕ) × Contains queue (g, p)))
+
+abbrev pub AreTouched : List Coat → List ℕ → List (ℕ × ℕ) → Type 0
+AreTouched coats taken queue = (p : ℕ) → IsTouched coats taken queue p
+
 -- what is left to do: a bound on how often a commit is taken from the queue
 abbrev pub work : List Coat → List (ℕ × ℕ) → ℕ
 work coats queue = 2 * sum_by (λ coat. unknown coat.paint) coats + length queue
@@ -115,6 +122,7 @@ pub record IsPainting (s : Painting) : Type 0 where
   pub paint : IsPaint (history_of s.graph.now) s.first.0 (numbers_of s.others.now) s.coats.all.items
   pub waiting : IsWaiting (history_of s.graph.now) s.coats.all.items (heap_items s.queue)
   pub gathered : AreGathered s.coats.all.items s.gathered.items
+  pub touched : AreTouched s.coats.all.items s.taken.items (heap_items s.queue)
   pub visiting : AreBelowCap (history_of s.graph.now) s.first.0 (numbers_of s.others.now)
       → IsVisiting (history_of s.graph.now) s.first.0 (numbers_of s.others.now) s.coats.all.items s.visits
 

@@ -1,17 +1,21 @@
 //! What a commit and some others have in common, and how far they have come apart.
 
-ghost use Rattle.std.specs.Prelude.{◌<◌, All, IfOk};
+ghost use Rattle.std.specs.Prelude.{◌≡◌, ◌<◌, All, IfOk};
 ghost use Rattle.graph_format.specs.StoredHistory.{history_of};
 ghost use Rattle.gix_commitgraph.specs.Graph.{total};
 ghost use Rattle.graph_history.specs.Answer.{numbers_of};
 ghost use Rattle.graph_history.specs.Bases.{AreMergeBases, IsAhead, IsBehind};
 ghost use Rattle.graph_history.specs.Bases.{AreBelowCap, AreVisits};
+ghost use Rattle.graph_history.specs.Comparison.{IsComparisonOf};
 ghost use Rattle.graph_history.specs.Counts.{IsNumberOf};
+ghost use Rattle.graph_history.specs.Paint.{AreIdle};
 
 use crate::checked::Checked;
+use crate::paint::Coats;
 use crate::painting::paint_from;
 use gix_commitgraph::Position;
 use std::alloc::{AllocError, Global};
+use std::marker::Model;
 
 /// The merge bases of a commit and some others.
 #[derive(Debug, Drop)]
@@ -121,13 +125,95 @@ impl<'g> Checked<'g> {
         ensures behind { IfOk result (λ c. IsNumberOf c.divergence.behind
             (IsBehind (history_of self.now) first.0 (numbers_of others.now))) }
     {
-        let mut painting = paint_from(alloc, self, first, others)?;
-        let divergence = painting.divergence();
-        let visits = painting.visits();
-        let positions = painting.bases(alloc)?;
-        Ok(Comparison {
-            bases: Bases { positions, visits },
-            divergence,
-        })
+        Comparer::new(alloc, self).compare(first, others)
     }
+}
+
+/// Compares commits of a graph that is right, and keeps its memory from one call to the next: two
+/// bytes for each commit of the graph, asked for at the first call. What a call marks there is
+/// cleared after it, and no more than that.
+///
+/// A contract sees it as the list of the graph's layers.
+#[derive(Drop)]
+pub struct Comparer<'c, 'g> {
+    alloc: Global,
+    graph: &'c Checked<'g>,
+    /// The coats of all commits, idle between calls.
+    coats: Option<Coats>,
+}
+
+impl<'c, 'g> Model for Comparer<'c, 'g> {
+    ghost use Rattle.std.specs.Prelude.{List, IfSome};
+    ghost use Rattle.graph_format.specs.Layer.{Layer};
+    ghost use Rattle.gix_commitgraph.specs.Graph.{total};
+    ghost use Rattle.graph_history.specs.Paint.{AreIdle};
+
+    ghost Value = { List Layer };
+
+    ghost view = { λ a. a.graph.now };
+
+    ghost invariant = { λ a. IfSome a.coats (AreIdle (total a.graph.now)) };
+}
+
+impl<'c, 'g> Comparer<'c, 'g> {
+    /// For the commits of a graph. Nothing is allocated yet.
+    pub fn new(alloc: Global, graph: &'c Checked<'g>) -> Comparer<'c, 'g>
+        ensures { result ≡ graph.now }
+    {
+        Comparer {
+            alloc,
+            graph,
+            coats: None,
+        }
+    }
+
+    /// What [`Checked::compare`] answers. After the first call, one costs no more than what it
+    /// visits.
+    ///
+    /// # Errors
+    ///
+    /// An allocation failed. Further calls may be made, and the first asks for the memory again.
+    pub fn compare(
+        &mut self,
+        first: Position,
+        others: &[Position],
+    ) -> Result<Comparison, AllocError>
+        requires first { first.0 < total self.old }
+        requires others { All (λ other. other.0 < total self.old) others.now }
+        ensures graph { self.new ≡ self.old }
+        ensures exact { IfOk result (IsComparisonOf self.old first.0 (numbers_of others.now)) }
+    {
+        let coats = match self.coats.take() {
+            Some(coats) => coats,
+            None => Coats::new(self.alloc, self.graph.num_commits())?,
+        };
+        let (comparison, coats) = compared(self.alloc, coats, self.graph, first, others)?;
+        self.coats = Some(coats);
+        Ok(comparison)
+    }
+}
+
+/// What a commit and some others have in common, and how far they have come apart; and the coats,
+/// which are idle before and after.
+fn compared(
+    alloc: Global,
+    coats: Coats,
+    graph: &Checked<'_>,
+    first: Position,
+    others: &[Position],
+) -> Result<(Comparison, Coats), AllocError>
+    requires idle { AreIdle (total graph.now) coats }
+    requires first { first.0 < total graph.now }
+    requires others { All (λ other. other.0 < total graph.now) others.now }
+    ensures exact { IfOk result (λ answer.
+        IsComparisonOf graph.now first.0 (numbers_of others.now) answer.0) }
+    ensures idle { IfOk result (λ answer. AreIdle (total graph.now) answer.1) }
+{
+    let mut painting = paint_from(alloc, coats, graph, first, others)?;
+    let divergence = painting.divergence();
+    let visits = painting.visits();
+    let positions = painting.bases(alloc)?;
+    let bases = Bases { positions, visits };
+    let comparison = Comparison { bases, divergence };
+    Ok((comparison, painting.into_coats()))
 }

@@ -116,6 +116,14 @@ impl<'g> Checked<'g> {
         }
     }
 
+    /// The options of the check: what the graph keeps besides what every right graph keeps. Where
+    /// they ask for distinct ids, [`Checked::find`] answers the only position of an id.
+    pub fn options(&self) -> VerifyOptions
+        ensures kept { IsSoundWith result self.now }
+    {
+        self.options
+    }
+
     /// A searcher over the graph, for several queries one after another. Nothing is allocated yet.
     pub fn searcher(&self, alloc: Global) -> Searcher<'g>
         ensures { result ≡ self.now }

@@ -4,7 +4,8 @@
 //! checked graph says of each of its commits what the file says, and whether one commit is an
 //! ancestor of another, and by which shortest walk along parents. A [`Searcher`] answers many such
 //! queries over one memory. A checked graph also says which merge bases some commits have, and how
-//! far they have come apart: a [`Comparison`] is both. Queries rely on the generation numbers,
+//! far they have come apart: a [`Comparison`] is both, and a [`Comparer`] makes many of them over
+//! one memory. Queries rely on the generation numbers,
 //! which the check has found right, and leave out each commit whose number is too low to lead to
 //! the one that is looked for ("topological level" in Git's commit-graph design).
 #![tactic(auto)]
@@ -26,7 +27,7 @@ mod searcher;
 mod walk;
 mod words;
 
-pub use bases::{Bases, Comparison, Divergence};
+pub use bases::{Bases, Comparer, Comparison, Divergence};
 pub use checked::{Checked, NoFault};
 use gix_commitgraph::Position;
 pub use owned::{CheckedGraph, PushError};

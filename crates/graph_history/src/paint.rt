@@ -1,9 +1,9 @@
 //! What is known of the ways to the commits of a graph from a commit and some others.
 
-ghost use Rattle.std.specs.Prelude.{◌≡◌, ◌+◌, ◌<◌, ◌≤◌, ◌^◌, ℕ, cond, length, slice_set, IfOk};
+ghost use Rattle.std.specs.Prelude.{◌≡◌, ◌≢◌, ◌+◌, ◌<◌, ◌≤◌, ◌^◌, ℕ, cond, length, slice_set, IfOk};
 ghost use Rattle.graph_history.specs.Paint.{first_leads, others_lead, is_stale, is_ahead};
 ghost use Rattle.graph_history.specs.Paint.{is_behind, is_base, covers, joined, passed};
-ghost use Rattle.graph_history.specs.Paint.{is_fresh, bare, coat_at, IsCounted};
+ghost use Rattle.graph_history.specs.Paint.{is_fresh, bare, coat_at, AreIdle, IsCounted};
 
 use gix_commitgraph::Position;
 use std::alloc::{AllocError, Global};
@@ -109,6 +109,12 @@ pub(crate) struct Coat {
     pub(crate) queued: bool,
 }
 
+/// The coat of a commit of which nothing is known.
+const BARE: Coat = Coat {
+    paint: Paint::Bare,
+    queued: false,
+};
+
 impl Coat {
     /// Whether the commit is in the queue, and a base may lie there or below it.
     fn is_fresh(self) -> bool
@@ -133,15 +139,9 @@ pub(crate) struct Coats {
 impl Coats {
     /// Those of so many commits, of which nothing is known.
     pub(crate) fn new(alloc: Global, commits: u32) -> Result<Coats, AllocError>
-        ensures len { IfOk result (λ coats. length coats.all.items ≡ commits) }
-        ensures bare { IfOk result (λ coats. (p : ℕ) → coat_at coats.all.items p ≡ bare) }
-        ensures counted { IfOk result IsCounted }
+        ensures { IfOk result (AreIdle commits) }
     {
-        let bare = Coat {
-            paint: Paint::Bare,
-            queued: false,
-        };
-        let all = vec![in alloc; bare; commits as usize]?;
+        let all = vec![in alloc; BARE; commits as usize]?;
         Ok(Coats {
             all,
             fresh: 0,
@@ -171,6 +171,32 @@ impl Coats {
         self.ahead = recounted(self.ahead, old.paint.is_ahead(), coat.paint.is_ahead());
         self.behind = recounted(self.behind, old.paint.is_behind(), coat.paint.is_behind());
         self.all[commit.0 as usize] = coat;
+    }
+
+    /// Makes the coat of a commit bare, where there is one. The counts stay.
+    pub(crate) fn uncover(&mut self, number: u32)
+        ensures len { length self.new.all.items ≡ length self.old.all.items }
+        ensures here { coat_at self.new.all.items number ≡ bare }
+        ensures there { (p : ℕ) → p ≢ number
+            → coat_at self.new.all.items p ≡ coat_at self.old.all.items p }
+    {
+        let at = number as usize;
+        if at < self.all.len() {
+            self.all[at] = BARE;
+        }
+    }
+
+    /// The same coats, where all of them are bare, with right counts.
+    pub(crate) fn into_idle(self) -> Coats
+        requires { (p : ℕ) → coat_at self.all.items p ≡ bare }
+        ensures { AreIdle (length self.all.items) result }
+    {
+        Coats {
+            all: self.all,
+            fresh: 0,
+            ahead: 0,
+            behind: 0,
+        }
     }
 }
 

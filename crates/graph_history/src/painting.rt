@@ -13,10 +13,10 @@ ghost use Rattle.graph_history.specs.Bases.{AreBelowCap, AreVisits};
 ghost use Rattle.graph_history.specs.Painting.{IsKnownEdge, IsVisiting};
 ghost use Rattle.graph_history.specs.Paint.{is_painted, is_stale, is_queued};
 ghost use Rattle.graph_history.specs.Paint.{is_ahead, is_behind, is_base, bare, coat_at, paint_at};
-ghost use Rattle.graph_history.specs.Paint.{IsSo, IsCounted, IsPaint};
+ghost use Rattle.graph_history.specs.Paint.{IsSo, IsCounted, IsPaint, AreIdle};
 ghost use Rattle.graph_history.specs.Painting.{IsSpread, IsSpreadBut, IsLevel, Joins, Adds};
 ghost use Rattle.graph_history.specs.Painting.{AreGathered, IsDone, IsPainting, IsPainted};
-ghost use Rattle.graph_history.specs.Painting.{AreBases, work};
+ghost use Rattle.graph_history.specs.Painting.{AreBases, AreTouched, work};
 
 use crate::bases::Divergence;
 use crate::checked::Checked;
@@ -42,6 +42,8 @@ pub(crate) struct Painting<'p, 'g> {
     /// The positions of the commits that came to be merge bases as far as was known, and may still
     /// be.
     gathered: Vec<u32>,
+    /// The positions of the commits that were taken from the queue.
+    taken: Vec<u32>,
     /// How many commits were taken from the queue.
     visits: u64,
 }
@@ -50,28 +52,32 @@ impl<'p, 'g> Painting<'p, 'g> {
     /// A painting that knows nothing.
     fn new(
         alloc: Global,
+        coats: Coats,
         graph: &'p Checked<'g>,
         first: Position,
         others: &'p [Position],
-    ) -> Result<Painting<'p, 'g>, AllocError>
-        ensures graph { IfOk result (λ s. s.graph.now ≡ graph.now) }
-        ensures first { IfOk result (λ s. s.first ≡ first) }
-        ensures others { IfOk result (λ s. s.others.now ≡ others.now) }
-        ensures painting { IfOk result IsPainting }
-        ensures bare { IfOk result (λ s. (p : ℕ) → coat_at s.coats.all.items p ≡ bare) }
-        ensures empty { IfOk result (λ s. heap_items s.queue ≡ []) }
+    ) -> Painting<'p, 'g>
+        requires idle { AreIdle (total graph.now) coats }
+        ensures graph { result.graph.now ≡ graph.now }
+        ensures first { result.first ≡ first }
+        ensures others { result.others.now ≡ others.now }
+        ensures painting { IsPainting result }
+        ensures bare { (p : ℕ) → coat_at result.coats.all.items p ≡ bare }
+        ensures empty { heap_items result.queue ≡ [] }
     {
         the_history_of_a_graph_is_that_of_its_layers();
-        let coats = Coats::new(alloc, graph.num_commits())?;
-        Ok(Painting {
+        // The contract of `num_commits` says that the layers make a graph.
+        let _commits = graph.num_commits();
+        Painting {
             graph,
             first,
             others,
             coats,
             queue: BinaryHeap::new(alloc),
             gathered: Vec::new(alloc),
+            taken: Vec::new(alloc),
             visits: 0,
-        })
+        }
     }
 
     /// Puts a commit into the queue, where it is not there.
@@ -83,6 +89,7 @@ impl<'p, 'g> Painting<'p, 'g> {
         ensures others { self.new.others.now ≡ self.old.others.now }
         ensures coats { self.new.coats ≡ self.old.coats }
         ensures gathered { self.new.gathered.items ≡ self.old.gathered.items }
+        ensures taken { self.new.taken.items ≡ self.old.taken.items }
         ensures visits { self.new.visits ≡ self.old.visits }
         ensures len { OnOk result (length (heap_items self.new.queue)
             ≡ length (heap_items self.old.queue)
@@ -104,6 +111,7 @@ impl<'p, 'g> Painting<'p, 'g> {
         ensures others { self.new.others.now ≡ self.old.others.now }
         ensures coats { self.new.coats ≡ self.old.coats }
         ensures queue { heap_items self.new.queue ≡ heap_items self.old.queue }
+        ensures taken { self.new.taken.items ≡ self.old.taken.items }
         ensures visits { self.new.visits ≡ self.old.visits }
         ensures gathered { OnOk result (self.new.gathered.items
             ≡ (if is_base paint then self.old.gathered.items ++ commit.0 ∷ []
@@ -206,6 +214,8 @@ impl<'p, 'g> Painting<'p, 'g> {
         ensures first { self.new.first ≡ self.old.first }
         ensures others { self.new.others.now ≡ self.old.others.now }
         ensures counted { OnOk result (IsCounted self.new.coats) }
+        ensures touched { OnOk result (AreTouched self.new.coats.all.items self.new.taken.items
+            (heap_items self.new.queue)) }
         ensures gathered { OnOk result (AreGathered self.new.coats.all.items
             self.new.gathered.items) }
         ensures paint { OnOk result (IsPaint (history_of self.old.graph.now) self.old.first.0
@@ -221,6 +231,7 @@ impl<'p, 'g> Painting<'p, 'g> {
     {
         generations_never_rise_along_walks();
         while let Some(next) = self.queue.pop() {
+            self.taken.push(next.1)?;
             let is_below_cap = next.0 < GENERATION_NUMBER_MAX;
             if self.coats.fresh == 0 && is_below_cap {
                 return Ok(());
@@ -260,6 +271,8 @@ impl<'p, 'g> Painting<'p, 'g> {
     pub(crate) fn bases(&mut self, alloc: Global) -> Result<Vec<Position>, AllocError>
         requires { AreGathered self.old.coats.all.items self.old.gathered.items }
         ensures coats { self.new.coats ≡ self.old.coats }
+        ensures queue { heap_items self.new.queue ≡ heap_items self.old.queue }
+        ensures taken { self.new.taken.items ≡ self.old.taken.items }
         ensures visits { self.new.visits ≡ self.old.visits }
         ensures bases { IfOk result (λ bases. AreBases self.old.coats.all.items
             (numbers_of bases.items)) }
@@ -274,19 +287,43 @@ impl<'p, 'g> Painting<'p, 'g> {
         }
         Ok(bases)
     }
+
+    /// The coats, all of them bare again. Only the commits that were painted are gone over.
+    pub(crate) fn into_coats(self) -> Coats
+        requires { AreTouched self.coats.all.items self.taken.items (heap_items self.queue) }
+        ensures { AreIdle (length self.entry.coats.all.items) result }
+    {
+        let Painting {
+            mut coats,
+            mut queue,
+            mut taken,
+            ..
+        } = self;
+        while let Some(next) = queue.pop() {
+            coats.uncover(next.1);
+        }
+        while let Some(number) = taken.pop() {
+            coats.uncover(number);
+        }
+        coats.into_idle()
+    }
 }
 
 /// Paints a graph from a commit and some others.
 pub(crate) fn paint_from<'p, 'g>(
     alloc: Global,
+    coats: Coats,
     graph: &'p Checked<'g>,
     first: Position,
     others: &'p [Position],
 ) -> Result<Painting<'p, 'g>, AllocError>
+    requires idle { AreIdle (total graph.now) coats }
     requires first { first.0 < total graph.now }
     requires others { All (λ other. other.0 < total graph.now) others.now }
     ensures commits { IfOk result (λ _. total graph.now ≡ length (history_of graph.now)) }
     ensures counted { IfOk result (λ s. IsCounted s.coats) }
+    ensures touched { IfOk result (λ s. AreTouched s.coats.all.items s.taken.items
+        (heap_items s.queue)) }
     ensures gathered { IfOk result (λ s. AreGathered s.coats.all.items s.gathered.items) }
     ensures painted { IfOk result (λ s. IsPainted (history_of graph.now) first.0
         (numbers_of others.now) s.coats.all.items) }
@@ -296,7 +333,7 @@ pub(crate) fn paint_from<'p, 'g>(
 {
     generations_never_rise_along_walks();
     generations_fall_along_walks();
-    let mut painting = Painting::new(alloc, graph, first, others)?;
+    let mut painting = Painting::new(alloc, coats, graph, first, others);
     painting.add(first, Paint::First)?;
     for other in others {
         painting.add(*other, Paint::Others)?;

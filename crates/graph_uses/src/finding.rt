@@ -1,7 +1,8 @@
 //! Finding a commit by its id.
 
-ghost use Rattle.std.specs.Prelude.{◌≡◌, ◌<◌, ℕ, List, IfErr, IfOk, IfSome};
+ghost use Rattle.std.specs.Prelude.{◌≡◌, ◌<◌, ℕ, List, IfErr, IfOk, IfSome, Some, slice_get};
 ghost use Rattle.gix_hash_core.specs.Hexadecimal.{SpellsId, SpellsNone};
+ghost use Rattle.gix_hash_core.specs.Oid.{oid_bytes};
 ghost use Rattle.gix_commitgraph.specs.Graph.{graph_ids, total};
 ghost use Rattle.gix_commitgraph.specs.GraphLookup.{position_number};
 ghost use Rattle.gix_commitgraph.specs.Lookup.{scan};
@@ -22,6 +23,19 @@ pub fn find(graph: &Checked<'_>, id: &str) -> Result<Option<Position>, IdError>
 {
     let id = ObjectId::from_hex(id.as_bytes())?;
     Ok(graph.find(id.as_oid()))
+}
+
+/// The position of the commit with an id, where the check of the graph has found that no other
+/// position holds the id. `None` where that was not asked, or the graph has no such commit.
+pub fn only_position(graph: &Checked<'_>, id: oid<'_>) -> Option<Position>
+    ensures { IfSome result (λ pos. (p : ℕ) → p < total graph.now
+        → slice_get (graph_ids graph.now) p ≡ Some (oid_bytes id.entry) → pos.0 ≡ p) }
+{
+    if graph.options().distinct_ids {
+        graph.find(id)
+    } else {
+        None
+    }
 }
 
 /// When the commit with an id was made, in seconds since 1970-01-01 00:00:00 UTC; or `None` where

@@ -1,10 +1,10 @@
 use gix_commitgraph::opening::OpenError;
-use gix_commitgraph::verify::{CommitFault, VerifyError};
+use gix_commitgraph::verify::{CommitFault, VerifyError, VerifyOptions};
 use gix_commitgraph::{FileError, Graph, Position};
 use gix_hash_core::{IdError, Kind, ObjectId};
 use graph_history::CheckedGraph;
 use graph_uses::checked::open_checked;
-use graph_uses::finding::{find, time_of};
+use graph_uses::finding::{find, only_position, time_of};
 use graph_uses::in_memory::open_bytes;
 use graph_uses::parents::parents_of;
 use graph_uses::query::parents_at_path;
@@ -152,6 +152,19 @@ fn expect_refusal<R: Files + Abort>(rt: &R, alloc: Global, path: &str, want: &st
             let text = error.to_string(alloc).expect(rt, "memory for a text");
             assert_eq!(rt; text.as_str(), want);
         }
+    }
+}
+
+#[test]
+fn an_id_has_one_position_where_that_was_asked(rt: HostRuntime) {
+    let alloc = rt.alloc();
+    for (distinct_ids, position) in [(false, None), (true, Some(Position(2)))] {
+        let options = VerifyOptions { distinct_ids };
+        let graph = CheckedGraph::new_with(alloc, options, graph_of(&rt, alloc, DIAMOND));
+        let graph = graph.expect(&rt, "a right graph");
+        let checked = graph.as_checked();
+        assert_eq!(rt; only_position(&checked, id(0x33).as_oid()), position);
+        assert_eq!(rt; only_position(&checked, id(0x55).as_oid()), None);
     }
 }
 

@@ -13,16 +13,16 @@ use Rattle.graph_history.proofs.painting.paint_from.Goals as goal
 
 pub add-requires-clause-so : goal.add-requires-clause-so
 add-requires-clause-so c =
-    let p = c.in_ok-painting.ensures in
+    let p = c.new-painting.ensures in
     let commits = rw p.graph at p.painting.commits in
     let within : c.args.first.0 < length (history_of c.args.graph.now) = omega (arith, commits, c.requires.first) in
     rw (p.graph, p.first)
-    (so_first (history_of c.args.graph.now) c.args.first.0 (numbers_of c.in_ok-painting.painting.others.now) within)
+    (so_first (history_of c.args.graph.now) c.args.first.0 (numbers_of c.new-painting.result.others.now) within)
 
 pub loop-other-init : goal.loop-other-init
 loop-other-init c =
-    let p = c.in_ok-painting.ensures in
-    let s = c.in_ok-painting.painting in
+    let p = c.new-painting.ensures in
+    let s = c.new-painting.result in
     let h = history_of c.args.graph.now in
     let commits = rw p.graph at p.painting.commits in
     let sound = rw p.graph at p.painting.sound in

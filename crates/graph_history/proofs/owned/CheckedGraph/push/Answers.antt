@@ -1,11 +1,9 @@
-use Rattle.std.proofs.Common.{◌≡◌, ◌≤◌, ◌∷◌, ◌++◌, [], List, length, take, sym, ap, subst, ◌∙◌, arith, rules}
+use Rattle.std.proofs.Common.{◌≡◌, ◌≤◌, ◌∷◌, ◌++◌, [], length, take, sym, ap, subst, ◌∙◌, arith, rules}
 use Rattle.std.proofs.Math.Seq.{take-append_seam}
 use Rattle.std.proofs.lemmas.List.{length_push}
-use Rattle.graph_format.specs.Layer.{Layer}
 use Rattle.gix_commitgraph.specs.Distinct.{IsSoundWith}
 use Rattle.gix_commitgraph.specs.Verify.{points_from}
 use Rattle.graph_history.specs.Checked.{MayRefusePush, MayRefuseWith}
-use Rattle.graph_history.specs.declared.checked.NoFault.{NoFault}
 use Rattle.graph_history.specs.declared.owned.PushError.TheVariants as push
 use Rattle.graph_history.proofs.PushLemmas.{popped, refused_as_whole}
 use Rattle.graph_history.proofs.owned.CheckedGraph.push.Goals.{Joined-pop}

@@ -8,6 +8,7 @@ use Rattle.graph_history.specs.declared.paint.Coats.{Coats}
 use Rattle.graph_history.specs.declared.paint.Paint.{Paint}
 use Rattle.graph_history.proofs.CoatLemmas.{coat_with, added_by}
 use Rattle.graph_history.proofs.EdgeLemmas.{visiting_added}
+use Rattle.graph_history.proofs.TouchLemmas.{touched_added}
 use Rattle.graph_history.proofs.painting.Painting.add.Goals as goal
 
 pub set-requires-clause-few : goal.set-requires-clause-few
@@ -32,6 +33,7 @@ returns c =
     let graph = c.gather.ensures.graph ∙ c.enqueue.ensures.graph in
     let first = c.gather.ensures.first ∙ c.enqueue.ensures.first in
     let others = c.gather.ensures.others ∙ c.enqueue.ensures.others in
+    let taken = c.gather.ensures.taken ∙ c.enqueue.ensures.taken in
     let visits = c.gather.ensures.visits ∙ c.enqueue.ensures.visits in
     let inside : p < length s.coats.all.items = omega (arith, within, r.painting.paint.coats_len) in
     let after =
@@ -51,6 +53,10 @@ returns c =
         waiting = rw (graph, c.gather.ensures.queue) after.waiting;
         gathered =
             rw (c.in_ok-gather.ensures.gathered, c.enqueue.ensures.gathered, c.join-paint.ensures, known) after.gathered;
+        touched =
+            rw (taken, c.gather.ensures.queue)
+            (touched_added h s.coats.all.items c.set.new.self.all.items s.taken.items (heap_items s.queue)
+            (heap_items c.enqueue.new.self.queue) p c.in_ok-enqueue.ensures.joins after.adds.others r.painting.touched);
         visiting =
             rw (graph, first, others, visits)
             (λ below.

@@ -1,4 +1,4 @@
-use Rattle.std.proofs.Common.{◌≡◌, ◌+◌, ◌≤◌, ℕ, count_by, ◌<◌, List, false, length, sym, ap, ◌∙◌, subst, lt_of_le_of_lt}
+use Rattle.std.proofs.Common.{◌≡◌, ◌+◌, ◌≤◌, ℕ, count_by, ◌<◌, List, false, length, refl, sym, ap, ◌∙◌, subst, lt_of_le_of_lt}
 use Rattle.std.proofs.Common.{heap_items, arith}
 use Rattle.std.proofs.lemmas.List.{length-set}
 use Rattle.std.proofs.lemmas.List.Sums.{count_by-le-length}
@@ -13,6 +13,7 @@ use Rattle.graph_walks.specs.Walks.{Reaches}
 use Rattle.graph_history.specs.Paint.{is_painted, is_fresh, is_visited}
 use Rattle.graph_history.proofs.EdgeLemmas.{next_queued, painted_below_cap, visiting_taken}
 use Rattle.graph_history.proofs.CoatLemmas.{coat_with, none_fresh, stops, taken_entry, all_low, taken_by, gathered_same}
+use Rattle.graph_history.proofs.TouchLemmas.{touched_taken}
 use Rattle.graph_history.proofs.painting.Painting.run.Goals as goal
 use Rattle.graph_history.proofs.painting.Painting.run.Goals.{else-self-eq0-via-then-self-eq0+else-is_below_cap}
 use Rattle.graph_history.proofs.painting.Painting.run.Goals.{else-self-eq0-via-else-self-eq0}
@@ -86,6 +87,10 @@ visit-requires c =
         paint = after.paint;
         waiting = after.waiting;
         gathered = gathered_same coats c.set.new.self.all.items s.gathered.items after.same i.painting.gathered;
+        touched =
+            touched_taken coats c.set.new.self.all.items s.taken.items c.push.new.self.items (heap_items s.queue)
+            (heap_items c.pop.new.self) c.in-Some.next c.in-Some.ensures.permutation after.there i.painting.touched
+            c.in_ok-push.ensures.items;
         visiting = λ below.
             (let old = i.painting.visiting below in
             let cap =
@@ -165,6 +170,13 @@ returns-then-is_below_cap-clause-done c =
     (stops h a bs coats (heap_items s.queue) (heap_items c.pop.new.self) c.in-Some.next i.painting.paint spread i.painting.waiting
     i.level.0 level c.in-Some.ensures.permutation greatest stale
     below)
+
+pub returns-then-is_below_cap-clause-touched : goal.returns-then-is_below_cap-clause-touched
+returns-then-is_below_cap-clause-touched c =
+    let s = c.loop-next.self in
+    touched_taken s.coats.all.items s.coats.all.items s.taken.items c.push.new.self.items (heap_items s.queue)
+    (heap_items c.pop.new.self) c.in-Some.next c.in-Some.ensures.permutation (λ q apart. refl)
+    c.loop-next.invariant.painting.touched c.in_ok-push.ensures.items
 
 pub returns-then-is_below_cap-clause-visiting : goal.returns-then-is_below_cap-clause-visiting
 returns-then-is_below_cap-clause-visiting c =
