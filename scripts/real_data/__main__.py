@@ -12,10 +12,15 @@ usage: python3 scripts/real_data GRAPHTOOL HISTORYTOOL [every-value]
 - `is-ancestor` and `walk`: the same pairs and damaged folders, by ids.
 - `merge-base`: the bases that `git merge-base --all` names, and how many commits are ahead and behind by the
   parents that Git lists; where times are in order, also as `git rev-list --left-right --count` counts them.
+  Also of long histories, in a file and in a chain, and of small ones with cycles, beside all walks.
+- `check`: the lines of `verify`, and those of the corrected dates and changed-path filters that Git writes; damaged
+  ones by a plain reading, and beside what Git then answers of ancestors and of paths.
 - `distinct`: the words of `verify`, and an id that was put into two layers or more, next to one another
   and far apart.
 - each byte of three small files, changed to some other values, or with `every-value` to all of them, beside
   a slow reading of the file; two million runs then, which take more than half an hour.
+- `git cgraph`: each word, installed, in repositories of every kind, beside Git's own answers, and what is said
+  of damaged ones.
 - surroundings that are hostile: streams, paths, chain files, and every amount of memory.
 
 What an answer has to be is made from Git's own words, `git rev-list --parents` and `git cat-file`,
@@ -32,11 +37,16 @@ sys.path.insert(0, os.path.dirname(os.path.dirname(os.path.abspath(__file__))))
 
 from checks import (
     ancestor_checks,
+    base_checks,
+    cgraph_checks,
+    cycle_checks,
     disk_checks,
     distinct_checks,
+    further_checks,
     list_checks,
     path_checks,
     question_checks,
+    row_checks,
     surroundings_checks,
     sweep_checks,
     verify_checks,
@@ -57,15 +67,21 @@ def main(path, history_path, every_value=False):
     surroundings_checks.check_all(program, tally)
     sweep_checks.check_all(program, tally, every_value)
     with tempfile.TemporaryDirectory() as folder:
+        cgraph_checks.check_all(programs, tally, folder, partial(new_repository, folder))
         for object_format in ID_LENGTH:
             new = partial(new_repository, folder, object_format)
             list_checks.check_all(program, tally, new)
             verify_checks.check_all(program, tally, new, differences)
             path_checks.check_all(program, tally, new, differences)
             ancestor_checks.check_all(programs, tally, new)
+            base_checks.check_long(histories, tally, new)
+            cycle_checks.check_all(histories, tally, os.path.join(folder, "%s cycles" % object_format), object_format)
             distinct_checks.check_all(program, tally, new, differences)
             disk_checks.check_all(programs, tally, new, differences)
+            further_checks.check_all(histories, tally, new)
+        further_checks.check_shared_list(histories, tally, folder)
     differences.check(tally)
+    row_checks.check_all(tally)
     return tally.finish()
 
 

@@ -1,3 +1,4 @@
 pub mod StoredDateLemmas
 pub mod LatestLemmas
 pub mod DateCheckLemmas
+pub mod GraphFilterLemmas

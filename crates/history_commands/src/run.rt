@@ -9,6 +9,7 @@ ghost use Rattle.history_commands.specs.IsAncestor.{IsTold, told_status, told_wo
 ghost use Rattle.history_commands.specs.IsAncestor.{is_ancestor_text, is_ancestor_status};
 
 pub use crate::bases::run_merge_base;
+pub use crate::check::run_check;
 use crate::question::{Answer, ask};
 pub use crate::walk::run_walk;
 use gix_hash_core::oid;

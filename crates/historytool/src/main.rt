@@ -1,10 +1,10 @@
 //! `historytool`: answers questions about the histories of Git's commit-graphs, by the ids of two
-//! commits or more.
+//! commits or more, and checks what such graphs say of dates and of changed paths.
 //!
-//! The exit status is 0 where the answer is yes, a walk or merge bases, 1 where it is no or none,
-//! where an id is not there or where the question was refused, and 2 for other words than a
-//! command, for a text that is no id and for a failed write. Wrong words and a failed write are
-//! reported on standard error.
+//! The exit status is 0 where the answer is yes, a walk, merge bases or a right graph, 1 where it
+//! is no or none, where an id is not there or where something was refused, and 2 for other words
+//! than a command, for a text that is no id and for a failed write. Wrong words and a failed write
+//! are reported on standard error.
 #![tactic(auto)]
 
 ghost use Rattle.std.specs.Prelude.{◌≡◌, MatchResult};
@@ -15,17 +15,17 @@ mod tests;
 use graph_commands::line::write_line;
 use graph_commands::run::WriteFailed;
 use graph_folder::folder::{Disk, Folder};
-use history_commands::run::{run_is_ancestor, run_merge_base, run_walk};
+use history_commands::run::{run_check, run_is_ancestor, run_merge_base, run_walk};
 use std::alloc::Global;
 use std::io::Write;
 use std::process::ExitCode;
 use std::{env, io};
 
 const USAGE: &str = "usage: historytool is-ancestor PATH HEX HEX | walk PATH HEX HEX \
-    | merge-base PATH HEX HEX.. | --help | --version";
+    | merge-base PATH HEX HEX.. | check PATH | --help | --version";
 
 const HELP: &str = "usage: historytool is-ancestor PATH HEX HEX | walk PATH HEX HEX \
-    | merge-base PATH HEX HEX.. | --help | --version\n\
+    | merge-base PATH HEX HEX.. | check PATH | --help | --version\n\
     \n\
     PATH is a commit-graph file, a folder with a chain of them, or an info folder.\n\
     HEX is the id of a commit in hexadecimal.\n\
@@ -37,9 +37,13 @@ const HELP: &str = "usage: historytool is-ancestor PATH HEX HEX | walk PATH HEX 
     \x20            the others, a line for each, or none; then how many commits are\n\
     \x20            ahead and behind: how many the first leads to and no other does,\n\
     \x20            and the other way round; then how many were visited\n\
+    check        what graphtool verify says of the graph; then how many commits have\n\
+    \x20            a corrected commit date, and how many a changed-path filter, once\n\
+    \x20            both were found right; or the first thing that is wrong\n\
     \n\
-    The exit status is 0 for yes, a walk or merge bases, 1 for any other answer, and\n\
-    2 for wrong words, a text that is no id or a failed write.";
+    The exit status is 0 for yes, a walk, merge bases or a graph that is right,\n\
+    1 for any other answer, and 2 for wrong words, a text that is no id or a\n\
+    failed write.";
 
 const VERSION: &str = "historytool 0.1.0, proved with rattle-kit-13b logic dac8208d650f15bf";
 
@@ -127,6 +131,10 @@ enum Command<'a> {
         first: &'a str,
         others: &'a [String],
     },
+    // The graph is to be checked, with its dates and its filters.
+    Check {
+        path: &'a str,
+    },
 }
 
 impl<'a> Command<'a> {
@@ -146,6 +154,9 @@ impl<'a> Command<'a> {
                 path: path.as_str(),
                 first: first.as_str(),
                 second: second.as_str(),
+            }),
+            [_, name, path] if name.as_str() == "check" => Some(Command::Check {
+                path: path.as_str(),
             }),
             [_, name, path, first, others @ ..]
                 if name.as_str() == "merge-base" && !others.is_empty() => {
@@ -184,6 +195,7 @@ impl<'a> Command<'a> {
                 first,
                 others,
             } => run_merge_base(alloc, folder, path, first, others, output),
+            Command::Check { path } => run_check(alloc, folder, path, output),
         }
     }
 }

@@ -5,11 +5,13 @@ use gix_commitgraph::file::Commit;
 use gix_commitgraph::opening::{open_chain_dir_in, open_file_in, open_in, open_info_dir_in};
 use gix_commitgraph::verify::VerifyOptions;
 use gix_commitgraph::{File, Graph, at};
+use graph_chunks::dates::CorrectedDates;
+use graph_chunks::filters::GraphFilters;
 use graph_commands::run::{run_ancestor, run_distinct, run_find, run_list, run_verify};
 use graph_folder::folder::{Folder, Memory};
 use graph_history::Checked;
 use graph_vectors::build;
-use history_commands::run::{run_is_ancestor, run_walk};
+use history_commands::run::{run_check, run_is_ancestor, run_merge_base, run_walk};
 use std::alloc::Global;
 use std::convert::Infallible;
 use std::io::Write;
@@ -34,7 +36,16 @@ pub fn call(rt: &HostRuntime, alloc: Global, name: &[u8], stage: &mut Stage) -> 
         b"verify_integrity" => verify_integrity(rt, alloc, false, &stage.graph),
         b"verify_integrity_with" => verify_integrity(rt, alloc, true, &stage.line),
         b"put_file" | b"put_dir" => put(rt, alloc, name, stage),
+        b"CheckedGraph::push" => push(rt, alloc, stage),
         b"ancestor_walk" | b"is_ancestor" => query(rt, alloc, name, &stage.line),
+        b"CorrectedDates::of_graph" => {
+            let answer = CorrectedDates::of_graph(alloc, &stage.dated);
+            println!(rt; "{:?}", answer.map(|dates| dates.is_some()))
+        }
+        b"GraphFilters::of_graph" => {
+            let answer = GraphFilters::of_graph(alloc, &stage.dated);
+            println!(rt; "{:?}", answer.map(|filters| filters.computed()))
+        }
         _ if name.starts_with(b"run_") => run(rt, alloc, name, stage),
         _ => open(rt, alloc, name, stage),
     }
@@ -122,6 +133,17 @@ fn query(rt: &HostRuntime, alloc: Global, name: &[u8], graph: &Graph) -> io::Res
     println!(rt; "{walk:?}")
 }
 
+/// Puts the upper layer of the chain on top of the lower one, which was checked, and tells how many
+/// commits the graph has after that.
+fn push(rt: &HostRuntime, alloc: Global, stage: &mut Stage) -> io::Result<()> {
+    let Some(file) = stage.layers.pop() else {
+        return println!(rt; "no layer");
+    };
+    let answer = stage.lower.push(alloc, file);
+    let commits = stage.lower.as_checked().num_commits();
+    println!(rt; "{answer:?} {commits}")
+}
+
 /// Puts a file or a folder into a folder, and tells whether it stands there.
 fn put(rt: &HostRuntime, alloc: Global, name: &[u8], stage: &mut Stage) -> io::Result<()> {
     let path = mem::replace(&mut stage.path, String::new(alloc));
@@ -146,6 +168,8 @@ fn run(rt: &HostRuntime, alloc: Global, name: &[u8], stage: &mut Stage) -> io::R
         b"run_find" => run_find(alloc, memory, "chain", SECOND, out),
         b"run_ancestor" => run_ancestor(alloc, memory, "chain", SECOND, FIRST, out),
         b"run_is_ancestor" => run_is_ancestor(alloc, memory, "chain", FIRST, SECOND, out),
+        b"run_merge_base" => { run_merge_base(alloc, memory, "chain", FIRST, &stage.others, out) }
+        b"run_check" => run_check(alloc, memory, "dated", out),
         _ => run_walk(alloc, memory, "chain", SECOND, FIRST, out),
     };
     println!(rt; "{answer:?}")?;
@@ -156,7 +180,7 @@ fn run(rt: &HostRuntime, alloc: Global, name: &[u8], stage: &mut Stage) -> io::R
 const FIRST: &str = "0101010101010101010101010101010101010101";
 
 /// The id of the second.
-const SECOND: &str = "0202020202020202020202020202020202020202";
+pub const SECOND: &str = "0202020202020202020202020202020202020202";
 
 /// Opens by a path in memory, or on disk.
 fn open(rt: &HostRuntime, alloc: Global, name: &[u8], stage: &mut Stage) -> io::Result<()> {

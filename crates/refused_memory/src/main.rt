@@ -8,6 +8,7 @@
 #![tactic(auto)]
 
 mod calls;
+mod further;
 mod stage;
 
 use calls::call;

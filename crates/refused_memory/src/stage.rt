@@ -1,9 +1,12 @@
 //! What the calls need: plans, bytes, layers and graphs, and folders in memory and on disk.
 
+use crate::calls::SECOND;
+use crate::further::with_chunks;
 use anyhow::{Result, ensure};
 use gix_commitgraph::{File, Graph};
 use gix_hash_core::{Kind, ObjectId};
 use graph_folder::folder::Memory;
+use graph_history::CheckedGraph;
 use graph_vectors::{LayerPlan, PlanCommit, build};
 use std::alloc::{AllocError, Global};
 use std::rt::Files;
@@ -24,11 +27,18 @@ pub struct Stage {
     pub layers: Vec<File>,
     /// The graph of the same layers.
     pub graph: Graph,
+    /// The graph of the first of them, checked.
+    pub lower: CheckedGraph,
     /// The graph of a layer of ten commits in a line, the last of which has its parent three times.
     pub line: Graph,
-    /// The file `f`, and the folders `chain`, `info` and `damaged`: that of the chain, an info
-    /// folder with the chain, and one with a damaged file beside the chain.
+    /// The graph of a layer of two commits in a line, with corrected dates and a filter.
+    pub dated: Graph,
+    /// The file `f`, the file `dated` of that graph, and the folders `chain`, `info` and `damaged`:
+    /// that of the chain, an info folder with the chain, and one with a damaged file beside the
+    /// chain.
     pub memory: Memory,
+    /// The id of the chain's second commit.
+    pub others: Vec<String>,
     /// Room for what is written.
     pub out: Vec<u8>,
 }
@@ -44,12 +54,18 @@ impl Stage {
         let bytes = file(alloc, &plan)?;
         let chain = chain(alloc)?;
         put_on_disk(rt, alloc, &bytes, &chain)?;
+        let dated = dated(alloc)?;
+        let mut memory = memory(alloc, &bytes, &chain)?;
+        put(alloc, &mut memory, "dated", &dated)?;
         Ok(Stage {
             layer: opened(alloc, &bytes)?,
-            memory: memory(alloc, &bytes, &chain)?,
+            dated: Graph::new(alloc, layers(alloc, slice::from_ref(&dated))?)?,
+            memory,
             layers: layers(alloc, &chain)?,
             graph: Graph::new(alloc, layers(alloc, &chain)?)?,
+            lower: lower(alloc, &chain)?,
             line: line(alloc)?,
+            others: vec![in alloc; String::from_str(alloc, SECOND)?]?,
             path: String::from_str(alloc, "f")?,
             out: Vec::with_capacity(alloc, 4096)?,
             plan,
@@ -110,6 +126,12 @@ fn layers(alloc: Global, chain: &[Vec<u8>]) -> Result<Vec<File>> {
     Ok(layers)
 }
 
+/// The graph of the lowest layer of a chain, checked.
+fn lower(alloc: Global, chain: &[Vec<u8>]) -> Result<CheckedGraph> {
+    let graph = Graph::new(alloc, layers(alloc, &chain[..chain.len().min(1)])?)?;
+    Ok(CheckedGraph::new(alloc, graph)?)
+}
+
 /// The graph of a layer of ten commits in a line, the last of which has its parent three times.
 fn line(alloc: Global) -> Result<Graph> {
     let rows: [Row<'_>; 10] = [
@@ -126,6 +148,20 @@ fn line(alloc: Global) -> Result<Graph> {
     ];
     let bytes = file(alloc, &plan(alloc, &[], &rows)?)?;
     Ok(Graph::new(alloc, layers(alloc, slice::from_ref(&bytes))?)?)
+}
+
+/// A file of two commits in a line, with corrected dates, and a filter of the first commit.
+fn dated(alloc: Global) -> Result<Vec<u8>> {
+    let plain = file(alloc, &plan(alloc, &[], &[(1, &[], 1), (2, &[0], 2)])?)?;
+    with_chunks(
+        alloc,
+        &plain,
+        &[
+            (b"GDA2", b"\0\0\0\0\0\0\0\x01"),
+            (b"BIDX", b"\0\0\0\x01\0\0\0\x01"),
+            (b"BDAT", b"\0\0\0\x01\0\0\0\x07\0\0\0\x0a\xff"),
+        ],
+    )
 }
 
 /// The name of a layer's file in its folder, and the line of the chain file.

@@ -3,12 +3,16 @@
 
 use gix_commitgraph::{File, Graph};
 use gix_hash_core::{Kind, ObjectId};
-use graph_vectors::{LayerPlan, PlanCommit, build};
+use graph_vectors::{LayerPlan, PlanCommit, build, reseal};
 use std::alloc::Global;
 use std::process::Abort;
 
 /// A commit: its committer's time, and the positions of its parents.
 pub type Row<'a> = (u64, &'a [u32]);
+
+/// A commit of a right graph: its generation number, its committer's time, and the positions of its
+/// parents.
+pub type RightRow<'a> = (u32, u64, &'a [u32]);
 
 /// A further chunk: its id and its bytes.
 pub type Chunk<'a> = (&'a [u8; 4], &'a [u8]);
@@ -19,16 +23,16 @@ const ENTRY_LEN: usize = 12;
 /// How many bytes a SHA-1 checksum has.
 const TRAILER_LEN: usize = 20;
 
-/// The bytes of a file with these commits. Their ids ascend, and no generation number is right.
-fn planned(rt: &impl Abort, alloc: Global, rows: &[Row<'_>]) -> Vec<u8> {
+/// The bytes of a file with these commits. Their ids ascend.
+fn planned(rt: &impl Abort, alloc: Global, rows: &[RightRow<'_>]) -> Vec<u8> {
     let mut commits = Vec::new(alloc);
-    for (time, parents) in rows {
+    for (generation, time, parents) in rows {
         let number = u8::try_from(commits.len()).expect(rt, "few commits");
         let commit = PlanCommit {
-            id: ObjectId::from([number; 20]),
+            id: ObjectId::from([number.saturating_add(1); 20]),
             tree: ObjectId::from([0x22; 20]),
             parents: Vec::from_slice(alloc, *parents).expect(rt, "memory"),
-            generation: 1,
+            generation: *generation,
             time: *time,
         };
         commits.push(commit).expect(rt, "memory");
@@ -90,9 +94,26 @@ pub fn words(rt: &impl Abort, alloc: Global, numbers: &[u32]) -> Vec<u8> {
     bytes
 }
 
-/// A layer with these commits and these further chunks.
+/// The bytes of a file with these commits and these further chunks, and with its checksum.
+pub fn right_file(
+    rt: &impl Abort,
+    alloc: Global,
+    rows: &[RightRow<'_>],
+    chunks: &[Chunk<'_>],
+) -> Vec<u8> {
+    let mut bytes = with_chunks(rt, alloc, &planned(rt, alloc, rows), chunks);
+    assert!(rt; bytes.len() >= TRAILER_LEN);
+    reseal(Kind::Sha1, &mut bytes);
+    bytes
+}
+
+/// A layer with these commits and these further chunks. No generation number is right.
 pub fn layer(rt: &impl Abort, alloc: Global, rows: &[Row<'_>], chunks: &[Chunk<'_>]) -> File {
-    let bytes = with_chunks(rt, alloc, &planned(rt, alloc, rows), chunks);
+    let mut commits = Vec::new(alloc);
+    for (time, parents) in rows {
+        commits.push((1, *time, *parents)).expect(rt, "memory");
+    }
+    let bytes = with_chunks(rt, alloc, &planned(rt, alloc, &commits), chunks);
     File::new(alloc, bytes, String::new(alloc)).expect(rt, "a layer")
 }
 

@@ -2,8 +2,12 @@
 #![tactic(auto)]
 
 #[cfg(test)]
+mod checked;
+#[cfg(test)]
 mod dates;
 #[cfg(test)]
 mod filters;
 #[cfg(test)]
 mod fixtures;
+#[cfg(test)]
+mod graph_filters;

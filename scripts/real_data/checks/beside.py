@@ -1,9 +1,15 @@
-"""Runs of `distinct`, `ancestor`, `is-ancestor` and `walk` beside one of `verify`: all check a graph before all else."""
+"""Runs of `distinct`, `ancestor`, `check` and others beside one of `verify`: all check a graph before all else."""
 
 import re
 
 DUPLICATE = re.compile(rb"refused verify 11 position \d+ earlier \d+\n")
 """The line by which `distinct` refuses a graph that `verify` passes."""
+
+FURTHER = re.compile(rb"refused (dates|filters) [^\n]*\n")
+"""The line by which `check` refuses a graph that `verify` passes."""
+
+TOLD = rb"dates (none|commits \d+)\nfilters (none|commits \d+)\n"
+"""The lines of `check` after those of `verify`."""
 
 UNKNOWN = "e" * 40
 """An id that no graph of these checks has."""
@@ -25,9 +31,10 @@ def complaint(program, path, verified):
 
 
 def complaint_of_questions(histories, path, verified):
-    """None where `is-ancestor`, `walk` and `merge-base` of a path refuse what `verify` refused, or else a complaint.
+    """None where `is-ancestor`, `walk`, `merge-base` and `check` of a path refuse what `verify` refused, or else a complaint.
 
-    Of a graph that passes they say, as `ancestor` does, that an id which is nowhere is unknown.
+    Of a graph that passes the first three say, as `ancestor` does, that an id which is nowhere is unknown; and `check`
+    begins with the lines of `verify`, or refuses its dates or its filters.
     """
     unknown = verified._replace(status=1, out=b"unknown 1\n") if verified.status == 0 else verified
     runs = {"is-ancestor": histories.is_ancestor, "walk": histories.walk, "merge-base": histories.merge_base}
@@ -35,6 +42,10 @@ def complaint_of_questions(histories, path, verified):
         answer = run(path, UNKNOWN, UNKNOWN)
         if answer != unknown:
             return "%s: status %s and %r, beside %r" % (name, answer.status, answer.out[:60], verified.out[:60])
+    answer = histories.check(path)
+    further = FURTHER if answer.status else re.compile(re.escape(verified.out) + TOLD)
+    if answer != verified and not (verified.status == 0 and not answer.err and further.fullmatch(answer.out)):
+        return "check: status %s and %r, beside %r" % (answer.status, answer.out[:60], verified.out[:60])
     return None
 
 

@@ -19,6 +19,9 @@ class Answer(NamedTuple):
 
 HUNG = Answer(None, b"", b"")
 
+LINES = set()
+"""The first line of each answer but those with status 0, after the word that was asked with."""
+
 
 class AnyProgram:
     """A program in the file at a path."""
@@ -37,6 +40,8 @@ class AnyProgram:
         except subprocess.TimeoutExpired:
             self.hangs += 1
             return HUNG
+        if run.returncode != 0 and run.stdout and words:
+            LINES.add((words[0], run.stdout.split(b"\n", 1)[0].decode()))
         return Answer(run.returncode, run.stdout or b"", run.stderr)
 
 
@@ -78,3 +83,7 @@ class HistoryProgram(AnyProgram):
     def merge_base(self, path, first, *others, **streams):
         """The answer to `merge-base` of two ids or more at a path."""
         return self.run("merge-base", path, first, *others, stdin=subprocess.DEVNULL, **streams)
+
+    def check(self, path, **streams):
+        """The answer to `check` of a path."""
+        return self.run("check", path, stdin=subprocess.DEVNULL, **streams)

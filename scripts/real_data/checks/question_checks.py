@@ -1,13 +1,15 @@
 """Checks the words of `historytool`, its help and its version, and output that cannot be written."""
 
 import os
-import re
 from functools import partial
 
 from expected import judge
 from histories.repository import read_bytes
 
-USAGE = "usage: historytool is-ancestor PATH HEX HEX | walk PATH HEX HEX | merge-base PATH HEX HEX.. | --help | --version\n"
+USAGE = (
+    "usage: historytool is-ancestor PATH HEX HEX | walk PATH HEX HEX | merge-base PATH HEX HEX.. | check PATH"
+    " | --help | --version\n"
+)
 """What the program writes on standard error where its words are no command, and the first line of its help."""
 
 FAILED_WRITE = "historytool: the answer could not be written\n"
@@ -17,10 +19,11 @@ OTHER_WORDS = [
     *(["walk", ".", ID], ["walk", ".", ID, ID, ID], ["Walk", ".", ID, ID], ["walk", b"\xff", ID, ID]),
     *(["is-ancestor"], ["is-ancestor", ".", ID], ["ancestor", ".", ID, ID], ["verify", "."], ["--walk", ".", ID, ID]),
     *(["merge-base"], ["merge-base", "."], ["merge-base", ".", ID], ["merge-base", ".", ID, b"\xff"]),
+    *(["check"], ["check", ".", "."], ["check", b"\xff"]),
 ]
 """Words that are no command: too few, too many, others, or no text."""
 
-README = os.path.join(os.path.dirname(os.path.abspath(__file__)), *[os.pardir] * 3, "README.md")
+VERSION = os.path.join(os.path.dirname(os.path.abspath(__file__)), *[os.pardir] * 3, "VERSION")
 
 
 def check_all(histories, tally):
@@ -28,8 +31,7 @@ def check_all(histories, tally):
     for words in OTHER_WORDS:
         complaint = judge.exactly(2, "", USAGE, histories.run(*words, input=b""))
         tally.check("historytool, usage after the words %r" % words, complaint)
-    kit = re.search(r"^ {4}(rattle-kit-\S+ logic \w+)$", read_bytes(README).decode(), re.MULTILINE).group(1)
-    version = "historytool 0.1.0, proved with %s\n" % kit
+    version = "historytool " + read_bytes(VERSION).decode()
     tally.check("historytool --version", judge.exactly(0, version, "", histories.run("--version")))
     helps = [histories.run(word) for word in ("--help", "-h")]
     text = helps[0].out.decode()
@@ -42,6 +44,9 @@ def check_all(histories, tally):
         nothing = judge.exactly(1, "refused open 1\n", "", run(os.devnull, ID, ID))
         tally.check("%s, a path with nothing that is a graph" % command, nothing)
         check_failed_write(tally, command, partial(run, os.devnull, ID, ID))
+    nothing = judge.exactly(1, "refused open 1\n", "", histories.check(os.devnull))
+    tally.check("check, a path with nothing that is a graph", nothing)
+    check_failed_write(tally, "check", partial(histories.check, os.devnull))
     check_failed_write(tally, "historytool --version", partial(histories.run, "--version"))
 
 

@@ -86,9 +86,9 @@ class Repository:
         run = subprocess.run(command, env=self.surroundings, capture_output=True, check=False)
         return Verdict(run.returncode, bool(run.stderr))
 
-    def reaches(self, first, second):
-        """Whether Git says that a commit has another among its ancestors, or is that one."""
-        command = ("git", "-c", "core.commitGraph=false", "merge-base", "--is-ancestor", second, first)
+    def reaches(self, first, second, graph="false"):
+        """Whether Git says that a commit has another among its ancestors, or is that one: without commit-graphs or with."""
+        command = ("git", "-c", "core.commitGraph=" + graph, "merge-base", "--is-ancestor", second, first)
         run = subprocess.run(command, env=self.surroundings, capture_output=True, check=False)
         if run.returncode not in (0, 1):
             raise RuntimeError("git merge-base: " + run.stderr.decode())
@@ -119,6 +119,10 @@ class Repository:
         """Where Git writes a commit-graph of a single file."""
         return os.path.join(self.info_path(), "commit-graph")
 
+    def chain_path(self):
+        """The folder in which Git writes the files of a chain."""
+        return os.path.join(self.info_path(), "commit-graphs")
+
     def new_graph(self, *flags, generation_version=2):
         """The bytes of the single-file commit-graph that Git writes from nothing."""
         if os.path.exists(self.graph_path()):
@@ -128,7 +132,7 @@ class Repository:
 
     def chain(self):
         """The layers of a split commit-graph, lowest first: each one's checksum and bytes."""
-        folder = os.path.join(self.info_path(), "commit-graphs")
+        folder = self.chain_path()
         sums = read_bytes(os.path.join(folder, "commit-graph-chain")).decode().split()
         return [(checksum, read_bytes(os.path.join(folder, "graph-%s.graph" % checksum))) for checksum in sums]
 

@@ -62,6 +62,74 @@ def tangled(count, seed):
     ]
 
 
+class Topics:
+    """A history that grows: a main line, two long lines beside it that merge it and are merged, and topics that the main
+    line merges, one or several at once. Some topics begin with an old merge, and so many in one with a root of their own. Of
+    so many commits in one the time lies in the past.
+    """
+
+    def __init__(self, seed, disorder, roots):
+        self.chance, self.disorder, self.roots, self.commits = random.Random(seed), disorder, roots, []
+        self.lines, self.topics, self.merges = [self.commit()] * 3, [], [0]
+
+    def commit(self, *parents):
+        """Makes a commit, and answers its place."""
+        past = self.chance.randrange(10_000_000) if self.chance.random() < self.disorder else 0
+        self.commits.append(Commit(tuple(dict.fromkeys(parents)), START + 300 * len(self.commits) - past))
+        return len(self.commits) - 1
+
+    def grow(self):
+        """Makes the next commit, or the next two."""
+        steps = {self.go_on: 42, self.begin: 7, self.work: 38, self.merge: 5, self.cross: 2, self.update: 3}
+        self.chance.choices(list(steps), list(steps.values()))[0]()
+
+    def go_on(self):
+        """One of the lines goes on, most often the main one."""
+        line = self.chance.choice((0, 0, 0, 1, 2))
+        self.lines[line] = self.commit(self.lines[line])
+
+    def begin(self):
+        """A topic begins."""
+        base = self.lines[0] if self.chance.random() < 0.8 else self.chance.choice(self.merges[-200:])
+        self.topics.append(self.commit(*([] if self.chance.random() < self.roots else [base])))
+
+    def work(self):
+        """A topic goes on."""
+        if self.topics:
+            topic = self.chance.randrange(len(self.topics))
+            self.topics[topic] = self.commit(self.topics[topic])
+
+    def merge(self):
+        """The main line merges the oldest topic, or several at once."""
+        count = self.chance.choice((1, 1, 1, 2, 4))
+        self.lines[0] = self.commit(self.lines[0], *self.topics[:count])
+        self.merges.append(self.lines[0])
+        del self.topics[:count]
+
+    def cross(self):
+        """The main line and a line beside it merge each other; or one of these merges the other."""
+        line = self.chance.choice((1, 2, 0))
+        if line:
+            main, beside = self.lines[0], self.lines[line]
+            self.lines[0], self.lines[line] = self.commit(main, beside), self.commit(beside, main)
+        else:
+            self.lines[1] = self.commit(self.lines[1], self.lines[2])
+
+    def update(self):
+        """A topic merges the main line."""
+        if self.topics:
+            topic = self.chance.randrange(len(self.topics))
+            self.topics[topic] = self.commit(self.topics[topic], self.lines[0])
+
+
+def topics(count, seed, disorder=0.0, roots=0.02):
+    """A history of topics with so many commits."""
+    grown = Topics(seed, disorder, roots)
+    while len(grown.commits) < count:
+        grown.grow()
+    return grown.commits[:count]
+
+
 ALL = {
     "one commit": linear(1),
     "linear": linear(40),

@@ -8,10 +8,11 @@ use std::test::Fail;
 fn reads_the_words_of_each_question(rt: HostRuntime) -> Result<(), Fail> {
     let alloc = rt.alloc();
     let (path, first, second) = ("a", "b", "walk");
-    let rows: [(&[&str], Command<'_>); 5] = [
+    let rows: [(&[&str], Command<'_>); 6] = [
         (&["--help"], Command::Help),
         (&["-h"], Command::Help),
         (&["--version"], Command::Version),
+        (&["check", path], Command::Check { path }),
         (
             &["is-ancestor", path, first, second],
             Command::IsAncestor {
@@ -37,7 +38,7 @@ fn reads_the_words_of_each_question(rt: HostRuntime) -> Result<(), Fail> {
 }
 
 const USAGE_LINE: &str = "usage: historytool is-ancestor PATH HEX HEX | walk PATH HEX HEX \
-    | merge-base PATH HEX HEX.. | --help | --version\n";
+    | merge-base PATH HEX HEX.. | check PATH | --help | --version\n";
 
 #[test]
 fn reads_two_ids_or_more_of_a_merge_base(rt: HostRuntime) -> Result<(), Fail> {
@@ -63,7 +64,7 @@ fn reads_two_ids_or_more_of_a_merge_base(rt: HostRuntime) -> Result<(), Fail> {
 #[test]
 fn other_words_are_no_question(rt: HostRuntime) -> Result<(), Fail> {
     let alloc = rt.alloc();
-    let rows: [&[&str]; 13] = [
+    let rows: [&[&str]; 15] = [
         &[],
         &[""],
         &["help"],
@@ -77,6 +78,8 @@ fn other_words_are_no_question(rt: HostRuntime) -> Result<(), Fail> {
         &["merge-base", "g"],
         &["merge-base", "g", "h"],
         &["ancestor", "g", "h", "i"],
+        &["check"],
+        &["check", "g", "h"],
     ];
     for words in rows {
         let line = command_line(alloc, words)?;

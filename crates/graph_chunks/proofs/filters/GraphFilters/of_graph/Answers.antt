@@ -1,0 +1,123 @@
+use Rattle.std.proofs.Common.{◌≡◌, ◌<◌, ◌+◌, ℕ, List, [], ◌∷◌, ◌++◌, Option, length, sym, ap, subst, ◌∙◌, arith}
+use Rattle.std.proofs.lemmas.Option.{slice_get_read}
+use Rattle.std.specs.Option.{option_or}
+use Rattle.first_faults.proofs.FirstLemmas.{first_below-none, first_below-none_more, first_below-found}
+use Rattle.graph_format.specs.Layer.{Layer}
+use Rattle.gix_commitgraph.proofs.LayerListLemmas.{start-none, start-more, counted-fits}
+use Rattle.graph_chunks.specs.Filters.{filters_fault, settings_of, settings_in}
+use Rattle.graph_chunks.specs.KeptFilters.{AreKept}
+use Rattle.graph_chunks.specs.declared.filters.FilterSettings.{FilterSettings}
+use Rattle.graph_chunks.specs.declared.filters.LayerFilters.{LayerFilters}
+use Rattle.graph_chunks.proofs.GraphFilterLemmas.{length-filters, settings-empty, kept-none, kept-more, kept-by, fault-at}
+use Rattle.graph_chunks.proofs.GraphFilterLemmas.{settings-more}
+use Rattle.graph_chunks.proofs.GraphFilterLemmas.{not-refused, refused, layer-here}
+use Rattle.graph_chunks.proofs.filters.GraphFilters.of_graph.Goals as goal
+
+pub loop-layer-init : goal.loop-layer-init
+loop-layer-init c = record {
+  counted = sym (start-none c.args.graph.now);
+  lowest = settings-empty;
+  read = first_below-none (filters_fault c.args.graph.now);
+  kept = rw c.new-layers.ensures.items (kept-none c.args.graph.now (settings_of c.args.graph.now));
+}
+
+pub read_layer-requires : goal.read_layer-requires
+read_layer-requires c =
+    let layers = c.args.graph.now in
+    let within : c.loop-layer.layer < length layers = omega (
+      arith,
+      c.loop-layer-test.true,
+      c.loop-layer.auto.layer-end,
+      ap (λ (ls : List Layer). length ls) c.layers-layer-end.ensures.same,
+    ) in
+    let here =
+    layer-here layers c.layers.result.now c.loop-layer.layer c.index-layers-layer.result c.layers.ensures.same within
+    c.index-layers-layer.is in
+    record {
+      fits = counted-fits layers c.loop-layer.layer c.loop-layer.before c.index-layers-layer.result c.layers.ensures.graph
+          c.loop-layer.invariant.counted here;
+    }
+
+pub returns-in-Err-clause-refusal : goal.returns-in-Err-clause-refusal
+returns-in-Err-clause-refusal c apart =
+    let layers = c.args.graph.now in
+    let within : c.loop-layer.layer < length layers = omega (
+      arith,
+      c.loop-layer-test.true,
+      c.loop-layer.auto.layer-end,
+      ap (λ (ls : List Layer). length ls) c.layers-layer-end.ensures.same,
+    ) in
+    let here =
+    layer-here layers c.layers.result.now c.loop-layer.layer c.index-layers-layer.result c.layers.ensures.same within
+    c.index-layers-layer.is in
+    refused layers c.loop-layer.layer c.in-Err.error c.loop-layer.invariant.read
+    (fault-at layers c.loop-layer.layer c.index-layers-layer.result c.loop-layer.before c.loop-layer.settings here
+    c.loop-layer.invariant.counted c.loop-layer.invariant.lowest
+    ∙ c.in-Err.ensures.refusal) within
+
+pub overflow_add-before : goal.overflow_add-before
+overflow_add-before c =
+    let layers = c.args.graph.now in
+    let within : c.loop-layer.layer < length layers = omega (
+      arith,
+      c.loop-layer-test.true,
+      c.loop-layer.auto.layer-end,
+      ap (λ (ls : List Layer). length ls) c.layers-layer-end.ensures.same,
+    ) in
+    let here =
+    layer-here layers c.layers.result.now c.loop-layer.layer c.index-layers-layer.result c.layers.ensures.same within
+    c.index-layers-layer.is in
+    omega (
+      arith,
+      c.num_commits-before.ensures.ids,
+      counted-fits layers c.loop-layer.layer c.loop-layer.before c.index-layers-layer.result c.layers.ensures.graph
+          c.loop-layer.invariant.counted here,
+    )
+
+pub loop-layer-preserved : goal.loop-layer-preserved
+loop-layer-preserved c =
+    let layers = c.args.graph.now in
+    let i = c.loop-layer.layer in
+    let layer = c.index-layers-layer.result in
+    let within : i < length layers = omega (
+      arith,
+      c.loop-layer-test.true,
+      c.loop-layer.auto.layer-end,
+      ap (λ (ls : List Layer). length ls) c.layers-layer-end.ensures.same,
+    ) in
+    let here = layer-here layers c.layers.result.now i layer c.layers.ensures.same within c.index-layers-layer.is in
+    let kept : LayerFilters = record { before = c.in-Ok.kept.before; filters = c.in-Ok.kept.filters } in
+    let items : c.push.new.self.items ≡ c.loop-layer.layers.items ++ kept ∷ [] =
+    rw c.if-is_err.ensures.negation at c.push.ensures.items in
+    record {
+      counted = omega (arith, c.loop-layer.invariant.counted, c.num_commits-before.ensures.ids, start-more layers i layer here);
+      lowest = c.or-settings.ensures
+          ∙ ap (option_or c.loop-layer.settings) (c.settings_by.ensures ∙ c.in-Ok.ensures.settings)
+          ∙ ap (λ (o : Option FilterSettings). option_or o (settings_in layer)) c.loop-layer.invariant.lowest
+          ∙ sym (settings-more layers i layer here);
+      read = first_below-none_more (filters_fault layers) i c.loop-layer.invariant.read
+          (fault-at layers i layer c.loop-layer.before c.loop-layer.settings here c.loop-layer.invariant.counted
+          c.loop-layer.invariant.lowest
+          ∙ c.in-Ok.ensures.refusal);
+      kept = subst (AreKept layers (settings_of layers) (i + 1)) (sym items)
+          (kept-more layers (settings_of layers) i c.loop-layer.layers.items layer kept c.loop-layer.invariant.kept here
+          (kept-by layers i layer c.loop-layer.before c.loop-layer.settings kept here c.loop-layer.invariant.counted
+          c.loop-layer.invariant.lowest c.in-Ok.ensures.kept));
+    }
+
+pub returns-clause-accepted : goal.returns-clause-accepted
+returns-clause-accepted c =
+    not-refused c.args.graph.now c.loop-layer.layer c.loop-layer.invariant.read
+    (omega (
+      arith,
+      c.loop-layer-test.false,
+      c.loop-layer.auto.layer-end,
+      ap (λ (ls : List Layer). length ls) c.layers-layer-end.ensures.same,
+    )) (omega (
+      arith,
+      c.loop-layer.auto.layer-end,
+      ap (λ (ls : List Layer). length ls) c.layers-layer-end.ensures.same,
+    ))
+
+pub returns-clause-commits : goal.returns-clause-commits
+returns-clause-commits c = length-filters c.args.graph.now

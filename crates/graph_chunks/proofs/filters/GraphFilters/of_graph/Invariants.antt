@@ -1,0 +1,15 @@
+-- The layers so far are not refused, and are kept.
+use Rattle.std.proofs.Common.{◌≡◌, None, take}
+use Rattle.first_faults.specs.First.{first_below}
+use Rattle.gix_commitgraph.specs.Graph.{start}
+use Rattle.graph_chunks.specs.Filters.{filters_fault, settings_of}
+use Rattle.graph_chunks.specs.KeptFilters.{AreKept}
+use Rattle.graph_chunks.proofs.filters.GraphFilters.of_graph.Given as goal
+
+abbrev pub invariant-loop-layer : goal.invariant-loop-layer
+invariant-loop-layer l = record {
+  counted : l.before ≡ start l.graph l.layer;
+  lowest : l.settings ≡ settings_of (take l.layer l.graph);
+  read : first_below (filters_fault l.graph) l.layer ≡ None;
+  kept : AreKept l.graph (settings_of l.graph) l.layer l.layers.items;
+}

@@ -1,0 +1,304 @@
+"""Checks `git cgraph`, installed, beside Git's own answers: in repositories of every kind, and in damaged ones.
+
+The programs under test are installed by scripts/install, from a copy of the scripts.
+"""
+
+import itertools
+import os
+import shutil
+import subprocess
+
+import refusals
+from checks import disk_checks, verify_checks
+from damage import trees, wrong_commits, wrong_layout, wrong_trees
+from damage.layer import sealed
+from expected import reading
+from expected.facts import found, verified
+from expected.listing import listing
+from expected.walks import Walks
+from histories import shapes
+from histories.repository import read_bytes, write_bytes
+from wrappers.clone import Clone, run
+
+ODD_TAG = "odd';$(id)\"&|<>`\u00e9!#%"
+SHORTEST = 4
+"""The fewest digits by which Git looks for an id."""
+
+MANY = 900
+"""So many commits that two of them agree in so few digits."""
+
+
+class Way:
+    """A way to name a repository: the folder of the shell, options of Git, options after `cgraph`, and variables."""
+
+    def __init__(self, folder, before=(), after=(), **variables):
+        self.folder, self.before, self.after, self.variables = folder, before, after, variables
+
+
+class Installed:
+    """The commands, below a prefix of their own."""
+
+    def __init__(self, folder, programs):
+        os.mkdir(folder)
+        self.clone = Clone(folder)
+        for program, name in zip(programs, ("graphtool", "historytool")):
+            self.clone.put_program(name, "")
+            shutil.copy(program.path, os.path.join(self.clone.folder, "crates", name, "out", name))
+        self.prefix = os.path.join(folder, "a prefix")
+        self.installation = self.clone.run(["scripts/install", self.prefix])
+        tools = os.path.join(self.clone.folder, "bin")
+        self.variables = self.clone.surroundings(PATH=os.path.join(self.prefix, "bin") + ":" + tools)
+        self.knows_check = b"check PATH" in programs[1].run(stdin=subprocess.DEVNULL).err
+
+    def ask(self, way, *words):
+        """The answer of `git cgraph` to some words."""
+        command = ["git", *way.before, "cgraph", *way.after, *words]
+        return run(command, {**self.variables, **way.variables}, cwd=way.folder)
+
+    def git(self, way, *words):
+        """The answer of Git itself, which uses no commit-graph."""
+        command = ["git", *way.before, *way.after, "-c", "core.commitGraph=false", *words]
+        return run(command, {**self.variables, **way.variables}, cwd=way.folder)
+
+
+def check_all(programs, tally, folder, new):
+    """The checks of `git cgraph`; a new repository comes from a function of its object format and its name."""
+    installed = Installed(os.path.join(folder, "installed"), programs)
+    complaint = None if installed.installation.status == 0 else "it is %r" % (installed.installation,)
+    tally.check("scripts/install, with the programs", complaint)
+    for kind in ("sha1", "sha256"):
+        check_kinds(installed, tally, new(kind, "asked"))
+        check_split(installed, tally, new(kind, "asked, split"))
+    check_empty(installed, tally, new("sha1", "asked, empty"))
+    check_abbreviation(installed, tally, new("sha1", "asked, abbreviations"))
+    check_damage(installed, tally, new("sha1", "asked, damaged"))
+    check_damaged_trees(installed, tally, new("sha1", "asked, damaged folders"))
+    tally.check("git cgraph, nothing is left over", installed.clone.left_over())
+    answer = installed.clone.run(["scripts/install", "--remove", installed.prefix])
+    gone = answer.status == 0 and not os.path.lexists(installed.prefix)
+    tally.check("scripts/install --remove, with the programs", None if gone else "it is %r" % (answer,))
+
+
+def add_names(repository, ids):
+    """Gives a repository of some commits a HEAD, a tag of an odd name, a tag of a commit and one of a tree."""
+    person = ("-c", "user.name=A", "-c", "user.email=a@example.com")
+    repository.git("symbolic-ref", "HEAD", "refs/heads/tip-%d" % (len(ids) - 1))
+    repository.git("update-ref", "refs/tags/" + ODD_TAG, ids[2])
+    repository.git(*person, "tag", "-a", "-m", "a commit", "annotated", ids[1])
+    repository.git(*person, "tag", "-a", "-m", "a tree", "tree", ids[1] + "^{tree}")
+
+
+def check_kinds(installed, tally, bare):
+    """Each word in a bare repository, in one with files and in a linked worktree, from each place."""
+    ids = bare.add(shapes.diamonds(4))
+    add_names(bare, ids)
+    bare.write_graph()
+    parent = os.path.dirname(bare.folder)
+    plain, linked = bare.object_format + " plain", bare.object_format + " linked"
+    for folder, words in (
+        (parent, ["clone", "-q", bare.folder, plain]),
+        (os.path.join(parent, plain), ["commit-graph", "write", "--reachable"]),
+        (os.path.join(parent, plain), ["worktree", "add", "-q", "--detach", os.path.join(parent, linked)]),
+    ):
+        answer = installed.git(Way(folder), *words)
+        if answer.status:
+            raise RuntimeError(answer.err)
+    ways = {
+        "a bare repository": Way(bare.folder),
+        "a repository with files": Way(os.path.join(parent, plain)),
+        "a subfolder": Way(os.path.join(parent, plain, "folder-1")),
+        "a linked worktree": Way(os.path.join(parent, linked)),
+        "another folder, with cgraph -C": Way(parent, after=("-C", plain, "-C", "folder-1")),
+        "another folder, with git -C": Way(parent, before=("-C", plain)),
+        "another folder, with GIT_DIR": Way(parent, GIT_DIR=os.path.join(plain, ".git")),
+    }
+    words = bare.words()
+    for title, way in ways.items():
+        check_words(installed, tally, "%s, %s" % (bare.object_format, title), way, (words, [ids]))
+
+
+def check_split(installed, tally, repository):
+    """Each word in a repository whose commit-graph is a chain of three layers."""
+    history, ids, layers = shapes.diamonds(4), [], []
+    for stop in (4, 9, len(history)):
+        layers.append(repository.add(history[:stop], len(ids))[len(ids) :])
+        ids += layers[-1]
+        repository.write_graph("--split=no-merge")
+    add_names(repository, ids)
+    title = repository.object_format + ", a repository with a split commit-graph"
+    sums = [checksum for checksum, _ in repository.chain()]
+    check_words(installed, tally, title, Way(repository.folder), (repository.words(), layers), sums)
+    chain = os.path.join(repository.info_path(), trees.CHAIN)
+    listed = installed.ask(Way(repository.folder), "list")
+    write_bytes(chain, read_bytes(chain).rstrip(b"\n"))
+    answer = installed.ask(Way(repository.folder), "list")
+    complaint = None if answer == listed else "it is %r, not %r" % (answer, listed)
+    tally.check("git cgraph list in %s, whose last line has no end" % title, complaint)
+
+
+def check_words(installed, tally, title, way, graph, sums=(None,)):
+    """Each word beside Git's own words, which are given with the ids of each layer and the layers' checksums."""
+    words, layers = graph
+    ids = [commit for layer in layers for commit in layer]
+    parts = [listing(title.split(",")[0], words, layers[: number + 1], list(sums[:number])) for number in range(len(sums))]
+    wanted = {
+        ("verify",): verified(words),
+        ("distinct",): verified(words),
+        ("list",): "".join(parts),
+        **{("find", name): found(words, layers)[ids[at]] for name, at in
+           (("HEAD", -1), (ODD_TAG, 2), ("annotated", 1), (ids[4][:12], 4), ("HEAD^2", -2), (":/commit 0", 0))},
+    }
+    for question, out in wanted.items():
+        answer = installed.ask(way, *question)
+        complaint = None if answer == (0, out, "") else "it is %r, expected %r" % (answer, out)
+        tally.check("git cgraph %s in %s" % (" ".join(question), title), complaint)
+    answer = installed.ask(way, "find", "tree")
+    right = answer[:2] == (128, "") and "git cgraph: 'tree' names no commit" in answer.err
+    tally.check("git cgraph find in %s, a tag of a tree" % title, None if right else "it is %r" % (answer,))
+    check_check(installed, tally, title, way, verified(words))
+    check_pairs(installed, tally, title, way, (Walks(words, layers), ids))
+
+
+def check_check(installed, tally, title, way, text):
+    """The answer to `check`; a program that does not have the word says so."""
+    answer = installed.ask(way, "check")
+    if installed.knows_check:
+        right = answer.status == 0 and answer.out.startswith(text) and not answer.err
+    else:
+        right = answer[:2] == (128, "") and "the program does not take these words" in answer.err
+    tally.check("git cgraph check in %s" % title, None if right else "it is %r" % (answer,))
+
+
+def check_pairs(installed, tally, title, way, history):
+    """The words that take two revisions, for some pairs of commits, beside Git."""
+    walks, ids = history
+    rows, complaints = refusals.read_rows(), []
+    for first, second in [(ids[2], ids[-1]), (ids[-1], ids[2]), (ids[1], ids[2]), (ids[3], ids[3])]:
+        said, words = (installed.git(way, "merge-base", *more, first, second) for more in (["--is-ancestor"], ["--all"]))
+        answers = {
+            "is-ancestor": (said.status, "no\n" if said.status else "yes\n"),
+            "merge-base": (words.status, words.out or "none\n"),
+        }
+        for word, (status, out) in answers.items():
+            answer = installed.ask(way, word, first, second)
+            err = sentences(rows, out.strip(), word, way) if status else ""
+            if answer.status != status or sorted(answer.out.split()) != sorted(out.split()) or answer.err != err:
+                complaints.append("%s: it is %r, expected %r" % (word, answer, (status, out)))
+        answer = installed.ask(way, "walk", second, first)
+        text = answer._replace(out=answer.out.encode(), err="" if said.status else answer.err)
+        complaints.append(walks.judge_ids(second, first, said.status == 0, text))
+    complaint = next(filter(None, complaints), None)
+    tally.check("git cgraph is-ancestor, merge-base and walk in %s" % title, complaint)
+
+
+def sentences(rows, line, word, way, more=()):
+    """What `git cgraph` says of a line, in a repository whose way names no more than the folder `objects` does."""
+    return "".join("git cgraph: %s\n" % sentence for sentence in [*more, *refusals.sentences(rows, line, word)])
+
+
+def check_empty(installed, tally, repository):
+    """A repository without a commit has no commit-graph, and nothing to ask about."""
+    rows, way = refusals.read_rows(), Way(repository.folder)
+    for word, status in (("verify", 1), ("distinct", 1), ("list", 128)):
+        answer = installed.ask(way, word)
+        right = (status, "refused open 2\n", sentences(rows, "refused open 2", word, way))
+        tally.check("git cgraph %s in an empty repository" % word, None if answer == right else "it is %r" % (answer,))
+    answer = installed.ask(way, "check")
+    expected = (1, "refused open 2\n") if installed.knows_check else (128, "")
+    tally.check("git cgraph check in an empty repository", None if answer[:2] == expected else "it is %r" % (answer,))
+    for words in (["find", "HEAD"], ["is-ancestor", "HEAD", "HEAD"], ["walk", "HEAD", "HEAD"], ["merge-base", "HEAD", "HEAD"]):
+        answer = installed.ask(way, *words)
+        right = answer[:2] == (128, "") and "git cgraph: 'HEAD' names no commit" in answer.err
+        tally.check("git cgraph %s in an empty repository" % " ".join(words), None if right else "it is %r" % (answer,))
+
+
+def check_abbreviation(installed, tally, repository):
+    """An abbreviation that is that of two commits is refused as Git refuses it, and one that is not is taken."""
+    ids = sorted(repository.add(shapes.linear(MANY)))
+    repository.write_graph()
+    short = next(first[:SHORTEST] for first, second in zip(ids, ids[1:]) if first[:SHORTEST] == second[:SHORTEST])
+    alone = next(
+        second for first, second, third in zip(ids, ids[1:], ids[2:]) if second[:7] not in (first[:7], third[:7])
+    )
+    answer = installed.ask(Way(repository.folder), "find", short)
+    right = answer[:2] == (128, "") and "ambiguous" in answer.err and "'%s' names no commit" % short in answer.err
+    tally.check("git cgraph find, an ambiguous abbreviation", None if right else "it is %r" % (answer,))
+    answer = installed.ask(Way(repository.folder), "find", alone[:10])
+    line = found(repository.words(), [ids])[alone]
+    tally.check("git cgraph find, an abbreviation", None if answer == (0, line, "") else "it is %r" % (answer,))
+
+
+def check_damage(installed, tally, repository):
+    """Files with one thing wrong: the line of each, what is said of it, and the id of the commit that it names."""
+    ids = repository.add(shapes.octopus(3, 4, 2))
+    file = verify_checks.original(repository, generation_version=1)
+    check_lie(installed, tally, repository, (file, ids))
+    wrongs = wrong_layout.all_wrong(file) + wrong_commits.all_wrong(file)
+    # One damage for each row is enough: the lines themselves are checked of the programs.
+    for text, wrong in {shape(wrong.answer): wrong for wrong in wrongs if wrong.answer.startswith("refused")}.items():
+        content = sealed(wrong.layer, repository.object_format)
+        write_bytes(repository.graph_path(), content)
+        check_refusal(installed, tally, repository, (wrong.name, wrong.answer, [content]))
+
+
+def check_lie(installed, tally, repository, graph):
+    """A revision is named by the commits, also where the commit-graph has other parents."""
+    file, ids = graph
+    words, order = repository.words(), sorted(ids)
+    parent = words[ids[-1]].parents[0]
+    content = file.with_parent(order.index(parent), 0, order.index(ids[0]))
+    write_bytes(repository.graph_path(), sealed(content, repository.object_format))
+    answer = installed.ask(Way(repository.folder), "find", ids[-1] + "~2")
+    line = found(words, [ids])[words[parent].parents[0]]
+    tally.check("git cgraph find, of a parent that the file lacks", None if answer == (0, line, "") else "it is %r" % (answer,))
+
+
+def shape(line):
+    """A line with letters in the place of what differs between damages of one row."""
+    words = line.split()
+    keeps = {"fault", "error", "file", "chunk", "open", "verify", "graph"}
+    return " ".join(word if not word.isdigit() or before in keeps else "N" for before, word in zip([""] + words, words))
+
+
+def check_damaged_trees(installed, tally, repository):
+    """Folders in which something is wrong: the same. A file is what is checked, where there is one."""
+    right, info = disk_checks.right_chain(repository), repository.info_path()
+    cases = {}
+    for case in wrong_trees.all_wrong(right):
+        file = case.tree.get(trees.FILE)
+        line = case.answer if file is None else reading.verified(file)
+        if line.startswith("refused"):
+            cases[shape(line), file is None] = case, line, file
+    for case, line, file in cases.values():
+        trees.lay_out(info, case.tree)
+        names = ["%s/graph-%s.graph" % (trees.GRAPHS, name.decode("latin-1")) for name in case.tree.get(trees.CHAIN, b"").split()]
+        layers = [case.tree.get(name, b"") for name in names] if file is None else [file]
+        check_refusal(installed, tally, repository, (case.name, line, layers))
+
+
+def check_refusal(installed, tally, repository, case):
+    """What `git cgraph` and `graphtool` say of a damaged commit-graph: the case's name, its line and its layers."""
+    name, line, layers = case
+    info, rows = os.path.realpath(repository.info_path()), refusals.read_rows()
+    path = repository.graph_path() if os.path.isfile(repository.graph_path()) else info
+    commit = ["the commit at position %s is %s" % at for at in [position_in(line, layers)] if at]
+    answers = {
+        "git cgraph": (installed.ask(Way(repository.folder), "verify"), info),
+        "graphtool": (run([os.path.join(installed.prefix, "bin", "graphtool"), "verify", path], installed.variables), None),
+    }
+    for program, (answer, folder) in answers.items():
+        folders = [folder] if folder else []
+        said = [*commit, *refusals.sentences(rows, line.strip(), "verify", *folders)]
+        err = "".join("%s: %s\n" % (program, sentence) for sentence in said)
+        complaint = None if answer == (1, line, err) else "it is %r, expected %r" % (answer, (line, err))
+        tally.check("%s verify, %s, in sentences" % (program, name), complaint)
+
+
+def position_in(line, layers):
+    """The position that a line names, and the id that stands there, if it names one."""
+    words = line.split()
+    if "position" not in words:
+        return None
+    position = int(words[words.index("position") + 1])
+    lines = itertools.chain.from_iterable(reading.listed(layer).splitlines() for layer in layers)
+    return position, [line.split()[1] for line in lines if line[0].isdigit()][position]
