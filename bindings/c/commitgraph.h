@@ -1,0 +1,120 @@
+/* Reads and checks the commit-graph files of Git.
+ *
+ * The calls below are the proved code of Nolavimure, compiled: they read no byte out of bounds, never abort and always
+ * return, for all bytes of files and all numbers, if the caller keeps the rules here. Nothing checks that a caller does.
+ *
+ * Rules for all calls
+ * - A pointer is valid for the length beside it and is not null, also where the length is 0. What a call writes does not
+ *   overlap what it reads, and what it reads does not change until it returns (a mapped file can change: see cg_open).
+ * - A cg_graph is CG_CLOSED, or a copy of what cg_open wrote and cg_close was not yet given. All copies are one graph.
+ *   Nobody looks into it or changes it.
+ * - Threads: any number of calls may read one graph at a time. cg_close is called once, when no call on the graph is
+ *   running, and none follows.
+ * - No call keeps a pointer that it was given. No call is made from a signal handler, or in the child of a process with
+ *   threads before it execs. Memory comes from malloc, realloc and free.
+ * - Calls with a graph that is CG_CLOSED answer as each says.
+ *
+ * Link with libcommitgraph_c.a, the library, and liblibc_c.a of the Rattle kit, which asks the program's malloc for memory.
+ */
+#ifndef COMMITGRAPH_H
+#define COMMITGRAPH_H
+
+#include <stdbool.h>
+#include <stddef.h>
+#include <stdint.h>
+
+#ifdef __cplusplus
+extern "C" {
+#endif
+
+/* No position. Positions count from 0 over all layers, the lowest first, and are below cg_num_commits. */
+#define CG_NOWHERE 0xffffffffu
+
+/* An open graph, or none. */
+typedef struct cg_graph { const void *address; bool opened; } cg_graph;
+#ifdef __cplusplus
+#define CG_CLOSED (cg_graph{ nullptr, false })
+#else
+#define CG_CLOSED ((cg_graph){ NULL, false })
+#endif
+
+/* The bytes of a layer, and the path that its file was found at (UTF-8, not ended by a null byte; it may be empty). Where
+ * the path's last part is that of a layer of a chain, graph-X.graph, cg_verify checks that X is the file's checksum. */
+typedef struct cg_file { const uint8_t *bytes; size_t len; const uint8_t *path; size_t path_len; } cg_file;
+
+/* Why no graph was opened. code 0: one was. 2: the bytes of `layer`, which counts from 0, are refused for the reason of
+ * number `detail`. 3: the layers make no graph, for the reason of number `detail`; where that is 3, `layer` is the first of
+ * another kind of hash than the one below it. 4: cg_open_checked alone. 5: the path of `layer` is not UTF-8. The numbers
+ * are those of graphtool (docs/REFUSALS.md); detail 20 under code 2 and 4 under code 3 mean that memory ran out. What is
+ * told is the first refusal, in the order of the layers. */
+typedef struct cg_error { uint32_t code, detail; uint64_t layer; } cg_error;
+
+/* Opens the graph of these layers, the lowest first. The bytes are copied, so that they may go once the call has returned;
+ * with them a graph takes 20 bytes a commit and 4 a word of the extra edge list more. On code 0 *out is the graph, which
+ * is the caller's to close. Else *out is left as it was. *out was CG_CLOSED before, or a graph that is closed by another
+ * copy of it: what it was is not freed. The bytes are read once, by the copy, and no
+ * proof rests on a mapping that changes meanwhile: the graph is then one of the bytes that were read. A mapped file that
+ * gets shorter meanwhile ends the program by SIGBUS, as any read of it does; who fears that reads the file instead. */
+cg_error cg_open(const cg_file *files, size_t count, cg_graph *out);
+
+/* Opens the graph and checks it, as cg_verify does: code 4, and no graph, where the check refuses it for the reason that
+ * *verdict then has, whose number is `detail` (10: memory ran out). Where code is 4 or 0 the verdict was written.
+ * Only such a graph answers cg_ancestor_walk. The rest is as in cg_open. */
+struct cg_verdict;
+struct cg_count;
+cg_error cg_open_checked(const cg_file *files, size_t count, bool distinct_ids, struct cg_verdict *verdict,
+                         struct cg_count *counts, size_t counts_len, cg_graph *out);
+
+/* Frees a graph. Nothing is done with CG_CLOSED. */
+void cg_close(cg_graph graph);
+
+/* The number of commits; 0 of CG_CLOSED. */
+uint32_t cg_num_commits(cg_graph graph);
+
+/* The number of bytes of an id: 20 of SHA-1, 32 of SHA-256; 0 of CG_CLOSED. */
+size_t cg_id_len(cg_graph graph);
+
+/* The position of an id, or CG_NOWHERE: for a length other than 20 or 32 too, and for CG_CLOSED. A position that is answered
+ * holds the id. In a graph that cg_verify found right it is the least that does, and CG_NOWHERE means that none does. */
+uint32_t cg_lookup(cg_graph graph, const uint8_t *id, size_t len);
+
+/* Writes the id at a position, or that of its commit's root tree, and answers its length, which `len` has to be. Answers 0,
+ * and writes nothing, for another length, for a position that is none, and for CG_CLOSED. */
+size_t cg_id_at(cg_graph graph, uint32_t pos, uint8_t *out, size_t len);
+size_t cg_tree_at(cg_graph graph, uint32_t pos, uint8_t *out, size_t len);
+
+/* What a commit's record says: the committer's time in seconds since 1970-01-01 00:00:00 UTC, and the generation number. */
+typedef struct cg_commit { uint64_t time; uint32_t generation; } cg_commit;
+
+/* Writes what the record at a position says; false, and nothing, where there is none, and for CG_CLOSED. */
+bool cg_commit_at(cg_graph graph, uint32_t pos, cg_commit *out);
+
+/* What a check found. code 0: the graph is right, there are `num_commits`, the longest walk has `longest` edges (unknown
+ * where not has_longest), and `kinds` different numbers of parents. Else the number of the first fault, as graphtool has it:
+ * 1 too many layers; 2, 3, 4 base ids, and the layer as a whole, of `layer`; 5 to 8 and 11 the commit at `position`, where
+ * `other` is the parent of 7, the expected number of 8 and the earlier position of 11; 10 memory ran out; 12 CG_CLOSED. */
+typedef struct cg_verdict {
+    uint32_t code, num_commits, longest;
+    bool has_longest;
+    uint32_t position, other;
+    uint64_t layer, kinds;
+} cg_verdict;
+typedef struct cg_count { uint32_t parents, commits; } cg_count;
+
+/* Checks a graph, with `distinct_ids` also that no id stands in two layers. Answers the verdict's code.
+ * `counts` gets, from the least number of parents on, how many commits have it, as many as there is room for. */
+uint32_t cg_verify(cg_graph graph, bool distinct_ids, cg_verdict *out, cg_count *counts, size_t counts_len);
+
+/* A search for a walk. code 0: it was made, `length` is the number of commits on a shortest walk, both ends included, or 0
+ * where there is none, and `visits` commits were visited. 1: a position is none. 2: the graph was not checked by
+ * cg_open_checked. 3: memory ran out. 4: CG_CLOSED. */
+typedef struct cg_reached { uint32_t code, visits; uint64_t length; } cg_reached;
+
+/* Looks for a shortest walk along parents, and writes its positions, as many as there is room for. The graph is
+ * one that cg_open_checked opened. */
+cg_reached cg_ancestor_walk(cg_graph graph, uint32_t from, uint32_t to, uint32_t *out, size_t len);
+
+#ifdef __cplusplus
+}
+#endif
+#endif

@@ -1,0 +1,29 @@
+//! `demo PATH ID`: opens and checks the graph at the path, and says how its commits are reached from the one with the id.
+
+use commitgraph::{Checked, ObjectId, Position};
+
+fn main() -> Result<(), Box<dyn std::error::Error>> {
+    let words: Vec<String> = std::env::args().collect();
+    let [_, path, id] = &words[..] else {
+        return Err("usage: demo PATH ID".into());
+    };
+    let graph = Checked::at(path)?;
+    println!("{} commits", graph.num_commits());
+    println!("{:?}", graph.verify_integrity()?);
+    let id = ObjectId::from_hex(id).ok_or("no id")?;
+    let from = graph.lookup(id).ok_or("no such commit")?;
+    assert_eq!(graph.commit_at(from).id(), id);
+    // Four threads read the graph at a time.
+    std::thread::scope(|scope| {
+        let ask = || (0..graph.num_commits()).filter(|to| reaches(&graph, from, Position(*to))).count();
+        let asked: Vec<_> = (0..4).map(|_| scope.spawn(ask)).collect();
+        for answer in asked {
+            println!("{} reached", answer.join().unwrap());
+        }
+    });
+    Ok(())
+}
+
+fn reaches(graph: &Checked, from: Position, to: Position) -> bool {
+    matches!(graph.ancestor_walk(from, to), Ok(Some(_)))
+}

@@ -1,0 +1,74 @@
+-- a room that items are written to, one after another
+use Rattle.std.proofs.Common.{◌≡◌, refl, sym, ap, subst, ◌∙◌, ℕ, suc, zero, ◌+◌, ◌<◌, ◌≤◌, List, [], ◌∷◌, ◌++◌, length, take}
+use Rattle.std.proofs.Common.{set, arith}
+use Rattle.std.proofs.Common.{get_or}
+use Rattle.std.proofs.lemmas.List.{take_more}
+use Rattle.graph_history.specs.Answer.{numbers_of}
+use Rattle.graph_format.specs.declared.Position.{Position}
+use Rattle.commitgraph_c.specs.Answers.{written}
+
+module _ {T : Type 0} where
+  -- before any item
+  pub none_written : (room : List T) → written [] room ≡ room
+  none_written [] = refl
+  none_written (x ∷ room) = refl
+
+  -- as many as the room has places for stay as they are
+  pub past_the_room : (items : List T) (item : T) (room : List T) → length room ≤ length items
+      → written (items ++ item ∷ []) room ≡ written items room
+  past_the_room [] item [] le = refl
+  past_the_room [] item (x ∷ room) le = absurd (omega (arith, le))
+  past_the_room (i ∷ items) item [] le = refl
+  past_the_room (i ∷ items) item (x ∷ room) le = ap (λ r. i ∷ r) (past_the_room items item room (omega (arith, le)))
+
+  -- the next one
+  pub one_more : (items : List T) (item : T) (room : List T) → length items < length room
+      → set (written items room) (length items) item ≡ written (items ++ item ∷ []) room
+  one_more [] item [] lt = absurd (omega (arith, lt))
+  one_more [] item (x ∷ []) lt = refl
+  one_more [] item (x ∷ y ∷ room) lt = refl
+  one_more (i ∷ items) item [] lt = absurd (omega (arith, lt))
+  one_more (i ∷ items) item (x ∷ room) lt = ap (λ r. i ∷ r) (one_more items item room (omega (arith, lt)))
+
+  -- the room keeps its size
+  pub written_length : (items room : List T) → length (written items room) ≡ length room
+  written_length [] [] = refl
+  written_length [] (x ∷ room) = refl
+  written_length (i ∷ items) [] = refl
+  written_length (i ∷ items) (x ∷ room) = ap suc (written_length items room)
+
+-- the first places of a list are so many
+first_places : {T : Type 0} (xs : List T) (i : ℕ) → i ≤ length xs → length (take i xs) ≡ i
+first_places xs zero le = refl
+first_places [] (suc i) le = absurd (omega (arith, le))
+first_places (x ∷ xs) (suc i) le = ap suc (first_places xs i (omega (arith, le)))
+
+numbers_length : (xs : List Position) → length (numbers_of xs) ≡ length xs
+numbers_length [] = refl
+numbers_length (x ∷ xs) = ap suc (numbers_length xs)
+
+numbers_end : (xs : List Position) (x : Position) → numbers_of (xs ++ x ∷ []) ≡ numbers_of xs ++ x.0 ∷ []
+numbers_end [] x = refl
+numbers_end (y ∷ xs) x = ap (λ ns. y.0 ∷ ns) (numbers_end xs x)
+
+more : (xs : List Position) (i : ℕ) (d : Position) → i < length xs
+    → numbers_of (take (i + 1) xs) ≡ numbers_of (take i xs) ++ (get_or xs i d).0 ∷ []
+more xs i d lt = ap numbers_of (take_more xs i d lt) ∙ numbers_end (take i xs) (get_or xs i d)
+
+so_far : (xs : List Position) (i : ℕ) → i < length xs → length (numbers_of (take i xs)) ≡ i
+so_far xs i lt = numbers_length (take i xs) ∙ first_places xs i (omega (arith, lt))
+
+-- the position at a place is written there
+pub next_position : (xs : List Position) (i : ℕ) (d : Position) (room : List ℕ) → i < length xs → i < length room
+    → set (written (numbers_of (take i xs)) room) i (get_or xs i d).0 ≡ written (numbers_of (take (i + 1) xs)) room
+next_position xs i d room lt fits =
+    ap (λ k. set (written (numbers_of (take i xs)) room) k (get_or xs i d).0) (sym (so_far xs i lt))
+    ∙ one_more (numbers_of (take i xs)) (get_or xs i d).0 room (subst (λ k. k < length room) (sym (so_far xs i lt)) fits)
+    ∙ ap (λ ns. written ns room) (sym (more xs i d lt))
+
+-- or there is no place for it
+pub no_place : (xs : List Position) (i : ℕ) (d : Position) (room : List ℕ) → i < length xs → length room ≤ i
+    → written (numbers_of (take i xs)) room ≡ written (numbers_of (take (i + 1) xs)) room
+no_place xs i d room lt past =
+    sym (past_the_room (numbers_of (take i xs)) (get_or xs i d).0 room (subst (λ k. length room ≤ k) (sym (so_far xs i lt)) past))
+    ∙ ap (λ ns. written ns room) (sym (more xs i d lt))

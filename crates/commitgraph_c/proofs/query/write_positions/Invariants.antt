@@ -1,0 +1,7 @@
+use Rattle.std.proofs.Common.{◌≡◌, take}
+use Rattle.graph_history.specs.Answer.{numbers_of}
+use Rattle.commitgraph_c.specs.Answers.{written}
+use Rattle.commitgraph_c.proofs.query.write_positions.Given as goal
+
+abbrev pub invariant-loop-place : goal.invariant-loop-place
+invariant-loop-place l = l.out ≡ written (numbers_of (take l.place l.positions)) l.initial.out

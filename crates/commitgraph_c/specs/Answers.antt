@@ -1,0 +1,57 @@
+-- what the calls answer
+use Rattle.std.specs.Prelude.{◌≡◌, ◌==◌, ℕ, List, Bool, [], Option, Some, None, IsSomeAnd, ◌++◌, length, take, drop, slice_get}
+use Rattle.std.specs.Prelude.{if◌then◌else◌, option_map, unwrap_or}
+use Rattle.graph_format.specs.Format.{Record}
+use Rattle.graph_format.specs.Layer.{Layer, record_at}
+use Rattle.graph_format.specs.StoredHistory.{history_of}
+use Rattle.graph_history.specs.Answer.{IsAnswer, numbers_of}
+use Rattle.graph_history.specs.declared.Reached.{Reached}
+use Rattle.gix_commitgraph.specs.Graph.{graph_ids, graph_commits}
+use Rattle.commitgraph_c.specs.declared.query.CgReached.{CgReached}
+use Rattle.commitgraph_c.specs.declared.read.CgCommit.{CgCommit}
+
+-- the layers of a graph that is open
+abbrev pub layers_of : Option (List Layer × Bool) → Option (List Layer)
+layers_of held = option_map (λ h. h.0) held
+
+-- the number that stands for no position
+abbrev pub nowhere : ℕ
+nowhere = 0xffffffff
+
+-- the position that a number tells of, if it tells of one
+abbrev pub told_position : ℕ → Option ℕ
+told_position number = if number == nowhere then None else Some number
+
+-- the room, with as many of the items as it has places for written from its start on
+abbrev pub written : {T : Type 0} → List T → List T → List T
+written items room = take (length room) items ++ drop (length items) room
+
+-- the id at a position
+abbrev pub HasId : Option (List Layer) → ℕ → List ℕ → Type 0
+HasId layers pos id = IsSomeAnd layers (λ l. slice_get (graph_ids l) pos ≡ Some id)
+
+-- the record of the commit at a position has a property
+abbrev pub HasRecord : Option (List Layer) → ℕ → (Record → Type 0) → Type 0
+HasRecord layers pos P = IsSomeAnd layers (λ l. IsSomeAnd (slice_get (graph_commits l) pos) (λ c. P (record_at c.0 c.1)))
+
+-- the layer and the position there of the commit at a position have a property
+abbrev pub HasCommit : Option (List Layer) → ℕ → (Layer × ℕ → Type 0) → Type 0
+HasCommit layers pos P = IsSomeAnd layers (λ l. IsSomeAnd (slice_get (graph_commits l) pos) P)
+
+-- What is told of a commit, but for its tree and its parents.
+pub record Tells (told : CgCommit) (commit : Layer × ℕ) : Type 0 where
+  pub time : told.time ≡ (record_at commit.0 commit.1).time
+  pub generation : told.generation ≡ (record_at commit.0 commit.1).generation
+
+-- What is told of an answer to a query for a walk: how many commits were visited, and how many the walk has, 0 where there is
+-- none; and its positions are written.
+pub record TellsWalk (reached : Reached) (told : CgReached) (old new : List ℕ) : Type 0 where
+  pub visits : told.visits ≡ reached.visits
+  pub length_of : told.length ≡ unwrap_or (option_map (λ walk. length walk.items) reached.walk) 0
+  pub room : new ≡ written (unwrap_or (option_map (λ walk. numbers_of walk.items) reached.walk) []) old
+
+-- An answer to a query for a walk from a commit of a graph to another is told.
+pub record TellsAnswer (layers : List Layer) (from to : ℕ) (told : CgReached) (old new : List ℕ) : Type 0 where
+  pub reached : Reached
+  pub answer : IsAnswer (history_of layers) from to reached
+  pub tells : TellsWalk reached told old new

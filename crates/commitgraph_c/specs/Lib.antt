@@ -1,0 +1,6 @@
+pub mod Answers
+pub mod Files
+pub mod Held
+pub mod Numbers
+pub mod State
+pub mod Verdict

@@ -1,0 +1,14 @@
+//! The reader and the checks of `gix_commitgraph`, and the queries of `graph_history`, for C: a
+//! static library. Its header is `bindings/c/commitgraph.h`.
+//!
+//! C holds an opened graph as a value of an address and a flag, which `cg_open` makes and
+//! `cg_close` frees. No call has a `requires`: what is wrong is answered with a code.
+#![tactic(auto)]
+
+mod check;
+mod handle;
+mod numbers;
+mod open;
+mod opened;
+mod query;
+mod read;

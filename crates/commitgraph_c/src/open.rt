@@ -1,0 +1,180 @@
+//! Opening a graph from the bytes of its layers, and giving it back.
+
+ghost use Rattle.std.specs.Prelude.{◌≡◌, ◌≢◌, ◌++◌, ◌∷◌, [], IfErr, IfOk, IsSomeAnd, OnOk, Some};
+ghost use Rattle.std.specs.Prelude.{None, false, string_bytes, true};
+ghost use Rattle.graph_format.specs.Layer.{IsLayer};
+ghost use Rattle.gix_commitgraph.specs.GraphRefusal.{graph_refusal};
+ghost use Rattle.gix_commitgraph.specs.Distinct.{IsSoundWith};
+ghost use Rattle.commitgraph_c.specs.Files.{IsOpenedFrom, RefusesFile};
+ghost use Rattle.commitgraph_c.specs.Verdict.{TellsStats, options_of};
+
+use crate::check::{CgCount, CgVerdict, right, wrong};
+use crate::handle::CgOwner;
+use crate::numbers::{file_number, graph_number};
+use crate::opened::Opened;
+use gix_commitgraph::verify::VerifyOptions;
+use gix_commitgraph::{File, Graph, GraphError};
+use graph_history::CheckedGraph;
+use std::alloc::{AllocError, Global};
+
+/// The bytes of a layer, and the path of its file: for C two pointers, each with a length.
+#[repr(C)]
+#[derive(Clone, Copy)]
+pub struct CgFile<'a> {
+    pub bytes: &'a [u8],
+    pub path: &'a [u8],
+}
+
+/// What was answered: 0, or why not.
+#[repr(C)]
+#[derive(Clone, Copy)]
+pub struct CgError {
+    /// 0 where there is no error, 2 for a layer, 3 for the graph, 4 for the check, 5 for a path.
+    pub code: u32,
+    /// The number of the refusal.
+    pub detail: u32,
+    /// The layer that is refused.
+    pub layer: u64,
+}
+
+fn error(code: u32, detail: u32, layer: u64) -> CgError
+    ensures code { result.code ≡ code }
+    ensures detail { result.detail ≡ detail }
+    ensures layer { result.layer ≡ layer }
+{
+    CgError {
+        code,
+        detail,
+        layer,
+    }
+}
+
+/// Opens the graph of these layers, the lowest first. Where it is refused, nothing is written.
+#[unsafe(no_mangle)]
+pub extern "C" fn cg_open(alloc: Global, files: &[CgFile<'_>], out: &mut CgOwner) -> CgError
+    ensures opened { result.code ≡ 0 → IsSomeAnd out.new.address.held (λ held.
+        IsOpenedFrom files.now held.0) }
+    ensures kept { result.code ≢ 0 → out.new ≡ out.old }
+{
+    match open(alloc, files) {
+        Ok(graph) => hand_out(alloc, Opened::unchecked(graph), out),
+        Err(error) => error,
+    }
+}
+
+/// Opens and checks the graph of these layers, the lowest first. Where it is refused, no graph is
+/// written, and where the check refuses it, the verdict says why.
+#[unsafe(no_mangle)]
+pub extern "C" fn cg_open_checked(
+    alloc: Global,
+    files: &[CgFile<'_>],
+    distinct_ids: bool,
+    verdict: &mut CgVerdict,
+    counts: &mut [CgCount],
+    out: &mut CgOwner,
+) -> CgError
+    ensures opened { result.code ≡ 0 → IsSomeAnd out.new.address.held (λ held.
+        IsOpenedFrom files.now held.0) }
+    ensures right { result.code ≡ 0 → IsSomeAnd out.new.address.held (λ held.
+        (held.1 ≡ true) × IsSoundWith (options_of distinct_ids) held.0) }
+    ensures verdict { result.code ≡ 0 → IsSomeAnd out.new.address.held (λ held.
+        TellsStats held.0 verdict.new) }
+    ensures kept { result.code ≢ 0 → out.new ≡ out.old }
+{
+    let graph = match open(alloc, files) {
+        Ok(graph) => graph,
+        Err(error) => return error,
+    };
+    match CheckedGraph::new_with(alloc, VerifyOptions { distinct_ids }, graph) {
+        Ok(graph) => {
+            *verdict = right(graph.as_checked().outcome(), counts);
+            hand_out(alloc, Opened::checked(graph), out)
+        }
+        Err(refusal) => {
+            let found = wrong(refusal);
+            *verdict = found;
+            error(4, found.code, 0)
+        }
+    }
+}
+
+/// Writes the graph, unless there is no memory for its block.
+fn hand_out(alloc: Global, opened: Opened, out: &mut CgOwner) -> CgError
+    ensures opened { result.code ≡ 0 → out.new.address.held ≡ Some opened }
+    ensures refused { result.code ≢ 0
+        → (result.code ≡ 3) × ((result.detail ≡ 4) × (result.layer ≡ 0)) }
+    ensures kept { result.code ≢ 0 → out.new ≡ out.old }
+{
+    match Box::new(alloc, opened) {
+        Ok(opened) => {
+            *out = CgOwner::of(opened);
+            error(0, 0, 0)
+        }
+        Err(_) => error(3, 4, 0),
+    }
+}
+
+/// Frees a graph. Nothing is done where none is open.
+#[unsafe(no_mangle)]
+pub extern "C" fn cg_close(graph: CgOwner) {
+    drop(graph.into_box());
+}
+
+/// Opens each file, and makes a graph of the layers.
+fn open(alloc: Global, files: &[CgFile<'_>]) -> Result<Graph, CgError>
+    ensures opened { IfOk result (IsOpenedFrom files.now) }
+    ensures code { IfErr result (λ e. (e.code ≢ 0) × (e.code ≢ 4)) }
+{
+    let mut layers = Vec::new(alloc);
+    for file in files {
+        let place = layers.len() as u64;
+        let layer = open_layer(alloc, *file, place)?;
+        add(&mut layers, layer, place)?;
+    }
+    match Graph::new(alloc, layers) {
+        Ok(graph) => Ok(graph),
+        Err(GraphError::HashMismatch { layer }) => Err(error(3, 3, layer as u64)),
+        Err(refusal) => Err(error(3, graph_number(&refusal) as u32, 0)),
+    }
+}
+
+/// Adds a layer, if there is memory.
+fn add(layers: &mut Vec<File>, layer: File, place: u64) -> Result<(), CgError>
+    ensures items { OnOk result (layers.new.items ≡ layers.old.items ++ layer ∷ []) }
+    ensures error { IfErr result (λ e.
+        (e.code ≡ 2) × ((e.detail ≡ 20) × (e.layer ≡ place))) }
+{
+    match layers.push(layer) {
+        Ok(()) => Ok(()),
+        Err(_) => Err(error(2, 20, place)),
+    }
+}
+
+/// Opens a file, which is to be the layer of this place.
+#[tactic(auto, using(crate::proofs::Files::out_of_memory))]
+fn open_layer(alloc: Global, file: CgFile<'_>, place: u64) -> Result<File, CgError>
+    ensures layer { IfOk result (IsLayer file.entry.bytes.now file.entry.path.now) }
+    ensures refused { IfErr result (RefusesFile file.entry) }
+    ensures place { IfErr result (λ e. e.layer ≡ place) }
+{
+    let Ok(path) = str::from_utf8(file.path) else {
+        return Err(error(5, 0, place));
+    };
+    let Ok((bytes, path)) = copies(alloc, file.bytes, path) else {
+        return Err(error(2, 20, place));
+    };
+    match File::new(alloc, bytes, path) {
+        Ok(file) => Ok(file),
+        Err(refusal) => Err(error(2, file_number(&refusal) as u32, place)),
+    }
+}
+
+/// Copies of the bytes and of the path, if there is memory.
+fn copies(alloc: Global, bytes: &[u8], path: &str) -> Result<(Vec<u8>, String), AllocError>
+    ensures bytes { IfOk result (λ r. r.0.items ≡ bytes.now) }
+    ensures path { IfOk result (λ r. string_bytes r.1 ≡ path.now) }
+{
+    let mut copy = Vec::with_capacity(alloc, bytes.len())?;
+    copy.extend_from_slice(bytes)?;
+    Ok((copy, String::from_str(alloc, path)?))
+}

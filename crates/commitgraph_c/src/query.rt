@@ -1,0 +1,99 @@
+//! Walks to ancestors, in a graph that was checked.
+
+ghost use Rattle.std.specs.Prelude.{◌≡◌, ◌≢◌, ◌<◌, ◌≤◌, ◌⊎◌, false, IfSome, IsSomeAnd, None};
+ghost use Rattle.gix_commitgraph.specs.Graph.{total};
+ghost use Rattle.graph_history.specs.Answer.{numbers_of};
+ghost use Rattle.commitgraph_c.specs.Answers.{TellsAnswer, TellsWalk, written};
+
+use crate::handle::CgGraph;
+use gix_commitgraph::Position;
+use graph_history::Reached;
+use std::alloc::Global;
+
+/// The answer to a query: how many positions the walk has, 0 where there is none.
+#[repr(C)]
+#[derive(Clone, Copy)]
+pub struct CgReached {
+    /// 0 where the question was answered, 1 where a position is none of the graph's, 2 where the
+    /// graph was not checked, 3 where memory ran out, 4 where none is open.
+    pub code: u32,
+    pub visits: u32,
+    pub length: u64,
+}
+
+/// Looks for a shortest walk, and writes its positions, as many as there is room for. The
+/// graph has to be one that `cg_open_checked` opened.
+#[unsafe(no_mangle)]
+pub extern "C" fn cg_ancestor_walk(
+    alloc: Global,
+    graph: CgGraph,
+    from: u32,
+    to: u32,
+    out: &mut [u32],
+) -> CgReached
+    ensures answer { result.code ≡ 0 → IsSomeAnd graph.address.held (λ held.
+        TellsAnswer held.0 from to result out.old out.new) }
+    ensures nowhere { result.code ≡ 1 → IsSomeAnd graph.address.held (λ held.
+        (total held.0 ≤ from) ⊎ (total held.0 ≤ to)) }
+    ensures unchecked { result.code ≡ 2 → IsSomeAnd graph.address.held (λ held. held.1 ≡ false) }
+    ensures closed { result.code ≡ 4 → graph.address.held ≡ None }
+    ensures codes { result.code ≤ 4 }
+    ensures kept { result.code ≢ 0 → out.new ≡ out.old }
+{
+    let Some(opened) = graph.opened() else {
+        return refused(4);
+    };
+    let commits = opened.graph().num_commits();
+    if from >= commits || to >= commits {
+        return refused(1);
+    }
+    let Some(checked) = opened.as_checked() else {
+        return refused(2);
+    };
+    match checked.ancestor_walk(alloc, Position(from), Position(to)) {
+        Ok(reached) => tell(&reached, out),
+        Err(_) => refused(3),
+    }
+}
+
+/// Tells an answer, and writes the positions of its walk.
+fn tell(reached: &Reached, out: &mut [u32]) -> CgReached
+    ensures code { result.code ≡ 0 }
+    ensures tells { TellsWalk reached.now result out.old out.new }
+{
+    let length = match &reached.walk {
+        Some(walk) => {
+            write_positions(walk.as_slice(), out);
+            walk.len() as u64
+        }
+        None => 0,
+    };
+    CgReached {
+        code: 0,
+        visits: reached.visits,
+        length,
+    }
+}
+
+/// Writes positions, as many as there is room for.
+#[tactic(auto, using(crate::proofs::Written::next_position, crate::proofs::Written::no_place, crate::proofs::Written::written_length))]
+fn write_positions(positions: &[Position], out: &mut [u32])
+    ensures { out.new ≡ written (numbers_of positions.now) out.old }
+{
+    for place in 0..positions.len() {
+        if place < out.len() {
+            out[place] = positions[place].0;
+        }
+    }
+}
+
+/// An answer that tells of no walk.
+fn refused(code: u32) -> CgReached
+    ensures { result.code ≡ code }
+{
+    CgReached {
+        code,
+        visits: 0,
+        length: 0,
+    }
+}
