@@ -1,6 +1,6 @@
 """What the documents name in backquotes: paths, laws, definitions, edits that must fail, tests and other code.
 
-Each check gives the places that name what is not there, or the code that no document names.
+Each check gives the places that name what is not there, or the code that no README of a crate names.
 """
 
 import fnmatch
@@ -15,12 +15,12 @@ ANY_NAME = re.compile(r"\b[A-Z]+\b")
 """A name in capitals within a path, as in crates/NAME/src, stands for any name."""
 
 CODE = re.compile(r"[A-Za-z_]\w*(::\w+)*")
-PROMISES = "docs/DEFINITIONS.md"
-"""The document that has to name every public law, every edit and every test."""
+LINK = re.compile(r"\]\(([^)#:]+)\)")
+README = re.compile(r"crates/(\w+)/README\.md")
+"""The document of a crate, which has its promises."""
 
-CODE_DOCUMENTS = (PROMISES, "docs/ARCHITECTURE.md")
-WORDS_OF_TOOLS = {"untested"}
-"""Words that look like names of code, and are those of a tool."""
+CODE_DOCUMENTS = re.compile(README.pattern + r"|docs/(DEFINITIONS|FORMAT|ARCHITECTURE)\.md")
+"""The documents that may name no code that is not there."""
 
 LISTED = r"((?:(?:,| and|, and) `\w+`)*)"
 """Further names that are listed after one."""
@@ -34,13 +34,18 @@ LAWS = re.compile(r"`(?:(\w+)::)?(law(?:::\w+)*)`" + LISTED)
 
 EDIT_FILE = re.compile(r"^crates/\w+/must-fail/(.*)\.edit$")
 TEST = re.compile(r"#\[test\]\s+(?:#\[.*\]\s+)*fn (\w+)")
-EDITS, TESTS = "Edits that must fail", "Tests"
+CELL_END = re.compile(r" \|(?= |$)")
+EDITS, TESTS = "Edits", "Tests"
 """The titles of the columns that hold names of edits and of tests."""
 
 
 def missing_paths(texts):
-    """The places in documents that name a path which is the end of no path of the repository."""
+    """The places in documents that name a path which is the end of no path of the repository, or link to no file."""
     paths = {"/" + part for path in texts for part in with_folders(path)}
+    for path in documents(texts):
+        for link in LINK.findall(texts[path]):
+            if os.path.normpath(os.path.join(os.path.dirname(path), link)) not in texts:
+                yield "%s links to %s" % (path, link)
     for place, _, _, name in quotations(texts, documents(texts)):
         if PATH.fullmatch(name) and not is_end(name.rstrip("/"), paths):
             yield "%s names %s" % (place, name)
@@ -57,46 +62,44 @@ def is_end(name, paths):
     """Whether a name, in which some parts stand for any name, is the end of one of the paths."""
     if "/" + name in paths:
         return True
-    pattern = "*/" + ANY_NAME.sub("*", name) if not name.endswith(".md") else "*/" + name
-    return bool(fnmatch.filter(paths, pattern))
+    folder, document = os.path.split(name) if name.endswith(".md") else (name, "")
+    return bool(fnmatch.filter(paths, "*/" + os.path.join(ANY_NAME.sub("*", folder), document).rstrip("/")))
 
 
 def missing_edits(texts):
-    """The places in the columns of edits that name none of the crates of the section."""
-    for place, crates, column, name in quotations(texts, CODE_DOCUMENTS):
-        paths = ["crates/%s/must-fail/%s.edit" % (crate, name) for crate in crates]
-        if column == EDITS and not any(path in texts for path in paths):
-            yield "%s names %s of %s" % (place, name, " or ".join(crates))
+    """The places in the columns of edits that name none of their crate."""
+    for place, crate, column, name in quotations(texts, code_documents(texts)):
+        if column == EDITS and "crates/%s/must-fail/%s.edit" % (crate, name) not in texts:
+            yield "%s names %s" % (place, name)
 
 
 def missing_laws(texts):
     """The places that name a law or a module of laws by a path which does not lead to it.
 
-    A path from `law` on is one of the crate of its section, if that is among those with paths of their own,
-    else of the crate that re-exports the others. What is listed after it by name alone is in the same module.
+    In the README of a crate whose laws have paths of their own, a path from `law` on is one of that crate, elsewhere
+    of the crate that re-exports the others. What is listed after it by name alone is in the same module.
     """
     paths = laws.paths(texts)
-    for place, section, _, cell in cells(texts, documents(texts)):
-        own = next((crate for crate in section if crate in paths), laws.EXPORTER)
-        for crate, path, more in LAWS.findall(cell):
+    for place, crate, _, cell in cells(texts, documents(texts)):
+        own = crate if crate in paths else laws.EXPORTER
+        for other, path, more in LAWS.findall(cell):
             module = path.rpartition("::")[0]
             for name in [path] + ["%s::%s" % (module, name) for name in QUOTED.findall(more)]:
-                if name not in paths.get(crate or own, ()):
+                if name not in paths.get(other or own, ()):
                     yield "%s names %s" % (place, name)
 
 
 def missing_definitions(texts):
     """The places that name a definition after a file of specs/ that does not define it, or after two that do.
 
-    In a section on a crate the file is one of that crate or of those below it. What is listed after such a
+    In the README of a crate the file is one of that crate or of those below it. What is listed after such a
     definition by name alone is in the same file.
     """
     defined = {path: set(DEFINED.findall(text)) for path, text in texts.items() if "/specs/" in path}
     lower = lower_crates(texts["crates.txt"])
-    for place, section, _, cell in cells(texts, documents(texts)):
-        crates = {below for crate in section for below in lower.get(crate, ())} or set(lower)
+    for place, crate, _, cell in cells(texts, documents(texts)):
         for file, first, more in DEFINITIONS.findall(cell):
-            files = [defined.get("crates/%s/specs/%s.antt" % (crate, file), ()) for crate in crates]
+            files = [defined.get("crates/%s/specs/%s.antt" % (below, file), ()) for below in lower.get(crate, lower)]
             for name in [first] + QUOTED.findall(more):
                 if sum(name in names for names in files) != 1:
                     yield "%s names %s.%s" % (place, file, name)
@@ -104,12 +107,18 @@ def missing_definitions(texts):
 
 def lower_crates(listing):
     """For each crate that crates.txt lists, that crate and those below it, the lowest crates coming from the kit."""
-    uses = dict(re.findall(r"^(\w+):(.*)$", listing, re.MULTILINE))
+    uses = used_crates(listing)
 
     def below(crate):
-        return {crate}.union(*map(below, uses.get(crate, "").split()))
+        return {crate}.union(*map(below, uses.get(crate, ())))
 
     return {crate: below(crate) for crate in uses}
+
+
+def used_crates(listing):
+    """For each crate that crates.txt lists, the crates that it uses."""
+    lines = re.findall(r"^(\w+)(?: staticlib)?:(.*)$", listing, re.MULTILINE)
+    return {crate: uses.split() for crate, uses in lines}
 
 
 def documents(texts):
@@ -117,28 +126,39 @@ def documents(texts):
     return [path for path in texts if path.endswith(".md")]
 
 
+def code_documents(texts):
+    """The paths of the documents that may name no code that is not there."""
+    return [path for path in texts if CODE_DOCUMENTS.fullmatch(path)]
+
+
 def unnamed_laws(texts):
-    """The public laws that are not named."""
-    return unnamed(texts, laws.names(texts))
+    """The public laws that the README of their crate does not name."""
+    return unnamed_there(texts, laws.names(texts))
 
 
 def unnamed_edits(texts):
-    """The edits that are not named."""
-    return unnamed(texts, {path: EDIT_FILE.findall(path) for path in texts})
+    """The edits that the README of their crate does not name."""
+    return unnamed_there(texts, {path: EDIT_FILE.findall(path) for path in texts})
+
+
+def unnamed_there(texts, names):
+    """Those names, by their files, that the README of the file's crate does not have."""
+    known = {README.fullmatch(path).group(1): known_names(texts, [path]) for path in filter(README.fullmatch, texts)}
+    for path in sorted(filter(names.get, names)):
+        there = known.get(path.split("/")[1], ())
+        yield from ("%s has %s" % (path, name) for name in names[path] if name not in there)
 
 
 def unnamed_tests(texts):
-    """The tests that are not named."""
-    return unnamed(texts, {path: TEST.findall(text) for path, text in texts.items() if is_code(path)})
+    """The tests that no README of a crate names."""
+    known = known_names(texts, filter(README.fullmatch, texts))
+    for path in filter(is_code, sorted(texts)):
+        yield from ("%s has %s" % (path, name) for name in TEST.findall(texts[path]) if name not in known)
 
 
-def unnamed(texts, names):
-    """Those names, by their files, that the document of the promises has neither alone nor at the end of a path."""
-    known = {name.split("::")[-1] for _, _, _, name in quotations(texts, [PROMISES])}
-    for path in sorted(names):
-        for name in names[path]:
-            if name not in known:
-                yield "%s has %s" % (path, name)
+def known_names(texts, paths):
+    """The names that documents have, alone or at the end of a path."""
+    return {name.split("::")[-1] for _, _, _, name in quotations(texts, paths)}
 
 
 def missing_code(texts):
@@ -149,8 +169,8 @@ def missing_code(texts):
     code = {path: text for path, text in texts.items() if is_code(path)}
     crates = {path.split("/")[1] for path in code}
     functions = set(re.findall(r"\bfn (\w+)", "".join(code.values())))
-    words = set(re.findall(r"\w+", "".join(code.values()))) | crates | WORDS_OF_TOOLS
-    for place, _, column, name in quotations(texts, CODE_DOCUMENTS):
+    words = set(re.findall(r"\w+", "".join(code.values()))) | crates
+    for place, _, column, name in quotations(texts, code_documents(texts)):
         if CODE.fullmatch(name) and not PATH.fullmatch(name) and column != EDITS:
             if name.split("::")[-1] not in (functions | crates if column == TESTS else words):
                 yield "%s names %s" % (place, name)
@@ -162,23 +182,21 @@ def is_code(path):
 
 
 def quotations(texts, paths):
-    """What documents have in backquotes: the place, the crates of its section, the title of its column, and the text."""
-    for place, section, title, cell in cells(texts, paths):
+    """What documents have in backquotes: the place, the crate whose README it is, its column's title, and the text."""
+    for place, crate, title, cell in cells(texts, paths):
         for name in QUOTED.findall(cell):
-            yield place, section, title, name
+            yield place, crate, title, name
 
 
 def cells(texts, paths):
-    """The lines of documents, and the cells of those of tables: the place, its section, the column's title, the text."""
+    """The lines of documents, and the cells of those of tables: the place, the crate of a README, the title, the text."""
     for path in paths:
-        section, titles = [], []
+        titles, readme = [], README.fullmatch(path)
         for number, line in enumerate(texts[path].split("\n"), 1):
-            if line.startswith("## "):
-                section = QUOTED.findall(line)
-            parts = line.split(" | ") if line.startswith("| ") else [line]
+            parts = CELL_END.split(line) if line.startswith("| ") else [line]
             if not line.startswith("|"):
                 titles = []
             elif not titles:
                 titles = [part.strip("| ") for part in parts]
             for text, title in zip(parts, titles or [None]):
-                yield "%s:%d" % (path, number), section, title, text
+                yield "%s:%d" % (path, number), readme and readme.group(1), title, text

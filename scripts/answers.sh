@@ -1,0 +1,155 @@
+# What `git cgraph`, `graphtool` and `historytool` have in common. They read this file with `.`, with `top` set
+# to the folder in which they stand and `name` to what they call themselves. It defines functions, and runs nothing.
+
+newline='
+'
+
+# Says one line on standard error.
+say() {
+    printf '%s: %s\n' "$name" "$1" >&2
+}
+
+# The line of the version, for a name.
+version_of() {
+    printf '%s %s\n' "$1" "$(cat "$top/VERSION")"
+}
+
+# The path of a proved program. Where this is no installed copy it is built first if a source is newer.
+program_path() {
+    if [ -x "$top/programs/$1" ]; then
+        printf '%s\n' "$top/programs/$1"
+    else
+        "$top/scripts/program" "$1" </dev/null
+    fi
+}
+
+# Sets `program` to the path of a proved program. Where it cannot be proved or built, what to do about that is said,
+# and the answer is false.
+find_program() {
+    program=$(program_path "$1") && return
+    line='the program could not be proved or built' status=3
+    said="$name: $line$newline"
+    report "$1" ''
+    return 1
+}
+
+# Whether the words after the first one are `--help`, `-h` or `--version`, alone or after one of the commands that
+# the first word lists. Sets `wish` to `--help` or `--version` then.
+wishes() {
+    commands=" $1 "
+    shift
+    case $#,$commands in
+    1,* | 2,*" ${1-} "*) shift $(($# - 1)) ;;
+    *) return 1 ;;
+    esac
+    case $1 in
+    -h | --help) wish=--help ;;
+    --version) wish=--version ;;
+    *) return 1 ;;
+    esac
+}
+
+# Ends with the usage text of the program `name` and status 2, as the program does for such words. In a clone the
+# text is that of the program's source, so that nothing is built for it.
+refuse_words() {
+    if [ -x "$top/programs/$name" ]; then
+        exec "$top/programs/$name" "$@"
+    fi
+    sed -n '/^const USAGE/,/";$/ { s/^const USAGE: &str = "//; s/^ *//; s/\\$//; s/";$//; p; }' \
+        "$top/crates/$name/src/main.rt" | tr -d '\n' >&2
+    echo >&2
+    exit 2
+}
+
+# Runs a program with some words, and passes on what it writes, through the command `filter` where that is not
+# empty. Sets `status` to its status, `line` to the first line that it wrote, and `said` to what it wrote on
+# standard error. Where the answer could not be written, or a signal ended the program, `line` and `said` tell of
+# that, and `status` is 2 or that of the signal; `passed` is more than 128 where nobody reads the answer any more.
+#
+# Standard output is 3 here, and 4 leads to the variable `told`.
+ask() {
+    line='' said='' status=2 passed=1
+    if (exec 3>&1) 2>/dev/null; then
+        exec 3>&1
+        told=$({ { "$@" 2>&4 3>&- 4>&-; echo "status $?" >&4; } | pass_on >&3 2>/dev/null; } 4>&1)
+        passed=$?
+        exec 3>&-
+        take_apart "$told"
+    fi
+    case $passed,$said in
+    0,*'the answer could not be written'* | [!0]*) status=2 line='the answer could not be written' ;;
+    *)
+        [ "$status" -gt 128 ] || return 0
+        line="ended by signal $((status - 128))"
+        ;;
+    esac
+    said="$name: $line$newline"
+}
+
+# Copies standard input to standard output, through `filter`. Its first line goes to 4 before that, so that nothing
+# is written for a command that was ended meanwhile.
+pass_on() {
+    if ! IFS= read -r line; then
+        printf %s "$line"
+        return
+    fi
+    printf 'line %s\n' "$line" >&4 || return
+    if [ -z "$filter" ]; then
+        printf '%s\n' "$line" && cat
+    else
+        { printf '%s\n' "$line" && cat; } | "$filter"
+    fi
+}
+
+# Sets `line`, `status` and `said` from the lines of what was told of a program.
+take_apart() {
+    rest=$1$newline
+    while [ -n "$rest" ]; do
+        part=${rest%%"$newline"*}
+        rest=${rest#*"$newline"}
+        case $part in
+        'line '*) line=${part#line } ;;
+        'status '*) status=${part#status } ;;
+        *) said="$said$part$newline" ;;
+        esac
+    done
+}
+
+# After `ask`, says on standard error what the program said there, and, unless the status is 0, what `line` means
+# and what to do, by the tables of docs/REFUSALS.md: report COMMAND PATH [ID..], as the program was asked. `folder`
+# is the info folder of the repository, or empty.
+report() {
+    printf %s "$said" >&2
+    [ "$status" -ne 0 ] || return 0
+    command=$1 path=$2
+    shift 2
+    NAME=$name LINE=$line COMMAND=$command IDS=$* COMMIT=$(commit_at "$path") FOLDER=$folder LC_ALL=C \
+        awk -f "$top/scripts/explain.awk" "$top/docs/REFUSALS.md" >&2
+}
+
+# The id of the commit at the position that a refusal names, where the layers can be listed.
+commit_at() {
+    case $line in
+    'refused '*' position '*)
+        position=${line#* position }
+        list_layers "$1" 2>/dev/null |
+            awk -v position="${position%% *}" '/^[0-9]/ && count++ == position { print $2; exit }'
+        ;;
+    esac
+}
+
+# Lists the layers of the graph at a path, in their order, if the program `graphtool` is there.
+list_layers() {
+    lister=$top/programs/graphtool
+    [ -x "$lister" ] || lister=$top/crates/graphtool/out/graphtool
+    if [ -f "$1" ]; then
+        "$lister" list <"$1"
+    elif [ -f "$1/commit-graph-chain" ]; then
+        while IFS= read -r layer || [ -n "$layer" ]; do
+            "$lister" list <"$1/graph-$layer.graph" || return
+        done <"$1/commit-graph-chain"
+    else
+        [ -f "$1/commit-graph" ] && "$lister" list <"$1/commit-graph" && return
+        [ ! -d "$1/commit-graphs" ] || list_layers "$1/commit-graphs"
+    fi
+}

@@ -1,0 +1,125 @@
+# Says in sentences what a line of an answer means and what to do, by the tables of docs/REFUSALS.md, which it
+# reads. The surroundings give LINE, COMMAND, the word by which the program was asked, NAME, the name to speak
+# by, and, each of them empty where it is not known, IDS, the ids that were asked about, COMMIT, the id of the
+# commit at the position that the line names, and FOLDER, the info folder of the repository.
+#
+# A row is that of the line if a text in backquotes in its first cell has the line's words, where a capital
+# letter stands for any number, and the line may have more words at its end. Of several such rows the one with
+# the most words is taken, of those one for the command alone, which begins with “from `WORD`”, and of those the
+# one with the fewest letters. “the same” is what the row above says to do, and what it means to write a
+# commit-graph anew stands in a row too.
+
+BEGIN {
+    line = ENVIRON["LINE"]
+    command = ENVIRON["COMMAND"]
+    detail = detail_of(line)
+}
+
+/^\| / {
+    split(substr($0, 3), cells, / *\|( |$)/)
+    if (cells[3] != "the same") to_do = cells[3]
+    spans = split(cells[1], span, "`")
+    for (at = 2; at <= spans; at += 2) look(span[at])
+}
+
+END {
+    if (best[line] == 0) exit
+    if (ENVIRON["COMMIT"] != "") say("the commit at position " value["P"] " is " ENVIRON["COMMIT"])
+    if (line ~ /^unknown /) say("id " value["N"] " is " nth_id(value["N"]))
+    if (best[detail]) {
+        sub(/; [^;]* is explained under .*/, "", happened[line])
+        happened[line] = happened[line] ": " happened[detail]
+    }
+    say(with_values(happened[line]))
+    anew = in_folder(happened["write it anew"])
+    if (cure[line] == "write it anew") say("what to do: " anew)
+    else {
+        if (cure[line] != "") say("what to do: " with_values(cure[line]))
+        if (cure[line] ~ /write it anew/) say("to write it anew, " anew)
+    }
+}
+
+# The line of the table that explains the last number of this one, if there is one.
+function detail_of(line) {
+    if (line ~ /^refused open 5 /) return "refused " substr(line, index(line, " file ") + 1)
+    if (line ~ /^refused verify 6 /) return "!" substr(line, index(line, " error ") + 7)
+    return ""
+}
+
+# Looks whether a text of the first cell is the line, or one that is needed beside it, and keeps the row then.
+function look(text) {
+    keep(text, line)
+    if (detail != "") keep(text, detail)
+    keep(text, "write it anew")
+}
+
+function keep(text, wanted,    score) {
+    score = fit(text, wanted)
+    if (score > 0 && cells[2] ~ /^from `/) score = is_for_command(cells[2]) ? score + 50 : 0
+    if (score > best[wanted]) {
+        best[wanted] = score
+        happened[wanted] = cells[2]
+        sub(/^from `[^`]*`[^:]*: /, "", happened[wanted])
+        cure[wanted] = to_do
+        if (wanted == line) take_values(text)
+    }
+}
+
+# How well a text fits a line: 0 where it does not.
+function fit(text, wanted,    words, parts, count, number, letters) {
+    count = split(text, words, " ")
+    if (split(wanted, parts, " ") < count) return 0
+    for (number = 1; number <= count; number++) {
+        if (words[number] ~ /^[A-Z]$/ && parts[number] ~ /^[0-9]+$/) letters++
+        else if (words[number] != parts[number]) return 0
+    }
+    return 100 * count - letters
+}
+
+function is_for_command(text,    parts) {
+    split(text, parts, "`")
+    return parts[2] == command
+}
+
+# The numbers that the letters of a text stand for in the line.
+function take_values(text,    words, parts, count, number) {
+    split("", value)
+    count = split(text, words, " ")
+    split(line, parts, " ")
+    for (number = 1; number <= count; number++) if (words[number] ~ /^[A-Z]$/) value[words[number]] = parts[number]
+}
+
+# A sentence with numbers in the place of letters.
+function with_values(text,    letter, start, whole) {
+    for (letter in value) {
+        whole = ""
+        while (match(text, "(^|[^A-Za-z0-9])" letter "($|[^A-Za-z0-9])")) {
+            start = RSTART + (substr(text, RSTART, 1) != letter)
+            whole = whole substr(text, 1, start - 1) value[letter]
+            text = substr(text, start + 1)
+        }
+        text = whole text
+    }
+    return text
+}
+
+# A sentence with the folder of the repository in the place of the one that it mostly is.
+function in_folder(text,    usual, at, whole) {
+    usual = ".git/objects/info"
+    if (ENVIRON["FOLDER"] == "") return text
+    while ((at = index(text, usual)) > 0) {
+        whole = whole substr(text, 1, at - 1) ENVIRON["FOLDER"]
+        text = substr(text, at + length(usual))
+    }
+    return whole text
+}
+
+function nth_id(number,    ids) {
+    split(ENVIRON["IDS"], ids, " ")
+    return ids[number]
+}
+
+function say(text) {
+    gsub(/`/, "'", text)
+    printf "%s: %s\n", ENVIRON["NAME"], text
+}

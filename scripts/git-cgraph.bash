@@ -1,0 +1,24 @@
+# Completion of `git cgraph` for bash, which Git's own completion finds by the name of this function. To load it by
+# hand, `source` this file after Git's.
+
+_git_cgraph() {
+    local commands='verify check distinct list find is-ancestor walk merge-base'
+    local command
+    command=$(__git_find_on_cmdline "$commands")
+    if [ "$prev" = -C ]; then
+        compopt -o filenames 2>/dev/null
+        mapfile -t COMPREPLY < <(compgen -d -- "$cur")
+        return
+    fi
+    case $command,$cur in
+    ,-*) __gitcomp '-C --help --version' ;;
+    merge-base,-*) __gitcomp '--verbose --help --version' ;;
+    *,-*) __gitcomp '--help --version' ;;
+    ,*) __gitcomp "$commands" ;;
+    find,* | is-ancestor,* | walk,* | merge-base,*) __git_complete_refs ;;
+    esac
+}
+
+if declare -F __git_complete >/dev/null; then
+    __git_complete git-cgraph _git_cgraph
+fi

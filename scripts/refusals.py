@@ -1,0 +1,78 @@
+"""The tables of docs/REFUSALS.md, and what has to be said of a line by them."""
+
+import os
+import re
+from typing import List, NamedTuple, Optional
+
+TOP = os.path.dirname(os.path.dirname(os.path.abspath(__file__)))
+ANEW = "write it anew"
+LETTER = re.compile(r"(?<![A-Za-z0-9])[A-Z](?![A-Za-z0-9])")
+FROM = re.compile(r"from `([^`]*)`[^:]*: ")
+
+
+class Row(NamedTuple):
+    """A row: a text for lines, its section, the one command that it is of, what happened and what to do."""
+
+    text: str
+    section: str
+    command: Optional[str]
+    happened: str
+    to_do: str
+
+
+def read_rows() -> List[Row]:
+    """The rows of all tables, one for each text in the first cell, in their order."""
+    with open(os.path.join(TOP, "docs", "REFUSALS.md"), encoding="utf-8") as file:
+        lines = file.read().split("\n")
+    rows, section, to_do = [], None, ""
+    for line in lines:
+        if line.startswith("## "):
+            section = line[3:]
+        elif line.startswith("| "):
+            first, happened, *more = line.strip("| ").split(" | ")
+            to_do = to_do if more[:1] == ["the same"] else "".join(more[:1])
+            command = FROM.match(happened)
+            for text in re.findall(r"`([^`]*)`", first):
+                rows.append(Row(text, section, command and command.group(1), FROM.sub("", happened, count=1), to_do))
+    return rows
+
+
+def values(text, line):
+    """The numbers in a line that the letters of a text stand for, or None where the line is another."""
+    words, parts = text.split(), line.split()
+    pairs = list(zip(words, parts))
+    fits = len(parts) >= len(words) and all(
+        part.isdigit() if LETTER.fullmatch(word) else part == word for word, part in pairs
+    )
+    return {word: part for word, part in pairs if LETTER.fullmatch(word)} if fits else None
+
+
+def row_of(rows, line, command=None):
+    """The row of a line that a command answers: the one that fits it best, or None."""
+    fitting = [row for row in rows if values(row.text, line) is not None and row.command in (None, command)]
+    return max(fitting, key=lambda row: (len(row.text.split()), bool(row.command), -len(values(row.text, line))), default=None)
+
+
+def detail_of(line):
+    """The line of the row that explains the last number of a line, or None."""
+    file, parents = re.search(r" open 5 .* (file .*)", line), re.search(r" verify 6 .* error (\d+)", line)
+    return "refused " + file.group(1) if file else "!" + parents.group(1) if parents else None
+
+
+def filled(sentence, numbers):
+    """A sentence with numbers in the place of its letters, as it is said."""
+    return LETTER.sub(lambda match: numbers.get(match.group(), match.group()), sentence).replace("`", "'")
+
+
+def sentences(rows, line, command=None, folder=".git/objects/info"):
+    """What has to be said of a line, in a repository with such an info folder, beside the ids that it speaks of."""
+    row = row_of(rows, line, command)
+    happened, numbers, detail = row.happened, values(row.text, line), detail_of(line)
+    if detail:
+        happened = "%s: %s" % (happened.split("; ")[0], row_of(rows, detail).happened)
+    anew = filled(row_of(rows, ANEW).happened.replace(".git/objects/info", folder), {})
+    said = [filled(happened, numbers)]
+    if row.to_do == ANEW:
+        return said + ["what to do: " + anew]
+    said += ["what to do: " + filled(row.to_do, numbers)] if row.to_do else []
+    return said + (["to write it anew, " + anew] if ANEW in row.to_do else [])

@@ -1,0 +1,33 @@
+"""The README of each crate, which has its promises, and docs/DEFINITIONS.md, which leads to them."""
+
+import re
+
+from documents import LINK, QUOTED, README, used_crates
+
+MAP = "docs/DEFINITIONS.md"
+LONGEST = 60
+STANDS_ON = re.compile(r"^Stands on:? (.*?)\.(?: |$)", re.MULTILINE | re.DOTALL)
+
+
+def missing(texts):
+    """The crates that have no README under their name, or one to which the map of the promises does not link."""
+    linked = LINK.findall(texts[MAP])
+    for crate in used_crates(texts["crates.txt"]):
+        path = "crates/%s/README.md" % crate
+        if not texts.get(path, "").startswith("# `%s`\n" % crate) or "../" + path not in linked:
+            yield crate
+
+
+def long_ones(texts):
+    """The READMEs of crates that are too long."""
+    for path, text in texts.items():
+        if README.fullmatch(path) and text.count("\n") > LONGEST:
+            yield "%s has %d lines" % (path, text.count("\n"))
+
+
+def wrong_grounds(texts):
+    """The crates whose README does not name exactly the crates that they stand on, as crates.txt has them."""
+    for crate, uses in used_crates(texts["crates.txt"]).items():
+        said = STANDS_ON.search(texts.get("crates/%s/README.md" % crate, ""))
+        if not said or sorted(QUOTED.findall(said.group(1))) != sorted(uses):
+            yield crate

@@ -1,0 +1,1 @@
+"""What check_wrapper checks, on copies with programs that the checks make."""

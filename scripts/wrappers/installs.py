@@ -1,0 +1,179 @@
+"""Checks scripts/install, the manual page and the completion."""
+
+import os
+import shutil
+import tempfile
+
+from wrappers.clone import PROGRAMS, Clone, exactly, run
+from wrappers.questions import make_repository
+from wrappers.tools import read
+
+ODD_PREFIX = "a prefix's \"$(name)\" *\n;"
+USAGE = "usage: scripts/install PREFIX | --remove PREFIX\n"
+INSTALLED = {
+    *("bin/git-cgraph", "bin/graphtool", "bin/historytool", "share/man/man1/git-cgraph.1"),
+    *("share/bash-completion/completions/git-cgraph", "lib/git-cgraph/installed", "lib/git-cgraph/VERSION"),
+    *("lib/git-cgraph/git-cgraph", "lib/git-cgraph/graphtool", "lib/git-cgraph/historytool"),
+    *("lib/git-cgraph/programs/graphtool", "lib/git-cgraph/programs/historytool"),
+    *("lib/git-cgraph/docs/MANUAL.md", "lib/git-cgraph/docs/REFUSALS.md"),
+    *("lib/git-cgraph/scripts/answers.sh", "lib/git-cgraph/scripts/explain.awk", "lib/git-cgraph/scripts/manual.awk"),
+}
+COMPLETIONS = ("/usr/share/bash-completion/completions/git", "/etc/bash_completion.d/git", "/usr/share/git/completion/git-completion.bash")
+"""Where Git's own completion mostly is."""
+
+COMPLETE = """
+. "$1"
+. "$2"
+shift 2
+COMP_WORDS=("$@") COMP_CWORD=$(($# - 1)) COMP_LINE="$*" COMP_TYPE=9
+COMP_POINT=${#COMP_LINE}
+__git_wrap__git_main
+printf '%s\\n' "${COMPREPLY[@]}"
+"""
+"""A script for bash: completes the words after Git's completion and ours."""
+
+
+def check_all(tally):
+    """The checks of the installation, on copies whose programs write their words."""
+    with tempfile.TemporaryDirectory() as folder:
+        clone = Clone(folder)
+        for name in PROGRAMS:
+            clone.put_program(name, "printf '<%s>' \"$@\"\n")
+        repository = make_repository(clone, os.path.join(folder, "repository").encode())
+        check_words(tally, clone)
+        check_fresh(tally, clone, os.path.join(folder, ODD_PREFIX))
+        check_beside(tally, clone, os.path.join(folder, "prefix"))
+        check_page(tally, clone, os.path.join(folder, "prefix"))
+        check_completion(tally, clone, repository)
+        check_away(tally, clone, folder, repository)
+        tally.check("scripts/install, nothing is left over", clone.left_over())
+
+
+def install(clone, *words, **streams):
+    """The answer of scripts/install."""
+    return clone.run(["scripts/install", *words], **streams)
+
+
+def below(prefix):
+    """The files below a folder, as paths from it, and the folders, with a slash at the end."""
+    found = set()
+    for folder, folders, files in os.walk(prefix):
+        found |= {os.path.relpath(os.path.join(folder, name), prefix) for name in files}
+        found |= {os.path.relpath(os.path.join(folder, name), prefix) + "/" for name in folders}
+    return found
+
+
+def check_words(tally, clone):
+    """Other words than a prefix end with the usage text."""
+    for words in ([], [""], ["--remove"], ["a", "b"], ["--help"], ["--remove", "a", "b"]):
+        tally.check("scripts/install %s" % " ".join(words), exactly(install(clone, *words), 2, "", USAGE))
+    answer = install(clone, "--remove", clone.folder)
+    right = answer[:2] == (1, "") and "nothing was put below" in answer.err
+    tally.check("scripts/install --remove, where nothing was put", None if right else "it is %r" % (answer,))
+
+
+def check_fresh(tally, clone, prefix):
+    """A prefix that is not there yet is made, and taken away again; the second time over what is there."""
+    for title in ("into a fresh prefix", "over what is there"):
+        answer = install(clone, prefix)
+        files = {path for path in below(prefix) if not path.endswith("/")}
+        complaint = None if answer.status == 0 and files == INSTALLED else "it is %r with %s" % (answer, sorted(files))
+        tally.check("scripts/install, " + title, complaint)
+    answer = install(clone, "--remove", prefix)
+    left = os.path.lexists(prefix) and below(prefix)
+    complaint = exactly(answer, 0, "") or (None if left is False else "it left %s" % left)
+    tally.check("scripts/install --remove, of a prefix that it made", complaint)
+
+
+def check_beside(tally, clone, prefix):
+    """Files and folders of others stay as they are, and a file of theirs is not replaced."""
+    for folder in ("bin", "lib", "share/man/man1", "empty"):
+        os.makedirs(os.path.join(prefix, folder))
+    for name in ("bin/other", "share/man/man1/other.1"):
+        with open(os.path.join(prefix, name), "w", encoding="ascii") as file:
+            file.write("other\n")
+    before = below(prefix)
+    os.symlink("other", os.path.join(prefix, "bin", "graphtool"))
+    answer = install(clone, "prefix", cwd=os.path.dirname(prefix))
+    right = answer[:2] == (1, "") and "bin/graphtool is there" in answer.err and below(prefix) == before | {"bin/graphtool"}
+    tally.check("scripts/install, beside a file of the same name", None if right else "it is %r" % (answer,))
+    os.remove(os.path.join(prefix, "bin", "graphtool"))
+    answer = install(clone, "prefix", cwd=os.path.dirname(prefix))
+    right = answer.status == 0 and INSTALLED < below(prefix)
+    tally.check("scripts/install, beside other files", None if right else "it is %r" % (answer,))
+    answer = install(clone, "--remove", prefix)
+    complaint = exactly(answer, 0, "") or (None if below(prefix) == before else "there is %s" % sorted(below(prefix) ^ before))
+    tally.check("scripts/install --remove, beside other files", complaint)
+
+
+def check_page(tally, clone, prefix):
+    """The manual page is rendered without a warning, has all words, and is what Git shows."""
+    install(clone, prefix)
+    page = os.path.join(prefix, "share", "man", "man1", "git-cgraph.1")
+    variables = {**clone.surroundings(), "PATH": os.path.join(prefix, "bin") + ":" + os.environ["PATH"]}
+    renderers = {
+        "man": (["man", "--warnings", "-l", page], ["git", "help", "cgraph"]),
+        "groff": (["groff", "-ww", "-man", "-Tascii", "-P-c", page],),
+    }
+    for tool, commands in renderers.items():
+        if not shutil.which(tool):
+            print("left out, since there is no %s: the manual page as it shows it" % tool)
+            continue
+        for command in commands:
+            answer = run([shutil.which(command[0]), *command[1:]], variables)
+            right = answer.status == 0 and "GIT-CGRAPH(1)" in answer.out and not answer.err
+            tally.check("the manual page, by %s" % " ".join(command[:2]), None if right else "it is %r" % (answer,))
+    install(clone, "--remove", prefix)
+
+
+def check_completion(tally, clone, repository):
+    """The words and the revisions that Git's completion offers after `git cgraph`."""
+    theirs = next(filter(os.path.exists, COMPLETIONS), None)
+    if not theirs or not shutil.which("bash"):
+        print("left out, since there is no completion of Git's for bash: that of git cgraph")
+        return
+    ours = os.path.join(clone.folder, "scripts", "git-cgraph.bash")
+    for words, offered in {
+        ("ver",): {"verify"},
+        ("",): {"verify", "check", "distinct", "list", "find", "is-ancestor", "walk", "merge-base"},
+        ("--h",): {"--help"},
+        ("find", "anno"): {"annotated"},
+        ("-C", "..", "walk", "HEAD", "HE"): {"HEAD"},
+        ("merge-base", "--v"): {"--verbose", "--version"},
+        ("-C", "su"): {"sub"},
+        ("verify", ""): set(),
+    }.items():
+        command = [shutil.which("bash"), "-c", COMPLETE, "bash", theirs, ours, "git", "cgraph", *words]
+        folder = os.path.join(repository, b"sub") if "-C" in words and ".." in words else repository
+        answer = run(command, {**clone.surroundings(), "PATH": os.environ["PATH"]}, cwd=folder)
+        complaint = None if set(answer.out.split()) == offered and not answer.err else "it is %r" % (answer,)
+        tally.check("completion of git cgraph " + " ".join(words), complaint)
+
+
+def check_away(tally, clone, folder, repository):
+    """What was installed works where the clone is not any more, by the path of the command and by Git."""
+    prefix = os.path.join(folder, "moved")
+    install(clone, os.path.join(folder, "before"))
+    os.rename(os.path.join(folder, "before"), prefix)
+    variables = clone.surroundings()
+    variables["PATH"] = os.path.join(prefix, "bin") + ":" + variables["PATH"].replace(clone.folder, folder + "/away")
+    os.rename(clone.folder, folder + "/away")
+    asked = "<verify><info/commit-graph>"
+    for command, status, out in (
+        (["git", "cgraph", "verify"], 0, asked),
+        (["git-cgraph", "verify"], 0, asked),
+        (["graphtool", "verify", "."], 0, "<verify><.>"),
+        (["historytool", "walk", ".", "0", "1"], 0, "<walk><.><0><1>"),
+        (["historytool", "bogus"], 0, "<bogus>"),
+        (["graphtool", "--version"], 0, "graphtool " + read("VERSION")),
+        (["git-cgraph", "--version"], 0, "git-cgraph " + read("VERSION")),
+    ):
+        path = shutil.which(command[0], path=variables["PATH"])
+        answer = run([path, *command[1:]], variables, cwd=repository)
+        tally.check("installed, without the clone: " + " ".join(command), exactly(answer, status, out))
+    os.rename(folder + "/away", clone.folder)
+    for name in PROGRAMS:
+        os.remove(os.path.join(clone.folder, "crates", name, "out", name))
+    answer = install(clone, prefix + " 2")
+    right = answer.status == 1 and "rt" in answer.err and not os.path.lexists(prefix + " 2")
+    tally.check("scripts/install, with nothing built and no rt", None if right else "it is %r" % (answer,))

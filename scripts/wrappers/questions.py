@@ -1,0 +1,259 @@
+"""Checks `git cgraph`: its words, what it asks the programs, its statuses, and how it ends."""
+
+import os
+import shutil
+import signal
+import subprocess
+import tempfile
+import time
+
+import refusals
+from wrappers.clone import Clone, exactly, run
+from wrappers.tools import read
+
+SHELLS = (("sh",), ("dash",), ("bash",), ("bash", "--posix"), ("busybox", "sh"))
+ODD_NAME = b"a folder's \"$(name)\" \\ *\n\xff;"
+ODD_REF = "odd';$(id)\"&|<>`\u00e9!#%"
+
+ECHO = "printf '<%s>' \"$@\"\npwd -P >&2\n"
+"""A program that writes its words, and says in which folder it is."""
+
+USAGE = "usage: git cgraph [-C DIR] verify | check | distinct | list\n   or: git cgraph [-C DIR] find REV\n"
+WORDS = {
+    "verify": ("graphtool", ()),
+    "check": ("historytool", ()),
+    "distinct": ("graphtool", ()),
+    "find": ("graphtool", ("HEAD",)),
+    "is-ancestor": ("historytool", ("HEAD~1", "HEAD")),
+    "walk": ("historytool", ("HEAD", "HEAD~1")),
+    "merge-base": ("historytool", ("HEAD", "HEAD~1", "HEAD")),
+}
+"""The program that answers each word, and revisions after the word; `list` is by itself."""
+
+WRONG = {
+    "there is no command": [],
+    "there is no command 'bogus'": ["bogus"],
+    "there is no option '-x'": ["-x", "verify"],
+    "after -C there has to be a folder": ["-C"],
+    "'verify' takes no revision": ["verify", "HEAD"],
+    "'list' takes no revision": ["list", "HEAD"],
+    "'find' takes one revision": ["find"],
+    "'walk' takes two revisions": ["walk", "HEAD"],
+    "'is-ancestor' takes two revisions": ["is-ancestor", "HEAD", "HEAD", "HEAD"],
+    "'merge-base' takes two revisions or more": ["merge-base", "HEAD"],
+    "'find' has no option '-x'": ["find", "-x"],
+    "'verify' has no option '-v'": ["verify", "-v"],
+}
+STATUSES = [
+    *(("verify", "refused verify 1", 1, 1), ("check", "refused open 2", 1, 1), ("distinct", "refused open 1", 1, 1)),
+    *(("find", "refused open 1", 1, 128), ("find", "none", 1, 1), ("is-ancestor", "no", 1, 1), ("walk", "none", 1, 1)),
+    *(("is-ancestor", "yes", 0, 0), ("is-ancestor", "unknown 1", 1, 128), ("merge-base", "none", 1, 1)),
+    *(("merge-base", "refused walk", 1, 128), ("walk", "refused verify 10", 1, 128), ("find", "refused id 1", 2, 128)),
+]
+"""A word, the line and the status of its program, and the status of `git cgraph`."""
+
+
+def check_all(tally):
+    """The checks of `git cgraph`."""
+    with tempfile.TemporaryDirectory() as folder:
+        clone = Clone(folder)
+        repository = make_repository(clone, os.path.join(folder.encode(), ODD_NAME))
+        check_words(tally, clone)
+        check_told(tally, clone)
+        for shell in SHELLS:
+            if shutil.which(shell[0]):
+                check_questions(tally, clone, repository, shell)
+        check_statuses(tally, clone, repository)
+        check_revisions(tally, clone, repository)
+        check_ends(tally, clone, repository)
+        tally.check("git cgraph, nothing is left over", clone.left_over())
+
+
+def make_repository(clone, path):
+    """A repository of two commits in a folder of an odd name, with a file where its commit-graph stands."""
+    os.mkdir(path)
+    git(clone, path, "init", "-q")
+    person = ("-c", "user.name=A", "-c", "user.email=a@example.com")
+    for message in ("first", "second"):
+        git(clone, path, *person, "commit", "-q", "--allow-empty", "-m", message)
+    git(clone, path, "update-ref", "refs/heads/" + ODD_REF, "HEAD")
+    git(clone, path, *person, "tag", "-a", "-m", "a commit", "annotated", "HEAD~1")
+    git(clone, path, "tag", "tree", "HEAD^{tree}")
+    os.mkdir(os.path.join(path, b"sub"))
+    with open(os.path.join(path, b".git/objects/info/commit-graph"), "w", encoding="ascii") as file:
+        file.write("content")
+    return path
+
+
+def git(clone, folder, *words):
+    """What a git command writes in a folder, which has to succeed."""
+    answer = run(["git", *words], clone.surroundings(), cwd=folder)
+    if answer.status:
+        raise RuntimeError("git %s: %s" % (" ".join(words), answer.err))
+    return answer.out.rstrip("\n")
+
+
+def ask(clone, words, folder, shell=(), **streams):
+    """The answer of `git cgraph` in a folder, run by a shell, or by Git where none is given."""
+    if shell:
+        command = [shutil.which(shell[0]), *shell[1:], os.path.join(clone.folder, "git-cgraph"), *words]
+        return run(command, clone.surroundings(), cwd=folder, **streams)
+    variables = clone.surroundings()
+    variables["PATH"] = clone.folder + ":" + variables["PATH"]
+    return run(["git", "cgraph", *words], variables, cwd=folder, **streams)
+
+
+def said(sentences):
+    """What stands on standard error where these sentences are said."""
+    return "".join("git cgraph: %s\n" % sentence for sentence in sentences)
+
+
+def check_words(tally, clone):
+    """Words that are no command end with the usage text and status 129, and need no repository."""
+    for sentence, words in WRONG.items():
+        answer = ask(clone, words, clone.folder)
+        right = answer[:2] == (129, "") and answer.err.startswith(said([sentence]) + USAGE)
+        tally.check("git cgraph %s: %s" % (" ".join(words), sentence), None if right else "it is %r" % (answer,))
+
+
+def check_told(tally, clone):
+    """Help and version, alone and after each word, and outside a repository."""
+    version = "git-cgraph " + read("VERSION")
+    manual = read("docs", "MANUAL.md")
+    for word in (None, "list", *WORDS):
+        before = [word] if word else []
+        helps = [ask(clone, [*before, option], clone.folder, ("sh",)) for option in ("--help", "-h")]
+        answer = helps[0]
+        line = next(line for line in manual.split("\n") if line.startswith("    ") and " %s" % (word or "verify") in line)
+        told = line.strip() in answer.out and (not word or len(answer.out.split("\n")) < 12)
+        right = answer.status == 0 and answer.out.startswith(("usage: git cgraph", "git-cgraph: ")) and not answer.err
+        title = " ".join(["git-cgraph", *before, "--help"])
+        tally.check(title, None if right and told and helps[0] == helps[1] else "they are %r" % (helps,))
+        answer = ask(clone, [*before, "--version"], clone.folder)
+        tally.check(" ".join(["git cgraph", *before, "--version"]), exactly(answer, 0, version))
+
+
+def check_questions(tally, clone, repository, shell):
+    """The words that the programs get, in the folder of the objects, wherever the shell stands."""
+    objects = os.path.join(repository, b".git", b"objects").decode("utf-8", "surrogateescape")
+    sub, outside = os.path.join(repository, b"sub"), os.path.dirname(repository)
+    for program in ("graphtool", "historytool"):
+        clone.put_program(program, ECHO + "exit 0\n")
+    for word, (_, revisions) in WORDS.items():
+        ids = [git(clone, repository, "rev-parse", revision) for revision in revisions]
+        written = "".join("<%s>" % part for part in [word, "info/commit-graph", *ids])
+        expected = (0, written, objects + "\n")
+        ways = {
+            "at the top": ask(clone, [word, *revisions], repository, shell),
+            "in a subfolder": ask(clone, [word, *revisions], sub, shell),
+            "with -C": ask(clone, ["-C", ODD_NAME, "-C", "sub", word, *revisions], outside, shell),
+        }
+        for way, answer in ways.items():
+            complaint = None if answer == expected else "it is %r" % (answer,)
+            tally.check("%s git-cgraph %s %s" % (" ".join(shell), word, way), complaint)
+    clone.put_program("graphtool", "cat\nprintf '<%s>' \"$@\"\n")
+    answer = ask(clone, ["list"], sub, shell)
+    tally.check("%s git-cgraph list" % " ".join(shell), exactly(answer, 0, "content<list>"))
+
+
+def check_statuses(tally, clone, repository):
+    """The status of `git cgraph` to each kind of answer, and the sentences after it."""
+    rows = refusals.read_rows()
+    folder = os.path.join(repository, b".git/objects/info").decode("utf-8", "surrogateescape")
+    for word, line, status, expected in STATUSES:
+        program, revisions = WORDS[word]
+        clone.put_program(program, "echo '%s'\nexit %d\n" % (line, status))
+        answer = ask(clone, [word, *revisions], repository)
+        sentences = refusals.sentences(rows, line, word, folder) if expected else []
+        if line == "unknown 1":
+            sentences.insert(0, "id 1 is " + git(clone, repository, "rev-parse", revisions[0]))
+        tally.check("git cgraph %s, answered %r" % (word, line), exactly(answer, expected, line + "\n", said(sentences)))
+    clone.put_program("historytool", "printf '%s\\n' 'base 3 ab' 'base 14 cd' 'ahead 3 behind 4' 'visits 7'\n")
+    for words, out in (
+        (["merge-base", "HEAD", "HEAD"], "ab\ncd\n"),
+        (["merge-base", "HEAD", "-v", "HEAD"], "base 3 ab\nbase 14 cd\nahead 3 behind 4\nvisits 7\n"),
+    ):
+        tally.check("git cgraph " + " ".join(words), exactly(ask(clone, words, repository), 0, out))
+    clone.put_program("historytool", "echo 'usage: other words' >&2\nexit 2\n")
+    answer = ask(clone, ["check"], repository)
+    err = "usage: other words\n" + said(["the program does not take these words"])
+    tally.check("git cgraph check, of a program without it", exactly(answer, 128, "", err))
+
+
+def check_revisions(tally, clone, repository):
+    """Names of commits, however odd, and names of anything else."""
+    clone.put_program("graphtool", ECHO)
+    head, before = (git(clone, repository, "rev-parse", name) for name in ("HEAD", "HEAD~1"))
+    names = {ODD_REF: head, "annotated": before, "tags/annotated": before, ":/first": before, head[:12]: head, "@": head}
+    for name, commit in names.items():
+        answer = ask(clone, ["find", name], repository)
+        complaint = None if answer[:2] == (0, "<find><info/commit-graph><%s>" % commit) else "it is %r" % (answer,)
+        tally.check("git cgraph find %a" % name, complaint)
+    other = head[:12] + format(int(head[12], 16) ^ 1, "x")
+    for name in ("tree", "HEAD^{tree}", "nothing", "HEAD~2", "", "HEAD..HEAD", "^HEAD", other, "$(id)"):
+        answer = ask(clone, ["find", name], repository)
+        right = answer[:2] == (128, "") and "git cgraph: '%s' " % name in answer.err
+        tally.check("git cgraph find %a, which is no commit" % name, None if right else "it is %r" % (answer,))
+    answer = ask(clone, ["verify"], clone.folder)
+    right = answer[:2] == (128, "") and "not a git repository" in answer.err
+    tally.check("git cgraph verify where there is no repository", None if right else "it is %r" % (answer,))
+
+
+def check_ends(tally, clone, repository):
+    """Answers that cannot be written or that nobody reads, and signals."""
+    rows = refusals.read_rows()
+    unwritten = "the answer could not be written"
+    sentences = said([unwritten, *refusals.sentences(rows, unwritten)])
+    many = "n=0\nwhile [ $n -lt 20000 ]; do echo $n 0000000000; n=$((n + 1)); done\n"
+    clone.put_program("graphtool", many)
+    with open("/dev/full", "wb") as full:
+        tally.check("git cgraph, to a full device", exactly(ask(clone, ["verify"], repository, stdout=full), 128, "", sentences))
+    closed = ask(clone, ["verify"], repository, ("sh",), preexec_fn=lambda: os.close(1))
+    tally.check("git cgraph, output that is closed", exactly(closed, 128, "", sentences))
+    for name, word in (("git-cgraph", "verify"), ("graphtool", "distinct")):
+        script = '"$0" %s %s | head -n 1; exit "${PIPESTATUS[0]}"' % (word, "." if name == "graphtool" else "")
+        path = os.path.join(clone.folder, name)
+        answer = run([shutil.which("bash"), "-c", script, path], {**clone.surroundings(), "PATH": os.environ["PATH"]}, cwd=repository)
+        err = sentences.replace("git cgraph", name)
+        right = (141, "0 0000000000\n", "") if name == "git-cgraph" else (2, "0 0000000000\n", err)
+        tally.check("%s, nobody reads on" % name, None if answer == right else "it is %r" % (answer,))
+    clone.put_program("graphtool", "kill -9 $$\n")
+    ended = "ended by signal 9"
+    answer = ask(clone, ["verify"], repository)
+    tally.check("git cgraph, " + ended, exactly(answer, 137, "", said([ended, *refusals.sentences(rows, ended)])))
+    for number in (signal.SIGINT, signal.SIGTERM, signal.SIGHUP):
+        tally.check("git cgraph, sent %s" % number.name, interrupted(clone, repository, number))
+    tally.check("git cgraph, ended by itself", ended_alone(clone, repository))
+
+
+def interrupted(clone, repository, number):
+    """A complaint where something runs on after a signal to all processes of `git cgraph`, as a terminal sends it."""
+    with start(clone, repository, "exec sleep 30") as running:
+        since = time.monotonic()
+        os.killpg(running.pid, number)
+        out, err = running.communicate()
+    seconds = time.monotonic() - since
+    right = running.returncode == -number and not out and not err and seconds < 5
+    return None if right else "status %d, %r and %r after %.1f s" % (running.returncode, out, err, seconds)
+
+
+def ended_alone(clone, repository):
+    """A complaint where an answer comes after the script alone was ended by a signal."""
+    with start(clone, repository, "sleep 1\necho late") as running:
+        running.terminate()
+        out, err = running.communicate()
+    right = running.returncode == -signal.SIGTERM and not out and not err
+    return None if right else "status %d, %r and %r" % (running.returncode, out, err)
+
+
+def start(clone, repository, lines):
+    """A run of `git cgraph` whose program has started with some lines of a shell script."""
+    started = os.path.join(clone.folder, "started")
+    clone.put_program("graphtool", "echo started >'%s'\n%s\n" % (started, lines))
+    command = [os.path.join(clone.folder, "git-cgraph"), "verify"]
+    quiet = {"stdin": subprocess.DEVNULL, "stdout": subprocess.PIPE, "stderr": subprocess.PIPE}
+    running = subprocess.Popen(command, env=clone.surroundings(), cwd=repository, start_new_session=True, **quiet)
+    while not os.path.exists(started):
+        time.sleep(0.01)
+    os.remove(started)
+    return running

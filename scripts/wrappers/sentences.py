@@ -1,0 +1,71 @@
+"""Checks that each row of docs/REFUSALS.md is what a wrapper says of its line."""
+
+import tempfile
+
+import refusals
+from wrappers.clone import Clone, exactly
+
+NUMBERS = {letter: str(7 * place + 3) for place, letter in enumerate("ABCDEFGHIJKLMOPQRSTUVWXYZ")}
+"""A number for each letter but N."""
+
+COMMANDS = {
+    **dict.fromkeys(["is-ancestor", "walk", "merge-base"], ["historytool", "{}", ".", "0", "1"]),
+    "check": ["historytool", "check", "."],
+    "find": ["graphtool", "find", ".", "0"],
+    "list": ["graphtool", "list"],
+    **dict.fromkeys(["verify", "distinct"], ["graphtool", "{}", "."]),
+}
+
+
+def check_all(tally):
+    """The checks of all rows, of ids beside positions, and of lines that no row has."""
+    rows = refusals.read_rows()
+    with tempfile.TemporaryDirectory() as folder:
+        clone = Clone(folder)
+        for line, command in sorted(set(examples(rows))):
+            answer = ask(clone, line, command)
+            said = refusals.sentences(rows, line, command)
+            title = "the sentences of %r from %s" % (line, command)
+            tally.check(title, right(answer, line, command, said))
+        check_unknown(tally, clone, rows)
+        check_other_line(tally, clone)
+        tally.check("sentences, nothing is left over", clone.left_over())
+
+
+def examples(rows):
+    """A line for each row, and a command that may answer it; for a row of a detail, the line that leads to it too."""
+    for row in rows:
+        line = " ".join(NUMBERS.get(word, "3" if word == "N" else word) for word in row.text.split())
+        if line.startswith(("refused", "no")):
+            yield line, row.command or "verify"
+        if line.startswith("refused file"):
+            yield "refused open 5 layer 1 " + line[len("refused ") :], "distinct"
+        if line.startswith("!"):
+            yield "refused verify 6 position 9 error " + line[1:], "walk"
+
+
+def ask(clone, line, command):
+    """The answer of a command whose program answers a line with status 1."""
+    words = [word.format(command) for word in COMMANDS[command]]
+    clone.put_program(words[0], "echo '%s'\nexit 1\n" % line)
+    return clone.run(words)
+
+
+def right(answer, line, command, said):
+    """A complaint where an answer is not a line with these sentences after it."""
+    name = COMMANDS[command][0]
+    err = "".join("%s: %s\n" % (name, sentence) for sentence in said)
+    return exactly(answer, 1, line + "\n", err)
+
+
+def check_unknown(tally, clone, rows):
+    """An id that is not there is named."""
+    clone.put_program("historytool", "echo 'unknown 2'\nexit 1\n")
+    answer = clone.run(["historytool", "merge-base", ".", "aa", "bb", "cc"])
+    said = ["id 2 is bb", *refusals.sentences(rows, "unknown 2")]
+    tally.check("an unknown id is named", right(answer, "unknown 2", "merge-base", said))
+
+
+def check_other_line(tally, clone):
+    """A line that no row has is passed on with its status, and nothing is said of it."""
+    tally.check("a line of no row", right(ask(clone, "refused nothing 3", "verify"), "refused nothing 3", "verify", []))

@@ -1,0 +1,157 @@
+"""Checks the wrappers `graphtool` and `historytool`: their words, their builds, and what they pass on."""
+
+import os
+import re
+import tempfile
+from typing import Dict, List, NamedTuple, Tuple
+
+import refusals
+from wrappers.clone import TOP, Clone, exactly
+
+
+class Wrapper(NamedTuple):
+    """A wrapper: its name, words that are no command, and the words after each command."""
+
+    name: str
+    no_command: List[List[str]]
+    commands: Dict[str, Tuple[str, ...]]
+
+
+GRAPHTOOL = Wrapper(
+    "graphtool",
+    [
+        *([], ["help"], ["list", "."], ["verify"], ["verify", ".", "."], ["find", "."], ["find", ".", "0", "1"]),
+        *(["ancestor", ".", "0"], ["ancestor", ".", "0", "1", "2"], ["distinct"], ["distinct", ".", "."]),
+        *(["--help", "."], ["help", "--help"], ["--version", "--help"], ["find", ".", "--help", "0"]),
+    ],
+    {"list": (), "verify": (".",), "find": (".", "0"), "ancestor": (".", "0", "1"), "distinct": (".",)},
+)
+HISTORYTOOL = Wrapper(
+    "historytool",
+    [
+        *([], ["help"], ["--help", "."], ["--version", "."], ["-v"], ["ancestor", ".", "0", "1"]),
+        *(["walk"], ["walk", ".", "0"], ["walk", ".", "0", "1", "2"], ["is-ancestor", ".", "0"], ["-h", "."]),
+        *(["merge-base", "."], ["merge-base", ".", "0"], ["merge-bases", ".", "0", "1"], ["check"], ["check", ".", "."]),
+    ],
+    {
+        "is-ancestor": (".", "0", "1"),
+        "merge-base": (".", "0", "1", "2"),
+        "walk": (".", "0", "1"),
+        "check": (".",),
+    },
+)
+KIT = re.compile(r"^ {4}(rattle-kit-\S+ logic \w+)$", re.MULTILINE)
+
+BUILD = """#!/bin/sh
+[ "$1" = run ] || exit 0
+echo output
+echo progress >&2
+mkdir out
+cp built "out/${PWD##*/}"
+"""
+"""An `rt` that builds a program from the file `built` beside its sources, and libraries from nothing."""
+
+
+def check_all(tally):
+    """The checks of both wrappers, and of the one version."""
+    for wrapper in (GRAPHTOOL, HISTORYTOOL):
+        with tempfile.TemporaryDirectory() as folder:
+            clone = Clone(folder)
+            check_words(tally, wrapper, clone)
+            check_build(tally, wrapper, clone)
+            check_passing(tally, wrapper, clone)
+            check_told(tally, wrapper, clone)
+            tally.check("%s, nothing is left over" % wrapper.name, clone.left_over())
+    check_version(tally)
+
+
+def usage_of(name):
+    """The usage text of a program, as its source has it."""
+    source = read("crates", name, "src", "main.rt")
+    text = re.search(r'^const USAGE: &str = "(.*?)";$', source, re.MULTILINE | re.DOTALL).group(1)
+    return re.sub(r"\\\n *", "", text) + "\n"
+
+
+def read(*path):
+    """The text of a file of the repository."""
+    with open(os.path.join(TOP, *path), encoding="utf-8") as file:
+        return file.read()
+
+
+def check_words(tally, wrapper, clone):
+    """Words that are no command end with the usage text, and build nothing; a command asks for `rt`."""
+    for words in wrapper.no_command:
+        answer = clone.run([wrapper.name, *words])
+        tally.check("%s, usage after the words %r" % (wrapper.name, words), exactly(answer, 2, "", usage_of(wrapper.name)))
+    answer = clone.run([wrapper.name, *first_command(wrapper)])
+    unmade = "the program could not be proved or built"
+    said = [unmade, *refusals.sentences(refusals.read_rows(), unmade)]
+    lines = answer.err.splitlines()
+    right = answer[:2] == (3, "") and re.search(r"\brt\b", lines[0]) and lines[1:] == ["%s: %s" % (wrapper.name, line) for line in said]
+    tally.check("%s, no rt on the path" % wrapper.name, None if right else "it is %r" % (answer,))
+
+
+def first_command(wrapper):
+    """A command with the words after it."""
+    return next([command, *words] for command, words in wrapper.commands.items() if words)
+
+
+def check_build(tally, wrapper, clone):
+    """The program is built on its first use, and its words come to it as they are."""
+    name, words = wrapper.name, first_command(wrapper)
+    clone.put("bin/rt", BUILD)
+    clone.put("crates/%s/built" % name, "#!/bin/sh\nprintf '<%s>' \"$@\"\n")
+    words[1] = "a b*\n$(c)"
+    written = "".join("<%s>" % word for word in words)
+    first, second = (clone.run([name, *words]) for _ in range(2))
+    right = first[:2] == (0, written) and re.fullmatch(name + r": proving [^\n]*\nprogress\n", first.err)
+    tally.check("%s, the program is built" % name, None if right else "it is %r" % (first,))
+    tally.check("%s, it is not built again" % name, exactly(second, 0, written))
+
+
+def check_passing(tally, wrapper, clone):
+    """The answer and the status are those of the program, for each command."""
+    for command, more in wrapper.commands.items():
+        words, written = [command, *more], "line %s\nmore\n" % " ".join([command, *more])
+        for status in (0, 1, 2):
+            clone.put_program(wrapper.name, 'echo line "$@"\necho more\nexit %d\n' % status)
+            title = "%s %s, the program's status %d" % (wrapper.name, command, status)
+            tally.check(title, exactly(clone.run([wrapper.name, *words]), status, written))
+    clone.put_program(wrapper.name, "echo why >&2\nexit 2\n")
+    answer = clone.run([wrapper.name, *first_command(wrapper)])
+    tally.check("%s, what the program says on standard error" % wrapper.name, exactly(answer, 2, "", "why\n"))
+
+
+def check_told(tally, wrapper, clone):
+    """Help and version, alone and after each command."""
+    name, usage, version = wrapper.name, usage_of(wrapper.name), "%s %s" % (wrapper.name, read("VERSION"))
+    clone.put_program("historytool", told_by_historytool(version))
+    for before in ([], *([command] for command in wrapper.commands)):
+        for word in ("--help", "-h"):
+            answer = clone.run([name, *before, word])
+            right = answer.status == 0 and answer.out.startswith(usage + "\n") and not answer.err
+            missing = [command for command in wrapper.commands if name == "graphtool" and command not in answer.out]
+            complaint = None if right and not missing else "it is %r" % (answer,)
+            tally.check(" ".join([name, *before, word]), complaint)
+        answer = clone.run([name, *before, "--version"])
+        tally.check(" ".join([name, *before, "--version"]), exactly(answer, 0, version))
+
+
+def told_by_historytool(version):
+    """A program that tells of itself as `historytool` does."""
+    usage = usage_of("historytool")
+    return "case $# in 1) ;; *) exit 2 ;; esac\ncase $1 in\n--help) echo '%s' ;;\n*) printf '%s' ;;\nesac\n" % (usage, version)
+
+
+def check_version(tally):
+    """The number of the version stands in VERSION; the changes and the program, which name it too, agree with it."""
+    version = read("VERSION")
+    number = version.split(",")[0]
+    news = re.findall(r"^## (\S+)", read("CHANGELOG.md"), re.MULTILINE)[0]
+    tally.check("the newest changes are those of the version", None if news == number else "they are of " + news)
+    kit = KIT.search(read("README.md")).group(1)
+    right = version == "%s, proved with %s\n" % (number, kit)
+    tally.check("the kit of the version is the one that is needed", None if right else "it is %r" % version)
+    line = 'const VERSION: &str = "historytool %s";' % version.strip()
+    there = line in read("crates", "historytool", "src", "main.rt").split("\n")
+    tally.check("historytool has the version", None if there else "its source has no line " + line)
