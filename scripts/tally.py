@@ -6,7 +6,7 @@ class Tally:
 
     def __init__(self):
         self.passed = 0
-        self.failed = 0
+        self.wrong = []
 
     def check(self, name, complaint):
         """Counts one check. It passed where the complaint is None."""
@@ -14,10 +14,12 @@ class Tally:
             self.passed += 1
             print("ok    " + name, flush=True)
         else:
-            self.failed += 1
-            print("WRONG " + name + ": " + complaint, flush=True)
+            self.wrong.append("WRONG " + name + ": " + complaint)
+            print(self.wrong[-1], flush=True)
 
     def finish(self):
-        """Prints the last line, and answers the exit status."""
-        print("%d passed, %d failed" % (self.passed, self.failed), flush=True)
-        return 1 if self.failed else 0
+        """Prints the checks that failed once more, and the last line, and answers the exit status."""
+        for line in self.wrong:
+            print(line)
+        print("%d passed, %d failed" % (self.passed, len(self.wrong)), flush=True)
+        return 1 if self.wrong else 0

@@ -8,9 +8,9 @@ what they answer without.
 import hashlib
 import itertools
 import os
-import time
 from collections import Counter
 
+from checks.program import processor_seconds
 from damage import trees
 from damage.built import NO_PARENT, TOP_BIT
 from damage.layer import big_endian, contents, with_chunks
@@ -26,7 +26,7 @@ SHARED = 100_000
 """So many commits share a list of as many parents."""
 
 SHORT = 4
-"""A check of that file takes no longer than so many seconds."""
+"""A check of that file takes no longer than so many seconds of processor."""
 
 PATHS = (b"file", b"folder/file", b"folder/\xc3\xa9\xff")
 """Paths that commits of the damaged graphs change, the last with bytes from 128 on."""
@@ -234,12 +234,12 @@ def check_shared_list(histories, tally, folder):
     """A file of many commits that all have one long list of parents: to go over it for each would take very long."""
     path = os.path.join(folder, "shared")
     write_bytes(path, shared_list(SHARED))
-    started = time.monotonic()
+    started = processor_seconds()
     answer = histories.check(path)
-    seconds = time.monotonic() - started
+    seconds = processor_seconds() - started
     counts = "ok commits %d longest 1\nparents 0 commits 1\nparents %d commits %d\n" % (SHARED + 1, SHARED + 1, SHARED)
     text = counts + "dates commits %d\nfilters none\n" % (SHARED + 1)
-    slow = "it takes %.1f seconds" % seconds if seconds > SHORT else None
+    slow = "it takes %.1f seconds of processor" % seconds if seconds > SHORT else None
     tally.check("check, a list of parents that many commits share", judge.exactly(0, text, "", answer) or slow)
 
 

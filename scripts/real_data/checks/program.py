@@ -1,13 +1,15 @@
 """Runs of the programs under test."""
 
+import resource
 import subprocess
 from typing import NamedTuple, Optional
 
-SECONDS = 20
+SECONDS = 120
 """A run that takes longer is taken to hang."""
 
 MOST_HANGS = 3
 """After so many runs that hang, the program is not run any more."""
+
 
 class Answer(NamedTuple):
     """How a run ended: its exit status, None where it did not end, and what it wrote."""
@@ -21,6 +23,12 @@ HUNG = Answer(None, b"", b"")
 
 LINES = set()
 """The first line of each answer but those with status 0, after the word that was asked with."""
+
+
+def processor_seconds():
+    """The seconds of processor that all runs so far have taken, however busy the machine is."""
+    used = resource.getrusage(resource.RUSAGE_CHILDREN)
+    return used.ru_utime + used.ru_stime
 
 
 class AnyProgram:

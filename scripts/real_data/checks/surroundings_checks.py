@@ -5,9 +5,9 @@ import resource
 import subprocess
 import tempfile
 import threading
-import time
 from functools import partial
 
+from checks.program import processor_seconds
 from checks.runs import check_runs
 from checks.word_checks import FAILED_WRITE, USAGE
 from damage import built
@@ -17,7 +17,7 @@ from histories.repository import write_bytes
 NOTHING_FOUND = "refused open 1\n"
 NOT_OPENED = "refused open 2\n"
 SOON = 2
-"""A small input is answered within so many seconds."""
+"""A small input is answered within so many seconds of processor."""
 
 MANY_LINES = 100_000
 COMMITS = 100_000
@@ -50,10 +50,10 @@ def check_all(program, tally):
 
 def check_soon(tally, name, right, run):
     """A check of a run that has to end soon."""
-    started = time.monotonic()
+    started = processor_seconds()
     complaint = right(run())
-    seconds = time.monotonic() - started
-    tally.check(name, complaint or ("it took %.1f s" % seconds if seconds > SOON else None))
+    seconds = processor_seconds() - started
+    tally.check(name, complaint or ("it took %.1f s of processor" % seconds if seconds > SOON else None))
 
 
 def check_no_reader(program, tally, name, words, graph):
