@@ -43,11 +43,12 @@ typedef struct cg_graph { const void *address; bool opened; } cg_graph;
 typedef struct cg_file { const uint8_t *bytes; size_t len; const uint8_t *path; size_t path_len; } cg_file;
 
 /* Why no graph was opened. code 0: one was. 2: the bytes of `layer`, which counts from 0, are refused for the reason of
- * number `detail`. 3: the layers make no graph, for the reason of number `detail`; where that is 3, `layer` is the first of
- * another kind of hash than the one below it. 4: cg_open_checked alone. 5: the path of `layer` is not UTF-8. The numbers
- * are those of graphtool (docs/REFUSALS.md); detail 20 under code 2 and 4 under code 3 mean that memory ran out. What is
- * told is the first refusal, in the order of the layers. */
-typedef struct cg_error { uint32_t code, detail; uint64_t layer; } cg_error;
+ * number `detail`; where that is 5, `chunk` is the number of what is wrong with the table of chunks, and else 0. 3: the
+ * layers make no graph, for the reason of number `detail`; where that is 3, `layer` is the first of another kind of hash
+ * than the one below it. 4: cg_open_checked alone. 5: the path of `layer` is not UTF-8. The numbers are those of graphtool
+ * (docs/REFUSALS.md); detail 20 under code 2 and 4 under code 3 mean that memory ran out. What is told is the first
+ * refusal, in the order of the layers. */
+typedef struct cg_error { uint32_t code, detail, chunk; uint64_t layer; } cg_error;
 
 /* Opens the graph of these layers, the lowest first. The bytes are copied, so that they may go once the call has returned;
  * with them a graph takes 20 bytes a commit and 4 a word of the extra edge list more. On code 0 *out is the graph, which
@@ -59,7 +60,7 @@ cg_error cg_open(const cg_file *files, size_t count, cg_graph *out);
 
 /* Opens the graph and checks it, as cg_verify does: code 4, and no graph, where the check refuses it for the reason that
  * *verdict then has, whose number is `detail` (10: memory ran out). Where code is 4 or 0 the verdict was written.
- * Only such a graph answers cg_ancestor_walk. The rest is as in cg_open. */
+ * Only such a graph answers cg_ancestor_walk, cg_is_ancestor and cg_merge_bases. The rest is as in cg_open. */
 struct cg_verdict;
 struct cg_count;
 cg_error cg_open_checked(const cg_file *files, size_t count, bool distinct_ids, struct cg_verdict *verdict,
@@ -89,20 +90,46 @@ typedef struct cg_commit { uint64_t time; uint32_t generation; } cg_commit;
 /* Writes what the record at a position says; false, and nothing, where there is none, and for CG_CLOSED. */
 bool cg_commit_at(cg_graph graph, uint32_t pos, cg_commit *out);
 
+/* The same for the positions from `first` on, as many as there is room for. Answers how many commits there are from there on,
+ * 0 where `first` is none and for CG_CLOSED: min(answer, len) of them were written. */
+uint32_t cg_commits(cg_graph graph, uint32_t first, cg_commit *out, size_t len);
+
+/* The parents of a commit. code 0: there are `count`. 1 to 4: the extra edge list or a parent field is wrong after `count`
+ * parents, for the reason of that number, as graphtool has it (docs/REFUSALS.md, "parent"). 5: the position is none.
+ * 6: CG_CLOSED. Of a graph that was found right the code is 0 for each position. */
+typedef struct cg_parent_count { uint32_t code; uint64_t count; } cg_parent_count;
+
+/* Writes the positions of a commit's parents, the first parent first, as many as there is room for. */
+cg_parent_count cg_parents(cg_graph graph, uint32_t pos, uint32_t *out, size_t len);
+
+/* Of how many commits a block tells, and how many parents they have. */
+typedef struct cg_block { uint32_t commits; uint64_t length; } cg_block;
+
+/* The parents of the commits from `first` on: for each commit its answer, which is that of cg_parents, and the positions of
+ * all, one commit's after another's. It ends where `answers` is full or no commit is left, and after a commit whose parents
+ * find too little room. Only then `length` is above `len`: the parents of the last commit of the block are there in part, and
+ * whoever goes on begins with that commit once more, in a larger room if it was the first. Of CG_CLOSED there are no commits. */
+cg_block cg_parents_from(cg_graph graph, uint32_t first, cg_parent_count *answers, size_t answers_len,
+                         uint32_t *out, size_t len);
+
 /* What a check found. code 0: the graph is right, there are `num_commits`, the longest walk has `longest` edges (unknown
  * where not has_longest), and `kinds` different numbers of parents. Else the number of the first fault, as graphtool has it:
- * 1 too many layers; 2, 3, 4 base ids, and the layer as a whole, of `layer`; 5 to 8 and 11 the commit at `position`, where
- * `other` is the parent of 7, the expected number of 8 and the earlier position of 11; 10 memory ran out; 12 CG_CLOSED. */
+ * 1 too many layers; 2, 3, 4 base ids, and the layer as a whole, of `layer`; 5 to 8 and 11 the commit at `position`; 10 memory
+ * ran out; 12 CG_CLOSED. `fault` is the number of the fault of 4 and 5 and of the error of 6, `index` the base id of 3, and
+ * `other` the byte of the fan of 4, the parent of 7, the expected number of 8 and the earlier position of 11. All others are 0.
+ * `called` is the number of commits that the check passed before that fault, all on code 0: whoever has something to say of each
+ * commit goes over so many, and what is refused among them comes first. It is 0 for 10, 12 and where cg_open_checked refuses. */
 typedef struct cg_verdict {
     uint32_t code, num_commits, longest;
     bool has_longest;
-    uint32_t position, other;
-    uint64_t layer, kinds;
+    uint32_t position, other, fault, called;
+    uint64_t layer, index, kinds;
 } cg_verdict;
 typedef struct cg_count { uint32_t parents, commits; } cg_count;
 
 /* Checks a graph, with `distinct_ids` also that no id stands in two layers. Answers the verdict's code.
- * `counts` gets, from the least number of parents on, how many commits have it, as many as there is room for. */
+ * `counts` gets, from the least number of parents on, how many commits have it, as many as there is room for, where the code
+ * is 0, and else nothing. */
 uint32_t cg_verify(cg_graph graph, bool distinct_ids, cg_verdict *out, cg_count *counts, size_t counts_len);
 
 /* A search for a walk. code 0: it was made, `length` is the number of commits on a shortest walk, both ends included, or 0
@@ -113,6 +140,30 @@ typedef struct cg_reached { uint32_t code, visits; uint64_t length; } cg_reached
 /* Looks for a shortest walk along parents, and writes its positions, as many as there is room for. The graph is
  * one that cg_open_checked opened. */
 cg_reached cg_ancestor_walk(cg_graph graph, uint32_t from, uint32_t to, uint32_t *out, size_t len);
+
+/* Whether a commit leads to another, along parents: `found` says so where the code is 0. The codes are those of cg_reached. */
+typedef struct cg_leads { uint32_t code; bool found; } cg_leads;
+
+/* Looks whether the commit at `from` leads to the one at `to`, which is then its ancestor. A commit leads to itself. The
+ * graph is one that cg_open_checked opened. */
+cg_leads cg_is_ancestor(cg_graph graph, uint32_t from, uint32_t to);
+
+/* The merge bases of a commit and some others. code 0: there are `length`; `ahead` commits are those that the first leads to
+ * and none of the others does, and `behind` those that some of the others leads to and the first does not; `visits` commits
+ * were visited. The other codes are those of cg_reached. */
+typedef struct cg_bases { uint32_t code, ahead, behind; uint64_t visits, length; } cg_bases;
+
+/* Looks for the merge bases that `git merge-base --all FIRST OTHERS..` names, and writes their positions, the least first, as
+ * many as there is room for. The graph is one that cg_open_checked opened. */
+cg_bases cg_merge_bases(cg_graph graph, uint32_t first, const uint32_t *others, size_t count, uint32_t *out, size_t len);
+
+/* A line of a chain file, commit-graph-chain, each of which names a layer, from the lowest on: the line L is the layer of the
+ * file graph-L.graph in the same folder. `found`: the line is the bytes from the start that was asked for up to `end`, without
+ * its newline and one carriage return before that, and what follows it begins at `next`. Else no line is left. */
+typedef struct cg_line { bool found; size_t end, next; } cg_line;
+
+/* The line that begins at the byte `start` of a chain file: 0 for the first one, and then `next` of the one before. */
+cg_line cg_chain_line(const uint8_t *text, size_t len, size_t start);
 
 #ifdef __cplusplus
 }

@@ -1,8 +1,11 @@
-"""Tests the library for C and Rust: `python3 scripts/bindings`. Its last line is `N passed, M failed`.
+"""Tests the library for C and Rust: `python3 scripts/bindings [GRAPHTOOL]`. Its last line is `N passed, M failed`.
 
 It builds the static library, where it is not built, over what `rt ci` left, and links it with the kit's own
-heap. Where a compiler or a tool is missing, one line says what is left out.
+heap. What C and Rust list and count is compared with what the program at the path GRAPHTOOL does. Where it is
+not given, or a compiler or a tool is missing, one line says what is left out.
 """
+import functools
+import layout
 import os
 import pathlib
 import shutil
@@ -15,15 +18,22 @@ HERE = TOP / "scripts/bindings"
 HEADER = TOP / "bindings/c"
 NAME = "commitgraph_c"
 CRATE = TOP / "crates" / NAME
-LINES = (line.partition(":") for line in (TOP / "crates.txt").read_text().splitlines() if line and line[0] != "#")
-USES = {crate.split()[0]: used.split() for crate, _, used in LINES}
+LISTED = (line.partition(":") for line in (TOP / "crates.txt").read_text().splitlines() if line and line[0] != "#")
+USES = {crate.split()[0]: used.split() for crate, _, used in LISTED}
 """For each crate, those that crates.txt lists for it."""
+GRAPHTOOL = sys.argv[1] if len(sys.argv) > 1 else None
+REFUSING = [f"-Wl,--wrap={name}" for name in ("malloc", "realloc", "free")]
+LINES = [b"", b"\n", b"a", b"a\n", b"a\r\n\nb\r", b"\r\n\r\r\nc", b"\n\n", b"ab\ncd\n\r"]
+"""Texts that are cut into lines."""
+HELGRIND = ["valgrind", "-q", "--tool=helgrind", "--error-exitcode=99"]
+SANITIZED = "-Zsanitizer=thread -Cunsafe-allow-abi-mismatch=sanitizer"
+"""Flags of a nightly Rust compiler. Its standard library is not built with them."""
 STRICT = ["-D_GNU_SOURCE", "-Wall", "-Wextra", "-Wpedantic", "-Werror"]
 passed = failed = 0
 
 
-def run(*words, **options):
-    return subprocess.run([str(word) for word in words], capture_output=True, text=True, **options)
+def run(*words, text=True, **options):
+    return subprocess.run([str(word) for word in words], capture_output=True, text=text, **options)
 
 
 def expect(name, good, detail=""):
@@ -93,8 +103,8 @@ def git(where, *words):
     return done.stdout.strip()
 
 
-def repository(where, kind):
-    """A small history with a merge of three parents, and its commit-graph."""
+def repository(where, kind, *words):
+    """A small history with a merge of three parents, and its commit-graph, written with these words."""
     run("git", "init", "-q", f"--object-format={kind}", where)
     tree = git(where, "write-tree")
     ids = [git(where, "commit-tree", tree, "-m", "0")]
@@ -102,7 +112,7 @@ def repository(where, kind):
         ids.append(git(where, "commit-tree", tree, "-p", ids[number // 2], "-m", str(number)))
     ids.append(git(where, "commit-tree", tree, "-p", ids[37], "-p", ids[38], "-p", ids[39], "-m", "merge"))
     git(where, "update-ref", "refs/heads/main", ids[-1])
-    git(where, "commit-graph", "write", "--reachable")
+    git(where, "commit-graph", "write", "--reachable", *words)
     return ids
 
 
@@ -110,32 +120,224 @@ def compare(name, program, graph, ids):
     """What Git says of the commits beside what the library says."""
     where = graph.parent.parent.parent.parent
     reachable = git(where, "rev-list", "main").split()
-    check = run(program, graph, "check")
+    check = run(program, graph, "verify")
     expect(f"{name}: so many commits", len(reachable) == 11, reachable)
-    expect(f"{name}: check", check.stdout.startswith(f"ok commits {len(reachable)} longest "), check)
+    expect(f"{name}: verify", check.stdout.startswith(f"ok commits {len(reachable)} longest "), check)
     expect(f"{name}: one merge of three parents", "parents 3 commits 1\n" in check.stdout, check)
     for commit in ids:
         found = run(program, graph, "find", commit)
         expect(f"{name}: find {commit}", (commit in reachable) == (found.returncode == 0), found)
         if commit in reachable:
             expect(f"{name}: time of {commit}", found.stdout.endswith(" time 1000000000\n"), found)
+            answer = run(program, graph, "parents", commit)
+            expect(f"{name}: parents of {commit}", answer.stdout.split() == parents_of(where, commit), answer)
+    same_as_program(name, program, graph, ids)
+    for first, *others in [(one, two) for one in reachable for two in reachable] + [tuple(reachable[:5])]:
+        answer = run(program, graph, "bases", first, *others)
+        expect(f"{name}: bases of {first} {others}", told(answer) == asked(where, first, tuple(others)), answer)
 
 
-def damaged(name, program, graph, scratch):
-    """No damaged file ends a program by a signal, and a checksum that is wrong is told."""
-    good = graph.read_bytes()
-    file = scratch / "damaged"
+def same_as_program(name, program, graph, ids):
+    """Each answer of the library beside that of `graphtool`, for a file or for a chain."""
+    opened = graph.parent if graph.name == "commit-graph-chain" else graph
+    for words in questions(ids) if GRAPHTOOL else ():
+        same_answer(name, program, graph, opened, *words)
+    for layer in [opened, *opened.glob("*.graph")] if GRAPHTOOL else ():
+        if layer.is_file():
+            same_list(name, program, layer)
+
+
+def same_answer(name, program, graph, opened, command, *words):
+    """One answer beside that of `graphtool`, which opens the same graph by another path where it is a chain."""
+    answer, expected = run(program, graph, command, *words), run(GRAPHTOOL, command, opened, *words)
+    expect(f"{name}: {command} {' '.join(words)}", answers_alike(answer, expected), (answer, expected))
+
+
+def questions(ids):
+    """The commands about a graph, with some commits, none of which may be in it."""
+    few = [*ids[::9], ids[-1]]
+    pairs = [(first, second) for first in few for second in few]
+    return [("verify",), ("distinct",), *(("find", it) for it in ids), *(("ancestor", *pair) for pair in pairs)]
+
+
+def same_list(name, program, file):
+    """The lines of the commits of a file, or of its refusal: the library tells no base ids."""
+    with open(file, "rb") as given:
+        expected = run(GRAPHTOOL, "list", stdin=given)
+    answer = run(program, file, "list")
+    expected.stdout = "".join(
+        line for line in expected.stdout.splitlines(keepends=True) if not line.startswith(("layer ", "base "))
+    )
+    expect(f"{name}: list", answers_alike(answer, expected), (answer, expected))
+
+
+def answers_alike(answer, expected):
+    """The same lines and the same status."""
+    return (answer.stdout, answer.returncode) == (expected.stdout, expected.returncode)
+
+
+@functools.lru_cache(maxsize=None)
+def chain(scratch, kind):
+    """A repository with a chain of four layers."""
+    where = scratch / f"chain-{kind}"
+    repository(where, kind, "--split=no-merge")
+    head = git(where, "rev-parse", "main")
+    for number in range(3):
+        head = git(where, "commit-tree", f"{head}^{{tree}}", "-p", head, "-p", f"{head}~1", "-m", f"later {number}")
+        git(where, "update-ref", "refs/heads/main", head)
+        git(where, "commit-graph", "write", "--reachable", "--split=no-merge")
+    return where
+
+
+def chained(name, program, scratch, kind):
+    """A chain of layers, opened by its lines, and the lines of odd texts."""
+    where = chain(scratch, kind)
+    file = where / ".git/objects/info/commit-graphs/commit-graph-chain"
+    commits = len(git(where, "rev-list", "main").split())
+    expect(f"{name}: a chain of 4 layers", len(file.read_text().split()) == 4, file.read_text())
+    check, listed = run(program, file, "verify"), run(program, file, "list")
+    expect(f"{name}: the chain is right", check.stdout.startswith(f"ok commits {commits} "), check)
+    expect(f"{name}: the commits of the chain", len(listed.stdout.splitlines()) == commits, listed)
+    same_as_program(f"{name}, chain", program, file, git(where, "rev-list", "main").split())
+    for number, text in enumerate(LINES):
+        (scratch / "text").write_bytes(text)
+        found = run(program, scratch / "text", "lines", text=False)
+        wanted = b"".join(b"%d %s\n" % (len(line), line) for line in lines_of(text))
+        expect(f"{name}: the lines of text {number}", (found.returncode, found.stdout) == (0, wanted), found)
+
+
+def lines_of(text):
+    """Lines as the design notes of Git have them: the last one needs no newline, and keeps its carriage return then."""
+    *lines, last = text.split(b"\n")
+    return [line.removesuffix(b"\r") for line in lines] + ([last] if last else [])
+
+
+def refused_and_shared(name, compiler, archives, scratch, graph, ids):
+    """Each allocation of each call refused in turn; and four threads that read one graph."""
+    program = scratch / "memory"
+    done = run(compiler, "-std=c11", "-O1", *STRICT, f"-I{HEADER}", HERE / "memory.c", *REFUSING, *archives, "-o", program)
+    expect(f"{name}: memory.c", done.returncode == 0, done.stderr)
+    done = run(program, graph, ids[-1], ids[0])
+    calls = dict(line.split() for line in done.stdout.splitlines()) if done.returncode == 0 else {}
+    expect(f"{name}: each allocation is refused in turn", calls.pop("reading", None) == "0", done)
+    expect(f"{name}: each call that allocates is refused", calls and all(int(n) > 0 for n in calls.values()), done)
+    for tool, flags, words in (("", ["-fsanitize=thread"], []), ("valgrind", [], HELGRIND)):
+        program = scratch / "threads"
+        done = run(compiler, "-std=c11", "-O1", *flags, *STRICT, "-pthread", f"-I{HEADER}", HERE / "threads.c",
+                   *archives, "-o", program)
+        if flags and done.returncode:
+            print(f"{name}: ThreadSanitizer: left out, since {compiler} does not link it")
+        elif not tool or present(tool, "helgrind"):
+            expect(f"{name}: threads.c", done.returncode == 0, done.stderr)
+            done = run(*words, program, graph)
+            expect(f"{name}: four threads {' '.join(flags) or tool}", done.returncode == 0, done)
+
+
+def fields(name, compiler, archives, scratch):
+    """What calls write into each field of each struct, read by the layout of the header."""
+    program, file = scratch / "layout", scratch / "changed"
+    done = run(compiler, "-std=c11", "-O1", *STRICT, f"-I{HEADER}", HERE / "layout.c", *archives, "-o", program)
+    expect(f"{name}: layout.c", done.returncode == 0, done.stderr)
+    graph = scratch / "sha1/.git/objects/info/commit-graph"
+    history = layout.History(git(scratch / "sha1", "rev-list", "--parents", "main").splitlines())
+    rows, visits = layout.without_visits(run(program, graph).stdout.splitlines())
+    expect(f"{name}: each field of a right graph", rows == list(history.lines()), rows)
+    expect(f"{name}: visits", max(visits, default=0) == len(history.ids), visits)
+    for fault, data, verdict, parents in layout.faults(graph.read_bytes(), history):
+        file.write_bytes(data)
+        rows, _ = layout.without_visits(run(program, file).stdout.splitlines())
+        told = [row for row in rows if row[0] == "commit"][verdict[4]]
+        expect(f"{name}: each field, {fault}", ["verdict", *verdict] in rows and told[3:] == parents + parents, rows)
+        expect(f"{name}: refused, {fault}", ["checked", 4, verdict[0], 0, 0, 0, 0] in rows, rows)
+    folder = chain(scratch, "sha1") / ".git/objects/info/commit-graphs"
+    names = (folder / "commit-graph-chain").read_text().split()
+    for fault, layers, error, verdict in layout.layered([(folder / f"graph-{it}.graph").read_bytes() for it in names]):
+        files = [scratch / f"changed-{number}" for number in range(len(layers))]
+        for path, data in zip(files, layers):
+            path.write_bytes(data)
+        rows, _ = layout.without_visits(run(program, *files).stdout.splitlines())
+        expect(f"{name}: each field, {fault}", rows[0] == ["error", *error] and rows[1] == ["verdict", *verdict], rows)
+
+
+def parents_of(where, commit):
+    return git(where, "log", "-1", "--format=%P", commit).split()
+
+
+def told(answer):
+    """The merge bases of an answer, in any order, and its last line."""
+    *bases, counts = answer.stdout.splitlines() or [""]
+    return sorted(bases), counts
+
+
+@functools.lru_cache(maxsize=None)
+def asked(where, first, others):
+    """What Git says: the merge bases, and how many commits the first alone leads to, and some of the others alone."""
+    bases = git(where, "merge-base", "--all", first, *others).split()
+    ahead = git(where, "rev-list", "--count", first, *("^" + other for other in others))
+    behind = git(where, "rev-list", "--count", *others, "^" + first)
+    return sorted(bases), f"ahead {ahead} behind {behind}"
+
+
+def damages(good):
+    """Bytes of a file that are each damaged at one place, or cut there."""
     for at in range(0, len(good), max(1, len(good) // 60)):
-        file.write_bytes(good[:at] + bytes([good[at] ^ 0x41]) + good[at + 1:])
-        done = run(program, file, "check")
-        expect(f"{name}: damaged at {at}", done.returncode == 1 and not done.stderr, done)
-        file.write_bytes(good[:at])
-        done = run(program, file, "check")
-        expect(f"{name}: cut at {at}", done.returncode == 1 and not done.stderr, done)
+        yield good[:at] + bytes([good[at] ^ 0x41]) + good[at + 1:]
+        yield good[:at]
+
+
+def damaged(name, program, graph, ids, scratch):
+    """What is answered of damaged files is what `graphtool` answers, and nothing is written on standard error."""
+    file, asked = scratch / "damaged", questions(ids[-3:])
+    for number, bad in enumerate(damages(graph.read_bytes())):
+        file.write_bytes(bad)
+        done = run(program, file, "verify")
+        expect(f"{name}: damage {number}", done.returncode == 1 and not done.stderr, done)
+        if GRAPHTOOL:
+            same_list(f"{name}: damage {number}", program, file)
+        for words in asked[number % 3::3] if GRAPHTOOL else ():
+            same_answer(f"{name}: damage {number}", program, file, file, *words)
+
+
+def rust_tests(crate, environment):
+    """The tests of the Rust crate, and that of its threads under ThreadSanitizer, where a toolchain can."""
+    done = run("cargo", "test", "--quiet", "--offline", cwd=crate, env=environment)
+    expect("Rust: tests", done.returncode == 0 and "5 passed" in done.stdout and "4 threads read" in done.stdout, done)
+    command = ["cargo", "+nightly", "test", "--quiet", "--offline", "--test", "threads", "--target", "x86_64-unknown-linux-gnu"]
+    at = {**environment, "RUSTFLAGS": SANITIZED}
+    if run(*command, "--no-run", cwd=crate, env=at).returncode:
+        print("Rust under ThreadSanitizer: left out, since there is no nightly toolchain that links it")
+    else:
+        done = run(*command, cwd=crate, env=at)
+        expect("Rust: ThreadSanitizer", done.returncode == 0 and "4 threads read" in done.stdout, done)
+
+
+def rust(environment, scratch, graphs):
+    """The Rust crate: its tests, its example, and its answers beside those of `graphtool`."""
+    crate = shutil.copytree(TOP / "bindings/rust", scratch / "rust")
+    graph, ids = graphs["sha1"]
+    history = layout.History(git(scratch / "sha1", "rev-list", "--parents", "main").splitlines())
+    faulty = {fault: data for fault, data, _, _ in layout.faults(graph.read_bytes(), history)}
+    (scratch / "faulty").write_bytes(faulty["number"])
+    folder = chain(scratch, "sha1") / ".git/objects/info/commit-graphs"
+    named = {"COMMIT_GRAPH": graph, "FAULTY_COMMIT_GRAPH": scratch / "faulty", "COMMIT_GRAPHS_FOLDER": folder}
+    rust_tests(crate, {**environment, **{name: str(path) for name, path in named.items()}})
+    done = run("cargo", "build", "--quiet", "--offline", "--examples", cwd=crate, env=environment)
+    expect("Rust: examples", done.returncode == 0, done)
+    built = scratch / "target/debug/examples"
+    done = run(built / "demo", graph, ids[-1])
+    expect("Rust: demo", done.returncode == 0 and done.stdout.count("11 reached") == 4, done)
+    for kind, (graph, ids) in graphs.items() if GRAPHTOOL else ():
+        same_as_program(f"Rust, {kind}", built / "ask", graph, ids)
+        where = chain(scratch, kind)
+        commits = git(where, "rev-list", "main").split()
+        same_as_program(f"Rust, {kind}, chain", built / "ask", where / ".git/objects/info/commit-graphs", commits)
+        damaged(f"Rust, {kind}", built / "ask", graph, ids, scratch)
 
 
 def main():
     archives = built()
+    if not GRAPHTOOL:
+        print("what graphtool lists and counts: left out, since no GRAPHTOOL is given")
     with tempfile.TemporaryDirectory() as folder:
         scratch = pathlib.Path(folder)
         graphs = {}
@@ -153,13 +355,16 @@ def main():
                 expect(f"{name}: ask.c", done.returncode == 0, done.stderr)
                 for kind, (graph, ids) in graphs.items():
                     compare(f"{name}, {kind}", program, graph, ids)
+                    chained(f"{name}, {kind}", program, scratch, kind)
                 if flags:
-                    damaged(name, program, graphs["sha1"][0], scratch)
+                    damaged(name, program, *graphs["sha1"], scratch)
                 elif present("valgrind", "valgrind"):
                     done = run("valgrind", "-q", "--error-exitcode=99", "--leak-check=full",
                                "--show-leak-kinds=all", "--errors-for-leak-kinds=all", program,
-                               graphs["sha1"][0], "check")
+                               graphs["sha1"][0], "verify")
                     expect(f"{name}: valgrind", done.returncode == 0, done.stderr)
+            fields(compiler, compiler, archives, scratch)
+            refused_and_shared(compiler, compiler, archives, scratch, *graphs["sha1"])
             done = run(compiler, "-std=c11", *STRICT, f"-I{HEADER}", HEADER / "example.c", *archives, "-o",
                        scratch / "example")
             expect(f"{compiler}: example.c", done.returncode == 0, done.stderr)
@@ -172,10 +377,7 @@ def main():
         if present("cargo", "Rust"):
             folders = ":".join(str(archive.parent) for archive in archives)
             at = {**os.environ, "COMMITGRAPH_LIB": folders, "CARGO_TARGET_DIR": str(scratch / "target")}
-            graph, ids = graphs["sha1"]
-            done = run("cargo", "run", "--quiet", "--offline", "--example", "demo", "--", graph, ids[-1],
-                       cwd=shutil.copytree(TOP / "bindings/rust", scratch / "rust"), env=at)
-            expect("Rust: demo", done.returncode == 0 and done.stdout.count("11 reached") == 4, done)
+            rust(at, scratch, graphs)
     print(f"{passed} passed, {failed} failed")
     return failed != 0
 

@@ -1,16 +1,11 @@
-/* ask PATH check | find ID | walk ID ID: answers through the library as `graphtool` prints it, for scripts/bindings. */
+/* ask PATH list | verify | distinct | lines | find ID | ancestor ID ID | parents ID | bases ID ID..: answers through the library,
+ * for scripts/bindings, the first four of graphs and `find` and `ancestor` in the lines of `graphtool`. The path is that of a
+ * file or of a chain. */
 #include "commitgraph.h"
 #include <inttypes.h>
 #include <stdio.h>
 #include <stdlib.h>
 #include <string.h>
-
-_Static_assert(sizeof(cg_graph) == 16 && offsetof(cg_graph, opened) == 8, "cg_graph");
-_Static_assert(sizeof(cg_file) == 32 && offsetof(cg_file, path) == 16, "cg_file");
-_Static_assert(sizeof(cg_error) == 16 && offsetof(cg_error, layer) == 8, "cg_error");
-_Static_assert(sizeof(cg_commit) == 16 && offsetof(cg_commit, generation) == 8, "cg_commit");
-_Static_assert(sizeof(cg_verdict) == 40 && offsetof(cg_verdict, layer) == 24, "cg_verdict");
-_Static_assert(sizeof(cg_count) == 8 && offsetof(cg_count, commits) == 4, "cg_count");
 
 static uint8_t *read_all(const char *path, size_t *len) {
     FILE *file = fopen(path, "rb");
@@ -31,17 +26,42 @@ static size_t bytes_of(const char *hex, uint8_t id[32]) {
     return len <= 32 ? len : 0;
 }
 
-static int check(cg_graph graph) {
+enum { ROOM = 64, PLACES = 3, FEW = 4 };
+
+/* The line of a graph that was not opened. */
+static int not_opened(cg_error error, bool one_file) {
+    if (error.code == 3) printf("refused open 6 graph %" PRIu32 "\n", error.detail);
+    else if (one_file) printf("refused file %" PRIu32, error.detail);
+    else printf("refused open 5 layer %" PRIu64 " file %" PRIu32, error.layer, error.detail);
+    if (error.code == 2 && error.chunk) printf(" chunk %" PRIu32, error.chunk);
+    if (error.code == 2) putchar('\n');
+    return error.code == 2 || error.code == 3 ? 1 : 9;
+}
+
+/* The line of a graph that is not right. */
+static int not_right(cg_verdict v) {
+    printf("refused verify %" PRIu32, v.code);
+    if (v.code >= 2 && v.code <= 4) printf(" layer %" PRIu64, v.layer);
+    if (v.code == 3) printf(" index %" PRIu64, v.index);
+    if (v.code == 5 || v.code == 6 || v.code == 7 || v.code == 8 || v.code == 11) printf(" position %" PRIu32, v.position);
+    if (v.code == 4 || v.code == 5) printf(" fault %" PRIu32, v.fault);
+    if (v.code == 4 && v.fault == 3) printf(" byte %" PRIu32, v.other);
+    if (v.code == 6) printf(" error %" PRIu32, v.fault);
+    if (v.code == 7) printf(" parent %" PRIu32, v.other);
+    if (v.code == 8) printf(" expected %" PRIu32, v.other);
+    if (v.code == 11) printf(" earlier %" PRIu32, v.other);
+    putchar('\n');
+    return 1;
+}
+
+static int check(cg_graph graph, bool distinct) {
     cg_verdict v;
-    cg_count counts[64];
-    if (cg_verify(graph, false, &v, counts, 64)) {
-        printf("refused verify %" PRIu32 "\n", v.code);
-        return 1;
-    }
+    cg_count counts[ROOM];
+    if (cg_verify(graph, distinct, &v, counts, ROOM)) return not_right(v);
     printf("ok commits %" PRIu32 " longest ", v.num_commits);
     if (v.has_longest) printf("%" PRIu32 "\n", v.longest);
-    else printf("-\n");
-    for (uint64_t i = 0; i < v.kinds && i < 64; i++)
+    else puts("none");
+    for (uint64_t i = 0; i < v.kinds && i < ROOM; i++)
         printf("parents %" PRIu32 " commits %" PRIu32 "\n", counts[i].parents, counts[i].commits);
     return 0;
 }
@@ -55,20 +75,201 @@ static int find(cg_graph graph, const char *hex) {
     return 0;
 }
 
+static void print_hex(const uint8_t *id, size_t len) {
+    for (size_t j = 0; j < len; j++) printf("%02" PRIx8, id[j]);
+}
+
+static void print_ids(cg_graph graph, const uint32_t *positions, uint64_t count) {
+    uint8_t id[32];
+    for (uint64_t i = 0; i < count && i < ROOM; i++) {
+        size_t len = cg_id_at(graph, positions[i], id, cg_id_len(graph));
+        print_hex(id, len);
+        putchar('\n');
+    }
+}
+
+/* The line of a commit, as `graphtool list` has it. */
+static void print_line(cg_graph graph, uint32_t pos, cg_commit commit, cg_parent_count answer, const uint32_t *parents) {
+    uint8_t id[32];
+    printf("%" PRIu32 " ", pos);
+    print_hex(id, cg_id_at(graph, pos, id, cg_id_len(graph)));
+    putchar(' ');
+    print_hex(id, cg_tree_at(graph, pos, id, cg_id_len(graph)));
+    printf(" %" PRIu32 " %" PRIu64 " ", commit.generation, commit.time);
+    for (uint64_t i = 0; i < answer.count; i++) printf(i ? ",%" PRIu32 : "%" PRIu32, parents[i]);
+    if (answer.code) printf(answer.count ? ",!%" PRIu32 : "!%" PRIu32, answer.code);
+    puts(answer.count || answer.code ? "" : "-");
+}
+
+/* A block of the parents from a position on, in little room, or in much where the first commit alone does not fit. */
+static cg_block block_from(cg_graph graph, uint32_t first, cg_parent_count *answers, uint32_t *out) {
+    cg_block block;
+    out[FEW] = answers[PLACES].code = 7;
+    block = cg_parents_from(graph, first, answers, PLACES, out, FEW);
+    if (out[FEW] != 7 || answers[PLACES].code != 7) exit(9);
+    if (block.length > FEW && block.commits > 1) block.commits--;
+    else if (block.length > FEW) block = cg_parents_from(graph, first, answers, 1, out, ROOM);
+    if (block.length > ROOM) exit(9);
+    return block;
+}
+
+/* All commits, from blocks, each compared with what the calls for one commit say. */
+static int list(cg_graph graph) {
+    uint32_t count = cg_num_commits(graph), out[ROOM + 1], one[ROOM];
+    cg_parent_count answers[PLACES + 1];
+    cg_commit commits[PLACES + 1];
+    for (uint32_t first = 0; first < count;) {
+        cg_block block = block_from(graph, first, answers, out);
+        const uint32_t *parents = out;
+        commits[block.commits].time = 7;
+        if (cg_commits(graph, first, commits, block.commits) != count - first || commits[block.commits].time != 7) return 9;
+        for (uint32_t i = 0; i < block.commits; i++) {
+            cg_parent_count answer = cg_parents(graph, first + i, one, ROOM);
+            if (answer.code != answers[i].code || answer.count != answers[i].count) return 9;
+            if (memcmp(one, parents, answer.count * sizeof *one)) return 9;
+            print_line(graph, first + i, commits[i], answer, parents);
+            parents += answer.count;
+        }
+        first += block.commits;
+    }
+    return cg_commits(graph, count, commits, 1) || cg_parents_from(graph, count, answers, 1, out, ROOM).commits ? 9 : 0;
+}
+
+static uint32_t position_of(cg_graph graph, const char *hex) {
+    uint8_t id[32];
+    return cg_lookup(graph, id, bytes_of(hex, id));
+}
+
+/* The parents of a commit, and whether it leads to each; the room is given in parts, so that what does not fit is seen. */
+static int parents(cg_graph graph, const char *hex) {
+    uint32_t pos = position_of(graph, hex), out[ROOM], small[1] = { 7 };
+    cg_parent_count all = cg_parents(graph, pos, out, ROOM), none = cg_parents(graph, pos, small, 0);
+    if (all.code) { printf("refused parents %" PRIu32 "\n", all.code); return 1; }
+    if (none.code || none.count != all.count || small[0] != 7) return 9;
+    if (cg_parents(graph, pos, small, 1).count != all.count || (all.count && small[0] != out[0])) return 9;
+    print_ids(graph, out, all.count);
+    for (uint64_t i = 0; i < all.count && i < ROOM; i++) {
+        cg_leads down = cg_is_ancestor(graph, pos, out[i]), up = cg_is_ancestor(graph, out[i], pos);
+        if (down.code || !down.found || up.code || up.found) return 9;
+    }
+    return 0;
+}
+
+/* A shortest walk from a commit to another, and how many commits were visited. */
+static int ancestor(cg_graph graph, char **hex) {
+    uint32_t from = position_of(graph, hex[0]), to = position_of(graph, hex[1]), out[ROOM];
+    if (from == CG_NOWHERE || to == CG_NOWHERE) { puts(from == CG_NOWHERE ? "unknown 1" : "unknown 2"); return 1; }
+    cg_reached reached = cg_ancestor_walk(graph, from, to, out, ROOM);
+    cg_leads leads = cg_is_ancestor(graph, from, to);
+    if (reached.code || reached.length > ROOM || leads.code || leads.found != (reached.length > 0)) return 9;
+    if (reached.length) printf("walk");
+    else printf("none");
+    for (uint64_t i = 0; i < reached.length; i++) printf(" %" PRIu32, out[i]);
+    printf("\nvisits %" PRIu32 "\n", reached.visits);
+    return reached.length ? 0 : 1;
+}
+
+/* The merge bases of a commit and some others, and how far they have come apart. */
+static int bases(cg_graph graph, int count, char **hex) {
+    uint32_t others[ROOM], out[ROOM];
+    for (int i = 1; i < count && i <= ROOM; i++) others[i - 1] = position_of(graph, hex[i]);
+    cg_bases found = cg_merge_bases(graph, position_of(graph, hex[0]), others, (size_t)count - 1, out, ROOM);
+    if (found.code) { printf("refused bases %" PRIu32 "\n", found.code); return 1; }
+    print_ids(graph, out, found.length);
+    printf("ahead %" PRIu32 " behind %" PRIu32 "\n", found.ahead, found.behind);
+    return 0;
+}
+
+/* What is answered of no graph. */
+static bool closed_answers(void) {
+    uint32_t out[1] = { 7 };
+    cg_commit none = { .time = 7 };
+    cg_parent_count answer = { .code = 7 };
+    return cg_num_commits(CG_CLOSED) == 0 && cg_lookup(CG_CLOSED, (const uint8_t *)"", 0) == CG_NOWHERE
+        && cg_parents(CG_CLOSED, 0, out, 1).code == 6 && cg_is_ancestor(CG_CLOSED, 0, 0).code == 4
+        && cg_merge_bases(CG_CLOSED, 0, out, 1, out, 0).code == 4 && out[0] == 7
+        && cg_commits(CG_CLOSED, 0, &none, 1) == 0 && none.time == 7
+        && cg_parents_from(CG_CLOSED, 0, &answer, 1, out, 1).commits == 0 && answer.code == 7;
+}
+
+enum { LAYERS = 16, PATH = 4096 };
+static char paths[LAYERS][PATH];
+
+static bool add(cg_file *files, size_t *count, const char *path) {
+    cg_file *file = &files[*count];
+    file->bytes = read_all(path, &file->len);
+    file->path = (const uint8_t *)path;
+    file->path_len = strlen(path);
+    *count += file->bytes != NULL;
+    return file->bytes != NULL;
+}
+
+/* The files of the layers that the lines of a chain name, in its folder. */
+static bool add_layers(cg_file *files, size_t *count, const char *chain, int folder) {
+    size_t len;
+    uint8_t *text = read_all(chain, &len);
+    bool good = text != NULL;
+    for (size_t start = 0; good;) {
+        cg_line line = cg_chain_line(text, len, start);
+        if (!line.found) break;
+        int size = (int)(line.end - start);
+        good = *count < LAYERS
+            && snprintf(paths[*count], PATH, "%.*s/graph-%.*s.graph", folder, chain, size, (char *)text + start) < PATH
+            && add(files, count, paths[*count]);
+        start = line.next;
+    }
+    free(text);
+    return good;
+}
+
+/* The lines of a file, each after its length. */
+static int lines(const char *path) {
+    size_t len, start = 0;
+    uint8_t *text = read_all(path, &len);
+    cg_line line = cg_chain_line(text, len, 0);
+    for (; line.found; line = cg_chain_line(text, len, start)) {
+        printf("%zu %.*s\n", line.end - start, (int)(line.end - start), (char *)text + start);
+        start = line.next;
+    }
+    free(text);
+    return start == len && !line.end && !line.next ? 0 : 9;
+}
+
+/* Whether the words after the path are those of a command. */
+static bool is_command(int count, char **words) {
+    static const char *const alone[] = { "list", "verify", "distinct", "lines" };
+    for (size_t i = 0; count == 1 && i < sizeof alone / sizeof *alone; i++)
+        if (!strcmp(words[0], alone[i])) return true;
+    return (count == 2 && (!strcmp(words[0], "find") || !strcmp(words[0], "parents")))
+        || (count == 3 && !strcmp(words[0], "ancestor")) || (count > 2 && !strcmp(words[0], "bases"));
+}
+
+/* The answer of an open graph. */
+static int answer(cg_graph graph, int count, char **words) {
+    if (!strcmp(words[0], "list")) return list(graph);
+    if (!strcmp(words[0], "find")) return find(graph, words[1]);
+    if (!strcmp(words[0], "ancestor")) return ancestor(graph, words + 1);
+    if (!strcmp(words[0], "parents")) return parents(graph, words[1]);
+    if (!strcmp(words[0], "bases")) return bases(graph, count - 1, words + 1);
+    return check(graph, !strcmp(words[0], "distinct"));
+}
+
 int main(int argc, char **argv) {
-    cg_file file = { NULL, 0, NULL, 0 };
+    cg_file files[LAYERS];
     cg_graph graph = CG_CLOSED;
-    if (argc < 3) return 2;
-    uint8_t *bytes = read_all(argv[1], &file.len);
-    if (!bytes) return 2;
-    file.bytes = bytes;
-    file.path = (const uint8_t *)argv[1];
-    file.path_len = strlen(argv[1]);
-    cg_error error = cg_open(&file, 1, &graph);
-    free(bytes);
-    if (error.code) { printf("refused code %" PRIu32 " number %" PRIu32 "\n", error.code, error.detail); return 1; }
-    int status = argc == 3 ? check(graph) : find(graph, argv[3]);
+    size_t count = 0;
+    if (argc < 3 || !is_command(argc - 2, argv + 2)) return 2;
+    if (!strcmp(argv[2], "lines")) return lines(argv[1]);
+    const char *chain = strstr(argv[1], "/commit-graph-chain");
+    if (chain ? !add_layers(files, &count, argv[1], (int)(chain - argv[1])) : !add(files, &count, argv[1])) return 2;
+    cg_verdict verdict;
+    cg_count counts[1];
+    bool asks = strchr("apb", argv[2][0]);
+    cg_error error = asks ? cg_open_checked(files, count, false, &verdict, counts, 1, &graph) : cg_open(files, count, &graph);
+    while (count) free((void *)files[--count].bytes);
+    if (error.code == 4) return error.detail == verdict.code ? not_right(verdict) : 9;
+    if (error.code) return not_opened(error, !strcmp(argv[2], "list"));
+    int status = answer(graph, argc - 2, argv + 2);
     cg_close(graph);
-    if (cg_num_commits(CG_CLOSED) != 0 || cg_lookup(CG_CLOSED, (const uint8_t *)"", 0) != CG_NOWHERE) return 9;
-    return status;
+    return closed_answers() ? status : 9;
 }

@@ -5,16 +5,33 @@
 
 mod error;
 mod id;
+mod open;
 mod sys;
+mod verify;
 
-pub use error::{Fault, OpenError, QueryError, VerifyError};
+use error::fault_of;
+pub use error::{CommitFault, Fault, LayerFault, OpenError, ParentError, QueryError, VerifyError};
 pub use id::ObjectId;
-use std::collections::BTreeMap;
-use std::path::{Path, PathBuf};
+use open::{chain_at, file_at, lent, open_at, open_info};
+use std::convert::Infallible;
+use std::path::Path;
+pub use verify::{Outcome, VerifyOptions};
 
 /// A position in a graph, over all its layers.
 #[derive(Clone, Copy, Debug, PartialEq, Eq, PartialOrd, Ord, Hash)]
 pub struct Position(pub u32);
+
+/// Of so many commits one call tells, where many are gone over.
+const BLOCK: usize = 512;
+
+/// What the record of a commit says, but for its ids and its parents.
+#[derive(Clone, Copy, Debug, PartialEq, Eq)]
+pub struct Record {
+    /// When it was made: seconds since 1970-01-01 00:00:00 UTC.
+    pub committer_timestamp: u64,
+    /// Its generation number.
+    pub generation: u32,
+}
 
 /// A commit-graph.
 pub struct Graph {
@@ -30,7 +47,6 @@ unsafe impl Sync for Graph {}
 impl Drop for Graph {
     fn drop(&mut self) {
         // SAFETY: `raw` is what `cg_open` wrote, and no copy of it is used from here on.
-        // SAFETY: the pointer is that of a value or of an array that has room for what is written.
         unsafe { sys::cg_close(self.raw) }
     }
 }
@@ -38,37 +54,30 @@ impl Drop for Graph {
 impl Graph {
     /// Opens the graph at a path: a file, a folder with a chain, or an info folder.
     pub fn at(path: impl AsRef<Path>) -> Result<Graph, OpenError> {
-        let path = path.as_ref();
-        if path.is_file() {
-            Graph::from_file(path)
-        } else if path.join("commit-graph-chain").is_file() {
-            Graph::from_commit_graphs_dir(path)
-        } else {
-            Graph::from_info_dir(path)
-        }
+        open_at(path.as_ref(), Graph::of_bytes)
     }
 
     /// Opens the graph of one file.
     pub fn from_file(path: impl AsRef<Path>) -> Result<Graph, OpenError> {
-        Graph::of_files(&file_at(path.as_ref())?)
+        Graph::of_bytes(&lent(&file_at(path.as_ref())?))
     }
 
-    /// Opens the graph of an info folder: its file `commit-graph`, or else the chain in its folder `commit-graphs`.
+    /// Opens the graph of an info folder: its file `commit-graph`, or where that is not there or is refused, the chain in its
+    /// folder `commit-graphs`.
     pub fn from_info_dir(path: impl AsRef<Path>) -> Result<Graph, OpenError> {
-        Graph::of_files(&info_at(path.as_ref())?)
+        open_info(path.as_ref(), Graph::of_bytes)
     }
 
     /// Opens the graph of a folder with a file `commit-graph-chain`.
     pub fn from_commit_graphs_dir(path: impl AsRef<Path>) -> Result<Graph, OpenError> {
-        Graph::of_files(&chain_at(path.as_ref())?)
+        Graph::of_bytes(&lent(&chain_at(path.as_ref())?))
     }
 
     /// The graph of layers whose bytes are at hand, each with the path of its file, the lowest first. They are copied.
     pub fn of_bytes(layers: &[(&[u8], &str)]) -> Result<Graph, OpenError> {
         Graph::opened(layers, |files, raw, _| {
             // SAFETY: each pointer and length are those of one slice, and none is null; `raw` is CG_CLOSED.
-            // SAFETY: the pointer is that of a value or of an array that has room for what is written.
-        unsafe { sys::cg_open(files.as_ptr(), files.len(), raw) }
+            unsafe { sys::cg_open(files.as_ptr(), files.len(), raw) }
         })
     }
 
@@ -90,20 +99,15 @@ impl Graph {
             // SAFETY: `raw` is open.
             (0, _) => Ok(Graph { id_len: unsafe { sys::cg_id_len(raw) }, raw }),
             (2, 20) | (3, 4) | (4, 10) => Err(OpenError::OutOfMemory),
-            (2, number) => Err(OpenError::Layer { layer: error.layer as usize, number }),
+            (2, number) => Err(OpenError::Layer { layer: error.layer as usize, number, chunk: error.chunk }),
             (4, _) => Err(OpenError::Check(fault_of(&verdict))),
             (_, number) => Err(OpenError::Graph { number, layer: error.layer as usize }),
         }
     }
 
-    fn of_files(files: &[(Vec<u8>, String)]) -> Result<Graph, OpenError> {
-        Graph::of_bytes(&lent(files))
-    }
-
     /// The number of commits.
     pub fn num_commits(&self) -> u32 {
         // SAFETY: here and below, `raw` is open, since only `drop` closes it.
-        // SAFETY: the pointer is that of a value or of an array that has room for what is written.
         unsafe { sys::cg_num_commits(self.raw) }
     }
 
@@ -136,34 +140,58 @@ impl Graph {
         (0..self.num_commits()).map(|pos| Commit { graph: self, pos: Position(pos) })
     }
 
+    /// What the records of the commits say, in the order of their positions, read many at a time.
+    pub fn iter_records(&self) -> impl Iterator<Item = Record> + '_ {
+        (0..self.num_commits()).step_by(BLOCK).flat_map(|first| self.records_from(first))
+    }
+
+    /// The records of some commits from a position on.
+    fn records_from(&self, first: u32) -> impl Iterator<Item = Record> {
+        let mut records = vec![sys::Commit::default(); BLOCK];
+        // SAFETY: the pointer and the length are those of a vector.
+        let left = unsafe { sys::cg_commits(self.raw, first, records.as_mut_ptr(), records.len()) };
+        let record = |told: sys::Commit| Record { committer_timestamp: told.time, generation: told.generation };
+        records.into_iter().take(left as usize).map(record)
+    }
+
+    /// The parents of each commit, in the order of their positions, as [`Commit::parents`] has them, read many at a time.
+    pub fn iter_parents(&self) -> impl Iterator<Item = Result<Vec<Position>, ParentError>> + '_ {
+        let mut next = 0;
+        let block = move || {
+            let block = self.parents_from(next);
+            next += block.len() as u32;
+            (!block.is_empty()).then_some(block)
+        };
+        std::iter::from_fn(block).flatten()
+    }
+
+    /// The parents of some commits from a position on; of none where no commit is left.
+    fn parents_from(&self, first: u32) -> Vec<Result<Vec<Position>, ParentError>> {
+        let mut answers = vec![sys::ParentCount::default(); BLOCK];
+        let mut out = vec![0; 2 * BLOCK];
+        loop {
+            let (told, room) = (answers.as_mut_ptr(), out.as_mut_ptr());
+            // SAFETY: each pointer and length are those of a vector.
+            let block = unsafe { sys::cg_parents_from(self.raw, first, told, answers.len(), room, out.len()) };
+            let fits = block.length <= out.len() as u64;
+            let whole = block.commits as usize - usize::from(!fits);
+            if fits || whole > 0 {
+                let mut rest = &out[..];
+                let parents = |answer: &sys::ParentCount| {
+                    let (parents, later) = rest.split_at(answer.count as usize);
+                    rest = later;
+                    let parents = parents.iter().copied().map(Position).collect();
+                    ParentError::of(answer.code).map_or(Ok(parents), Err)
+                };
+                return answers[..whole].iter().map(parents).collect();
+            }
+            out.resize(block.length as usize, 0);
+        }
+    }
+
     /// The ids, in order.
     pub fn iter_ids(&self) -> impl ExactSizeIterator<Item = ObjectId> + '_ {
         self.iter_commits().map(|commit| commit.id())
-    }
-
-    /// Checks the graph.
-    pub fn verify_integrity(&self) -> Result<Outcome, VerifyError> {
-        let mut verdict = sys::Verdict::default();
-        let mut counts = vec![sys::Count::default(); 64];
-        loop {
-            // SAFETY: each pointer is that of a value or of a slice with the length beside it.
-            unsafe {
-                sys::cg_verify(self.raw, false, &mut verdict, counts.as_mut_ptr(), counts.len())
-            };
-            if verdict.kinds as usize <= counts.len() {
-                break;
-            }
-            counts.resize(verdict.kinds as usize, sys::Count::default());
-        }
-        match verdict.code {
-            0 => Ok(Outcome {
-                longest_path_length: verdict.has_longest.then_some(verdict.longest),
-                num_commits: verdict.num_commits,
-                parent_counts: counts[..verdict.kinds as usize].iter().map(|c| (c.parents, c.commits)).collect(),
-            }),
-            10 => Err(VerifyError::OutOfMemory),
-            _ => Err(VerifyError::Fault(fault_of(&verdict))),
-        }
     }
 }
 
@@ -183,15 +211,7 @@ impl std::ops::Deref for Checked {
 impl Checked {
     /// Opens the graph at a path, as [`Graph::at`] does, and checks it.
     pub fn at(path: impl AsRef<Path>) -> Result<Checked, OpenError> {
-        let path = path.as_ref();
-        let files = if path.is_file() {
-            file_at(path)?
-        } else if path.join("commit-graph-chain").is_file() {
-            chain_at(path)?
-        } else {
-            info_at(path)?
-        };
-        Checked::of_bytes(&lent(&files))
+        open_at(path.as_ref(), Checked::of_bytes)
     }
 
     /// The right graph of layers whose bytes are at hand, the lowest first.
@@ -199,79 +219,90 @@ impl Checked {
         let graph = Graph::opened(layers, |files, raw, verdict| {
             let none: &mut [sys::Count] = &mut [];
             // SAFETY: as in `Graph::of_bytes`; there is room for no counts, and the pointer is that of an empty slice.
-            // SAFETY: the pointer is that of a value or of an array that has room for what is written.
-        unsafe { sys::cg_open_checked(files.as_ptr(), files.len(), false, verdict, none.as_mut_ptr(), 0, raw) }
+            unsafe { sys::cg_open_checked(files.as_ptr(), files.len(), false, verdict, none.as_mut_ptr(), 0, raw) }
         })?;
         Ok(Checked { graph })
     }
 
-    /// A shortest walk along parents from one commit to another, both included, or `None` where there is none.
-    pub fn ancestor_walk(&self, from: Position, to: Position) -> Result<Option<Vec<Position>>, QueryError> {
-        let mut out = vec![0; 1024];
-        loop {
+    /// Looks for a shortest walk along parents from one commit to another, both included.
+    pub fn ancestor_walk(&self, from: Position, to: Position) -> Result<Reached, QueryError> {
+        let mut visits = 0;
+        let walk = positions_of(|out| {
             // SAFETY: the pointer and the length are those of a vector.
-            let reached =
-                // SAFETY: the pointer is that of a value or of an array that has room for what is written.
-        unsafe { sys::cg_ancestor_walk(self.graph.raw, from.0, to.0, out.as_mut_ptr(), out.len()) };
-            match (reached.code, reached.length as usize) {
-                (0, 0) => return Ok(None),
-                (0, length) if length <= out.len() => {
-                    out.truncate(length);
-                    return Ok(Some(out.into_iter().map(Position).collect()));
-                }
-                (0, length) => out.resize(length, 0),
-                (1, _) => return Err(QueryError::NoSuchPosition),
-                _ => return Err(QueryError::OutOfMemory),
-            }
+            let reached = unsafe { sys::cg_ancestor_walk(self.graph.raw, from.0, to.0, out.as_mut_ptr(), out.len()) };
+            refusal_of(reached.code)?;
+            visits = reached.visits;
+            Ok(reached.length)
+        })?;
+        Ok(Reached { walk: (!walk.is_empty()).then_some(walk), visits })
+    }
+
+    /// Whether a commit leads along parents to another, which is then its ancestor. A commit leads to itself.
+    pub fn is_ancestor(&self, from: Position, to: Position) -> Result<bool, QueryError> {
+        // SAFETY: `raw` is open.
+        let leads = unsafe { sys::cg_is_ancestor(self.graph.raw, from.0, to.0) };
+        refusal_of(leads.code)?;
+        Ok(leads.found)
+    }
+
+    /// The merge bases of a commit and some others, which `git merge-base --all FIRST OTHERS..` names, the least position
+    /// first; and how far the commits have come apart.
+    pub fn compare(&self, first: Position, others: &[Position]) -> Result<Comparison, QueryError> {
+        let others: Vec<u32> = others.iter().map(|other| other.0).collect();
+        let (mut ahead, mut behind) = (0, 0);
+        let bases = positions_of(|out| {
+            let (places, count) = (others.as_ptr(), others.len());
+            // SAFETY: each pointer and length are those of a vector.
+            let bases =
+                unsafe { sys::cg_merge_bases(self.graph.raw, first.0, places, count, out.as_mut_ptr(), out.len()) };
+            refusal_of(bases.code)?;
+            (ahead, behind) = (bases.ahead, bases.behind);
+            Ok(bases.length)
+        })?;
+        Ok(Comparison { bases, ahead, behind })
+    }
+}
+
+/// What a search for a walk found.
+#[derive(Clone, Debug, PartialEq, Eq)]
+pub struct Reached {
+    /// The positions of the walk, or `None` where there is none.
+    pub walk: Option<Vec<Position>>,
+    /// How many commits were visited.
+    pub visits: u32,
+}
+
+/// What a commit and some others have in common, and how far they have come apart.
+#[derive(Clone, Debug, PartialEq, Eq)]
+pub struct Comparison {
+    /// The merge bases, the least position first.
+    pub bases: Vec<Position>,
+    /// How many commits the first leads to, and none of the others does.
+    pub ahead: u32,
+    /// How many commits some of the others leads to, and the first does not.
+    pub behind: u32,
+}
+
+/// The positions that a call writes, which answers how many there are: it is made again where there was too little room.
+fn positions_of<E>(mut write: impl FnMut(&mut Vec<u32>) -> Result<u64, E>) -> Result<Vec<Position>, E> {
+    let mut out = vec![0; 64];
+    loop {
+        let length = write(&mut out)? as usize;
+        if length <= out.len() {
+            out.truncate(length);
+            return Ok(out.into_iter().map(Position).collect());
         }
+        out.resize(length, 0);
     }
 }
 
-/// The fault that a verdict tells of.
-fn fault_of(verdict: &sys::Verdict) -> Fault {
-    let layer = verdict.layer as usize;
-    let pos = Position(verdict.position);
-    match verdict.code {
-        1 => Fault::TooManyFiles,
-        2 => Fault::BaseCount { layer },
-        3 => Fault::BaseId { layer },
-        4 => Fault::Layer { layer },
-        5 => Fault::Commit { pos },
-        6 => Fault::Parent { pos },
-        7 => Fault::ParentOutOfRange { pos, parent: Position(verdict.other) },
-        8 => Fault::Generation { pos, expected: verdict.other },
-        _ => Fault::DuplicateId { pos, earlier: Position(verdict.other) },
+/// The error that the code of a query stands for.
+fn refusal_of(code: u32) -> Result<(), QueryError> {
+    match code {
+        0 => Ok(()),
+        1 => Err(QueryError::NoSuchPosition),
+        _ => Err(QueryError::OutOfMemory),
     }
-}
-
-fn lent(files: &[(Vec<u8>, String)]) -> Vec<(&[u8], &str)> {
-    files.iter().map(|(bytes, path)| (&bytes[..], &path[..])).collect()
-}
-
-fn read(path: &Path) -> Result<Vec<u8>, OpenError> {
-    std::fs::read(path).map_err(|error| OpenError::Io { path: path.to_owned(), error })
-}
-
-fn text_of(path: PathBuf) -> Result<String, OpenError> {
-    path.into_os_string().into_string().map_err(|path| OpenError::Text { path: path.into() })
-}
-
-fn file_at(path: &Path) -> Result<Vec<(Vec<u8>, String)>, OpenError> {
-    Ok(vec![(read(path)?, text_of(path.to_owned())?)])
-}
-
-fn info_at(path: &Path) -> Result<Vec<(Vec<u8>, String)>, OpenError> {
-    file_at(&path.join("commit-graph")).or_else(|_| chain_at(&path.join("commit-graphs")))
-}
-
-fn chain_at(path: &Path) -> Result<Vec<(Vec<u8>, String)>, OpenError> {
-    let chain = path.join("commit-graph-chain");
-    let text = String::from_utf8(read(&chain)?).map_err(|_| OpenError::Text { path: chain })?;
-    let layer = |line| {
-        let layer = path.join(format!("graph-{line}.graph"));
-        Ok((read(&layer)?, text_of(layer)?))
-    };
-    text.lines().map(layer).collect()
 }
 
 /// A commit of a graph.
@@ -290,7 +321,7 @@ impl<'g> Commit<'g> {
     /// Its id.
     pub fn id(&self) -> ObjectId {
         let mut id = ObjectId { bytes: [0; 32], len: self.graph.id_len as u8 };
-        // SAFETY: the pointer is that of a value or of an array that has room for what is written.
+        // SAFETY: the array has room for an id of either length.
         unsafe { sys::cg_id_at(self.graph.raw, self.pos.0, id.bytes.as_mut_ptr(), self.graph.id_len) };
         id
     }
@@ -298,16 +329,49 @@ impl<'g> Commit<'g> {
     /// The id of its root tree.
     pub fn root_tree_id(&self) -> ObjectId {
         let mut id = ObjectId { bytes: [0; 32], len: self.graph.id_len as u8 };
-        // SAFETY: the pointer is that of a value or of an array that has room for what is written.
+        // SAFETY: the array has room for an id of either length.
         unsafe { sys::cg_tree_at(self.graph.raw, self.pos.0, id.bytes.as_mut_ptr(), self.graph.id_len) };
         id
     }
 
     fn record(&self) -> sys::Commit {
         let mut record = sys::Commit::default();
-        // SAFETY: the pointer is that of a value or of an array that has room for what is written.
+        // SAFETY: the pointer is that of a record.
         unsafe { sys::cg_commit_at(self.graph.raw, self.pos.0, &mut record) };
         record
+    }
+
+    /// The positions of its parents, the first parent first.
+    ///
+    /// # Errors
+    ///
+    /// They cannot be decoded, or not all of them. Of a [`Checked`] graph they can.
+    pub fn parents(&self) -> Result<Vec<Position>, ParentError> {
+        self.iter_parents().collect()
+    }
+
+    /// The position of its first parent, if it has one.
+    pub fn parent1(&self) -> Result<Option<Position>, ParentError> {
+        let mut first = [0];
+        // SAFETY: there is room for one position.
+        let parents = unsafe { sys::cg_parents(self.graph.raw, self.pos.0, first.as_mut_ptr(), first.len()) };
+        match (parents.count, ParentError::of(parents.code)) {
+            (0, Some(error)) => Err(error),
+            (0, None) => Ok(None),
+            _ => Ok(Some(Position(first[0]))),
+        }
+    }
+
+    /// The positions of its parents in order, and after them the error that ends their decoding, if there is one.
+    pub fn iter_parents(&self) -> impl Iterator<Item = Result<Position, ParentError>> {
+        let mut fault = None;
+        let parents: Result<_, Infallible> = positions_of(|out| {
+            // SAFETY: the pointer and the length are those of a vector.
+            let parents = unsafe { sys::cg_parents(self.graph.raw, self.pos.0, out.as_mut_ptr(), out.len()) };
+            fault = ParentError::of(parents.code);
+            Ok(parents.count)
+        });
+        parents.into_iter().flatten().map(Ok).chain(fault.map(Err))
     }
 
     /// Its generation number.
@@ -319,14 +383,6 @@ impl<'g> Commit<'g> {
     pub fn committer_timestamp(&self) -> u64 {
         self.record().time
     }
-}
-
-/// The statistics of a graph.
-#[derive(Debug, PartialEq, Eq)]
-pub struct Outcome {
-    pub longest_path_length: Option<u32>,
-    pub num_commits: u32,
-    pub parent_counts: BTreeMap<u32, u32>,
 }
 
 /// Opens the graph at a path.

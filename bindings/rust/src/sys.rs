@@ -24,6 +24,7 @@ pub struct File {
 pub struct Error {
     pub code: u32,
     pub detail: u32,
+    pub chunk: u32,
     pub layer: u64,
 }
 
@@ -43,7 +44,10 @@ pub struct Verdict {
     pub has_longest: bool,
     pub position: u32,
     pub other: u32,
+    pub fault: u32,
+    pub called: u32,
     pub layer: u64,
+    pub index: u64,
     pub kinds: u64,
 }
 
@@ -59,6 +63,45 @@ pub struct Count {
 pub struct Reached {
     pub code: u32,
     pub visits: u32,
+    pub length: u64,
+}
+
+#[repr(C)]
+#[derive(Clone, Copy, Default)]
+pub struct ParentCount {
+    pub code: u32,
+    pub count: u64,
+}
+
+#[repr(C)]
+#[derive(Clone, Copy)]
+pub struct Block {
+    pub commits: u32,
+    pub length: u64,
+}
+
+#[repr(C)]
+#[derive(Clone, Copy)]
+pub struct Line {
+    pub found: bool,
+    pub end: usize,
+    pub next: usize,
+}
+
+#[repr(C)]
+#[derive(Clone, Copy)]
+pub struct Leads {
+    pub code: u32,
+    pub found: bool,
+}
+
+#[repr(C)]
+#[derive(Clone, Copy)]
+pub struct Bases {
+    pub code: u32,
+    pub ahead: u32,
+    pub behind: u32,
+    pub visits: u64,
     pub length: u64,
 }
 
@@ -80,6 +123,17 @@ extern "C" {
     pub fn cg_id_at(graph: Graph, pos: u32, out: *mut u8, len: usize) -> usize;
     pub fn cg_tree_at(graph: Graph, pos: u32, out: *mut u8, len: usize) -> usize;
     pub fn cg_commit_at(graph: Graph, pos: u32, out: *mut Commit) -> bool;
+    pub fn cg_commits(graph: Graph, first: u32, out: *mut Commit, len: usize) -> u32;
+    pub fn cg_parents(graph: Graph, pos: u32, out: *mut u32, len: usize) -> ParentCount;
+    pub fn cg_parents_from(
+        graph: Graph,
+        first: u32,
+        answers: *mut ParentCount,
+        answers_len: usize,
+        out: *mut u32,
+        len: usize,
+    ) -> Block;
+    pub fn cg_chain_line(text: *const u8, len: usize, start: usize) -> Line;
     pub fn cg_verify(
         graph: Graph,
         distinct_ids: bool,
@@ -88,6 +142,15 @@ extern "C" {
         counts_len: usize,
     ) -> u32;
     pub fn cg_ancestor_walk(graph: Graph, from: u32, to: u32, out: *mut u32, len: usize) -> Reached;
+    pub fn cg_is_ancestor(graph: Graph, from: u32, to: u32) -> Leads;
+    pub fn cg_merge_bases(
+        graph: Graph,
+        first: u32,
+        others: *const u32,
+        count: usize,
+        out: *mut u32,
+        len: usize,
+    ) -> Bases;
 }
 
 /// The sizes and offsets of these structs, as `commitgraph.h` has them on a machine of 64 bits.
@@ -96,12 +159,23 @@ mod layout {
     use super::*;
     use std::mem::{offset_of, size_of};
 
-    const _: () = assert!(size_of::<Graph>() == 16 && offset_of!(Graph, opened) == 8);
-    const _: () = assert!(size_of::<File>() == 32 && offset_of!(File, path) == 16);
-    const _: () = assert!(size_of::<Error>() == 16 && offset_of!(Error, layer) == 8);
-    const _: () = assert!(size_of::<Commit>() == 16 && offset_of!(Commit, generation) == 8);
-    const _: () = assert!(size_of::<Verdict>() == 40 && offset_of!(Verdict, has_longest) == 12);
-    const _: () = assert!(offset_of!(Verdict, position) == 16 && offset_of!(Verdict, layer) == 24);
-    const _: () = assert!(size_of::<Count>() == 8 && offset_of!(Count, commits) == 4);
-    const _: () = assert!(size_of::<Reached>() == 16 && offset_of!(Reached, length) == 8);
+    macro_rules! laid_out {
+        ($name:ident, $size:literal, $($field:ident $offset:literal),*) => {
+            const _: () = assert!(size_of::<$name>() == $size $(&& offset_of!($name, $field) == $offset)*);
+        };
+    }
+
+    laid_out!(Graph, 16, address 0, opened 8);
+    laid_out!(File, 32, bytes 0, len 8, path 16, path_len 24);
+    laid_out!(Error, 24, code 0, detail 4, chunk 8, layer 16);
+    laid_out!(Commit, 16, time 0, generation 8);
+    laid_out!(ParentCount, 16, code 0, count 8);
+    laid_out!(Block, 16, commits 0, length 8);
+    laid_out!(Verdict, 56, code 0, num_commits 4, longest 8, has_longest 12, position 16, other 20, fault 24, called 28);
+    laid_out!(Verdict, 56, layer 32, index 40, kinds 48);
+    laid_out!(Count, 8, parents 0, commits 4);
+    laid_out!(Reached, 16, code 0, visits 4, length 8);
+    laid_out!(Leads, 8, code 0, found 4);
+    laid_out!(Bases, 32, code 0, ahead 4, behind 8, visits 16, length 24);
+    laid_out!(Line, 24, found 0, end 8, next 16);
 }

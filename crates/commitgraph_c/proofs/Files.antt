@@ -1,11 +1,13 @@
 -- one more file, and its layer
-use Rattle.std.proofs.Common.{◌≡◌, ℕ, ◌+◌, ◌<◌, ◌≤◌, List, [], ◌∷◌, ◌++◌, length, take, get_or, subst, sym, refl, inr}
-use Rattle.std.proofs.lemmas.List.{take_more, take_all}
+use Rattle.std.proofs.Common.{◌≡◌, ℕ, suc, ◌+◌, ◌<◌, ◌≤◌, List, [], ◌∷◌, ◌++◌, length, take, get_or, subst, sym, refl}
+use Rattle.std.proofs.Common.{◌∙◌, ap, arith, slice_get, Option, Some, IsSomeAnd, inl, inr}
+use Rattle.std.proofs.lemmas.List.{take_more, take_all, length-take-le}
+use Rattle.std.proofs.lemmas.Option.{slice_get-get_or}
 use Rattle.graph_format.specs.Layer.{Layer, IsLayer}
 use Rattle.commitgraph_c.specs.declared.open.CgFile.{CgFile}
 use Rattle.graph_format.specs.declared.error.FileError.TheVariants as file
 use Rattle.commitgraph_c.specs.declared.open.CgError.{CgError}
-use Rattle.commitgraph_c.specs.Files.{AreLayersOf, RefusesFile}
+use Rattle.commitgraph_c.specs.Files.{AreLayersOf, RefusesFile, RefusesFiles, told_file}
 
 pub one_more : (files : List CgFile) (layers : List Layer) (file : CgFile) (layer : Layer)
     → AreLayersOf files layers → IsLayer file.bytes.now file.path.now layer
@@ -31,5 +33,42 @@ pub all_of : (files : List CgFile) (layers : List Layer) (i : ℕ) → length fi
 all_of files layers i past all = subst (λ (fs : List CgFile). AreLayersOf fs layers) (take_all i files past) all
 
 -- a file for which an allocation failed
-pub out_of_memory : (f : CgFile) (e : CgError) → e.code ≡ 2 → e.detail ≡ 20 → RefusesFile f e
-out_of_memory f e code detail = inr (code, record { error = file.OutOfMemory; may = inr refl; number_of = detail })
+pub out_of_memory : (layer : ℕ) (f : CgFile) (e : CgError) → e ≡ told_file layer file.OutOfMemory → RefusesFile layer f e
+out_of_memory layer f e told = inr (record { error = file.OutOfMemory; may = inr refl; told = told })
+
+-- there are as many layers as files
+pub as_many : (files : List CgFile) (layers : List Layer) → AreLayersOf files layers → length files ≡ length layers
+as_many [] [] all = refl
+as_many [] (l ∷ ls) all = absurd all
+as_many (f ∷ fs) [] all = absurd all
+as_many (f ∷ fs) (l ∷ ls) all = ap (λ (n : ℕ). suc n) (as_many fs ls all.1)
+
+-- the place that a refusal of a file tells of
+told_place : (layer : ℕ) (f : CgFile) (e : CgError) → RefusesFile layer f e → e.layer ≡ layer
+told_place layer f e (inl path) = ap (λ (x : CgError). x.layer) path.1
+told_place layer f e (inr bytes) = ap (λ (x : CgError). x.layer) bytes.told
+
+-- a turn of the loop in which a file is refused
+pub refused_at : (files : List CgFile) (layers : List Layer) (i : ℕ) (d : CgFile) (place : ℕ) (e : CgError) → i < length files
+    → AreLayersOf (take i files) layers → place ≡ length layers → RefusesFile place (get_or files i d) e → RefusesFiles files e
+refused_at files layers i d place e below all many refuses =
+    let here : place ≡ i = many ∙ sym (as_many (take i files) layers all) ∙ length-take-le i files (omega (arith, below)) in
+    let at : e.layer ≡ i = told_place place (get_or files i d) e refuses ∙ here in
+    let refuses_here : RefusesFile i (get_or files i d) e =
+    subst (λ (n : ℕ). RefusesFile n (get_or files i d) e) here refuses in
+    let found : slice_get files i ≡ Some (get_or files i d) = slice_get-get_or files i d below in
+    inl (record {
+      layers = layers;
+      before = subst (λ (n : ℕ). AreLayersOf (take n files) layers) (sym at) all;
+      refused =
+          subst (λ (n : ℕ). IsSomeAnd (slice_get files n) (λ f. RefusesFile n f e)) (sym at)
+          (subst (λ (o : Option CgFile). IsSomeAnd o (λ f. RefusesFile i f e)) (sym found) refuses_here);
+    })
+
+-- a turn of the loop in which a layer was opened, and there is no memory for it
+pub no_room : (files : List CgFile) (layers : List Layer) (layer : Layer) (i : ℕ) (d : CgFile) (place : ℕ) (e : CgError)
+    → i < length files → AreLayersOf (take i files) layers → place ≡ length layers
+    → IsLayer (get_or files i d).bytes.now (get_or files i d).path.now layer → e ≡ told_file place file.OutOfMemory
+    → RefusesFiles files e
+no_room files layers layer i d place e below all many is told =
+    refused_at files layers i d place e below all many (out_of_memory place (get_or files i d) e told)

@@ -1,3 +1,7 @@
 mod AsBox
+mod BlockRoom
+mod Called
 mod Files
+mod ParentRoom
+mod Positions
 mod Written

@@ -1,11 +1,18 @@
 -- a room that items are written to, one after another
 use Rattle.std.proofs.Common.{◌≡◌, refl, sym, ap, subst, ◌∙◌, ℕ, suc, zero, ◌+◌, ◌<◌, ◌≤◌, List, [], ◌∷◌, ◌++◌, length, take}
 use Rattle.std.proofs.Common.{set, arith}
-use Rattle.std.proofs.Common.{get_or}
+use Rattle.std.proofs.Common.{get_or, drop, Some, slice_get}
 use Rattle.std.proofs.lemmas.List.{take_more}
+use Rattle.std.proofs.lemmas.Option.{get_or_from_slice_get, slice_get_within}
 use Rattle.graph_history.specs.Answer.{numbers_of}
 use Rattle.graph_format.specs.declared.Position.{Position}
 use Rattle.commitgraph_c.specs.Answers.{written}
+
+-- the first places of a list are so many
+pub first_places : {T : Type 0} (xs : List T) (i : ℕ) → i ≤ length xs → length (take i xs) ≡ i
+first_places xs zero le = refl
+first_places [] (suc i) le = absurd (omega (arith, le))
+first_places (x ∷ xs) (suc i) le = ap suc (first_places xs i (omega (arith, le)))
 
 module _ {T : Type 0} where
   -- before any item
@@ -37,17 +44,47 @@ module _ {T : Type 0} where
   written_length (i ∷ items) [] = refl
   written_length (i ∷ items) (x ∷ room) = ap suc (written_length items room)
 
--- the first places of a list are so many
-first_places : {T : Type 0} (xs : List T) (i : ℕ) → i ≤ length xs → length (take i xs) ≡ i
-first_places xs zero le = refl
-first_places [] (suc i) le = absurd (omega (arith, le))
-first_places (x ∷ xs) (suc i) le = ap suc (first_places xs i (omega (arith, le)))
+  -- the items up to the next one
+  pub next_taken : (items : List T) (i : ℕ) (item : T) → slice_get items i ≡ Some item
+      → take (i + 1) items ≡ take i items ++ item ∷ []
+  next_taken items i item here =
+      take_more items i item (slice_get_within items i item here)
+      ∙ ap (λ x. take i items ++ x ∷ []) (get_or_from_slice_get items i item item here)
 
-numbers_length : (xs : List Position) → length (numbers_of xs) ≡ length xs
+  -- it is written in its place
+  pub next_item : (items : List T) (i : ℕ) (item : T) (room : List T) → slice_get items i ≡ Some item → i < length room
+      → set (written (take i items) room) i item ≡ written (take (i + 1) items) room
+  next_item items i item room here fits =
+      let within = slice_get_within items i item here in
+      let so_far = first_places items i (omega (arith, within)) in
+      ap (λ k. set (written (take i items) room) k item) (sym so_far)
+      ∙ one_more (take i items) item room (subst (λ k. k < length room) (sym so_far) fits)
+      ∙ ap (λ xs. written xs room) (sym (next_taken items i item here))
+
+  -- what the room has no places for is not written
+  pub as_many_as_fit : (items room : List T) (k : ℕ) → length room ≤ k → written (take k items) room ≡ written items room
+  as_many_as_fit [] room zero le = refl
+  as_many_as_fit [] room (suc k) le = refl
+  as_many_as_fit (i ∷ items) [] zero le = refl
+  as_many_as_fit (i ∷ items) [] (suc k) le = refl
+  as_many_as_fit (i ∷ items) (x ∷ room) zero le = absurd (omega (arith, le))
+  as_many_as_fit (i ∷ items) (x ∷ room) (suc k) le = ap (λ r. i ∷ r) (as_many_as_fit items room k (omega (arith, le)))
+
+  -- items that are written after others, from where those end
+  pub written_after : (items more room : List T) → length items ≤ length room
+      → take (length items) (written items room) ++ written more (drop (length items) (written items room))
+      ≡ written (items ++ more) room
+  written_after [] more room le = ap (written more) (none_written room)
+  written_after (i ∷ items) more [] le = absurd (omega (arith, le))
+  written_after (i ∷ items) more (x ∷ room) le = ap (λ r. i ∷ r) (written_after items more room (omega (arith, le)))
+
+-- as many numbers as positions
+pub numbers_length : (xs : List Position) → length (numbers_of xs) ≡ length xs
 numbers_length [] = refl
 numbers_length (x ∷ xs) = ap suc (numbers_length xs)
 
-numbers_end : (xs : List Position) (x : Position) → numbers_of (xs ++ x ∷ []) ≡ numbers_of xs ++ x.0 ∷ []
+-- those of one position more
+pub numbers_end : (xs : List Position) (x : Position) → numbers_of (xs ++ x ∷ []) ≡ numbers_of xs ++ x.0 ∷ []
 numbers_end [] x = refl
 numbers_end (y ∷ xs) x = ap (λ ns. y.0 ∷ ns) (numbers_end xs x)
 

@@ -1,12 +1,18 @@
 -- what the calls answer
 use Rattle.std.specs.Prelude.{◌≡◌, ◌==◌, ℕ, List, Bool, [], Option, Some, None, IsSomeAnd, ◌++◌, length, take, drop, slice_get}
-use Rattle.std.specs.Prelude.{if◌then◌else◌, option_map, unwrap_or}
+use Rattle.std.specs.Prelude.{◌-◌, ◌^◌, min, if◌then◌else◌, option_map, unwrap_or}
 use Rattle.graph_format.specs.Format.{Record}
+use Rattle.graph_format.specs.Parents.{DecodedParents, parents_of}
 use Rattle.graph_format.specs.Layer.{Layer, record_at}
 use Rattle.graph_format.specs.StoredHistory.{history_of}
 use Rattle.graph_history.specs.Answer.{IsAnswer, numbers_of}
+use Rattle.graph_history.specs.Comparison.{IsComparisonOf}
 use Rattle.graph_history.specs.declared.Reached.{Reached}
+use Rattle.graph_history.specs.declared.bases.Comparison.{Comparison}
 use Rattle.gix_commitgraph.specs.Graph.{graph_ids, graph_commits}
+use Rattle.commitgraph_c.specs.Numbers.{parent_number}
+use Rattle.commitgraph_c.specs.declared.bases.CgBases.{CgBases}
+use Rattle.commitgraph_c.specs.declared.parents.CgParents.{CgParents}
 use Rattle.commitgraph_c.specs.declared.query.CgReached.{CgReached}
 use Rattle.commitgraph_c.specs.declared.read.CgCommit.{CgCommit}
 
@@ -38,10 +44,9 @@ HasRecord layers pos P = IsSomeAnd layers (λ l. IsSomeAnd (slice_get (graph_com
 abbrev pub HasCommit : Option (List Layer) → ℕ → (Layer × ℕ → Type 0) → Type 0
 HasCommit layers pos P = IsSomeAnd layers (λ l. IsSomeAnd (slice_get (graph_commits l) pos) P)
 
--- What is told of a commit, but for its tree and its parents.
-pub record Tells (told : CgCommit) (commit : Layer × ℕ) : Type 0 where
-  pub time : told.time ≡ (record_at commit.0 commit.1).time
-  pub generation : told.generation ≡ (record_at commit.0 commit.1).generation
+-- what is told of a commit, but for its tree and its parents
+abbrev pub told_commit : Layer × ℕ → CgCommit
+told_commit commit = let r = record_at commit.0 commit.1 in record { time = r.time; generation = r.generation }
 
 -- What is told of an answer to a query for a walk: how many commits were visited, and how many the walk has, 0 where there is
 -- none; and its positions are written.
@@ -55,3 +60,28 @@ pub record TellsAnswer (layers : List Layer) (from to : ℕ) (told : CgReached) 
   pub reached : Reached
   pub answer : IsAnswer (history_of layers) from to reached
   pub tells : TellsWalk reached told old new
+
+-- the parents of the commit at this position of a layer
+abbrev pub parents_in : Layer × ℕ → DecodedParents
+parents_in commit = parents_of (record_at commit.0 commit.1) commit.0.edges
+
+-- What is told of the parents of a commit: how many could be decoded, or the greatest number of 64 bits where there are more,
+-- and the number of the fault after them, 0 where there is none; and their positions are written.
+pub record TellsParents (parents : DecodedParents) (told : CgParents) (old new : List ℕ) : Type 0 where
+  pub count_of : told.count ≡ min (length parents.positions) (2 ^ 64 - 1)
+  pub code_of : told.code ≡ unwrap_or (option_map parent_number parents.fault) 0
+  pub room : new ≡ written (numbers_of parents.positions) old
+
+-- What is told of a comparison: all that it says; and the positions of the merge bases are written.
+pub record TellsComparison (comparison : Comparison) (told : CgBases) (old new : List ℕ) : Type 0 where
+  pub ahead : told.ahead ≡ comparison.divergence.ahead
+  pub behind : told.behind ≡ comparison.divergence.behind
+  pub visits : told.visits ≡ comparison.bases.visits
+  pub length_of : told.length ≡ length comparison.bases.positions.items
+  pub room : new ≡ written (numbers_of comparison.bases.positions.items) old
+
+-- The merge bases of a commit of a graph and some others are told, and how far they have come apart.
+pub record TellsBases (layers : List Layer) (first : ℕ) (others : List ℕ) (told : CgBases) (old new : List ℕ) : Type 0 where
+  pub comparison : Comparison
+  pub exact : IsComparisonOf layers first others comparison
+  pub tells : TellsComparison comparison told old new

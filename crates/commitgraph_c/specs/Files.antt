@@ -1,12 +1,14 @@
 -- a graph that was opened from files, and why none was
-use Rattle.std.specs.Prelude.{◌≡◌, ◌⊎◌, ℕ, List, [], ◌∷◌, None, ⊤}
+use Rattle.std.specs.Prelude.{◌≡◌, ◌⊎◌, ℕ, List, [], ◌∷◌, Some, None, IsSomeAnd, ⊤, slice_get, take}
 use Rattle.std.specs.Str.{IsUtf8}
 use Rattle.graph_format.specs.Layer.{Layer, IsLayer}
-use Rattle.graph_format.specs.Opened.{MayRefuse}
+use Rattle.graph_format.specs.Refusal.{refusal}
 use Rattle.graph_format.specs.declared.error.FileError.{FileError}
 use Rattle.graph_format.specs.declared.error.FileError.TheVariants as file
+use Rattle.graph_format.specs.declared.error.GraphError.{GraphError}
+use Rattle.graph_format.specs.declared.error.GraphError.TheVariants as graph
 use Rattle.gix_commitgraph.specs.GraphRefusal.{graph_refusal}
-use Rattle.commitgraph_c.specs.Numbers.{file_number}
+use Rattle.commitgraph_c.specs.Numbers.{chunk_fault, file_number, graph_number}
 use Rattle.commitgraph_c.specs.declared.open.CgError.{CgError}
 use Rattle.commitgraph_c.specs.declared.open.CgFile.{CgFile}
 
@@ -21,12 +23,41 @@ AreLayersOf (file ∷ files) (layer ∷ layers) = IsLayer file.bytes.now file.pa
 abbrev pub IsOpenedFrom : List CgFile → List Layer → Type 0
 IsOpenedFrom files layers = AreLayersOf files layers × (graph_refusal layers ≡ None)
 
--- Bytes are refused, or an allocation failed, and this number says which.
-pub record RefusesBytes (bytes : List ℕ) (number : ℕ) : Type 0 where
-  pub error : FileError
-  pub may : MayRefuse bytes error ⊎ (error ≡ file.OutOfMemory)
-  pub number_of : number ≡ file_number error
+-- how it is told that the path of a layer is not UTF-8, why its bytes are refused, and why layers make no graph
+abbrev pub told_path : ℕ → CgError
+told_path layer = record { code = 5; detail = 0; chunk = 0; layer = layer }
 
--- A file is told as no layer: 5 where its path is not UTF-8, else 2 and the number of why its bytes are refused.
-abbrev pub RefusesFile : CgFile → CgError → Type 0
-RefusesFile f e = ((e.code ≡ 5) × (¬ IsUtf8 f.path.now)) ⊎ ((e.code ≡ 2) × RefusesBytes f.bytes.now e.detail)
+abbrev pub told_file : ℕ → FileError → CgError
+told_file layer error = record { code = 2; detail = file_number error; chunk = chunk_fault error; layer = layer }
+
+abbrev pub told_graph : GraphError → CgError
+told_graph (graph.HashMismatch layer) = record { code = 3; detail = 3; chunk = 0; layer = layer }
+told_graph x = record { code = 3; detail = graph_number x; chunk = 0; layer = 0 }
+
+-- The file that is to be this layer is refused by its bytes, or an allocation failed.
+pub record RefusesBytes (layer : ℕ) (f : CgFile) (e : CgError) : Type 0 where
+  pub error : FileError
+  pub may : (IsUtf8 f.path.now × (refusal f.bytes.now ≡ Some error)) ⊎ (error ≡ file.OutOfMemory)
+  pub told : e ≡ told_file layer error
+
+-- The file that is to be this layer is refused: its path is not UTF-8, or else its bytes are refused.
+abbrev pub RefusesFile : ℕ → CgFile → CgError → Type 0
+RefusesFile layer f e = ((¬ IsUtf8 f.path.now) × (e ≡ told_path layer)) ⊎ RefusesBytes layer f e
+
+-- One of the files is refused, and each before it is a layer.
+pub record RefusesFirst (files : List CgFile) (e : CgError) : Type 0 where
+  pub layers : List Layer
+  pub before : AreLayersOf (take e.layer files) layers
+  pub refused : IsSomeAnd (slice_get files e.layer) (λ f. RefusesFile e.layer f e)
+
+-- Each file is a layer, and the layers make no graph, or an allocation failed.
+pub record RefusesLayers (files : List CgFile) (e : CgError) : Type 0 where
+  pub layers : List Layer
+  pub all : AreLayersOf files layers
+  pub error : GraphError
+  pub may : (graph_refusal layers ≡ Some error) ⊎ (error ≡ graph.OutOfMemory)
+  pub told : e ≡ told_graph error
+
+-- The first refusal of files is told: of the first file that is no layer, or else of the layers.
+abbrev pub RefusesFiles : List CgFile → CgError → Type 0
+RefusesFiles files e = RefusesFirst files e ⊎ RefusesLayers files e

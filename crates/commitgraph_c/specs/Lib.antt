@@ -1,4 +1,5 @@
 pub mod Answers
+pub mod Blocks
 pub mod Files
 pub mod Held
 pub mod Numbers

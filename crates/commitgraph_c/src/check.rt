@@ -1,13 +1,19 @@
 //! The check of a graph.
 
-ghost use Rattle.std.specs.Prelude.{◌≡◌, IfNone, IfSome};
-ghost use Rattle.commitgraph_c.specs.Answers.{layers_of};
-ghost use Rattle.commitgraph_c.specs.Verdict.{IsVerdict, TellsOutcome, closed_verdict, options_of};
-ghost use Rattle.commitgraph_c.specs.Verdict.{refusal_at, refusal_of};
+ghost use Rattle.std.specs.Prelude.{◌≡◌, ◌≢◌, IfNone, IfSome, length, map};
+ghost use Rattle.std.specs.BTreeMap.{IsOrdered};
+ghost use Rattle.std.specs.Ordering.{nat_cmp};
+ghost use Rattle.gix_commitgraph.specs.Graph.{start};
+ghost use Rattle.commitgraph_c.specs.Answers.{layers_of, written};
+ghost use Rattle.commitgraph_c.specs.Verdict.{IsVerdict, TellsCounts, TellsCountsOf, TellsOutcome};
+ghost use Rattle.commitgraph_c.specs.Verdict.{TellsCalls, closed_verdict, refusal_in_commit};
+ghost use Rattle.commitgraph_c.specs.Verdict.{commits_before, refusal_in_layer};
+ghost use Rattle.commitgraph_c.specs.Verdict.{options_of, refusal_at, refusal_of, told_count};
 
 use crate::handle::CgGraph;
-use gix_commitgraph::Graph;
+use crate::numbers::{fan_byte, ids_number, parent_number, whole_number};
 use gix_commitgraph::verify::{Outcome, VerifyError, VerifyOptions};
+use gix_commitgraph::{Graph, Position};
 use graph_history::{Checked, NoFault};
 use std::alloc::Global;
 use std::collections::BTreeMap;
@@ -22,7 +28,11 @@ pub struct CgVerdict {
     pub has_longest: bool,
     pub position: u32,
     pub other: u32,
+    pub fault: u32,
+    /// How many commits a processor would be called on before the first fault.
+    pub called: u32,
     pub layer: u64,
+    pub index: u64,
     /// How many different numbers of parents there are, each of which has an entry in `counts`.
     pub kinds: u64,
 }
@@ -48,11 +58,16 @@ pub extern "C" fn cg_verify(
     ensures code { result ≡ out.new.code }
     ensures open { IfSome (layers_of graph.address.held) (λ layers.
         IsVerdict (options_of distinct_ids) layers out.new) }
+    ensures counts { IfSome (layers_of graph.address.held) (λ layers.
+        out.new.code ≡ 0 → TellsCounts layers out.new counts.old counts.new) }
+    ensures called { IfSome (layers_of graph.address.held) (λ layers.
+        TellsCalls (options_of distinct_ids) layers out.new) }
     ensures closed { IfNone (layers_of graph.address.held) (out.new ≡ closed_verdict) }
+    ensures kept { out.new.code ≢ 0 → counts.new ≡ counts.old }
 {
     let verdict = match graph.graph() {
         Some(graph) => verdict_on(alloc, graph, distinct_ids, counts),
-        None => refused(12, 0, 0, 0),
+        None => refused(12),
     };
     *out = verdict;
     verdict.code
@@ -60,33 +75,96 @@ pub extern "C" fn cg_verify(
 
 /// Checks a graph, and tells what was found.
 fn verdict_on(alloc: Global, graph: &Graph, distinct_ids: bool, counts: &mut [CgCount]) -> CgVerdict
-    ensures { IsVerdict (options_of distinct_ids) graph.now result }
+    ensures verdict { IsVerdict (options_of distinct_ids) graph.now result }
+    ensures counts { result.code ≡ 0 → TellsCounts graph.now result counts.old counts.new }
+    ensures called { TellsCalls (options_of distinct_ids) graph.now result }
+    ensures kept { result.code ≢ 0 → counts.new ≡ counts.old }
 {
     match Checked::new_with(alloc, VerifyOptions { distinct_ids }, graph) {
         Ok(checked) => right(checked.outcome(), counts),
-        Err(error) => wrong(error),
+        Err(error) => CgVerdict {
+            called: commits_before(graph, &error),
+            ..wrong(error)
+        },
     }
 }
 
-/// Tells why no graph is right.
-fn refused(code: u32, position: u32, other: u32, layer: u64) -> CgVerdict
-    ensures { result ≡ refusal_at code position other layer }
+/// How many commits stand before a fault: on so many the check would have called a processor.
+fn commits_before(graph: &Graph, error: &VerifyError<NoFault>) -> u32
+    ensures { result ≡ commits_before graph.now error.now }
+{
+    match error {
+        VerifyError::TooManyFiles | VerifyError::OutOfMemory => 0,
+        VerifyError::BaseCount { layer }
+        | VerifyError::BaseId { layer, .. }
+        | VerifyError::Layer { layer, .. } => commits_below(graph, *layer),
+        VerifyError::Commit { pos, .. }
+        | VerifyError::Parent { pos, .. }
+        | VerifyError::ParentOutOfRange { pos, .. }
+        | VerifyError::Generation { pos, .. }
+        | VerifyError::Processor { pos, .. }
+        | VerifyError::DuplicateId { pos, .. } => pos.0,
+    }
+}
+
+/// How many commits the layers below one have.
+fn commits_below(graph: &Graph, layer: usize) -> u32
+    ensures { result ≡ start graph.now layer }
+{
+    let files = graph.layers();
+    let mut commits = 0;
+    for below in 0..layer.min(files.len()) {
+        commits += files[below].num_commits();
+    }
+    commits
+}
+
+/// Tells that no graph is right, and neither where nor why.
+fn refused(code: u32) -> CgVerdict
+    ensures { result ≡ refusal_at code 0 0 0 0 0 }
 {
     CgVerdict {
         code,
         num_commits: 0,
         longest: 0,
         has_longest: false,
-        position,
-        other,
-        layer,
+        position: 0,
+        other: 0,
+        fault: 0,
+        called: 0,
+        layer: 0,
+        index: 0,
         kinds: 0,
+    }
+}
+
+/// Tells of a fault of a layer.
+fn in_layer(code: u32, layer: usize) -> CgVerdict
+    ensures { result ≡ refusal_in_layer code layer 0 0 0 }
+{
+    CgVerdict {
+        layer: layer as u64,
+        ..refused(code)
+    }
+}
+
+/// Tells of a fault of the commit at a position.
+fn in_commit(code: u32, pos: Position, fault: u8, other: u32) -> CgVerdict
+    ensures { result ≡ refusal_in_commit code pos fault other }
+{
+    CgVerdict {
+        position: pos.0,
+        other,
+        fault: fault as u32,
+        ..refused(code)
     }
 }
 
 /// Tells the statistics of a graph that is right.
 pub(crate) fn right(outcome: &Outcome, counts: &mut [CgCount]) -> CgVerdict
-    ensures { TellsOutcome outcome.now result }
+    ensures tells { TellsOutcome outcome.now result }
+    ensures ascending { IsOrdered nat_cmp outcome.now.parent_counts }
+    ensures counts { TellsCountsOf outcome.now result counts.old counts.new }
 {
     CgVerdict {
         code: 0,
@@ -95,38 +173,57 @@ pub(crate) fn right(outcome: &Outcome, counts: &mut [CgCount]) -> CgVerdict
         has_longest: outcome.longest_path_length.is_some(),
         position: 0,
         other: 0,
+        fault: 0,
+        called: outcome.num_commits,
         layer: 0,
+        index: 0,
         kinds: write_counts(&outcome.parent_counts, counts),
     }
 }
 
 /// Tells why a graph is refused.
 pub(crate) fn wrong(error: VerifyError<NoFault>) -> CgVerdict
-    ensures { result ≡ refusal_of error }
+    ensures told { result ≡ refusal_of error }
+    ensures called { result.called ≡ 0 }
 {
     match error {
-        VerifyError::TooManyFiles => refused(1, 0, 0, 0),
-        VerifyError::BaseCount { layer } => refused(2, 0, 0, layer as u64),
-        VerifyError::BaseId { layer, .. } => refused(3, 0, 0, layer as u64),
-        VerifyError::Layer { layer, .. } => refused(4, 0, 0, layer as u64),
-        VerifyError::Commit { pos, .. } => refused(5, pos.0, 0, 0),
-        VerifyError::Parent { pos, .. } => refused(6, pos.0, 0, 0),
-        VerifyError::ParentOutOfRange { pos, parent } => refused(7, pos.0, parent.0, 0),
-        VerifyError::Generation { pos, expected } => refused(8, pos.0, expected, 0),
-        VerifyError::Processor { pos, .. } => refused(9, pos.0, 0, 0),
-        VerifyError::OutOfMemory => refused(10, 0, 0, 0),
-        VerifyError::DuplicateId { pos, earlier } => refused(11, pos.0, earlier.0, 0),
+        VerifyError::TooManyFiles => refused(1),
+        VerifyError::BaseCount { layer } => in_layer(2, layer),
+        VerifyError::BaseId { layer, index } => CgVerdict {
+            index: index as u64,
+            ..in_layer(3, layer)
+        },
+        VerifyError::Layer { layer, fault } => CgVerdict {
+            other: fan_byte(fault) as u32,
+            fault: whole_number(fault) as u32,
+            ..in_layer(4, layer)
+        },
+        VerifyError::Commit { pos, fault } => in_commit(5, pos, ids_number(fault), 0),
+        VerifyError::Parent { pos, error } => in_commit(6, pos, parent_number(error), 0),
+        VerifyError::ParentOutOfRange { pos, parent } => in_commit(7, pos, 0, parent.0),
+        VerifyError::Generation { pos, expected } => in_commit(8, pos, 0, expected),
+        VerifyError::Processor { pos, .. } => in_commit(9, pos, 0, 0),
+        VerifyError::OutOfMemory => refused(10),
+        VerifyError::DuplicateId { pos, earlier } => in_commit(11, pos, 0, earlier.0),
     }
 }
 
-/// Writes how many commits have each number of parents, as many as there is room for, and answers
-/// how many such numbers there are.
-fn write_counts(counts: &BTreeMap<u32, u32>, out: &mut [CgCount]) -> u64 {
-    for (slot, (parents, commits)) in out.iter_mut().zip(counts.iter()) {
-        *slot = CgCount {
-            parents: *parents,
-            commits: *commits,
-        };
+/// Writes how many commits have each number of parents, from the least number on, as many as there
+/// is room for, and answers how many such numbers there are.
+fn write_counts(counts: &BTreeMap<u32, u32>, out: &mut [CgCount]) -> u64
+    ensures ascending { IsOrdered nat_cmp counts.now }
+    ensures kinds { result ≡ length counts.now.entries }
+    ensures room { out.new ≡ written (map told_count counts.now.entries) out.old }
+{
+    let mut place = 0;
+    for (parents, commits) in counts {
+        if place < out.len() {
+            out[place] = CgCount {
+                parents: *parents,
+                commits: *commits,
+            };
+            place += 1;
+        }
     }
     counts.len() as u64
 }

@@ -5,10 +5,14 @@
 //! `cg_close` frees. No call has a `requires`: what is wrong is answered with a code.
 #![tactic(auto)]
 
+mod bases;
+mod blocks;
+mod chain;
 mod check;
 mod handle;
 mod numbers;
 mod open;
 mod opened;
+mod parents;
 mod query;
 mod read;

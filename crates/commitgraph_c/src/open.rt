@@ -5,15 +5,16 @@ ghost use Rattle.std.specs.Prelude.{None, false, string_bytes, true};
 ghost use Rattle.graph_format.specs.Layer.{IsLayer};
 ghost use Rattle.gix_commitgraph.specs.GraphRefusal.{graph_refusal};
 ghost use Rattle.gix_commitgraph.specs.Distinct.{IsSoundWith};
-ghost use Rattle.commitgraph_c.specs.Files.{IsOpenedFrom, RefusesFile};
-ghost use Rattle.commitgraph_c.specs.Verdict.{TellsStats, options_of};
+ghost use Rattle.commitgraph_c.specs.Files.{IsOpenedFrom, RefusesFile, RefusesFiles};
+ghost use Rattle.commitgraph_c.specs.Files.{told_file, told_graph};
+ghost use Rattle.commitgraph_c.specs.Verdict.{FailsCheck, TellsCounts, TellsStats, options_of};
 
 use crate::check::{CgCount, CgVerdict, right, wrong};
 use crate::handle::CgOwner;
-use crate::numbers::{file_number, graph_number};
+use crate::numbers::{chunk_fault, file_number, graph_number};
 use crate::opened::Opened;
 use gix_commitgraph::verify::VerifyOptions;
-use gix_commitgraph::{File, Graph, GraphError};
+use gix_commitgraph::{File, FileError, Graph, GraphError};
 use graph_history::CheckedGraph;
 use std::alloc::{AllocError, Global};
 
@@ -33,6 +34,8 @@ pub struct CgError {
     pub code: u32,
     /// The number of the refusal.
     pub detail: u32,
+    /// Where the table of chunks of a layer is refused, the number of what is wrong with it.
+    pub chunk: u32,
     /// The layer that is refused.
     pub layer: u64,
 }
@@ -40,11 +43,13 @@ pub struct CgError {
 fn error(code: u32, detail: u32, layer: u64) -> CgError
     ensures code { result.code ≡ code }
     ensures detail { result.detail ≡ detail }
+    ensures chunk { result.chunk ≡ 0 }
     ensures layer { result.layer ≡ layer }
 {
     CgError {
         code,
         detail,
+        chunk: 0,
         layer,
     }
 }
@@ -55,6 +60,7 @@ pub extern "C" fn cg_open(alloc: Global, files: &[CgFile<'_>], out: &mut CgOwner
     ensures opened { result.code ≡ 0 → IsSomeAnd out.new.address.held (λ held.
         IsOpenedFrom files.now held.0) }
     ensures kept { result.code ≢ 0 → out.new ≡ out.old }
+    ensures refused { result.code ≢ 0 → RefusesFiles files.now result }
 {
     match open(alloc, files) {
         Ok(graph) => hand_out(alloc, Opened::unchecked(graph), out),
@@ -78,8 +84,11 @@ pub extern "C" fn cg_open_checked(
     ensures right { result.code ≡ 0 → IsSomeAnd out.new.address.held (λ held.
         (held.1 ≡ true) × IsSoundWith (options_of distinct_ids) held.0) }
     ensures verdict { result.code ≡ 0 → IsSomeAnd out.new.address.held (λ held.
-        TellsStats held.0 verdict.new) }
+        TellsStats held.0 verdict.new × TellsCounts held.0 verdict.new counts.old counts.new) }
     ensures kept { result.code ≢ 0 → out.new ≡ out.old }
+    ensures refused { result.code ≢ 0 → result.code ≢ 4 → RefusesFiles files.now result }
+    ensures fails { result.code ≡ 4 → FailsCheck (options_of distinct_ids) files.now verdict.new
+        result }
 {
     let graph = match open(alloc, files) {
         Ok(graph) => graph,
@@ -101,8 +110,7 @@ pub extern "C" fn cg_open_checked(
 /// Writes the graph, unless there is no memory for its block.
 fn hand_out(alloc: Global, opened: Opened, out: &mut CgOwner) -> CgError
     ensures opened { result.code ≡ 0 → out.new.address.held ≡ Some opened }
-    ensures refused { result.code ≢ 0
-        → (result.code ≡ 3) × ((result.detail ≡ 4) × (result.layer ≡ 0)) }
+    ensures refused { result.code ≢ 0 → result ≡ told_graph GraphError.OutOfMemory }
     ensures kept { result.code ≢ 0 → out.new ≡ out.old }
 {
     match Box::new(alloc, opened) {
@@ -110,7 +118,7 @@ fn hand_out(alloc: Global, opened: Opened, out: &mut CgOwner) -> CgError
             *out = CgOwner::of(opened);
             error(0, 0, 0)
         }
-        Err(_) => error(3, 4, 0),
+        Err(_) => graph_error(&GraphError::OutOfMemory),
     }
 }
 
@@ -123,6 +131,7 @@ pub extern "C" fn cg_close(graph: CgOwner) {
 /// Opens each file, and makes a graph of the layers.
 fn open(alloc: Global, files: &[CgFile<'_>]) -> Result<Graph, CgError>
     ensures opened { IfOk result (IsOpenedFrom files.now) }
+    ensures refused { IfErr result (RefusesFiles files.now) }
     ensures code { IfErr result (λ e. (e.code ≢ 0) × (e.code ≢ 4)) }
 {
     let mut layers = Vec::new(alloc);
@@ -133,20 +142,41 @@ fn open(alloc: Global, files: &[CgFile<'_>]) -> Result<Graph, CgError>
     }
     match Graph::new(alloc, layers) {
         Ok(graph) => Ok(graph),
-        Err(GraphError::HashMismatch { layer }) => Err(error(3, 3, layer as u64)),
-        Err(refusal) => Err(error(3, graph_number(&refusal) as u32, 0)),
+        Err(refusal) => Err(graph_error(&refusal)),
     }
+}
+
+/// Tells why the bytes of a layer are refused.
+fn file_error(refusal: &FileError, layer: u64) -> CgError
+    ensures { result ≡ told_file layer refusal.now }
+{
+    CgError {
+        code: 2,
+        detail: file_number(refusal) as u32,
+        chunk: chunk_fault(refusal) as u32,
+        layer,
+    }
+}
+
+/// Tells why layers make no graph.
+fn graph_error(refusal: &GraphError) -> CgError
+    ensures { result ≡ told_graph refusal.now }
+{
+    let layer = match refusal {
+        GraphError::HashMismatch { layer } => *layer as u64,
+        _ => 0,
+    };
+    error(3, graph_number(refusal) as u32, layer)
 }
 
 /// Adds a layer, if there is memory.
 fn add(layers: &mut Vec<File>, layer: File, place: u64) -> Result<(), CgError>
     ensures items { OnOk result (layers.new.items ≡ layers.old.items ++ layer ∷ []) }
-    ensures error { IfErr result (λ e.
-        (e.code ≡ 2) × ((e.detail ≡ 20) × (e.layer ≡ place))) }
+    ensures error { IfErr result (λ e. e ≡ told_file place FileError.OutOfMemory) }
 {
     match layers.push(layer) {
         Ok(()) => Ok(()),
-        Err(_) => Err(error(2, 20, place)),
+        Err(_) => Err(file_error(&FileError::OutOfMemory, place)),
     }
 }
 
@@ -154,18 +184,17 @@ fn add(layers: &mut Vec<File>, layer: File, place: u64) -> Result<(), CgError>
 #[tactic(auto, using(crate::proofs::Files::out_of_memory))]
 fn open_layer(alloc: Global, file: CgFile<'_>, place: u64) -> Result<File, CgError>
     ensures layer { IfOk result (IsLayer file.entry.bytes.now file.entry.path.now) }
-    ensures refused { IfErr result (RefusesFile file.entry) }
-    ensures place { IfErr result (λ e. e.layer ≡ place) }
+    ensures refused { IfErr result (RefusesFile place file.entry) }
 {
     let Ok(path) = str::from_utf8(file.path) else {
         return Err(error(5, 0, place));
     };
     let Ok((bytes, path)) = copies(alloc, file.bytes, path) else {
-        return Err(error(2, 20, place));
+        return Err(file_error(&FileError::OutOfMemory, place));
     };
     match File::new(alloc, bytes, path) {
         Ok(file) => Ok(file),
-        Err(refusal) => Err(error(2, file_number(&refusal) as u32, place)),
+        Err(refusal) => Err(file_error(&refusal, place)),
     }
 }
 

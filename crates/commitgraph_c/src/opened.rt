@@ -54,7 +54,8 @@ impl Opened {
 
     /// The graph.
     pub fn graph(&self) -> &Graph
-        ensures { result.now ≡ self.now.0 }
+        ensures same { result.now ≡ self.now.0 }
+        ensures right { self.now.1 ≡ true → Sound self.now.0 }
     {
         match &self.state {
             State::Unchecked(graph) => graph,

@@ -1,6 +1,8 @@
 //! Walks to ancestors, in a graph that was checked.
 
-ghost use Rattle.std.specs.Prelude.{◌≡◌, ◌≢◌, ◌<◌, ◌≤◌, ◌⊎◌, false, IfSome, IsSomeAnd, None};
+ghost use Rattle.std.specs.Prelude.{◌≡◌, ◌≢◌, ◌↔◌, ◌≤◌, ◌⊎◌, false, IsSomeAnd, IsTrue, None};
+ghost use Rattle.graph_walks.specs.Walks.{Reaches};
+ghost use Rattle.graph_format.specs.StoredHistory.{history_of};
 ghost use Rattle.gix_commitgraph.specs.Graph.{total};
 ghost use Rattle.graph_history.specs.Answer.{numbers_of};
 ghost use Rattle.commitgraph_c.specs.Answers.{TellsAnswer, TellsWalk, written};
@@ -56,6 +58,43 @@ pub extern "C" fn cg_ancestor_walk(
     }
 }
 
+/// Whether a commit leads to another: `found` says so where the code is 0.
+#[repr(C)]
+#[derive(Clone, Copy)]
+pub struct CgLeads {
+    /// As that of `cg_ancestor_walk`.
+    pub code: u32,
+    pub found: bool,
+}
+
+/// Looks whether the commit at `from` leads along parents to the one at `to`, as each leads to
+/// itself. The graph has to be one that `cg_open_checked` opened.
+#[unsafe(no_mangle)]
+pub extern "C" fn cg_is_ancestor(alloc: Global, graph: CgGraph, from: u32, to: u32) -> CgLeads
+    ensures answer { result.code ≡ 0 → IsSomeAnd graph.address.held (λ held.
+        IsTrue result.found ↔ Reaches (history_of held.0) from to) }
+    ensures nowhere { result.code ≡ 1 → IsSomeAnd graph.address.held (λ held.
+        (total held.0 ≤ from) ⊎ (total held.0 ≤ to)) }
+    ensures unchecked { result.code ≡ 2 → IsSomeAnd graph.address.held (λ held. held.1 ≡ false) }
+    ensures closed { result.code ≡ 4 → graph.address.held ≡ None }
+    ensures codes { result.code ≤ 4 }
+{
+    let Some(opened) = graph.opened() else {
+        return untold(4);
+    };
+    let commits = opened.graph().num_commits();
+    if from >= commits || to >= commits {
+        return untold(1);
+    }
+    let Some(checked) = opened.as_checked() else {
+        return untold(2);
+    };
+    match checked.is_ancestor(alloc, Position(from), Position(to)) {
+        Ok(found) => CgLeads { code: 0, found },
+        Err(_) => untold(3),
+    }
+}
+
 /// Tells an answer, and writes the positions of its walk.
 fn tell(reached: &Reached, out: &mut [u32]) -> CgReached
     ensures code { result.code ≡ 0 }
@@ -77,7 +116,7 @@ fn tell(reached: &Reached, out: &mut [u32]) -> CgReached
 
 /// Writes positions, as many as there is room for.
 #[tactic(auto, using(crate::proofs::Written::next_position, crate::proofs::Written::no_place, crate::proofs::Written::written_length))]
-fn write_positions(positions: &[Position], out: &mut [u32])
+pub(crate) fn write_positions(positions: &[Position], out: &mut [u32])
     ensures { out.new ≡ written (numbers_of positions.now) out.old }
 {
     for place in 0..positions.len() {
@@ -96,4 +135,11 @@ fn refused(code: u32) -> CgReached
         visits: 0,
         length: 0,
     }
+}
+
+/// An answer that tells nothing.
+fn untold(code: u32) -> CgLeads
+    ensures { result.code ≡ code }
+{
+    CgLeads { code, found: false }
 }

@@ -10,8 +10,8 @@ ghost use Rattle.graph_layer.specs.Commit.{layer_and_position};
 ghost use Rattle.gix_commitgraph.specs.Graph.{graph_ids, total};
 ghost use Rattle.gix_commitgraph.specs.Sound.{Sound};
 ghost use Rattle.gix_commitgraph.specs.GraphLookup.{FoundIn, position_number};
-ghost use Rattle.commitgraph_c.specs.Answers.{HasCommit, HasId, HasRecord, Tells};
-ghost use Rattle.commitgraph_c.specs.Answers.{layers_of, nowhere, told_position};
+ghost use Rattle.commitgraph_c.specs.Answers.{HasCommit, HasId, HasRecord};
+ghost use Rattle.commitgraph_c.specs.Answers.{layers_of, nowhere, told_commit, told_position};
 
 use crate::handle::CgGraph;
 use gix_commitgraph::file::Commit;
@@ -154,7 +154,8 @@ fn put(id: oid<'_>, out: &mut [u8]) -> usize
 /// Writes what the record at a position says. Answers whether there is one.
 #[unsafe(no_mangle)]
 pub extern "C" fn cg_commit_at(graph: CgGraph, pos: u32, out: &mut CgCommit) -> bool
-    ensures tells { IsTrue result → HasCommit (layers_of graph.address.held) pos (Tells out.new) }
+    ensures tells { IsTrue result → HasCommit (layers_of graph.address.held) pos (λ commit.
+        out.new ≡ told_commit commit) }
     ensures none { result ≡ false → IfSome (layers_of graph.address.held) (λ layers.
         total layers ≤ pos) }
     ensures kept { result ≡ false → out.new ≡ out.old }
@@ -170,8 +171,8 @@ pub extern "C" fn cg_commit_at(graph: CgGraph, pos: u32, out: &mut CgCommit) -> 
 }
 
 /// What is told of a commit.
-fn told(commit: Commit<'_>) -> CgCommit
-    ensures { Tells result (layer_and_position commit.entry) }
+pub(crate) fn told(commit: Commit<'_>) -> CgCommit
+    ensures { result ≡ told_commit (layer_and_position commit.entry) }
 {
     CgCommit {
         time: commit.committer_timestamp(),

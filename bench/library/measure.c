@@ -1,0 +1,129 @@
+/* measure PRESENT ABSENT POSITIONS LAYER CHAIN-LAYER..: times reads and checks of commit-graphs through the library for C.
+ * A line a figure: its name, its nanoseconds, how many numbers came out, and their sum. */
+#include "commitgraph.h"
+#include <inttypes.h>
+#include <stdio.h>
+#include <stdlib.h>
+#include <string.h>
+#include <time.h>
+
+enum { ID_LEN = 20, MOST_LAYERS = 256, ROOM = 64, CALLS = 100000000 };
+
+typedef struct { uint64_t count, sum; } seen;
+typedef struct { uint8_t *bytes; size_t len; } bytes;
+typedef struct { bytes present, absent, positions; } inputs;
+
+static void add(seen *to, uint64_t number) {
+    to->count++;
+    to->sum += number;
+}
+
+static uint64_t now(void) {
+    struct timespec time;
+    clock_gettime(CLOCK_MONOTONIC, &time);
+    return (uint64_t)time.tv_sec * 1000000000u + (uint64_t)time.tv_nsec;
+}
+
+static void report(const char *layers, const char *name, uint64_t start, seen found) {
+    printf("%s-%s %" PRIu64 " %" PRIu64 " %" PRIu64 "\n", layers, name, now() - start, found.count, found.sum);
+}
+
+static bytes read_all(const char *path) {
+    bytes read = { NULL, 0 };
+    FILE *file = fopen(path, "rb");
+    if (!file) exit(2);
+    fseek(file, 0, SEEK_END);
+    read.len = (size_t)ftell(file);
+    rewind(file);
+    read.bytes = malloc(read.len + 1);
+    if (!read.bytes || fread(read.bytes, 1, read.len, file) != read.len) exit(2);
+    fclose(file);
+    return read;
+}
+
+static void add_parents(seen *to, cg_graph graph, uint32_t pos) {
+    uint32_t parents[ROOM];
+    cg_parent_count told = cg_parents(graph, pos, parents, ROOM);
+    for (uint64_t i = 0; i < told.count && i < ROOM; i++) add(to, parents[i]);
+}
+
+static seen lookups(cg_graph graph, bytes ids) {
+    seen found = { 0, 0 };
+    for (size_t at = 0; at + ID_LEN <= ids.len; at += ID_LEN) {
+        uint32_t pos = cg_lookup(graph, ids.bytes + at, ID_LEN);
+        if (pos != CG_NOWHERE) add(&found, pos);
+    }
+    return found;
+}
+
+static seen iterate(cg_graph graph) {
+    seen found = { 0, 0 };
+    for (uint32_t pos = 0, end = cg_num_commits(graph); pos < end; pos++) add_parents(&found, graph, pos);
+    return found;
+}
+
+static seen jumps(cg_graph graph, bytes positions) {
+    seen found = { 0, 0 };
+    for (size_t at = 0; at + 4 <= positions.len; at += 4) {
+        const uint8_t *b = positions.bytes + at;
+        uint32_t pos = (uint32_t)b[0] << 24 | (uint32_t)b[1] << 16 | (uint32_t)b[2] << 8 | b[3];
+        cg_commit commit;
+        if (!cg_commit_at(graph, pos, &commit)) continue;
+        add(&found, commit.generation);
+        add(&found, commit.time);
+        add_parents(&found, graph, pos);
+    }
+    return found;
+}
+
+static seen integrity(cg_graph graph) {
+    seen found = { 0, 0 };
+    cg_verdict told;
+    cg_count counts[ROOM];
+    if (cg_verify(graph, false, &told, counts, ROOM)) return found;
+    add(&found, told.num_commits);
+    add(&found, told.has_longest ? (uint64_t)told.longest + 1 : 0);
+    for (uint64_t i = 0; i < told.kinds && i < ROOM; i++) add(&found, (uint64_t)counts[i].parents * counts[i].commits);
+    return found;
+}
+
+static seen calls(cg_graph graph) {
+    seen found = { 0, 0 };
+    for (uint32_t i = 0; i < CALLS; i++) add(&found, cg_num_commits(graph));
+    return found;
+}
+
+static void measure(const char *name, const inputs *in, char **paths, size_t count) {
+    static cg_file files[MOST_LAYERS];
+    if (count > MOST_LAYERS) exit(2);
+    for (size_t i = 0; i < count; i++) {
+        bytes read = read_all(paths[i]);
+        files[i] = (cg_file){ read.bytes, read.len, (const uint8_t *)"-", 1 };
+    }
+    cg_graph graph = CG_CLOSED;
+    uint64_t start = now();
+    if (cg_open(files, count, &graph).code) exit(1);
+    report(name, "open", start, (seen){ 1, cg_num_commits(graph) });
+    start = now();
+    report(name, "present", start, lookups(graph, in->present));
+    start = now();
+    report(name, "absent", start, lookups(graph, in->absent));
+    start = now();
+    report(name, "iterate", start, iterate(graph));
+    start = now();
+    report(name, "commit_at", start, jumps(graph, in->positions));
+    start = now();
+    report(name, "integrity", start, integrity(graph));
+    start = now();
+    report(name, "calls", start, calls(graph));
+    cg_close(graph);
+    for (size_t i = 0; i < count; i++) free((void *)files[i].bytes);
+}
+
+int main(int argc, char **argv) {
+    if (argc < 6) return 2;
+    inputs in = { read_all(argv[1]), read_all(argv[2]), read_all(argv[3]) };
+    measure("layer", &in, argv + 4, 1);
+    measure("chain", &in, argv + 5, (size_t)argc - 5);
+    return 0;
+}

@@ -1,0 +1,141 @@
+//! `ask PATH list | verify | distinct | find ID | ancestor ID ID`: answers of the graph at the path, in the lines of `graphtool`.
+
+use commitgraph::{Checked, CommitFault, Fault, Graph, LayerFault, ObjectId, OpenError, ParentError, Position};
+use commitgraph::{VerifyError, VerifyOptions};
+use std::convert::Infallible;
+use std::process::ExitCode;
+
+/// What a command answers: its lines, and whether its status is 0.
+type Answer = (String, bool);
+
+fn main() -> ExitCode {
+    let words: Vec<String> = std::env::args().skip(1).collect();
+    let words: Vec<&str> = words.iter().map(|word| &word[..]).collect();
+    let answer = match words[..] {
+        [path, "list"] => Graph::at(path).map(|graph| list(&graph)),
+        [path, "verify"] => Graph::at(path).map(|graph| verify(&graph, false)),
+        [path, "distinct"] => Graph::at(path).map(|graph| verify(&graph, true)),
+        [path, "find", id] => Graph::at(path).map(|graph| find(&graph, id)),
+        [path, "ancestor", from, to] => Checked::at(path).map(|graph| ancestor(&graph, from, to)),
+        _ => {
+            eprintln!("usage: ask PATH list | verify | distinct | find ID | ancestor ID ID");
+            return ExitCode::from(2);
+        }
+    };
+    let (lines, good) = answer.unwrap_or_else(|error| (not_opened(&error, words[1] == "list"), false));
+    print!("{lines}");
+    ExitCode::from(u8::from(!good))
+}
+
+/// The commits, a line for each, told one by one and many at a time.
+fn list(graph: &Graph) -> Answer {
+    let mut lines = String::new();
+    for ((commit, record), told) in graph.iter_commits().zip(graph.iter_records()).zip(graph.iter_parents()) {
+        let parents: Vec<_> = commit.iter_parents().collect();
+        assert_eq!(told, parents.iter().copied().collect());
+        assert_eq!(record.generation, commit.generation());
+        assert_eq!(record.committer_timestamp, commit.committer_timestamp());
+        assert_eq!(commit.parent1(), parents.first().copied().transpose());
+        let items: Vec<_> = parents.iter().map(item).collect();
+        lines += &format!(
+            "{} {} {} {} {} {}\n",
+            commit.position().0,
+            commit.id(),
+            commit.root_tree_id(),
+            record.generation,
+            record.committer_timestamp,
+            if items.is_empty() { "-".to_owned() } else { items.join(",") }
+        );
+    }
+    (lines, true)
+}
+
+fn item(parent: &Result<Position, ParentError>) -> String {
+    match parent {
+        Ok(pos) => pos.0.to_string(),
+        Err(error) => format!("!{}", parent_number(*error)),
+    }
+}
+
+fn verify(graph: &Graph, distinct_ids: bool) -> Answer {
+    match graph.verify_integrity_with(VerifyOptions { distinct_ids }, |_| Ok::<_, Infallible>(())) {
+        Ok(outcome) => {
+            let longest = outcome.longest_path_length.map_or("none".to_owned(), |longest| longest.to_string());
+            let mut lines = format!("ok commits {} longest {longest}\n", outcome.num_commits);
+            for (parents, commits) in outcome.parent_counts {
+                lines += &format!("parents {parents} commits {commits}\n");
+            }
+            (lines, true)
+        }
+        Err(VerifyError::Fault(fault)) => (not_right(&fault), false),
+        Err(error) => panic!("{error}"),
+    }
+}
+
+fn find(graph: &Graph, id: &str) -> Answer {
+    let Some(commit) = ObjectId::from_hex(id).and_then(|id| graph.commit_by_id(id)) else {
+        return ("none\n".to_owned(), false);
+    };
+    let (pos, generation, time) = (commit.position().0, commit.generation(), commit.committer_timestamp());
+    (format!("position {pos} generation {generation} time {time}\n"), true)
+}
+
+fn ancestor(graph: &Checked, from: &str, to: &str) -> Answer {
+    let position = |id| graph.lookup(ObjectId::from_hex(id)?);
+    let (Some(from), Some(to)) = (position(from), position(to)) else {
+        return (format!("unknown {}\n", if position(from).is_none() { 1 } else { 2 }), false);
+    };
+    let reached = graph.ancestor_walk(from, to).expect("both are positions of the graph");
+    assert_eq!(graph.is_ancestor(from, to), Ok(reached.walk.is_some()));
+    let steps = |walk: &Vec<Position>| walk.iter().map(|pos| format!(" {}", pos.0)).collect::<String>();
+    let walk = reached.walk.as_ref().map_or("none".to_owned(), |walk| format!("walk{}", steps(walk)));
+    (format!("{walk}\nvisits {}\n", reached.visits), reached.walk.is_some())
+}
+
+/// The line of a graph that was not opened.
+fn not_opened(error: &OpenError, list: bool) -> String {
+    match error {
+        OpenError::Check(fault) => not_right(fault),
+        OpenError::Layer { layer, number, chunk } => {
+            let place = if list { String::new() } else { format!("open 5 layer {layer} ") };
+            let chunk = if *chunk == 0 { String::new() } else { format!(" chunk {chunk}") };
+            format!("refused {place}file {number}{chunk}\n")
+        }
+        OpenError::Graph { number, .. } => format!("refused open 6 graph {number}\n"),
+        error => panic!("{error}"),
+    }
+}
+
+/// The line of a graph that is not right.
+fn not_right(fault: &Fault) -> String {
+    let words = match fault {
+        Fault::TooManyFiles => "1".to_owned(),
+        Fault::BaseCount { layer } => format!("2 layer {layer}"),
+        Fault::BaseId { layer, index } => format!("3 layer {layer} index {index}"),
+        Fault::Layer { layer, fault: LayerFault::Fan { byte } } => format!("4 layer {layer} fault 3 byte {byte}"),
+        Fault::Layer { layer, fault } => format!("4 layer {layer} fault {}", 1 + u32::from(*fault == LayerFault::FileName)),
+        Fault::Commit { pos, fault } => format!("5 position {} fault {}", pos.0, commit_number(*fault)),
+        Fault::Parent { pos, error } => format!("6 position {} error {}", pos.0, parent_number(*error)),
+        Fault::ParentOutOfRange { pos, parent } => format!("7 position {} parent {}", pos.0, parent.0),
+        Fault::Generation { pos, expected } => format!("8 position {} expected {expected}", pos.0),
+        Fault::DuplicateId { pos, earlier } => format!("11 position {} earlier {}", pos.0, earlier.0),
+    };
+    format!("refused verify {words}\n")
+}
+
+fn commit_number(fault: CommitFault) -> u32 {
+    match fault {
+        CommitFault::NullId => 1,
+        CommitFault::Order => 2,
+        CommitFault::NullTree => 3,
+    }
+}
+
+fn parent_number(error: ParentError) -> u32 {
+    match error {
+        ParentError::SecondWithoutFirst => 1,
+        ParentError::FirstIsEdgeIndex => 2,
+        ParentError::NoEdgeList => 3,
+        ParentError::EdgeOverflow => 4,
+    }
+}

@@ -1,0 +1,78 @@
+//! The check of a graph.
+
+use crate::error::fault_of;
+use crate::{sys, Commit, Graph, Position, VerifyError};
+use std::collections::BTreeMap;
+
+/// What a check looks for besides what every right graph keeps.
+#[derive(Clone, Copy, Debug, Default, PartialEq, Eq)]
+pub struct VerifyOptions {
+    /// That no id stands in two layers.
+    pub distinct_ids: bool,
+}
+
+/// The statistics of a graph.
+#[derive(Clone, Debug, PartialEq, Eq)]
+pub struct Outcome {
+    /// The number of edges of the longest walk along parents, or `None` where some generation number is the greatest.
+    pub longest_path_length: Option<u32>,
+    /// The number of commits.
+    pub num_commits: u32,
+    /// For each number of parents that some commit has, how many have it.
+    pub parent_counts: BTreeMap<u32, u32>,
+}
+
+impl Graph {
+    /// Checks the graph, and calls the processor on its commits, in their order.
+    ///
+    /// # Errors
+    ///
+    /// The first fault, or before it the first error of the processor. It is called on the commits before the fault, up to the
+    /// first that it refuses. Where memory ran out it is not called.
+    pub fn verify_integrity<E>(
+        &self,
+        processor: impl FnMut(&Commit<'_>) -> Result<(), E>,
+    ) -> Result<Outcome, VerifyError<E>> {
+        self.verify_integrity_with(VerifyOptions::default(), processor)
+    }
+
+    /// Checks the graph as [`Graph::verify_integrity`] does, and for what the options ask besides.
+    ///
+    /// # Errors
+    ///
+    /// Those of [`Graph::verify_integrity`].
+    pub fn verify_integrity_with<E>(
+        &self,
+        options: VerifyOptions,
+        mut processor: impl FnMut(&Commit<'_>) -> Result<(), E>,
+    ) -> Result<Outcome, VerifyError<E>> {
+        let (verdict, counts) = self.verdict(options);
+        for pos in (0..verdict.called).map(Position) {
+            processor(&self.commit_at(pos)).map_err(|error| VerifyError::Processor { pos, error })?;
+        }
+        match verdict.code {
+            0 => Ok(Outcome {
+                longest_path_length: verdict.has_longest.then_some(verdict.longest),
+                num_commits: verdict.num_commits,
+                parent_counts: counts.iter().map(|c| (c.parents, c.commits)).collect(),
+            }),
+            10 => Err(VerifyError::OutOfMemory),
+            _ => Err(VerifyError::Fault(fault_of(&verdict))),
+        }
+    }
+
+    /// The verdict, and its counts.
+    fn verdict(&self, options: VerifyOptions) -> (sys::Verdict, Vec<sys::Count>) {
+        let mut verdict = sys::Verdict::default();
+        let mut counts = vec![sys::Count::default(); 64];
+        loop {
+            let room = counts.len();
+            // SAFETY: `raw` is open, and each pointer is that of a value or of a slice with the length beside it.
+            unsafe { sys::cg_verify(self.raw, options.distinct_ids, &mut verdict, counts.as_mut_ptr(), room) };
+            counts.resize(verdict.kinds as usize, sys::Count::default());
+            if counts.len() <= room {
+                return (verdict, counts);
+            }
+        }
+    }
+}

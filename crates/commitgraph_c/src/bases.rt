@@ -1,0 +1,113 @@
+//! Merge bases, and how far commits have come apart, in a graph that was checked.
+
+ghost use Rattle.std.specs.Prelude.{◌≡◌, ◌≢◌, ◌<◌, ◌≤◌, ◌⊎◌, false, All, Any, IfErr, IfOk};
+ghost use Rattle.std.specs.Prelude.{IsSomeAnd, None};
+ghost use Rattle.gix_commitgraph.specs.Graph.{total};
+ghost use Rattle.graph_history.specs.Answer.{numbers_of};
+ghost use Rattle.commitgraph_c.specs.Answers.{TellsBases, TellsComparison};
+
+use crate::handle::CgGraph;
+use crate::query::write_positions;
+use gix_commitgraph::Position;
+use graph_history::{Checked, Comparison};
+use std::alloc::Global;
+
+/// The merge bases of a commit and some others, and how far they have come apart.
+#[repr(C)]
+#[derive(Clone, Copy)]
+pub struct CgBases {
+    /// As that of `cg_ancestor_walk`.
+    pub code: u32,
+    pub ahead: u32,
+    pub behind: u32,
+    pub visits: u64,
+    /// How many merge bases there are.
+    pub length: u64,
+}
+
+/// Looks for the merge bases of a commit and some others, and writes their positions, the least
+/// first, as many as there is room for. The graph has to be one that `cg_open_checked` opened.
+#[unsafe(no_mangle)]
+pub extern "C" fn cg_merge_bases(
+    alloc: Global,
+    graph: CgGraph,
+    first: u32,
+    others: &[u32],
+    out: &mut [u32],
+) -> CgBases
+    ensures answer { result.code ≡ 0 → IsSomeAnd graph.address.held (λ held.
+        TellsBases held.0 first others.now result out.old out.new) }
+    ensures nowhere { result.code ≡ 1 → IsSomeAnd graph.address.held (λ held.
+        (total held.0 ≤ first) ⊎ Any (λ other. total held.0 ≤ other) others.now) }
+    ensures unchecked { result.code ≡ 2 → IsSomeAnd graph.address.held (λ held. held.1 ≡ false) }
+    ensures closed { result.code ≡ 4 → graph.address.held ≡ None }
+    ensures codes { result.code ≤ 4 }
+    ensures kept { result.code ≢ 0 → out.new ≡ out.old }
+{
+    let Some(opened) = graph.opened() else {
+        return refused(4);
+    };
+    let Some(checked) = opened.as_checked() else {
+        return refused(2);
+    };
+    let Some(first) = checked.position(first) else {
+        return refused(1);
+    };
+    let others = match positions_of(alloc, &checked, others) {
+        Ok(others) => others,
+        Err(code) => return refused(code),
+    };
+    match checked.compare(alloc, first, &others) {
+        Ok(comparison) => tell(&comparison, out),
+        Err(_) => refused(3),
+    }
+}
+
+/// The positions of these numbers; or 1 where one is none of the graph's, and 3 where memory ran
+/// out.
+fn positions_of(alloc: Global, graph: &Checked<'_>, numbers: &[u32]) -> Result<Vec<Position>, u32>
+    ensures exact { IfOk result (λ found. numbers_of found.items ≡ numbers.now) }
+    ensures within { IfOk result (λ found. All (λ pos. pos.0 < total graph.now) found.items) }
+    ensures refused { IfErr result (λ code. (code ≡ 3)
+        ⊎ ((code ≡ 1) × Any (λ number. total graph.now ≤ number) numbers.now)) }
+{
+    let mut found = Vec::new(alloc);
+    for number in numbers {
+        let Some(pos) = graph.position(*number) else {
+            return Err(1);
+        };
+        if found.push(pos).is_err() {
+            return Err(3);
+        }
+    }
+    Ok(found)
+}
+
+/// Tells a comparison, and writes the positions of the merge bases.
+fn tell(comparison: &Comparison, out: &mut [u32]) -> CgBases
+    ensures code { result.code ≡ 0 }
+    ensures tells { TellsComparison comparison.now result out.old out.new }
+{
+    let bases = comparison.bases.positions.as_slice();
+    write_positions(bases, out);
+    CgBases {
+        code: 0,
+        ahead: comparison.divergence.ahead,
+        behind: comparison.divergence.behind,
+        visits: comparison.bases.visits,
+        length: bases.len() as u64,
+    }
+}
+
+/// An answer that tells of no merge base.
+fn refused(code: u32) -> CgBases
+    ensures { result.code ≡ code }
+{
+    CgBases {
+        code,
+        ahead: 0,
+        behind: 0,
+        visits: 0,
+        length: 0,
+    }
+}

@@ -1,0 +1,101 @@
+//! The commits from a position on, many in one call, and their parents.
+
+ghost use Rattle.std.specs.Prelude.{◌≡◌, drop, length, map, Some};
+ghost use Rattle.gix_commitgraph.specs.Graph.{graph_commits};
+ghost use Rattle.commitgraph_c.specs.Answers.{layers_of, told_commit, written};
+ghost use Rattle.commitgraph_c.specs.Blocks.{TellsBlock, block_of, commits_from};
+
+use crate::handle::CgGraph;
+use crate::parents::{CgParents, write_parents};
+use crate::read::{CgCommit, told};
+use gix_commitgraph::law::graph::the_commits_of_layers_add_up;
+use gix_commitgraph::{Graph, Position};
+
+/// Writes what the records from a position on say, as many as there is room for. Answers how many
+/// commits there are from there on.
+#[unsafe(no_mangle)]
+pub extern "C" fn cg_commits(graph: CgGraph, first: u32, out: &mut [CgCommit]) -> u32
+    ensures count { result ≡ length (commits_from (layers_of graph.address.held) first) }
+    ensures room { let commits = commits_from (layers_of graph.address.held) first in
+        out.new ≡ written (map told_commit commits) out.old }
+{
+    match graph.graph() {
+        Some(graph) => write_commits(graph, first, out),
+        None => 0,
+    }
+}
+
+/// Writes what the records from a position on say, as many as there is room for, and answers how
+/// many there are.
+fn write_commits(graph: &Graph, first: u32, out: &mut [CgCommit]) -> u32
+    ensures count { result ≡ length (drop first (graph_commits graph.now)) }
+    ensures room { out.new ≡ written (map told_commit (drop first (graph_commits graph.now)))
+        out.old }
+{
+    the_commits_of_layers_add_up();
+    let count = graph.num_commits().saturating_sub(first);
+    for place in 0..out.len().min(count as usize) {
+        out[place] = told(graph.commit_at(Position(first + place as u32)));
+    }
+    count
+}
+
+/// Of how many commits a block tells, and how many parents they have.
+#[repr(C)]
+#[derive(Clone, Copy)]
+pub struct CgBlock {
+    pub commits: u32,
+    pub length: u64,
+}
+
+/// Tells of the parents of the commits from a position on, of each as `cg_parents` does, and writes
+/// their positions, one commit's after another's. It ends where `answers` is full or no commit is
+/// left, and after a commit whose parents find too little room.
+#[unsafe(no_mangle)]
+pub extern "C" fn cg_parents_from(
+    graph: CgGraph,
+    first: u32,
+    answers: &mut [CgParents],
+    out: &mut [u32],
+) -> CgBlock
+    ensures { let commits = commits_from (layers_of graph.address.held) first in
+        let told = block_of (length answers.old) (length out.old) commits in
+        TellsBlock told result answers.old answers.new out.old out.new }
+{
+    match graph.graph() {
+        Some(graph) => write_block(graph, first, answers, out),
+        None => CgBlock {
+            commits: 0,
+            length: 0,
+        },
+    }
+}
+
+/// Writes a block of parents.
+fn write_block(graph: &Graph, first: u32, answers: &mut [CgParents], out: &mut [u32]) -> CgBlock
+    ensures { let commits = drop first (graph_commits graph.now) in
+        let told = block_of (length answers.old) (length out.old) commits in
+        TellsBlock told result answers.old answers.new out.old out.new }
+{
+    the_commits_of_layers_add_up();
+    let left = graph.num_commits().saturating_sub(first);
+    let places = answers.len().min(left as usize);
+    let mut used = 0;
+    for place in 0..places {
+        let room = (out.len() - used) as u64;
+        let commit = graph.commit_at(Position(first + place as u32));
+        let told = write_parents(commit, &mut out[used..]);
+        answers[place] = told;
+        if told.count > room {
+            return CgBlock {
+                commits: place as u32 + 1,
+                length: (used as u64).saturating_add(told.count),
+            };
+        }
+        used += told.count as usize;
+    }
+    CgBlock {
+        commits: places as u32,
+        length: used as u64,
+    }
+}

@@ -1,0 +1,71 @@
+//! The parents of a commit.
+
+ghost use Rattle.std.specs.Prelude.{◌≡◌, ◌<◌, ◌≤◌, None, IfSome, true};
+ghost use Rattle.graph_layer.specs.Commit.{commit_parents};
+ghost use Rattle.gix_commitgraph.specs.Graph.{total};
+ghost use Rattle.commitgraph_c.specs.Answers.{HasCommit, TellsParents, layers_of, parents_in};
+
+use crate::handle::CgGraph;
+use crate::numbers::parent_number;
+use gix_commitgraph::Position;
+use gix_commitgraph::file::Commit;
+use gix_commitgraph::law::sound::the_parents_of_a_right_graph_are_there;
+
+/// The parents of a commit, as far as they can be decoded.
+#[repr(C)]
+#[derive(Clone, Copy)]
+pub struct CgParents {
+    /// 0 where there are no more; 1 to 4, the number of the fault that comes after them; 5 where
+    /// the position is none of the graph's, 6 where none is open.
+    pub code: u32,
+    pub count: u64,
+}
+
+/// Writes the positions of the parents of the commit at a position, first parent first, as many as
+/// there is room for.
+#[unsafe(no_mangle)]
+pub extern "C" fn cg_parents(graph: CgGraph, pos: u32, out: &mut [u32]) -> CgParents
+    ensures parents { result.code ≤ 4 → HasCommit (layers_of graph.address.held) pos (λ commit.
+        TellsParents (parents_in commit) result out.old out.new) }
+    ensures nowhere { result.code ≡ 5 → IfSome (layers_of graph.address.held) (λ layers.
+        total layers ≤ pos) }
+    ensures closed { result.code ≡ 6 → layers_of graph.address.held ≡ None }
+
+    // In a graph that was found right each position has all its parents.
+    ensures right { IfSome graph.address.held (λ held.
+        held.1 ≡ true → pos < total held.0 → result.code ≡ 0) }
+    ensures codes { result.code ≤ 6 }
+    ensures kept { 4 < result.code → (out.new ≡ out.old) × (result.count ≡ 0) }
+{
+    the_parents_of_a_right_graph_are_there();
+    let Some(opened) = graph.opened() else {
+        return CgParents { code: 6, count: 0 };
+    };
+    let graph = opened.graph();
+    if pos >= graph.num_commits() {
+        return CgParents { code: 5, count: 0 };
+    }
+    write_parents(graph.commit_at(Position(pos)), out)
+}
+
+/// Writes the positions of a commit's parents, as many as there is room for.
+pub(crate) fn write_parents(commit: Commit<'_>, out: &mut [u32]) -> CgParents
+    ensures { TellsParents (commit_parents commit.entry) result out.old out.new }
+{
+    let mut count: u64 = 0;
+    for parent in commit.iter_parents() {
+        match parent {
+            Ok(pos) => {
+                if count < out.len() as u64 {
+                    out[count as usize] = pos.0;
+                }
+                count = count.saturating_add(1);
+            }
+            Err(error) => {
+                let code = parent_number(error) as u32;
+                return CgParents { code, count };
+            }
+        }
+    }
+    CgParents { code: 0, count }
+}

@@ -1,0 +1,102 @@
+/* layout FILE..: where each field of each struct stands, and what calls write into each, on the layers of these files, which are
+ * opened without paths. scripts/bindings compares it with what Git says. The structs have other bytes in them before each call. */
+#include "commitgraph.h"
+#include <inttypes.h>
+#include <stdio.h>
+#include <string.h>
+
+#define SIZE(name, size) _Static_assert(sizeof(name) == (size), #name)
+#define AT(name, field, place) _Static_assert(offsetof(name, field) == (place), #name "." #field)
+SIZE(cg_graph, 16); AT(cg_graph, address, 0); AT(cg_graph, opened, 8);
+SIZE(cg_file, 32); AT(cg_file, bytes, 0); AT(cg_file, len, 8); AT(cg_file, path, 16); AT(cg_file, path_len, 24);
+SIZE(cg_error, 24); AT(cg_error, code, 0); AT(cg_error, detail, 4); AT(cg_error, chunk, 8); AT(cg_error, layer, 16);
+SIZE(cg_commit, 16); AT(cg_commit, time, 0); AT(cg_commit, generation, 8);
+SIZE(cg_parent_count, 16); AT(cg_parent_count, code, 0); AT(cg_parent_count, count, 8);
+SIZE(cg_block, 16); AT(cg_block, commits, 0); AT(cg_block, length, 8);
+SIZE(cg_verdict, 56); AT(cg_verdict, code, 0); AT(cg_verdict, num_commits, 4); AT(cg_verdict, longest, 8);
+AT(cg_verdict, has_longest, 12); AT(cg_verdict, position, 16); AT(cg_verdict, other, 20); AT(cg_verdict, fault, 24);
+AT(cg_verdict, called, 28); AT(cg_verdict, layer, 32); AT(cg_verdict, index, 40); AT(cg_verdict, kinds, 48);
+SIZE(cg_count, 8); AT(cg_count, parents, 0); AT(cg_count, commits, 4);
+SIZE(cg_reached, 16); AT(cg_reached, code, 0); AT(cg_reached, visits, 4); AT(cg_reached, length, 8);
+SIZE(cg_leads, 8); AT(cg_leads, code, 0); AT(cg_leads, found, 4);
+SIZE(cg_bases, 32); AT(cg_bases, code, 0); AT(cg_bases, ahead, 4); AT(cg_bases, behind, 8); AT(cg_bases, visits, 16);
+AT(cg_bases, length, 24);
+SIZE(cg_line, 24); AT(cg_line, found, 0); AT(cg_line, end, 8); AT(cg_line, next, 16);
+
+enum { LAYERS = 8, BYTES = 1 << 16, ROOM = 64, OTHER = 0xaa };
+#define N(number) ((uint64_t)(number))
+
+/* A line: a word, and each number after it. */
+static void print(const char *word, size_t count, const uint64_t *numbers) {
+    printf("%s", word);
+    for (size_t i = 0; i < count; i++) printf(" %" PRIu64, numbers[i]);
+    putchar('\n');
+}
+#define PRINT(word, ...) print(word, sizeof (uint64_t[]){ __VA_ARGS__ } / sizeof(uint64_t), (uint64_t[]){ __VA_ARGS__ })
+
+static void print_check(cg_graph graph) {
+    cg_verdict v;
+    cg_count counts[ROOM];
+    memset(&v, OTHER, sizeof v);
+    memset(counts, OTHER, sizeof counts);
+    cg_verify(graph, false, &v, counts, ROOM);
+    PRINT("verdict", v.code, v.num_commits, v.longest, N(v.has_longest), v.position, v.other, v.fault, v.called, v.layer, v.index,
+          v.kinds);
+    for (uint64_t i = 0; i < v.kinds; i++) PRINT("count", counts[i].parents, counts[i].commits);
+}
+
+/* What is answered of each commit, and of all. */
+static void print_commits(cg_graph graph) {
+    uint32_t out[ROOM], count = cg_num_commits(graph);
+    cg_parent_count answers[ROOM];
+    cg_commit commit;
+    memset(answers, OTHER, sizeof answers);
+    cg_block block = cg_parents_from(graph, 0, answers, ROOM, out, ROOM);
+    PRINT("block", block.commits, block.length);
+    for (uint32_t pos = 0; pos < count; pos++) {
+        memset(&commit, OTHER, sizeof commit);
+        cg_parent_count parents = cg_parents(graph, pos, out, ROOM);
+        cg_commit_at(graph, pos, &commit);
+        PRINT("commit", commit.time, commit.generation, parents.code, parents.count, answers[pos].code, answers[pos].count);
+    }
+}
+
+/* What is asked of a commit and another, in this order. */
+static void print_queries(cg_graph graph, uint32_t first, uint32_t second) {
+    uint32_t out[ROOM];
+    cg_reached reached = cg_ancestor_walk(graph, first, second, out, ROOM);
+    cg_leads leads = cg_is_ancestor(graph, first, second);
+    cg_bases bases = cg_merge_bases(graph, first, &second, 1, out, ROOM);
+    PRINT("asked", first, second);
+    PRINT("reached", reached.code, reached.visits, reached.length);
+    PRINT("leads", leads.code, N(leads.found));
+    PRINT("bases", bases.code, bases.ahead, bases.behind, bases.visits, bases.length);
+}
+
+int main(int argc, char **argv) {
+    static uint8_t bytes[LAYERS][BYTES];
+    cg_file files[LAYERS];
+    cg_graph graph = CG_CLOSED, checked = CG_CLOSED;
+    cg_verdict verdict;
+    cg_count counts[1];
+    for (int i = 1; i < argc && i <= LAYERS; i++) {
+        FILE *input = fopen(argv[i], "rb");
+        if (!input) return 2;
+        files[i - 1] = (cg_file){ bytes[i - 1], fread(bytes[i - 1], 1, BYTES, input), (const uint8_t *)"", 0 };
+        fclose(input);
+    }
+    cg_error error = cg_open(files, (size_t)argc - 1, &graph);
+    PRINT("error", error.code, error.detail, error.chunk, error.layer, N(graph.opened), N(graph.address != NULL));
+    print_check(graph);
+    print_commits(graph);
+    error = cg_open_checked(files, (size_t)argc - 1, false, &verdict, counts, 1, &checked);
+    PRINT("checked", error.code, error.detail, error.chunk, error.layer, N(checked.opened), N(checked.address != NULL));
+    uint32_t count = cg_num_commits(checked);
+    for (uint32_t pos = 0; pos < count * count; pos++) print_queries(checked, pos / count, pos % count);
+    if (!count) print_queries(graph, 0, 1);
+    cg_line line = cg_chain_line((const uint8_t *)"abc\r\nd", 6, 0);
+    PRINT("line", N(line.found), line.end, line.next);
+    cg_close(graph);
+    cg_close(checked);
+    return 0;
+}

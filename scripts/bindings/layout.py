@@ -1,0 +1,118 @@
+"""What calls write into each field of each struct, as `layout.c` prints it: what it has to be, by Git and by calculation."""
+import collections
+import hashlib
+import struct
+
+WORD = struct.Struct(">I")
+CLOSED = [12] + 10 * [0]
+"""The fields of a verdict where no graph is open."""
+
+
+class History:
+    """The commits of a repository's branch, each with its parents, and how many commits it leads to."""
+
+    def __init__(self, lines):
+        self.parents = {commit: rest for commit, *rest in (line.split() for line in lines)}
+        self.ids = sorted(self.parents)
+
+    def reached(self, commit):
+        """Each commit that one leads to, with the least number of steps."""
+        found, rest = {commit: 0}, collections.deque([commit])
+        while rest:
+            last = rest.popleft()
+            for parent in self.parents[last]:
+                if parent not in found:
+                    found[parent] = found[last] + 1
+                    rest.append(parent)
+        return found
+
+    def generation(self, commit):
+        return 1 + max(map(self.generation, self.parents[commit]), default=0)
+
+    def verdict(self):
+        longest = max(map(self.generation, self.ids)) - 1
+        kinds = len(set(map(len, self.parents.values())))
+        return [0, len(self.ids), longest, 1, 0, 0, 0, len(self.ids), 0, 0, kinds]
+
+    def lines(self):
+        """All that is printed of a right graph of one layer, but for numbers of visits."""
+        yield ["error", 0, 0, 0, 0, 1, 1]
+        yield ["verdict", *self.verdict()]
+        counts = collections.Counter(map(len, self.parents.values()))
+        yield from (["count", *count] for count in sorted(counts.items()))
+        yield ["block", len(self.ids), sum(map(len, self.parents.values()))]
+        for commit in self.ids:
+            parents = len(self.parents[commit])
+            yield ["commit", 1000000000, self.generation(commit), 0, parents, 0, parents]
+        yield ["checked", 0, 0, 0, 0, 1, 1]
+        for first, one in enumerate(self.ids):
+            for second, other in enumerate(self.ids):
+                yield ["asked", first, second]
+                yield from self.answers(self.reached(one), self.reached(other), other)
+        yield ["line", 1, 3, 5]
+
+    def answers(self, one, two, other):
+        """What is asked of a commit and another: what each leads to."""
+        common = set(one) & set(two)
+        below = {it for commit in common for it in self.reached(commit) if it != commit}
+        yield ["reached", 0, one.get(other, -1) + 1]
+        yield ["leads", 0, int(other in one)]
+        yield ["bases", 0, len(set(one) - set(two)), len(set(two) - set(one)), len(common - below)]
+
+
+def without_visits(lines):
+    """The printed lines as lists, without the numbers of visits, and those numbers."""
+    rows = [[word if word.isalpha() else int(word) for word in line.split()] for line in lines]
+    visits = [row.pop({"reached": 2, "bases": 4}[row[0]]) for row in rows if row[0] in ("reached", "bases")]
+    return rows, visits
+
+
+def chunk(data, name):
+    """Where a chunk of a commit-graph file begins."""
+    entries = [data[8 + 12 * number:20 + 12 * number] for number in range(data[6])]
+    return next(int.from_bytes(entry[4:], "big") for entry in entries if entry[:4] == name)
+
+
+def changed(data, at, number, whole=True):
+    """A file of SHA-1 with another word at a place, and, where it is to be whole, with the checksum of its bytes."""
+    data = data[:at] + WORD.pack(number) + data[at + 4:]
+    return data[:-20] + hashlib.sha1(data[:-20]).digest() if whole else data
+
+
+def word(data, at):
+    return WORD.unpack_from(data, at)[0]
+
+
+def verdict(code, position=0, other=0, fault=0, called=0, layer=0, index=0):
+    return [code, 0, 0, 0, position, other, fault, called, layer, index, 0]
+
+
+def faults(data, history):
+    """Changed files of one layer, each with its verdict and the parents that are told of the merge."""
+    merge = next(pos for pos, commit in enumerate(history.ids) if len(history.parents[commit]) == 3)
+    records, edges, count = chunk(data, b"CDAT"), chunk(data, b"EDGE"), len(history.ids)
+    record = records + 36 * merge
+    tree = data
+    for place in range(record, record + 20, 4):
+        tree = changed(tree, place, 0)
+    generation = history.generation(history.ids[merge])
+    stored = word(data, record + 28)
+    yield "tree", tree, verdict(5, merge, 0, 3, merge), [0, 3]
+    yield "edges", changed(data, edges + 4, word(data, edges + 4) & 0x7fffffff), verdict(6, merge, 0, 4, merge), [4, 3]
+    yield "parent", changed(data, record + 20, count + 5), verdict(7, merge, count + 5, 0, merge), [0, 3]
+    yield "number", changed(data, record + 28, stored ^ 0x40), verdict(8, merge, generation, 0, merge), [0, 3]
+
+
+def layered(layers):
+    """Changed chains of four layers, or of the lowest two, each with its error and its verdict."""
+    sizes = [word(layer, chunk(layer, b"OIDF") + 4 * 255) for layer in layers]
+    table_end = changed(layers[1], 8 + 12 * layers[1][6], 0x41424344, whole=False)
+    bases = chunk(layers[2], b"BASE")
+    base_id = changed(layers[2], bases + 20, 1 ^ word(layers[2], bases + 20), whole=False)
+    fan = chunk(layers[1], b"OIDF")
+    byte = next(it for it in range(255) if word(layers[1], fan + 4 * it) < word(layers[1], fan + 4 * it + 4))
+    counts = changed(layers[1], fan + 4 * byte, word(layers[1], fan + 4 * byte) + 1)
+    opened = [0, 0, 0, 0, 1, 1]
+    yield "table", [layers[0], table_end, *layers[2:]], [2, 5, 7, 1, 0, 0], CLOSED
+    yield "base", [*layers[:2], base_id, layers[3]], opened, verdict(3, called=sum(sizes[:2]), layer=2, index=1)
+    yield "fan", [layers[0], counts], opened, verdict(4, other=byte, fault=3, called=sizes[0], layer=1)

@@ -1,0 +1,147 @@
+/* memory FILE ID ID: makes each call that allocates again and again, and refuses one later allocation of it each time. It has to
+ * answer the code for memory, to leave no block and to write no graph. It is linked with --wrap for malloc, realloc and free. */
+#include "commitgraph.h"
+#include <stdio.h>
+#include <stdlib.h>
+#include <string.h>
+
+void *__real_malloc(size_t size);
+void *__real_realloc(void *block, size_t size);
+void __real_free(void *block);
+
+enum { NONE = -1 };
+static long left = NONE, blocks;
+static bool refused;
+
+static bool may_allocate(void) {
+    if (left == 0) {
+        left = NONE;
+        refused = true;
+        return false;
+    }
+    if (left > 0) left--;
+    return true;
+}
+
+void *__wrap_malloc(size_t size) {
+    void *block = may_allocate() ? __real_malloc(size) : NULL;
+    blocks += block != NULL;
+    return block;
+}
+
+void *__wrap_realloc(void *old, size_t size) {
+    void *block = may_allocate() ? __real_realloc(old, size) : NULL;
+    blocks += block != NULL && old == NULL;
+    return block;
+}
+
+void __wrap_free(void *block) {
+    blocks -= block != NULL;
+    __real_free(block);
+}
+
+typedef enum { DONE, NO_MEMORY, WRONG } outcome;
+static cg_file file;
+static cg_graph graph;
+static uint32_t from, to, out[1024];
+static cg_verdict verdict;
+static cg_count counts[8];
+
+static outcome outcome_of(uint32_t code, uint32_t no_memory) {
+    return code == 0 ? DONE : code == no_memory ? NO_MEMORY : WRONG;
+}
+
+/* An error of opening, and what stands in the room of the graph after it. */
+static outcome opening(cg_error error, cg_graph opened) {
+    if (error.code == 0) { cg_close(opened); return DONE; }
+    bool memory = (error.code == 2 && error.detail == 20) || (error.code == 3 && error.detail == 4)
+        || (error.code == 4 && error.detail == 10);
+    return memory && opened.address == (void *)&file && !opened.opened ? NO_MEMORY : WRONG;
+}
+
+static outcome open_graph(void) {
+    cg_graph opened = { &file, false };
+    cg_error error = cg_open(&file, 1, &opened);
+    return opening(error, opened);
+}
+
+static outcome open_checked(void) {
+    cg_graph opened = { &file, false };
+    cg_error error = cg_open_checked(&file, 1, true, &verdict, counts, 8, &opened);
+    return opening(error, opened);
+}
+
+static outcome verify(void) {
+    counts[0].parents = 77;
+    outcome found = outcome_of(cg_verify(graph, true, &verdict, counts, 8), 10);
+    return found == NO_MEMORY && counts[0].parents != 77 ? WRONG : found;
+}
+
+static outcome walk(void) {
+    out[0] = 0x77777777;
+    outcome found = outcome_of(cg_ancestor_walk(graph, from, to, out, 1024).code, 3);
+    return found == NO_MEMORY && out[0] != 0x77777777 ? WRONG : found;
+}
+
+static outcome ancestor(void) { return outcome_of(cg_is_ancestor(graph, from, to).code, 3); }
+
+static outcome bases(void) {
+    uint32_t others[2] = { to, from };
+    out[0] = 0x77777777;
+    outcome found = outcome_of(cg_merge_bases(graph, from, others, 2, out, 1024).code, 3);
+    return found == NO_MEMORY && out[0] != 0x77777777 ? WRONG : found;
+}
+
+/* The calls that only read: they ask for no memory. */
+static outcome reading(void) {
+    uint8_t id[32];
+    cg_commit commit;
+    cg_parent_count answers[4];
+    size_t len = cg_id_at(graph, from, id, cg_id_len(graph));
+    bool good = cg_lookup(graph, id, len) == from && cg_tree_at(graph, from, id, len) == len && cg_commit_at(graph, from, &commit)
+        && cg_commits(graph, from, &commit, 1) == cg_num_commits(graph) - from && cg_parents(graph, from, out, 4).code == 0
+        && cg_parents_from(graph, 0, answers, 4, out, 8).commits > 0 && cg_chain_line(id, len, 0).found;
+    return good && !refused ? DONE : WRONG;
+}
+
+static long refusals(const char *name, outcome (*call)(void)) {
+    for (long n = 0;; n++) {
+        long before = blocks;
+        refused = false;
+        left = n;
+        outcome found = call();
+        left = NONE;
+        if (found == WRONG || blocks != before || refused != (found == NO_MEMORY)) {
+            printf("%s, allocation %ld: outcome %d, %ld blocks more\n", name, n, (int)found, blocks - before);
+            exit(1);
+        }
+        if (!refused) return n;
+    }
+}
+
+static uint32_t position_of(const char *hex) {
+    uint8_t id[32];
+    size_t len = strlen(hex) / 2;
+    for (size_t i = 0; i < len && i < 32; i++) sscanf(hex + 2 * i, "%2hhx", &id[i]);
+    return cg_lookup(graph, id, len);
+}
+
+int main(int argc, char **argv) {
+    static uint8_t bytes[1 << 20];
+    FILE *input = argc == 4 ? fopen(argv[1], "rb") : NULL;
+    if (!input) return 2;
+    file = (cg_file){ bytes, fread(bytes, 1, sizeof bytes, input), (const uint8_t *)argv[1], strlen(argv[1]) };
+    fclose(input);
+    if (cg_open_checked(&file, 1, false, &verdict, counts, 8, &graph).code) return 3;
+    from = position_of(argv[2]);
+    to = position_of(argv[3]);
+    printf("open %ld\n", refusals("open", open_graph));
+    printf("open_checked %ld\n", refusals("open_checked", open_checked));
+    printf("verify %ld\n", refusals("verify", verify));
+    printf("walk %ld\n", refusals("walk", walk));
+    printf("ancestor %ld\n", refusals("ancestor", ancestor));
+    printf("bases %ld\n", refusals("bases", bases));
+    printf("reading %ld\n", refusals("reading", reading));
+    cg_close(graph);
+    return 0;
+}

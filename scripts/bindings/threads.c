@@ -1,0 +1,56 @@
+/* threads FILE: four threads read one graph at a time, and each has to find what the first thread found alone. */
+#include "commitgraph.h"
+#include <pthread.h>
+#include <stdio.h>
+#include <string.h>
+
+enum { THREADS = 4, ROOM = 64 };
+static cg_graph graph;
+
+/* A number made from all that a graph answers. */
+static uint64_t sum(void) {
+    uint64_t all = 0;
+    uint32_t count = cg_num_commits(graph), out[ROOM];
+    cg_parent_count answers[ROOM];
+    cg_commit commits[ROOM];
+    cg_verdict verdict;
+    cg_count counts[ROOM];
+    for (uint32_t pos = 0; pos < count; pos++) {
+        uint8_t id[32];
+        size_t len = cg_id_at(graph, pos, id, cg_id_len(graph));
+        cg_block block = cg_parents_from(graph, pos, answers, ROOM, out, ROOM);
+        all = all * 31 + cg_lookup(graph, id, len) + cg_commits(graph, pos, commits, ROOM) + commits[0].generation;
+        all = all * 31 + block.length + out[0] + cg_is_ancestor(graph, count - 1, pos).found;
+        all = all * 31 + cg_ancestor_walk(graph, count - 1, pos, out, ROOM).length;
+        all = all * 31 + cg_merge_bases(graph, pos, &pos, 1, out, ROOM).length;
+    }
+    return all * 31 + cg_verify(graph, true, &verdict, counts, ROOM) + verdict.longest + counts[0].commits;
+}
+
+static void *read_graph(void *result) {
+    *(uint64_t *)result = sum();
+    return NULL;
+}
+
+int main(int argc, char **argv) {
+    static uint8_t bytes[1 << 20];
+    pthread_t threads[THREADS];
+    uint64_t sums[THREADS];
+    cg_verdict verdict;
+    cg_count counts[1];
+    FILE *input = argc == 2 ? fopen(argv[1], "rb") : NULL;
+    if (!input) return 2;
+    cg_file file = { bytes, fread(bytes, 1, sizeof bytes, input), (const uint8_t *)argv[1], strlen(argv[1]) };
+    fclose(input);
+    if (cg_open_checked(&file, 1, false, &verdict, counts, 1, &graph).code) return 3;
+    uint64_t alone = sum();
+    for (int i = 0; i < THREADS; i++)
+        if (pthread_create(&threads[i], NULL, read_graph, &sums[i])) return 4;
+    int wrong = 0;
+    for (int i = 0; i < THREADS; i++) {
+        pthread_join(threads[i], NULL);
+        wrong += sums[i] != alone;
+    }
+    cg_close(graph);
+    return wrong;
+}
