@@ -141,7 +141,7 @@ def baseline_program(folder, sources=SOURCES):
     return program
 
 
-def our_program(folder, sources=SOURCES):
+def our_program(folder, sources=SOURCES, libraries=PROGRAM_LIBRARIES):
     """The path of our program in a folder of sources, proved and built in a repository of its own over copies of crates."""
     name = os.path.basename(sources)
     repository, program = os.path.join(folder, name + "_repository"), name + "_bench"
@@ -149,13 +149,17 @@ def our_program(folder, sources=SOURCES):
     os.makedirs(os.path.join(crate, "src"), exist_ok=True)
     if not os.path.exists(os.path.join(repository, ".git")):
         subprocess.check_call(["git", "init", "--quiet", repository])
-    libraries = lookup.needed(PROGRAM_LIBRARIES, lookup.crates())
+    needed = lookup.needed(libraries, lookup.crates())
     with open(os.path.join(repository, "crates.txt"), "w") as file:
-        for name, uses in [*libraries.items(), (program, PROGRAM_LIBRARIES)]:
+        for name, uses in [*needed.items(), (program, libraries)]:
             file.write("%s: %s\n" % (name, " ".join(uses)))
-    for library in libraries:
+    for library in needed:
         lookup.copy_crate(library, repository)
     shutil.copyfile(os.path.join(sources, "main.rt.txt"), os.path.join(crate, "src", "main.rt"))
+    invariants = os.path.join(sources, "Invariants.antt.txt")
+    if os.path.exists(invariants):
+        os.makedirs(os.path.join(crate, "proofs", "run"), exist_ok=True)
+        shutil.copyfile(invariants, os.path.join(crate, "proofs", "run", "Invariants.antt"))
     built = os.path.join(crate, "out", program)
     if os.path.exists(built):
         os.remove(built)

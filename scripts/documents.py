@@ -10,7 +10,7 @@ import re
 import laws
 
 QUOTED = re.compile(r"`([^`\n]+)`")
-PATH = re.compile(r"(crates|docs|scripts|bench|src|specs|proofs|must-fail)/\S*|[\w.*/-]+\.(rt|antt|edit|md|py)")
+PATH = re.compile(r"(crates|docs|scripts|bench|src|specs|proofs|edits|must-fail)/\S*|[\w.*/-]+\.(rt|antt|edit|md|py)")
 ANY_NAME = re.compile(r"\b[A-Z]+\b")
 """A name in capitals within a path, as in crates/NAME/src, stands for any name."""
 
@@ -32,7 +32,7 @@ DEFINED = re.compile(r"\bpub (?:record |data )?(\w+)")
 LAWS = re.compile(r"`(?:(\w+)::)?(law(?:::\w+)*)`" + LISTED)
 """A law or a module of laws, by its path, and others of the same module."""
 
-EDIT_FILE = re.compile(r"^crates/\w+/must-fail/(.*)\.edit$")
+EDIT_FILE = re.compile(r"^crates/(\w+)/(?:edits|must-fail)/(?:\w+/)?([^/]*)\.edit$")
 TEST = re.compile(r"#\[test\]\s+(?:#\[.*\]\s+)*fn (\w+)")
 CELL_END = re.compile(r" \|(?= |$)")
 EDITS, TESTS = "Edits", "Tests"
@@ -68,8 +68,9 @@ def is_end(name, paths):
 
 def missing_edits(texts):
     """The places in the columns of edits that name none of their crate."""
+    edits = {found.groups() for found in map(EDIT_FILE.match, texts) if found}
     for place, crate, column, name in quotations(texts, code_documents(texts)):
-        if column == EDITS and "crates/%s/must-fail/%s.edit" % (crate, name) not in texts:
+        if column == EDITS and (crate, name) not in edits:
             yield "%s names %s" % (place, name)
 
 
@@ -138,7 +139,7 @@ def unnamed_laws(texts):
 
 def unnamed_edits(texts):
     """The edits that the README of their crate does not name."""
-    return unnamed_there(texts, {path: EDIT_FILE.findall(path) for path in texts})
+    return unnamed_there(texts, {path: [found.group(2)] for path in texts for found in [EDIT_FILE.match(path)] if found})
 
 
 def unnamed_there(texts, names):

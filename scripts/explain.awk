@@ -6,7 +6,7 @@
 # A row is that of the line if a text in backquotes in its first cell has the line's words, where a capital
 # letter stands for any number, and the line may have more words at its end. Of several such rows the one with
 # the most words is taken, of those one for the command alone, which begins with “from `WORD`”, and of those the
-# one with the fewest letters. “the same” is what the row above says to do, and what it means to write a
+# one with the fewest letters. A `"` is what the row above says to do, and what it means to write a
 # commit-graph anew stands in a row too.
 
 BEGIN {
@@ -17,7 +17,7 @@ BEGIN {
 
 /^\| / {
     split(substr($0, 3), cells, / *\|( |$)/)
-    if (cells[3] != "the same") to_do = cells[3]
+    if (cells[3] != "\"") to_do = cells[3]
     spans = split(cells[1], span, "`")
     for (at = 2; at <= spans; at += 2) look(span[at])
 }

@@ -5,7 +5,7 @@ import re
 EXPORTER = "gix_commitgraph"
 """The crate that re-exports the laws of those below it. They are named by its paths."""
 
-PUBLIC_PATHS = "crates/public_paths/src/"
+PUBLIC_PATHS = "crates/test_public_paths/src/"
 FILE = re.compile(r"crates/\w+/src/(.*/)?law(/.*)?\.rt")
 LAW = re.compile(r"^pub fn (\w+)", re.MULTILINE)
 PUBLIC = re.compile(r"^pub mod law;", re.MULTILINE)

@@ -39,6 +39,7 @@ DEFINITIONS = {
     "found_text": "what `walk` found, and what `check` did",
     "graph_number": "refusals by graphtool, and by the library for C",
     "id_at": "an id of a layer, written for faults and for lines alike",
+    "parent_number": "refusals by graphtool, and by the library for C",
     "parents_at": "parents of a planned commit, and of one of a history",
     "place": "a place in a layer's chunk of filters, and of dates",
     "start_of": "where a filter begins, and a chunk",

@@ -30,7 +30,7 @@ def read_rows() -> List[Row]:
             section = line[3:]
         elif line.startswith("| "):
             first, happened, *more = line.strip("| ").split(" | ")
-            to_do = to_do if more[:1] == ["the same"] else "".join(more[:1])
+            to_do = to_do if more[:1] == ['"'] else "".join(more[:1])
             command = FROM.match(happened)
             for text in re.findall(r"`([^`]*)`", first):
                 rows.append(Row(text, section, command and command.group(1), FROM.sub("", happened, count=1), to_do))

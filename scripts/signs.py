@@ -6,6 +6,9 @@ from documents import LINK, QUOTED, README, used_crates
 
 MAP = "docs/DEFINITIONS.md"
 LONGEST = 60
+MOST_WORDS = 16000
+CODE = re.compile(r"^```.*?^```|^    .*?$", re.MULTILINE | re.DOTALL)
+WORD = re.compile(r"\S*[^\W_]\S*")
 STANDS_ON = re.compile(r"^Stands on:? (.*?)\.(?: |$)", re.MULTILINE | re.DOTALL)
 
 
@@ -23,6 +26,13 @@ def long_ones(texts):
     for path, text in texts.items():
         if README.fullmatch(path) and text.count("\n") > LONGEST:
             yield "%s has %d lines" % (path, text.count("\n"))
+
+
+def too_many_words(texts):
+    """How many words all documents have together, blocks of code aside, where that is too many."""
+    words = sum(len(WORD.findall(CODE.sub("", text))) for path, text in texts.items() if path.endswith(".md"))
+    if words > MOST_WORDS:
+        yield "%d words" % words
 
 
 def wrong_grounds(texts):

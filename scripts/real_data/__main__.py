@@ -14,7 +14,8 @@ usage: python3 scripts/real_data GRAPHTOOL HISTORYTOOL [every-value]
   parents that Git lists; where times are in order, also as `git rev-list --left-right --count` counts them.
   Also of long histories, in a file and in a chain, and of small ones with cycles, beside all walks.
 - `check`: the lines of `verify`, and those of the corrected dates and changed-path filters that Git writes; damaged
-  ones by a plain reading, and beside what Git then answers of ancestors and of paths.
+  ones by a plain reading, and beside what Git then answers of ancestors and of paths. Each filter has the bits of
+  the paths that `git diff-tree` names and of the folders that lead there, and no others.
 - `distinct`: the words of `verify`, and an id that was put into two layers or more, next to one another
   and far apart.
 - each byte of three small files, changed to some other values, or with `every-value` to all of them, beside

@@ -233,7 +233,7 @@ def interrupted(clone, repository, number):
         os.killpg(running.pid, number)
         out, err = running.communicate()
     seconds = time.monotonic() - since
-    right = running.returncode == -number and not out and not err and seconds < 5
+    right = running.returncode == -number and not out and not err and seconds < 25
     return None if right else "status %d, %r and %r after %.1f s" % (running.returncode, out, err, seconds)
 
 

@@ -10,7 +10,7 @@ ghost use Rattle.corrected_dates.specs.StoredDates.{stored_dates, NamesOneOf};
 ghost use Rattle.corrected_dates.specs.declared.LayerDatesError.TheVariants.{OutOfMemory};
 
 use graph_format::file::Position;
-use graph_layout::numbers::{long_at, word_at};
+use graph_format::numbers::{long_at, word_at};
 use thiserror::Error;
 
 /// Where the words of `GDA2` begin that name numbers of the overflow list.

@@ -1,4 +1,4 @@
--- laws of `first_below`
+-- laws of `when`, `otherwise` and `first_below`
 use Rattle.std.proofs.Common.{◌≡◌, ℕ, zero, suc, ◌+◌, ◌<◌, Bool, true, false, cond, Option, Some, None, [], ◌∷◌, map, refl, sym}
 use Rattle.std.proofs.Common.{ap, ◌∙◌, subst, ⊎_elim, arith, add-one}
 use Rattle.std.specs.Prelude.{◌↔◌}
@@ -8,7 +8,7 @@ use Rattle.std.specs.List.{find, range_with_len}
 use Rattle.std.proofs.lemmas.Bool.{cases_eq}
 use Rattle.std.proofs.lemmas.List.Folds.{find-append}
 use Rattle.std.proofs.lemmas.List.FromFn.{map-range_with_len_more}
-use Rattle.first_faults.specs.First.{first_below, IsLeastGiving}
+use Rattle.first_faults.specs.First.{◌when◌, ◌otherwise◌, first_below, IsLeastGiving}
 
 pub option_or-none_left : {X : Type 0} (a b : Option X) → option_or a b ≡ None → a ≡ None
 option_or-none_left None b h = refl
@@ -27,6 +27,14 @@ then_some-none false x h = refl
 
 pub then_some-false : {X : Type 0} (b : Bool) (x : X) → b ≡ false → then_some b x ≡ None
 then_some-false b x h = rw h refl
+
+-- where no fault is named, the test fails
+pub when-none : {E : Type 0} (fault : E) (test : Bool) → (fault when test) ≡ None → test ≡ false
+when-none fault test h = then_some-none test fault h
+
+-- where no fault is named, each part names none
+pub otherwise-none : {E : Type 0} (first second : Option E) → (first otherwise second) ≡ None → (first ≡ None) × (second ≡ None)
+otherwise-none first second h = (option_or-none_left first second h, option_or-none_right first second h)
 
 -- where nothing is given below i, what is given below the next number is what f gives at i
 pub first_below-next : {X : Type 0} (f : ℕ → Option X) (i : ℕ) → first_below f i ≡ None → first_below f (i + 1) ≡ f i

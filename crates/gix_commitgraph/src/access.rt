@@ -26,7 +26,7 @@ pub(crate) struct LookupByIdResult<'a> {
 
 impl Graph {
     /// The kind of the ids of all layers.
-    #[tactic(auto, using(crate::proofs::LayerListLemmas::kind_laws))]
+    #[tactic(auto, using(crate::proofs::layers::LayerListLemmas::kind_laws))]
     pub fn object_hash(&self) -> Kind
         ensures kind { All (λ layer. layer.kind ≡ result) self.now }
         ensures some { 0 < length self.now }

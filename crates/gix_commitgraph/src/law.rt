@@ -10,7 +10,7 @@ pub mod stats;
 pub mod walk;
 
 pub use graph_format::law::{
-    bytes_fall_into_pieces, each_is_answered, each_is_refused_or_read, edges,
+    bytes_fall_into_pieces, each_id_has_a_record, each_is_answered, each_is_refused_or_read, edges,
     falling_fans_are_named, limits_are_these_numbers, lookup,
     positions_are_ordered_by_their_numbers,
 };

@@ -14,8 +14,8 @@ use Rattle.graph_format.specs.Layer.{Layer, IsOpened, record_at}
 use Rattle.graph_format.specs.Parents.{parents_of, position_of}
 use Rattle.graph_format.specs.StoredHistory.{history_of}
 use Rattle.gix_commitgraph.specs.Graph.{graph_commits, start, stop, total}
-use Rattle.gix_commitgraph.proofs.GraphHistoryLemmas.{parents-at, length-history}
-use Rattle.gix_commitgraph.proofs.LayerListLemmas.{graph_commits-counted, start-more, start-fits}
+use Rattle.gix_commitgraph.proofs.history.GraphHistoryLemmas.{parents-at, length-history}
+use Rattle.gix_commitgraph.proofs.layers.LayerListLemmas.{graph_commits-counted, start-more, start-fits}
 use Rattle.graph_layer.specs.Commit.{commit_layer, commit_pos, commit_record, commit_parents}
 use Rattle.graph_layer.specs.declared.file.commit.Commit.{Commit}
 use Rattle.graph_chunks.specs.StoredDates.{times_of, dates_of}

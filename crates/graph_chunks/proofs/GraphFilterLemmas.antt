@@ -20,10 +20,10 @@ use Rattle.changed_paths.specs.declared.filters.LayerFiltersError.TheVariants.{I
 use Rattle.changed_paths.specs.declared.filters.LayerFiltersError.TheVariants.{Falls, PastEnd, LeftOver}
 use Rattle.changed_paths.proofs.FiltersLemmas.{filters_of-at, length-filters_of}
 use Rattle.graph_format.specs.Layer.{Layer}
-use Rattle.graph_layout.specs.Numbers.{word_in}
+use Rattle.graph_format.specs.Numbers.{word_in}
 use Rattle.gix_commitgraph.specs.Graph.{graph_commits, start, stop, total}
-use Rattle.gix_commitgraph.proofs.LayerListLemmas.{get-front, graph_commits-at, start-more}
-use Rattle.gix_commitgraph.proofs.PositionLemmas.{length-graph_commits}
+use Rattle.gix_commitgraph.proofs.layers.LayerListLemmas.{get-front, graph_commits-at, start-more}
+use Rattle.gix_commitgraph.proofs.layers.PositionLemmas.{length-graph_commits}
 use Rattle.graph_chunks.specs.StoredFilters.{index_in, data_in, both_refused, layer_filters_refusal}
 use Rattle.graph_chunks.specs.Filters.{FiltersOfGraph, is_computed, settings_with, settings_in, settings_of, filter_with}
 use Rattle.graph_chunks.specs.Filters.{filter_in}

@@ -16,8 +16,8 @@ use Rattle.corrected_dates.specs.declared.LayerDatesError.{LayerDatesError}
 use Rattle.graph_format.specs.Layer.{Layer, IsOpened}
 use Rattle.graph_walks.specs.Dates.{number_at}
 use Rattle.gix_commitgraph.specs.Graph.{IsGraph, start, total}
-use Rattle.gix_commitgraph.proofs.LayerListLemmas.{counted-fits, start-more, start-none}
-use Rattle.gix_commitgraph.proofs.GraphHistoryLemmas.{length-records}
+use Rattle.gix_commitgraph.proofs.layers.LayerListLemmas.{counted-fits, start-more, start-none}
+use Rattle.graph_format.proofs.LayerHistoryLemmas.{opened_is_paired}
 use Rattle.graph_chunks.specs.StoredDates.{offsets_in, overflow_in, times_in, dates_in, dates_of, layer_refusal}
 use Rattle.graph_chunks.specs.Dates.{in_graph, reading_fault}
 
@@ -82,7 +82,7 @@ unfolding dates_in stored_dates
 length-dates_in layer opened =
     length-map-range_with_len (date_of (offsets_in layer) (overflow_in layer) (times_in layer)) 0 (length (times_in layer))
     ∙ length-map layer.records (λ r. r.time)
-    ∙ length-records layer opened
+    ∙ opened_is_paired layer opened
 
 pub length-dates_of : (layers : List Layer) → All IsOpened layers → length (dates_of layers) ≡ total layers
 unfolding dates_of

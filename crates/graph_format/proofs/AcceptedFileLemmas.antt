@@ -9,19 +9,13 @@ use Rattle.gix_hash_core.specs.declared.kind.Kind.TheVariants.{Sha1, Sha256}
 use Rattle.gix_hash_core.specs.Kind.{id_len, kind_of}
 use Rattle.gix_chunk_core.specs.Table.{Chunks}
 use Rattle.gix_chunk_core.proofs.TableLemmas.{table_fault-none}
-use Rattle.first_faults.proofs.FirstLemmas.{option_or-none_left, option_or-none_right, then_some-none, first_below-none_at}
-use Rattle.first_faults.specs.First.{◌otherwise◌}
+use Rattle.first_faults.proofs.FirstLemmas.{otherwise-none, then_some-none, first_below-none_at}
 use Rattle.graph_format.specs.Format.{record_of, record_len, commits_of, kind_in, fan_of, signature, least_size, table_of}
 use Rattle.graph_format.specs.Format.{chunk_of, pieces, words, fan_id, ids_id, records_id, edges_id, bases_id}
 use Rattle.graph_format.specs.Layer.{IsLayer, decoded_layer}
-use Rattle.graph_format.specs.RefusalSteps.{header_refusal, bases_refusal, records_refusal, fan_refusal, ids_refusal}
-use Rattle.graph_format.specs.RefusalSteps.{edges_refusal, sizes_refusal, trailer_refusal, counts_refusal, checked}
+use Rattle.graph_format.specs.Refusal.{header_refusal, bases_refusal, records_refusal, fan_refusal, ids_refusal}
+use Rattle.graph_format.specs.Refusal.{edges_refusal, sizes_refusal, trailer_refusal, counts_refusal}
 use Rattle.graph_format.specs.Refusal.{falling_refusal, fall_after, has_other_count, refusal, size_of}
-use Rattle.graph_format.proofs.RefusalStepLemmas.{checked-is}
-
--- where no fault is named, each part names none
-pub otherwise-none : {E : Type 0} (first second : Option E) → (first otherwise second) ≡ None → (first ≡ None) × (second ≡ None)
-otherwise-none first second h = (option_or-none_left first second h, option_or-none_right first second h)
 
 option_map-none : {X Y : Type 0} (f : X → Y) (o : Option X) → option_map f o ≡ None → o ≡ None
 option_map-none f None h = refl
@@ -63,8 +57,8 @@ pub record IsAccepted (bytes : List ℕ) : Type 0 where
   pub falling : falling_refusal (fan_of bytes) ≡ None
   pub counts : counts_refusal (kind_in bytes) bytes ≡ None
 
-accepted-parts : (bytes : List ℕ) → checked bytes ≡ None → IsAccepted bytes
-unfolding checked sizes_refusal table_of
+accepted-parts : (bytes : List ℕ) → refusal bytes ≡ None → IsAccepted bytes
+unfolding refusal sizes_refusal table_of
 accepted-parts bytes h =
     let header = otherwise-none _ _ h in
     let table = otherwise-none _ _ header.1 in
@@ -175,7 +169,7 @@ rising fan h i k = ltb-false _ _ (then_some-none _ _ (first_below-none_at (fall_
 pub accepted : (bytes path : List ℕ) → refusal bytes ≡ None → IsLayer bytes path (decoded_layer bytes path)
 unfolding decoded_layer fan_of
 accepted bytes path h =
-    let parts = accepted-parts bytes (checked-is bytes ∙ h) in
+    let parts = accepted-parts bytes h in
     let counted = counts-accepted bytes parts.trailer parts.counts in
     let kind = kind_in bytes in
     record {

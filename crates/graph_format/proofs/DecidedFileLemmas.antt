@@ -13,10 +13,9 @@ use Rattle.graph_format.specs.Format.{Record, record_of, record_len, commits_of,
 use Rattle.graph_format.specs.Format.{words, fan_id, ids_id, records_id, bases_id}
 use Rattle.graph_format.specs.Layer.{Layer, IsLayer, decoded_layer}
 use Rattle.graph_format.specs.Law.{IsDecided, IsOnlyLayer}
-use Rattle.graph_format.specs.RefusalSteps.{header_refusal, bases_refusal, records_refusal, fan_refusal, ids_refusal}
-use Rattle.graph_format.specs.RefusalSteps.{edges_refusal, sizes_refusal, trailer_refusal, counts_refusal, checked}
+use Rattle.graph_format.specs.Refusal.{header_refusal, bases_refusal, records_refusal, fan_refusal, ids_refusal}
+use Rattle.graph_format.specs.Refusal.{edges_refusal, sizes_refusal, trailer_refusal, counts_refusal}
 use Rattle.graph_format.specs.Refusal.{falling_refusal, fall_after, has_other_count, refusal, size_of}
-use Rattle.graph_format.proofs.RefusalStepLemmas.{checked-is}
 use Rattle.graph_format.specs.Opened.{IsAnswered, layer_of, unless_refused}
 use Rattle.graph_format.specs.declared.error.FileError.{FileError}
 use Rattle.graph_format.specs.declared.error.FileError.TheVariants.{Chunks}
@@ -127,9 +126,9 @@ counts-right bytes path layer h =
     ∙ (records-right layer.kind _ _ _ h.records).1))
 
 -- a file of a layer is not refused
-not_checked : (bytes path : List ℕ) (layer : Layer) → IsLayer bytes path layer → checked bytes ≡ None
-unfolding checked
-not_checked bytes path layer h =
+pub not_refused : (bytes path : List ℕ) (layer : Layer) → IsLayer bytes path layer → refusal bytes ≡ None
+unfolding refusal
+not_refused bytes path layer h =
     let kind = kind-right bytes path layer h in
     option_or-none _ _ (header-right bytes path layer h)
     (option_or-none _ _ (ap (option_map Chunks) (fault_free bytes 8 (slice_index bytes 6) (table_of bytes) h.table))
@@ -137,9 +136,6 @@ not_checked bytes path layer h =
     (option_or-none _ _ (ap (λ (k : Kind). trailer_refusal k bytes) kind ∙ trailer-right bytes path layer h)
     (option_or-none _ _ (falling-right _ (rw (fan_of-right bytes path layer h) h.rising))
     (ap (λ (k : Kind). counts_refusal k bytes) kind ∙ counts-right bytes path layer h)))))
-
-pub not_refused : (bytes path : List ℕ) (layer : Layer) → IsLayer bytes path layer → refusal bytes ≡ None
-not_refused bytes path layer h = sym (checked-is bytes) ∙ not_checked bytes path layer h
 
 make : Kind → List (List ℕ) → List ℕ → List (List ℕ) → List Record → Option (List ℕ) → List ℕ → List ℕ → List ℕ → Layer
 make kind bases fan ids records edges checksum body path =

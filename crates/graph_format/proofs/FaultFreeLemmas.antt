@@ -11,11 +11,6 @@ use Rattle.std.specs.Option.{option_map}
 use Rattle.first_faults.specs.First.{◌when◌}
 use Rattle.graph_format.specs.Points.{Point, check, call, first_some, first_fault}
 
--- a condition that names no fault does not hold
-pub when-none : {E : Type 0} (fault : E) (test : Bool) → (fault when test) ≡ None → test ≡ false
-when-none fault true h = cc
-when-none fault false h = refl
-
 pub option_map-none : {X Y : Type 0} (f : X → Y) (o : Option X) → (option_map f o ≡ None) ↔ (o ≡ None)
 option_map-none f None = (λ h. refl, λ h. refl)
 option_map-none f (Some x) = (λ h. cc, λ h. cc)

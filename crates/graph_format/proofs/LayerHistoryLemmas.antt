@@ -40,8 +40,8 @@ many_records kind c (Some chunk) records h =
     ∙ many (record_len kind) c chunk (omega (arith, positive kind)) h.0
 
 -- an opened layer is paired
-pub opened-paired : (layer : Layer) → IsOpened layer → IsPaired layer
-opened-paired layer opened =
+pub opened_is_paired : (layer : Layer) → IsOpened layer → IsPaired layer
+opened_is_paired layer opened =
     many_records layer.kind _ _ layer.records opened.records ∙ sym (many_ids layer.kind _ _ layer.ids opened.ids)
 
 -- each layer's part has as many commits as the layer

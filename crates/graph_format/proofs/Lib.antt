@@ -3,7 +3,6 @@ pub mod ExtraEdgeLemmas
 pub mod PieceLemmas
 pub mod DecidedFileLemmas
 pub mod FallingFanLemmas
-pub mod RefusalStepLemmas
 pub mod WholePieceLemmas
 pub mod DigitLemmas
 pub mod ScanLemmas
@@ -14,3 +13,8 @@ pub mod CommitFaultFreeLemmas
 pub mod CallRangeLemmas
 pub mod LayerHistoryLemmas
 pub mod RightLayerLemmas
+pub mod ChunkLemmas
+pub mod ChunkSizeLemmas
+pub mod DecodedRecordLemmas
+pub mod FanLemmas
+pub mod LayoutLemmas

@@ -5,13 +5,12 @@ use Rattle.std.proofs.lemmas.Bool.{not-false, eqb-true, eq-eqb}
 use Rattle.std.proofs.lemmas.Slice.Eq.{bytes_eq-Decides}
 use Rattle.first_faults.specs.First.{first_below}
 use Rattle.first_faults.proofs.FirstLemmas.{option_or-none, then_some-false, first_below-none_at, first_below-none_from}
+use Rattle.first_faults.proofs.FirstLemmas.{otherwise-none, when-none}
 use Rattle.gix_hash_core.specs.Digest.{digest_of}
 use Rattle.graph_format.specs.Layer.{Layer}
 use Rattle.graph_format.specs.Order.{IsExactFan}
 use Rattle.graph_format.specs.NameRule.{KeepsNameRule}
 use Rattle.graph_format.specs.Faults.{wrong_fan, layer_fault}
-use Rattle.graph_format.proofs.AcceptedFileLemmas.{otherwise-none}
-use Rattle.graph_format.proofs.FaultFreeLemmas.{when-none}
 use Rattle.graph_format.proofs.NameRuleLemmas.{is_named_right-iff}
 
 -- the fan is exact

@@ -6,7 +6,10 @@ pub mod Reports
 pub mod Format
 pub mod Layer
 pub mod Refusal
-pub mod RefusalSteps
+pub mod ChunkRanges
+pub mod Layout
+pub mod DecodedRecords
+pub mod Numbers
 pub mod Opened
 pub mod Parents
 pub mod Law

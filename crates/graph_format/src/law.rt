@@ -5,9 +5,10 @@ pub mod edges;
 pub mod lookup;
 pub mod name;
 
-ghost use Rattle.std.specs.Prelude.{◌≡◌, ℕ, List};
+ghost use Rattle.std.specs.Prelude.{◌≡◌, ℕ, List, length};
 ghost use Rattle.std.specs.Ordering.{nat_cmp};
 ghost use Rattle.graph_format.specs.Law.{IsDecided, NamesFirstFall, FallIntoPieces};
+ghost use Rattle.graph_format.specs.Layer.{Layer, IsOpened};
 ghost use Rattle.graph_format.specs.Opened.{IsAnswered};
 ghost use Rattle.graph_format.specs.declared.Position.{Position};
 ghost use Rattle.graph_format.specs.declared.TheConstants.{MAX_COMMITS, GENERATION_NUMBER_INFINITY};
@@ -26,6 +27,12 @@ pub fn each_is_refused_or_read()
 #[tactic(auto, using(crate::proofs::DecidedFileLemmas::answered))]
 pub fn each_is_answered()
     ensures { (bytes path : List ℕ) → IsAnswered bytes path }
+{}
+
+/// A layer that was opened has one record for each of its ids.
+#[tactic(auto, using(crate::proofs::LayerHistoryLemmas::opened_is_paired))]
+pub fn each_id_has_a_record()
+    ensures { (layer : Layer) → IsOpened layer → length layer.records ≡ length layer.ids }
 {}
 
 /// A fan is refused for the first byte at which it falls, and a fan that falls nowhere is not.

@@ -1,18 +1,24 @@
 //! What Git's commit-graph files say, version 1: their layout, the conditions under which bytes are
 //! a layer, records, parents and extra edges, and the points that a check goes through.
 //!
-//! These are definitions and their laws. The only code is that of the types that the crates above
-//! return: positions, parent fields, and why bytes, layers and commits are refused.
+//! Beside definitions and their laws there is what is done with the bytes before there is a layer:
+//! where its parts lie, and how its fan, its records and its extra edge list are decoded.
 #![tactic(auto)]
 
 ghost use Rattle.std.specs.Prelude.{Some};
 ghost use Rattle.std.specs.Fmt.{styled_decimal};
 
+pub mod chunks;
 pub mod error;
+pub mod fan;
 pub mod fault;
 pub mod file;
+mod header;
 pub mod law;
+pub mod layout;
+pub mod numbers;
 pub mod parents;
+pub mod records;
 
 use std::fmt;
 

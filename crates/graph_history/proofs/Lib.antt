@@ -13,6 +13,7 @@ pub mod KnownAnswerLemmas
 pub mod DescentLemmas
 pub mod PushLemmas
 pub mod ReachLemmas
+pub mod TrailLemmas
 pub mod PaintLemmas
 pub mod CoatLemmas
 pub mod TouchLemmas

@@ -31,15 +31,15 @@ listed_at : (list : List ℕ) (w : ℕ) (e : ExtraEdge) → w < length list → 
 listed_at list w e lt is =
     rw (add-one w) (ap listed (drop-cons list w 0 lt) ∙ ap (λ (x : ExtraEdge). extra_parent x (listed (drop (suc w) list))) is)
 
-named_past : (list : List ℕ) (w : ℕ) → length list ≤ w → named_from list w ≡ []
+pub named_past : (list : List ℕ) (w : ℕ) → length list ≤ w → named_from list w ≡ []
 named_past list w le = ap (λ (xs : List ℕ). map (λ (pos : Position). pos.0) (listed xs).positions) (drop_all w list le)
 
 module _ (list : List ℕ) (w : ℕ) (pos : Position) (lt : w < length list) where
-  named_internal : extra_edge_of (get_or list w 0) ≡ extra.Internal pos → named_from list w ≡ pos.0 ∷ named_from list (w + 1)
+  pub named_internal : extra_edge_of (get_or list w 0) ≡ extra.Internal pos → named_from list w ≡ pos.0 ∷ named_from list (w + 1)
   named_internal is =
       ap (λ (d : DecodedParents). map (λ (x : Position). x.0) d.positions) (listed_at list w (extra.Internal pos) lt is)
 
-  named_last : extra_edge_of (get_or list w 0) ≡ extra.Last pos → named_from list w ≡ pos.0 ∷ []
+  pub named_last : extra_edge_of (get_or list w 0) ≡ extra.Last pos → named_from list w ≡ pos.0 ∷ []
   named_last is = ap (λ (d : DecodedParents). map (λ (x : Position). x.0) d.positions) (listed_at list w (extra.Last pos) lt is)
 
 -- the words from one on that name parents of p

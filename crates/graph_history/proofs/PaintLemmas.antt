@@ -244,6 +244,17 @@ grows_right x y = record {
   stale = λ e. joined_stale x y ∙ or_right (is_stale x) (is_stale y) e;
 }
 
+-- no more than what two say together is what each says
+pub grows_joined : (x y z : Paint) → Grows x z → Grows y z → Grows (joined x y) z
+grows_joined x y z a b = record {
+  first = λ e. ⊎_elim a.first b.first (or_cases (first_leads x) (first_leads y) (sym (joined_first x y) ∙ e));
+  others = λ e. ⊎_elim a.others b.others (or_cases (others_lead x) (others_lead y) (sym (joined_others x y) ∙ e));
+  stale = λ e. ⊎_elim a.stale b.stale (or_cases (is_stale x) (is_stale y) (sym (joined_stale x y) ∙ e));
+}
+
+pub covers_joined : (x y : Paint) → covers x y ≡ true → joined x y ≡ x
+covers_joined x y e = cond-true (covers x y) x _ e
+
 pub covers_grows : (x y : Paint) → covers x y ≡ true → Grows y x
 covers_grows x y e =
     subst (Grows y) (cond-true (covers x y) x _ e) (grows_right x y)

@@ -1,105 +1,267 @@
--- What a commit that was taken from the queue passes on to its parents, one after another.
-use Rattle.std.proofs.Common.{◌≡◌, ◌≢◌, ◌⊎◌, ℕ, ◌<◌, List, [], ◌∷◌, length, false, All, Contains, sym, ap, ◌∙◌, subst, inl, inr}
-use Rattle.std.proofs.Common.{⊎_elim}
-use Rattle.std.proofs.Common.{arith}
-use Rattle.std.proofs.lemmas.Bool.{cases_eq}
-use Rattle.std.proofs.lemmas.List.Elements.{All-head, All-tail}
-use Rattle.graph_walks.specs.History.{Node, IsParent, parents_at}
+-- What a commit that was taken from the queue passes on to its parents.
+use Rattle.std.proofs.Common.{◌≡◌, ◌≢◌, ◌⊎◌, ℕ, zero, suc, ◌+◌, ◌<◌, ◌≤◌, List, [], length, get_or, true, false, Contains}
+use Rattle.std.proofs.Common.{refl, sym, ap, ◌∙◌, subst, inl, inr, ⊎_elim, arith}
+use Rattle.std.proofs.lemmas.Bool.{cases_eq, cases_lt, false≢true}
+use Rattle.graph_walks.specs.History.{Node, IsParent}
+use Rattle.graph_format.specs.Parents.{extra_edge_of}
 use Rattle.graph_format.specs.declared.Position.{Position}
-use Rattle.graph_history.specs.Answer.{numbers_of}
+use Rattle.graph_format.specs.declared.parents.ExtraEdge.{ExtraEdge}
+use Rattle.graph_format.specs.declared.parents.ExtraEdge.TheVariants as extra
+use Rattle.graph_format.specs.Layer.{Layer}
+use Rattle.graph_history.specs.Commits.{named_by, named_from, list_in}
+use Rattle.graph_history.specs.declared.painting.Painting.{Painting}
+use Rattle.graph_history.specs.declared.trails.Trails.{Trails}
 use Rattle.graph_history.specs.declared.paint.Coat.{Coat}
 use Rattle.graph_history.specs.declared.paint.Paint.{Paint}
-use Rattle.graph_history.specs.Paint.{passed, paint_at, is_queued, IsSo, Grows}
-use Rattle.graph_history.specs.Painting.{IsSpread, IsSpreadBut, Adds}
-use Rattle.graph_history.proofs.PaintLemmas.{grows_trans, so_passed}
-use Rattle.graph_history.proofs.CoatLemmas.{but_added}
-use Rattle.graph_history.proofs.ListLemmas.{head_contained, tail_contained, contained_cases}
+use Rattle.graph_history.specs.declared.paint.Paint.TheVariants.{Bare}
+use Rattle.graph_history.specs.Paint.{covers, joined, passed, paint_at, is_queued, Grows}
+use Rattle.graph_history.specs.Painting.{IsSpread, IsSpreadBut, IsPassed, PassesPaint, PassesOn}
+use Rattle.graph_history.specs.Trails.{trail_at, trail_in}
+use Rattle.graph_history.proofs.ListLemmas.{contained_cases, named_internal, named_last, named_past}
+use Rattle.graph_history.proofs.PaintLemmas.{grows_trans, grows_left, grows_right, grows_joined, covers_joined}
 
--- Of the parents of a commit, all but those that are left have heard what is known of it.
-pub record IsPassing (h : List Node) (a : ℕ) (bs : List ℕ) (commit : ℕ) (x : Paint) (coats : List Coat) (left : List Position)
-    : Type 0 where
-  pub but : IsSpreadBut h a bs coats commit
-  pub so : IsSo h a bs commit x
-  pub same : is_queued coats commit ≡ false → paint_at coats commit ≡ x
-  pub parents : (q : ℕ) → Contains (numbers_of left) q → IsParent h commit q
-  pub others : (q : ℕ) → IsParent h commit q → Grows (passed x) (paint_at coats q) ⊎ Contains (numbers_of left) q
-
-numbers_within : (n : ℕ) (left : List Position) → All (λ (q : Position). q.0 < n) left → (q : ℕ) → Contains (numbers_of left) q
-    → q < n
-numbers_within n [] all q contained = absurd (let lt = contained.1 in omega arith)
-numbers_within n (x ∷ xs) all q contained =
-    ⊎_elim
-    (λ (same : x.0 ≡ q). let first = All-head (λ (r : Position). r.0 < n) x xs all in omega arith)
-    (λ (later : Contains (numbers_of xs) q). numbers_within n xs (All-tail (λ (r : Position). r.0 < n) x xs all) q later)
-    (contained_cases x.0 q (numbers_of xs) contained)
-
-pub passing_begins : (h : List Node) (a : ℕ) (bs : List ℕ) (commit : ℕ) (x : Paint) (coats : List Coat) (left : List Position)
-    → commit < length h → IsSpreadBut h a bs coats commit → IsSo h a bs commit x → paint_at coats commit ≡ x
-    → numbers_of left ≡ parents_at h commit → All (λ (q : Position). q.0 < length h) left
-    → IsPassing h a bs commit x coats left
-passing_begins h a bs commit x coats left inside but so is exact within = record {
-  but = but;
-  so = so;
-  same = λ _. is;
-  parents = λ q contained. (
-    inside,
-    numbers_within (length h) left within q contained,
-    subst (λ (xs : List ℕ). Contains xs q) exact contained,
-  );
-  others = λ q parent. inr (subst (λ (xs : List ℕ). Contains xs q) (sym exact) parent.2);
-}
-
--- One of them is next.
-module _ (h : List Node) (a : ℕ) (bs : List ℕ) (commit : ℕ) (x : Paint) (coats : List Coat) (before left : List Position)
-    (q : Position) (passing : IsPassing h a bs commit x coats before) (split : before ≡ q ∷ left) where
-  numbers : numbers_of before ≡ q.0 ∷ numbers_of left
-  numbers = ap numbers_of split
-
-  pub passing_parent : IsParent h commit q.0
-  passing_parent =
-      passing.parents q.0
-      (subst (λ (xs : List ℕ). Contains xs q.0) (sym numbers) (head_contained q.0 (numbers_of left)))
-
-  pub passing_so : IsSo h a bs q.0 (passed x)
-  passing_so = so_passed h a bs commit q.0 x passing.so passing_parent
-
-  pub passing_next : (after : List Coat) → Adds q.0 (passed x) coats after → IsPassing h a bs commit x after left
-  passing_next after adds = record {
-    but = but_added h a bs q.0 (passed x) coats after adds commit passing.but;
-    so = passing.so;
-    same = λ settled.
-        (let was = adds.kept commit settled in
-        ap (λ (c : Coat). c.paint) was ∙ passing.same (sym (ap (λ (c : Coat). c.queued) was) ∙ settled));
-    parents = λ r contained.
-        passing.parents r
-        (subst (λ (xs : List ℕ). Contains xs r) (sym numbers) (tail_contained q.0 r (numbers_of left) contained));
-    others = λ r parent.
-        ⊎_elim
-        (λ (was : Grows (passed x) (paint_at coats r)).
-        inl (grows_trans (passed x) (paint_at coats r) (paint_at after r) was (adds.grows r)))
-        (λ (contained : Contains (numbers_of before) r).
-        ⊎_elim
-        (λ (same : q.0 ≡ r). inl (subst (λ (y : ℕ). Grows (passed x) (paint_at after y)) same adds.has))
-        (λ (later : Contains (numbers_of left) r). inr later)
-        (contained_cases q.0 r (numbers_of left) (subst (λ (xs : List ℕ). Contains xs r) numbers contained)))
-        (passing.others r parent);
-  }
-
-pub passing_ends : (h : List Node) (a : ℕ) (bs : List ℕ) (commit : ℕ) (x : Paint) (coats : List Coat) (left : List Position)
-    → IsPassing h a bs commit x coats left → left ≡ [] → IsSpread h a bs coats
-passing_ends h a bs commit x coats left passing none = record {
-  first = passing.but.first;
-  others = passing.but.others;
+-- All parents of a commit have heard what is known of it.
+pub spread_ends : (h : List Node) (a : ℕ) (bs : List ℕ) (commit : ℕ) (x : Paint) (coats : List Coat)
+    → IsSpreadBut h a bs coats commit → (is_queued coats commit ≡ false → paint_at coats commit ≡ x)
+    → ((q : ℕ) → IsParent h commit q → Grows (passed x) (paint_at coats q)) → IsSpread h a bs coats
+spread_ends h a bs commit x coats but same heard = record {
+  first = but.first;
+  others = but.others;
   passes = λ p q settled parent.
       ⊎_elim
       (λ (e : p ≡ commit).
-      let is = ap (paint_at coats) e ∙ passing.same (ap (is_queued coats) (sym e) ∙ settled) in
-      ⊎_elim
-      (λ (was : Grows (passed x) (paint_at coats q)). subst (λ (y : Paint). Grows (passed y) (paint_at coats q)) (sym is) was)
-      (λ (contained : Contains (numbers_of left) q).
-      let empty = subst (λ (xs : List Position). Contains (numbers_of xs) q) none contained in
-      absurd (omega (arith, empty.1)))
-      (passing.others q (subst (λ (y : ℕ). IsParent h y q) e parent)))
-      (λ (other : p ≢ commit). passing.but.passes p q other settled parent)
+      let is = ap (paint_at coats) e ∙ same (ap (is_queued coats) (sym e) ∙ settled) in
+      subst (λ (y : Paint). Grows (passed y) (paint_at coats q)) (sym is)
+      (heard q (subst (λ (y : ℕ). IsParent h y q) e parent)))
+      (λ (other : p ≢ commit). but.passes p q other settled parent)
       (cases_eq p commit);
+}
+
+bare_grows : (x : Paint) → Grows Bare x
+bare_grows x = record {
+  first = λ e. absurd (false≢true e);
+  others = λ e. absurd (false≢true e);
+  stale = λ e. absurd (false≢true e);
+}
+
+-- The words of an extra edge list.
+module _ (coats : List Coat) (list : List ℕ) (trail : List Paint) where
+  pub passed_none : ((w : ℕ) → trail_at trail w ≡ Bare) → IsPassed coats list trail
+  passed_none none = record {
+    named = λ w. subst (λ (x : Paint). Grows x (paint_at coats (named_by (extra_edge_of (get_or list w 0))))) (sym (none w))
+        (bare_grows _);
+    goes_on = λ w pos is. subst (λ (x : Paint). Grows x (trail_at trail (w + 1))) (sym (none w)) (bare_grows _);
+  }
+
+  pub passed_kept : (after : List Coat) → ((q : ℕ) → Grows (paint_at coats q) (paint_at after q)) → IsPassed coats list trail
+      → IsPassed after list trail
+  passed_kept after grows are = record {
+    named = λ w. grows_trans _ _ _ (are.named w) (grows _);
+    goes_on = are.goes_on;
+  }
+
+  pub passed_same : (after : List Paint) → ((w : ℕ) → trail_at after w ≡ trail_at trail w) → IsPassed coats list trail
+      → IsPassed coats list after
+  passed_same after same are = record {
+    named = λ w. subst (λ (x : Paint). Grows x (paint_at coats (named_by (extra_edge_of (get_or list w 0))))) (sym (same w))
+        (are.named w);
+    goes_on = λ w pos is.
+        subst (Grows (trail_at after w)) (sym (same (w + 1)))
+        (subst (λ (x : Paint). Grows x (trail_at trail (w + 1))) (sym (same w)) (are.goes_on w pos is));
+  }
+
+  -- all that is named from a word on has heard its paint
+  pub named_heard : IsPassed coats list trail → (x : Paint) (w : ℕ) → Grows x (trail_at trail w) → (q : ℕ)
+      → Contains (named_from list w) q → Grows x (paint_at coats q)
+  named_heard are x w heard q contained = within (length list) w (omega arith) heard contained where
+    one : (w : ℕ) → w < length list → Grows x (trail_at trail w) → Contains (named_from list w) q
+        → (Grows x (trail_at trail (w + 1)) → Contains (named_from list (w + 1)) q → Grows x (paint_at coats q))
+        → (e : ExtraEdge) → extra_edge_of (get_or list w 0) ≡ e → Grows x (paint_at coats q)
+    one w lt heard contained later (extra.Internal pos) is =
+        ⊎_elim
+        (λ (same : pos.0 ≡ q).
+        subst (λ (y : ℕ). Grows x (paint_at coats y)) (ap named_by is ∙ same) (grows_trans _ _ _ heard (are.named w)))
+        (λ (rest : Contains (named_from list (w + 1)) q). later (grows_trans _ _ _ heard (are.goes_on w pos is)) rest)
+        (contained_cases pos.0 q (named_from list (w + 1))
+        (subst (λ (xs : List ℕ). Contains xs q) (named_internal list w pos lt is) contained))
+    one w lt heard contained later (extra.Last pos) is =
+        ⊎_elim
+        (λ (same : pos.0 ≡ q).
+        subst (λ (y : ℕ). Grows x (paint_at coats y)) (ap named_by is ∙ same) (grows_trans _ _ _ heard (are.named w)))
+        (λ (none : Contains [] q). absurd (omega (arith, none.1)))
+        (contained_cases pos.0 q [] (subst (λ (xs : List ℕ). Contains xs q) (named_last list w pos lt is) contained))
+
+    within : (n w : ℕ) → length list ≤ w + n → Grows x (trail_at trail w) → Contains (named_from list w) q
+        → Grows x (paint_at coats q)
+    within zero w le heard contained =
+        let empty = subst (λ (xs : List ℕ). Contains xs q) (named_past list w (omega arith)) contained in
+        absurd (omega (arith, empty.1))
+    within (suc n) w le heard contained =
+        ⊎_elim
+        (λ (lt : w < length list).
+        one w lt heard contained (λ more rest. within n (w + 1) (omega arith) more rest) (extra_edge_of (get_or list w 0)) refl)
+        (λ (past : length list ≤ w).
+        let empty = subst (λ (xs : List ℕ). Contains xs q) (named_past list w past) contained in
+        absurd (omega (arith, empty.1)))
+        (cases_lt w (length list))
+
+-- The same while the word that is next is about to be passed with paint.
+pub record IsPassedTo (coats : List Coat) (list : List ℕ) (trail : List Paint) (next : ℕ) (x : Paint) : Type 0 where
+  pub named : (w : ℕ) → Grows (trail_at trail w) (paint_at coats (named_by (extra_edge_of (get_or list w 0))))
+  pub goes_on : (w : ℕ) (pos : Position) → extra_edge_of (get_or list w 0) ≡ extra.Internal pos
+      → Grows (trail_at trail w) (trail_at trail (w + 1))
+      ⊎ ((w + 1 ≡ next) × Grows (trail_at trail w) (joined (trail_at trail (w + 1)) x))
+
+module _ (coats : List Coat) (list : List ℕ) (trail : List Paint) (next : ℕ) (x : Paint) where
+  pub passed_begins : IsPassed coats list trail → IsPassedTo coats list trail next x
+  passed_begins are = record { named = are.named; goes_on = λ w pos is. inl (are.goes_on w pos is) }
+
+  module _ (are : IsPassedTo coats list trail next x) where
+    pub passed_stops : covers (trail_at trail next) x ≡ true → IsPassed coats list trail
+    passed_stops covered = record {
+      named = are.named;
+      goes_on = λ w pos is.
+          ⊎_elim
+          (λ (on : Grows (trail_at trail w) (trail_at trail (w + 1))). on)
+          (λ at.
+          subst (Grows (trail_at trail w))
+          (covers_joined (trail_at trail (w + 1)) x (ap (λ (v : ℕ). covers (trail_at trail v) x) at.0 ∙ covered)) at.1)
+          (are.goes_on w pos is);
+    }
+
+    -- that word is passed
+    module _ (more : List Coat) (after : List Paint) (grows : (q : ℕ) → Grows (paint_at coats q) (paint_at more q))
+        (heard : Grows x (paint_at more (named_by (extra_edge_of (get_or list next 0)))))
+        (here : trail_at after next ≡ joined (trail_at trail next) x)
+        (there : (w : ℕ) → w ≢ next → trail_at after w ≡ trail_at trail w) where
+      at_next : (w : ℕ) → w ≡ next → trail_at after w ≡ joined (trail_at trail w) x
+      at_next w e = ap (trail_at after) e ∙ here ∙ ap (λ (v : ℕ). joined (trail_at trail v) x) (sym e)
+
+      named_after : (w : ℕ) → Grows (trail_at after w) (paint_at more (named_by (extra_edge_of (get_or list w 0))))
+      named_after w =
+          ⊎_elim
+          (λ (e : w ≡ next).
+          subst (λ (y : Paint). Grows y (paint_at more (named_by (extra_edge_of (get_or list w 0))))) (sym (at_next w e))
+          (grows_joined (trail_at trail w) x _ (grows_trans _ _ _ (are.named w) (grows _))
+          (subst (λ (v : ℕ). Grows x (paint_at more (named_by (extra_edge_of (get_or list v 0))))) (sym e) heard)))
+          (λ (apart : w ≢ next).
+          subst (λ (y : Paint). Grows y (paint_at more (named_by (extra_edge_of (get_or list w 0))))) (sym (there w apart))
+          (grows_trans _ _ _ (are.named w) (grows _)))
+          (cases_eq w next)
+
+      -- the words that are not next
+      goes_on_after : (w : ℕ) (pos : Position) → w ≢ next → extra_edge_of (get_or list w 0) ≡ extra.Internal pos
+          → Grows (trail_at after w) (trail_at after (w + 1))
+      goes_on_after w pos apart is =
+          subst (λ (y : Paint). Grows y (trail_at after (w + 1))) (sym (there w apart))
+          (⊎_elim
+          (λ (e : w + 1 ≡ next).
+          subst (Grows (trail_at trail w)) (sym (at_next (w + 1) e))
+          (⊎_elim
+          (λ (on : Grows (trail_at trail w) (trail_at trail (w + 1))).
+          grows_trans _ _ _ on (grows_left (trail_at trail (w + 1)) x))
+          (λ at. at.1)
+          (are.goes_on w pos is)))
+          (λ (other : w + 1 ≢ next).
+          subst (Grows (trail_at trail w)) (sym (there (w + 1) other))
+          (⊎_elim
+          (λ (on : Grows (trail_at trail w) (trail_at trail (w + 1))). on)
+          (λ at. absurd (other at.0))
+          (are.goes_on w pos is)))
+          (cases_eq (w + 1) next))
+
+      pub passed_next : IsPassedTo more list after (next + 1) x
+      passed_next = record {
+        named = named_after;
+        goes_on = λ w pos is.
+            ⊎_elim
+            (λ (e : w ≡ next).
+            let other : w + 1 ≢ next = λ f. omega (arith, e, f) in
+            let on : Grows (trail_at trail w) (trail_at trail (w + 1)) =
+            ⊎_elim
+            (λ (was : Grows (trail_at trail w) (trail_at trail (w + 1))). was)
+            (λ at. absurd (other at.0))
+            (are.goes_on w pos is) in
+            inr (
+              ap (λ (v : ℕ). v + 1) e,
+              subst (λ (y : Paint). Grows y (joined (trail_at after (w + 1)) x)) (sym (at_next w e))
+                  (subst (λ (y : Paint). Grows (joined (trail_at trail w) x) (joined y x)) (sym (there (w + 1) other))
+                  (grows_joined (trail_at trail w) x _ (grows_trans _ _ _ on (grows_left (trail_at trail (w + 1)) x))
+                  (grows_right (trail_at trail (w + 1)) x))),
+            ))
+            (λ (apart : w ≢ next). inl (goes_on_after w pos apart is))
+            (cases_eq w next);
+      }
+
+      pub passed_last : (last : Position) → extra_edge_of (get_or list next 0) ≡ extra.Last last → IsPassed more list after
+      passed_last last ends = record {
+        named = named_after;
+        goes_on = λ w pos is.
+            ⊎_elim
+            (λ (e : w ≡ next).
+            let both : extra_edge_of (get_or list next 0) ≡ extra.Internal pos =
+            ap (λ (v : ℕ). extra_edge_of (get_or list v 0)) (sym e) ∙ is in
+            absurd (cc))
+            (λ (apart : w ≢ next). goes_on_after w pos apart is)
+            (cases_eq w next);
+      }
+
+      pub begun_after : (index : ℕ) → Grows x (trail_at trail index) ⊎ (index ≡ next) → Grows x (trail_at after index)
+      begun_after index begun =
+          ⊎_elim
+          (λ (e : index ≡ next).
+          subst (Grows x) (sym (at_next index e)) (grows_right (trail_at trail index) x))
+          (λ (apart : index ≢ next).
+          subst (Grows x) (sym (there index apart))
+          (⊎_elim
+          (λ (was : Grows x (trail_at trail index)). was)
+          (λ (e : index ≡ next). absurd (apart e))
+          begun))
+          (cases_eq index next)
+
+-- Words were passed, and nothing else has changed.
+pub passes_with : (s : Painting) (t : Trails) (p : ℕ) (x : Paint) → PassesPaint s p x
+    → PassesPaint (record s { coats = record s.coats { trails = t } }) p x
+passes_with s t p x r = record {
+  painting = record {
+    graph = r.painting.graph;
+    sound = r.painting.sound;
+    commits = r.painting.commits;
+    few = r.painting.few;
+    counted = record {
+      fresh = r.painting.counted.fresh;
+      ahead = r.painting.counted.ahead;
+      behind = r.painting.counted.behind;
+    };
+    paint = r.painting.paint;
+    waiting = r.painting.waiting;
+    gathered = r.painting.gathered;
+    touched = r.painting.touched;
+    visiting = r.painting.visiting;
+  };
+  within = r.within;
+  so = r.so;
+  uncapped = r.uncapped;
+  painted = r.painted;
+  own = r.own;
+  same = r.same;
+  spread = r.spread;
+  level = r.level;
+}
+
+-- the lists of all layers, where that of one was read
+pub are_passed_from : (coats : List Coat) (layers : List Layer) (trails : List (List Paint)) (layer : ℕ)
+    → ((i : ℕ) → i ≢ layer → IsPassed coats (list_in layers i) (trail_in trails i))
+    → IsPassed coats (list_in layers layer) (trail_in trails layer) → (i : ℕ)
+    → IsPassed coats (list_in layers i) (trail_in trails i)
+are_passed_from coats layers trails layer others here i =
+    ⊎_elim
+    (λ (same : i ≡ layer). subst (λ (k : ℕ). IsPassed coats (list_in layers k) (trail_in trails k)) (sym same) here)
+    (λ (apart : i ≢ layer). others i apart)
+    (cases_eq i layer)
+
+pub passes_on_trans : (a b d : Painting) → PassesOn a b → PassesOn b d → PassesOn a d
+passes_on_trans a b d x y = record {
+  grows = λ q. grows_trans _ _ _ (x.grows q) (y.grows q);
+  work = (let first = x.work in let second = y.work in omega arith);
 }

@@ -9,5 +9,6 @@ pub mod Commits
 pub mod Search
 pub mod Bases
 pub mod Comparison
+pub mod Trails
 pub mod Paint
 pub mod Painting

@@ -8,6 +8,7 @@ use Rattle.graph_history.specs.declared.paint.Paint.{Paint}
 use Rattle.graph_history.specs.declared.paint.Paint.TheVariants.{Bare, First, Others, Both, Stale}
 use Rattle.graph_history.specs.declared.paint.Coat.{Coat}
 use Rattle.graph_history.specs.declared.paint.Coats.{Coats}
+use Rattle.graph_history.specs.Trails.{trail_at, trail_in}
 
 -- the first leads to the commit
 abbrev pub first_leads : Paint → Bool
@@ -143,8 +144,9 @@ pub record IsPaint (history : List Node) (start : ℕ) (starts : List ℕ) (coat
   pub coats_len : length coats ≡ length history
   pub each : (p : ℕ) → IsSo history start starts p (paint_at coats p)
 
--- Nothing is known of any of n commits.
+-- Nothing is known of any of n commits, and no word of an extra edge list was passed.
 pub record AreIdle (n : ℕ) (coats : Coats) : Type 0 where
   pub coats_len : length coats.all.items ≡ n
   pub bare : (p : ℕ) → coat_at coats.all.items p ≡ bare
+  pub trails : (l w : ℕ) → trail_at (trail_in coats.trails.layers.items l) w ≡ Bare
   pub counted : IsCounted coats

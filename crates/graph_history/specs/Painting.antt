@@ -2,22 +2,27 @@
 -- known of them. For private contracts alone.
 use Rattle.std.specs.Prelude.{◌⊎◌, count_by}
 use Rattle.std.specs.Prelude.{◌≡◌, ◌≢◌, ◌↔◌, ℕ, ◌+◌, ◌*◌, ◌^◌, ◌<◌, ◌≤◌, true, false, List, All, AllPairs, Contains, length}
-use Rattle.std.specs.Prelude.{sum_by}
+use Rattle.std.specs.Prelude.{sum_by, slice_index}
 use Rattle.std.specs.List.Sorted.{IsStrictlyIncreasing}
 use Rattle.std.specs.BinaryHeap.{IsHeap, heap_items}
 use Rattle.std.specs.Ordering.{nat_cmp, ordering_then}
 use Rattle.std.specs.declared.cmp.Ordering.{Ordering}
 use Rattle.graph_walks.specs.declared.TheConstants.{GENERATION_NUMBER_MAX}
 use Rattle.graph_walks.specs.History.{Node, IsParent, generation_at}
+use Rattle.graph_format.specs.Parents.{extra_edge_of}
 use Rattle.graph_format.specs.StoredHistory.{history_of}
-use Rattle.gix_commitgraph.specs.Graph.{total}
+use Rattle.graph_format.specs.declared.Position.{Position}
+use Rattle.graph_format.specs.declared.parents.ExtraEdge.TheVariants as extra
+use Rattle.gix_commitgraph.specs.Graph.{IsGraph, total}
 use Rattle.gix_commitgraph.specs.Sound.{Sound}
 use Rattle.graph_history.specs.Answer.{numbers_of}
 use Rattle.graph_history.specs.Bases.{IsMergeBase, IsAhead, IsBehind, IsStart, AreBelowCap}
-use Rattle.graph_history.specs.Paint.{is_on_one_side, is_visited}
+use Rattle.graph_history.specs.Commits.{named_by, list_in}
+use Rattle.graph_history.specs.Paint.{is_on_one_side, is_visited, IsSo}
 use Rattle.graph_history.specs.Paint.{first_leads, others_lead, is_stale, is_painted, is_ahead, is_behind, is_base, passed}
 use Rattle.graph_history.specs.Paint.{unknown, bare}
 use Rattle.graph_history.specs.Paint.{paint_at, coat_at, is_queued, Grows, IsCounted, IsPaint}
+use Rattle.graph_history.specs.Trails.{trail_at, trail_in}
 use Rattle.graph_history.specs.declared.paint.Coat.{Coat}
 use Rattle.graph_history.specs.declared.paint.Paint.{Paint}
 use Rattle.graph_history.specs.declared.painting.Painting.{Painting}
@@ -115,6 +120,7 @@ work coats queue = 2 * sum_by (λ coat. unknown coat.paint) coats + length queue
 
 -- The state of a painting.
 pub record IsPainting (s : Painting) : Type 0 where
+  pub graph : IsGraph s.graph.now
   pub sound : Sound s.graph.now
   pub commits : total s.graph.now ≡ length (history_of s.graph.now)
   pub few : length s.coats.all.items < 2 ^ 31
@@ -125,6 +131,36 @@ pub record IsPainting (s : Painting) : Type 0 where
   pub touched : AreTouched s.coats.all.items s.taken.items (heap_items s.queue)
   pub visiting : AreBelowCap (history_of s.graph.now) s.first.0 (numbers_of s.others.now)
       → IsVisiting (history_of s.graph.now) s.first.0 (numbers_of s.others.now) s.coats.all.items s.visits
+
+-- Of an extra edge list: each word was passed with no more paint than the commit that it names has, and, unless it names the
+-- last parent, than the word after it.
+pub record IsPassed (coats : List Coat) (list : List ℕ) (trail : List Paint) : Type 0 where
+  pub named : (w : ℕ) → Grows (trail_at trail w) (paint_at coats (named_by (extra_edge_of (slice_index list w))))
+  pub goes_on : (w : ℕ) (pos : Position) → extra_edge_of (slice_index list w) ≡ extra.Internal pos
+      → Grows (trail_at trail w) (trail_at trail (w + 1))
+
+-- so of the lists of all layers
+abbrev pub ArePassed : Painting → Type 0
+ArePassed s = (l : ℕ) → IsPassed s.coats.all.items (list_in s.graph.now l) (trail_in s.coats.trails.layers.items l)
+
+-- A commit that was taken from the queue passes on what this paint says of it.
+pub record PassesPaint (s : Painting) (commit : ℕ) (paint : Paint) : Type 0 where
+  pub painting : IsPainting s
+  pub within : commit < length (history_of s.graph.now)
+  pub so : IsSo (history_of s.graph.now) s.first.0 (numbers_of s.others.now) commit paint
+  pub uncapped : AreBelowCap (history_of s.graph.now) s.first.0 (numbers_of s.others.now)
+      → generation_at (history_of s.graph.now) commit < GENERATION_NUMBER_MAX
+  pub painted : AreBelowCap (history_of s.graph.now) s.first.0 (numbers_of s.others.now) → is_painted paint ≡ true
+  pub own : AreBelowCap (history_of s.graph.now) s.first.0 (numbers_of s.others.now) → is_queued s.coats.all.items commit ≡ false
+  pub same : is_queued s.coats.all.items commit ≡ false → paint_at s.coats.all.items commit ≡ paint
+  pub spread : IsSpreadBut (history_of s.graph.now) s.first.0 (numbers_of s.others.now) s.coats.all.items commit
+  pub level : IsLevel (history_of s.graph.now) s.coats.all.items (heap_items s.queue)
+      (generation_at (history_of s.graph.now) commit)
+
+-- Paint was passed on.
+pub record PassesOn (old new : Painting) : Type 0 where
+  pub grows : (q : ℕ) → Grows (paint_at old.coats.all.items q) (paint_at new.coats.all.items q)
+  pub work : work new.coats.all.items (heap_items new.queue) ≤ work old.coats.all.items (heap_items old.queue)
 
 -- What the paint says when all is done.
 pub record IsPainted (history : List Node) (first : ℕ) (others : List ℕ) (coats : List Coat) : Type 0 where

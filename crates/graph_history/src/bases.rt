@@ -130,8 +130,9 @@ impl<'g> Checked<'g> {
 }
 
 /// Compares commits of a graph that is right, and keeps its memory from one call to the next: two
-/// bytes for each commit of the graph, asked for at the first call. What a call marks there is
-/// cleared after it, and no more than that.
+/// bytes for each commit of the graph, asked for at the first call; and, of the layers whose extra
+/// edge lists a call has read, a byte for each word of the list and a few for each commit with more
+/// than two parents. What a call marks there is cleared after it, and no more than that.
 ///
 /// A contract sees it as the list of the graph's layers.
 #[derive(Drop)]

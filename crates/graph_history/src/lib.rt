@@ -22,8 +22,10 @@ mod owned;
 mod paint;
 mod painting;
 mod parents;
+mod passing;
 mod search;
 mod searcher;
+mod trails;
 mod walk;
 mod words;
 

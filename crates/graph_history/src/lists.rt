@@ -54,7 +54,7 @@ impl<'g> Search<'g> {
 }
 
 /// The parent that a word of an extra edge list names.
-fn parent_of(edge: ExtraEdge) -> Position
+pub(crate) fn parent_of(edge: ExtraEdge) -> Position
     ensures { result.0 ≡ named_by edge }
 {
     match edge {

@@ -1,10 +1,13 @@
 //! What is known of the ways to the commits of a graph from a commit and some others.
 
-ghost use Rattle.std.specs.Prelude.{◌≡◌, ◌≢◌, ◌+◌, ◌<◌, ◌≤◌, ◌^◌, ℕ, cond, length, slice_set, IfOk};
+ghost use Rattle.std.specs.Prelude.{◌≡◌, ◌≢◌, ◌↔◌, ◌+◌, ◌<◌, ◌≤◌, ◌^◌, ℕ, cond, length, slice_set};
+ghost use Rattle.std.specs.Prelude.{IfOk, IsTrue};
 ghost use Rattle.graph_history.specs.Paint.{first_leads, others_lead, is_stale, is_ahead};
 ghost use Rattle.graph_history.specs.Paint.{is_behind, is_base, covers, joined, passed};
 ghost use Rattle.graph_history.specs.Paint.{is_fresh, bare, coat_at, AreIdle, IsCounted};
+ghost use Rattle.graph_history.specs.declared.paint.Paint.TheVariants.{Bare};
 
+use crate::trails::Trails;
 use gix_commitgraph::Position;
 use std::alloc::{AllocError, Global};
 
@@ -40,6 +43,13 @@ impl Paint {
         ensures { result ≡ is_stale self }
     {
         matches!(self, Paint::Stale)
+    }
+
+    /// Whether nothing is known.
+    pub(crate) fn is_bare(self) -> bool
+        ensures { IsTrue result ↔ self ≡ Bare }
+    {
+        matches!(self, Paint::Bare)
     }
 
     /// Whether it is ahead, as far as is known.
@@ -128,6 +138,9 @@ impl Coat {
 #[derive(Drop)]
 pub(crate) struct Coats {
     all: Vec<Coat>,
+    /// With which paint words of the extra edge lists were passed. All that is named from a word on
+    /// to the last parent has heard of its paint, so no word is passed twice with the same.
+    pub(crate) trails: Trails,
     /// How many of them are fresh.
     pub(crate) fresh: u32,
     /// How many commits are ahead, as far as is known.
@@ -144,6 +157,7 @@ impl Coats {
         let all = vec![in alloc; BARE; commits as usize]?;
         Ok(Coats {
             all,
+            trails: Trails::new(alloc),
             fresh: 0,
             ahead: 0,
             behind: 0,
@@ -164,6 +178,7 @@ impl Coats {
         requires within { commit.0 < length self.old.all.items }
         requires few { length self.old.all.items < 2 ^ 31 }
         ensures coats { self.new.all.items ≡ slice_set self.old.all.items commit.0 coat }
+        ensures trails { self.new.trails ≡ self.old.trails }
         ensures counted { IsCounted self.new }
     {
         let old = self.at(commit);
@@ -186,13 +201,20 @@ impl Coats {
         }
     }
 
-    /// The same coats, where all of them are bare, with right counts.
+    /// The same coats, where all of them are bare, with right counts. Words are bare again.
     pub(crate) fn into_idle(self) -> Coats
         requires { (p : ℕ) → coat_at self.all.items p ≡ bare }
         ensures { AreIdle (length self.all.items) result }
     {
+        let Coats {
+            all,
+            mut trails,
+            ..
+        } = self;
+        trails.clear();
         Coats {
-            all: self.all,
+            all,
+            trails,
             fresh: 0,
             ahead: 0,
             behind: 0,

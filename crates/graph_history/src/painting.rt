@@ -14,7 +14,7 @@ ghost use Rattle.graph_history.specs.Painting.{IsKnownEdge, IsVisiting};
 ghost use Rattle.graph_history.specs.Paint.{is_painted, is_stale, is_queued};
 ghost use Rattle.graph_history.specs.Paint.{is_ahead, is_behind, is_base, bare, coat_at, paint_at};
 ghost use Rattle.graph_history.specs.Paint.{IsSo, IsCounted, IsPaint, AreIdle};
-ghost use Rattle.graph_history.specs.Painting.{IsSpread, IsSpreadBut, IsLevel, Joins, Adds};
+ghost use Rattle.graph_history.specs.Painting.{IsSpread, IsLevel, Joins, Adds, ArePassed};
 ghost use Rattle.graph_history.specs.Painting.{AreGathered, IsDone, IsPainting, IsPainted};
 ghost use Rattle.graph_history.specs.Painting.{AreBases, AreTouched, work};
 
@@ -32,10 +32,10 @@ use std::collections::BinaryHeap;
 /// The painting of a graph from one of its commits and some others.
 #[derive(Drop)]
 pub(crate) struct Painting<'p, 'g> {
-    graph: &'p Checked<'g>,
+    pub(crate) graph: &'p Checked<'g>,
     first: Position,
     others: &'p [Position],
-    coats: Coats,
+    pub(crate) coats: Coats,
     /// The commits whose parents have not heard all that is known of them: of each its generation
     /// number and its position.
     queue: BinaryHeap<(u32, u32)>,
@@ -62,6 +62,7 @@ impl<'p, 'g> Painting<'p, 'g> {
         ensures first { result.first ≡ first }
         ensures others { result.others.now ≡ others.now }
         ensures painting { IsPainting result }
+        ensures lists { ArePassed result }
         ensures bare { (p : ℕ) → coat_at result.coats.all.items p ≡ bare }
         ensures empty { heap_items result.queue ≡ [] }
     {
@@ -124,7 +125,7 @@ impl<'p, 'g> Painting<'p, 'g> {
     }
 
     /// Adds paint to a commit, and puts it into the queue where that says more than was known.
-    fn add(&mut self, commit: Position, paint: Paint) -> Result<(), AllocError>
+    pub(crate) fn add(&mut self, commit: Position, paint: Paint) -> Result<(), AllocError>
         requires painting { IsPainting self.old }
         requires within { commit.0 < total self.old.graph.now }
         requires so { IsSo (history_of self.old.graph.now) self.old.first.0
@@ -140,6 +141,7 @@ impl<'p, 'g> Painting<'p, 'g> {
         ensures graph { self.new.graph.now ≡ self.old.graph.now }
         ensures first { self.new.first ≡ self.old.first }
         ensures others { self.new.others.now ≡ self.old.others.now }
+        ensures trails { self.new.coats.trails ≡ self.old.coats.trails }
         ensures painting { OnOk result (IsPainting self.new) }
         ensures adds { OnOk result (Adds commit.0 paint self.old.coats.all.items
             self.new.coats.all.items) }
@@ -164,44 +166,6 @@ impl<'p, 'g> Painting<'p, 'g> {
         Ok(())
     }
 
-    /// Passes on what is known of a commit that was taken from the queue.
-    fn visit(&mut self, commit: Position, paint: Paint) -> Result<(), AllocError>
-        requires painting { IsPainting self.old }
-        requires within { commit.0 < total self.old.graph.now }
-        requires paint { paint_at self.old.coats.all.items commit.0 ≡ paint }
-        requires taken { is_queued self.old.coats.all.items commit.0 ≡ false }
-        requires uncapped { AreBelowCap (history_of self.old.graph.now)
-            self.old.first.0 (numbers_of self.old.others.now)
-            → generation_at (history_of self.old.graph.now) commit.0 < GENERATION_NUMBER_MAX }
-        requires painted { AreBelowCap (history_of self.old.graph.now)
-            self.old.first.0 (numbers_of self.old.others.now)
-            → is_painted paint ≡ true }
-        requires spread { IsSpreadBut (history_of self.old.graph.now) self.old.first.0
-            (numbers_of self.old.others.now) self.old.coats.all.items commit.0 }
-        requires level { IsLevel (history_of self.old.graph.now) self.old.coats.all.items
-            (heap_items self.old.queue)
-            (generation_at (history_of self.old.graph.now) commit.0) }
-        ensures graph { self.new.graph.now ≡ self.old.graph.now }
-        ensures first { self.new.first ≡ self.old.first }
-        ensures others { self.new.others.now ≡ self.old.others.now }
-        ensures painting { OnOk result (IsPainting self.new) }
-        ensures spread { OnOk result (IsSpread (history_of self.old.graph.now) self.old.first.0
-            (numbers_of self.old.others.now) self.new.coats.all.items) }
-        ensures level { OnOk result (IsLevel (history_of self.old.graph.now)
-            self.new.coats.all.items (heap_items self.new.queue)
-            (generation_at (history_of self.old.graph.now) commit.0)) }
-        ensures work { OnOk result (work self.new.coats.all.items (heap_items self.new.queue)
-            ≤ work self.old.coats.all.items (heap_items self.old.queue)) }
-    {
-        generations_never_rise_along_walks();
-        generations_fall_along_walks();
-        let passed = paint.passed();
-        for parent in self.graph.parents(commit) {
-            self.add(parent, passed)?;
-        }
-        Ok(())
-    }
-
     /// Visits commits, those with the highest generation numbers first, until none that is queued
     /// can lead to a base.
     fn run(&mut self) -> Result<(), AllocError>
@@ -210,6 +174,7 @@ impl<'p, 'g> Painting<'p, 'g> {
             (numbers_of self.old.others.now) self.old.coats.all.items }
         requires level { (level : ℕ) × IsLevel (history_of self.old.graph.now)
             self.old.coats.all.items (heap_items self.old.queue) level }
+        requires lists { ArePassed self.old }
         ensures graph { self.new.graph.now ≡ self.old.graph.now }
         ensures first { self.new.first ≡ self.old.first }
         ensures others { self.new.others.now ≡ self.old.others.now }

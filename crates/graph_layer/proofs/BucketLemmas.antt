@@ -5,12 +5,12 @@ use Rattle.std.proofs.lemmas.Option.{same_Some, slice_get_within}
 use Rattle.gix_hash_core.specs.Kind.{id_len}
 use Rattle.graph_format.specs.Format.{commits_of, fan_of, fan_id, chunk_of, words}
 use Rattle.graph_format.specs.Layer.{Layer, IsLayer, decoded_layer}
-use Rattle.graph_layout.specs.Layout.{IsLayout}
-use Rattle.graph_layout.specs.ChunkRanges.{IsAt}
-use Rattle.graph_layout.specs.declared.layout.Layout.{Layout}
-use Rattle.graph_layout.specs.declared.chunks.ChunkRange.{ChunkRange}
+use Rattle.graph_format.specs.Layout.{IsLayout}
+use Rattle.graph_format.specs.ChunkRanges.{IsAt}
+use Rattle.graph_format.specs.declared.layout.Layout.{Layout}
+use Rattle.graph_format.specs.declared.chunks.ChunkRange.{ChunkRange}
 use Rattle.graph_format.proofs.PieceLemmas.{length-slice_range}
-use Rattle.graph_layout.proofs.LayoutLemmas.{view-kind}
+use Rattle.graph_format.proofs.LayoutLemmas.{view-kind}
 use Rattle.graph_layer.proofs.FileViewLemmas.{commits-ids, view-id, view-id-fits, view-bytes, view-layer}
 
 -- the bytes are a file of the layer

@@ -2,9 +2,9 @@
 use Rattle.std.proofs.Common.{◌≡◌, ℕ, ◌≤◌, List, length, take, sym, ap, ◌∙◌, arith}
 use Rattle.graph_format.specs.Format.{table_of}
 use Rattle.graph_format.specs.Layer.{Layer, decoded_layer}
-use Rattle.graph_layout.specs.Layout.{IsLayout}
-use Rattle.graph_layout.specs.declared.layout.Layout.{Layout}
-use Rattle.graph_layout.proofs.LayoutLemmas.{view-kind}
+use Rattle.graph_format.specs.Layout.{IsLayout}
+use Rattle.graph_format.specs.declared.layout.Layout.{Layout}
+use Rattle.graph_format.proofs.LayoutLemmas.{view-kind}
 use Rattle.graph_layer.proofs.FileViewLemmas.{view-bytes, view-layer, view-checksum-in_file}
 
 -- the bytes before the checksum are the body

@@ -12,11 +12,11 @@ use Rattle.gix_hash_core.specs.Kind.{id_len}
 use Rattle.graph_format.specs.Format.{Record, record_of, record_len, part, commits_of, table_of, chunk_of, pieces, ids_id}
 use Rattle.graph_format.specs.Format.{records_id, bases_id}
 use Rattle.graph_format.specs.Layer.{Layer, IsLayer, decoded_layer, record_at, no_record, bytes_of}
-use Rattle.graph_layout.specs.Layout.{IsLayout}
-use Rattle.graph_layout.specs.ChunkRanges.{start_of, IsAt, IsChunkRange, ArePieces}
-use Rattle.graph_layout.specs.declared.layout.Layout.{Layout}
-use Rattle.graph_layout.specs.declared.chunks.ChunkRange.{ChunkRange}
-use Rattle.graph_layout.proofs.LayoutLemmas.{is-layer, view-kind, view-edges}
+use Rattle.graph_format.specs.Layout.{IsLayout}
+use Rattle.graph_format.specs.ChunkRanges.{start_of, IsAt, IsChunkRange, ArePieces}
+use Rattle.graph_format.specs.declared.layout.Layout.{Layout}
+use Rattle.graph_format.specs.declared.chunks.ChunkRange.{ChunkRange}
+use Rattle.graph_format.proofs.LayoutLemmas.{is-layer, view-kind, view-edges}
 use Rattle.graph_format.proofs.PieceLemmas.{length-slice_range}
 use Rattle.graph_format.proofs.PieceLemmas.{slice_range-slice_range, pieces-at, length-pieces}
 

@@ -11,7 +11,7 @@ use Rattle.graph_format.specs.RightLayer.{AreParentsDecoded, IsSoundLayer}
 use Rattle.graph_layer.specs.Traverse.{commit_points, layer_points}
 use Rattle.graph_format.specs.Faults.{layer_fault, commit_fault}
 use Rattle.graph_format.proofs.FaultFreeLemmas.{check-none, range-none}
-use Rattle.graph_format.proofs.LayerHistoryLemmas.{IsPaired, opened-paired}
+use Rattle.graph_format.proofs.LayerHistoryLemmas.{IsPaired, opened_is_paired}
 use Rattle.graph_format.proofs.CommitFaultFreeLemmas.{record_at-get_or, commit_faults-iff}
 use Rattle.graph_format.proofs.FaultFreeLemmas.{option_map-none}
 use Rattle.graph_format.proofs.RightLayerLemmas.{layer_fault-iff}
@@ -50,7 +50,7 @@ module _ {E : Type 0} where
 
   pub layer_points-iff : (layer : Layer) → IsOpened layer → (first_fault (layer_points {E = E} layer) ≡ None) ↔ IsSoundLayer layer
   layer_points-iff layer opened =
-      let paired = opened-paired layer opened in
+      let paired = opened_is_paired layer opened in
       let each = range-none (commit_points {E = E} layer) (length layer.ids) in (
         λ h.
             let parts = (check-none _ _).0 h in

@@ -18,7 +18,7 @@ use Rattle.graph_layer.specs.declared.file.verify.Outcome.{Outcome}
 use Rattle.graph_layer.specs.declared.file.verify.tally.Tally.{Tally}
 use Rattle.graph_layer.specs.Tallies.{Tallies}
 use Rattle.graph_layer.specs.ParentCounts.{counted}
-use Rattle.graph_format.proofs.LayerHistoryLemmas.{opened-paired, length-layer_history}
+use Rattle.graph_format.proofs.LayerHistoryLemmas.{opened_is_paired, length-layer_history}
 
 nodes-more : (f : Record → Node) (records : List Record) (n : ℕ) → n < length records
     → take (n + 1) (map f records) ≡ take n (map f records) ++ f (unwrap_or (slice_get records n) no_record) ∷ []
@@ -153,7 +153,7 @@ module _ (layer : Layer) (n : ℕ) (inside : n < length layer.records) where
 pub stats_of_all : (layer : Layer) (n : ℕ) (outcome : Outcome) → IsOpened layer → n ≡ length layer.ids
     → Summarizes (take n (layer_history layer)) outcome → FileStats layer outcome
 stats_of_all layer n outcome opened is summary =
-    let paired = opened-paired layer opened in
+    let paired = opened_is_paired layer opened in
     let all : take n (layer_history layer) ≡ layer_history layer =
     take_all n (layer_history layer) (omega (arith, is, paired, length-layer_history layer)) in
     record {

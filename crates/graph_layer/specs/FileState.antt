@@ -2,8 +2,8 @@
 use Rattle.std.specs.Prelude.{◌≡◌, string_bytes, option_map}
 use Rattle.graph_format.specs.Format.{words}
 use Rattle.graph_format.specs.Layer.{decoded_layer}
-use Rattle.graph_layout.specs.DecodedRecords.{AreDecoded}
-use Rattle.graph_layout.specs.Layout.{IsLayout}
+use Rattle.graph_format.specs.DecodedRecords.{AreDecoded}
+use Rattle.graph_format.specs.Layout.{IsLayout}
 use Rattle.graph_layer.specs.declared.file.File.TheInside.{Inside}
 
 pub record IsFileState (a : Inside) : Type 0 where

@@ -11,8 +11,8 @@ pub mod verify;
 pub use access::{BaseIds, Commits, Ids};
 pub use commit::Commit;
 pub use graph_format::file::Position;
-use graph_layout::layout::Layout;
-use graph_layout::records::Records;
+use graph_format::layout::Layout;
+use graph_format::records::Records;
 use std::fmt;
 use std::marker::Model;
 

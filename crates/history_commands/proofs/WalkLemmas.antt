@@ -13,7 +13,7 @@ use Rattle.graph_format.specs.StoredHistory.{history_of}
 use Rattle.graph_format.specs.Lookup.{scan}
 use Rattle.graph_format.specs.declared.Position.{Position}
 use Rattle.gix_commitgraph.specs.Graph.{graph_ids}
-use Rattle.gix_commitgraph.proofs.HistoryLemmas.{history-counted}
+use Rattle.gix_commitgraph.proofs.history.HistoryLemmas.{history-counted}
 use Rattle.graph_history.specs.Answer.{IsAnswer, IsShortestWalk, numbers_of}
 use Rattle.graph_history.specs.declared.Reached.{Reached}
 use Rattle.graph_history.proofs.RightGraphLemmas.{all_within}

@@ -47,6 +47,35 @@ fn filters_answer_what_git_expects(rt: HostRuntime) {
     }
 }
 
+#[test]
+fn paths_that_git_put_into_a_filter_are_possible(rt: HostRuntime) {
+    let alloc = rt.alloc();
+    // Git 2.39.5 wrote it, in version 1, for the first four paths.
+    let filter: &[u8] = &[0x5c, 0xc5, 0x06, 0x15, 0xad];
+    let rows: &[(&[u8], [Answer; 2])] = &[
+        (b"a", [Answer::Possible, Answer::Possible]),
+        (b"folder", [Answer::Possible, Answer::Possible]),
+        (b"folder/caf\xc3\xa9", [Answer::Possible, Answer::Absent]),
+        (
+            b"folder/\xff\xfe\xfd\xfc\xfb",
+            [Answer::Possible, Answer::Possible],
+        ),
+        (b"b", [Answer::Absent, Answer::Absent]),
+        (b"folder/a", [Answer::Absent, Answer::Absent]),
+        (b"caf\xc3\xa9", [Answer::Absent, Answer::Absent]),
+    ];
+    let index = words(&rt, alloc, &[5]);
+    for version in 1..3_u32 {
+        let mut body = words(&rt, alloc, &[version, 7, 10]);
+        body.extend_from_slice(filter).expect(&rt, "memory");
+        let filters = PathFilters::from_chunks(1, &index, &body).expect(&rt, "filters");
+        for (path, answers) in rows {
+            let answer = filters.probe(Position(0), &PathKey::new(*path));
+            assert!(&rt; answers.get(version as usize - 1) == Some(&answer));
+        }
+    }
+}
+
 /// The index and the three numbers of filters of two commits, how many bytes follow them, and why
 /// they are refused.
 type Refused<'a> = (&'a [u32], &'a [u32], usize, Option<LayerFiltersError>);

@@ -1,7 +1,8 @@
 //! What is asked of histories, and what is answered.
 
-use crate::fixtures::{Command, Sink, graphs};
+use crate::fixtures::{Command, graphs};
 use graph_folder::folder::Memory;
+use graph_vectors::Sink;
 use std::alloc::Global;
 use std::process::Abort;
 use std::test::Fail;

@@ -1,7 +1,8 @@
 //! `check`, of graphs without further chunks.
 
-use crate::fixtures::{Sink, graphs};
+use crate::fixtures::graphs;
 use graph_commands::run::WriteFailed;
+use graph_vectors::Sink;
 use history_commands::run::run_check;
 use std::test::Fail;
 

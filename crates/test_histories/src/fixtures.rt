@@ -1,55 +1,11 @@
-//! Graphs that are built from rows, and a writer that fails.
+//! Graphs that are built from rows.
 
 use gix_hash_core::{Kind, ObjectId, digest};
 use graph_commands::run::{WriteFailed, run_ancestor};
 use graph_folder::folder::Memory;
-use graph_vectors::{LayerPlan, PlanCommit, build};
+use graph_vectors::{LayerPlan, PlanCommit, Row, Sink, build};
 use history_commands::run::{run_is_ancestor, run_merge_base, run_walk};
 use std::alloc::{AllocError, Global};
-use std::io;
-use std::io::{ErrorKind, Write};
-
-/// A writer that takes at most so many bytes a write, and whose write of this number fails.
-#[derive(Drop)]
-pub(super) struct Sink {
-    pub(super) bytes: Vec<u8>,
-    most: usize,
-    fails_at: Option<usize>,
-    pub(super) writes: usize,
-}
-
-impl Sink {
-    pub(super) fn new(alloc: Global, most: usize, fails_at: Option<usize>) -> Sink {
-        Sink {
-            bytes: Vec::new(alloc),
-            most,
-            fails_at,
-            writes: 0,
-        }
-    }
-
-    /// What was written, as a text.
-    pub(super) fn text(&self) -> &str {
-        str::from_utf8(&self.bytes).unwrap_or("no text")
-    }
-}
-
-impl Write for Sink {
-    fn write(&mut self, buf: &[u8]) -> io::Result<usize> {
-        let write = self.writes;
-        self.writes = write.saturating_add(1);
-        if self.fails_at == Some(write) {
-            return Err(io::Error::from(ErrorKind::Other));
-        }
-        let count = self.most.min(buf.len());
-        self.bytes.extend_from_slice(&buf[..count])?;
-        Ok(count)
-    }
-
-    fn flush(&mut self) -> io::Result<()> {
-        Ok(())
-    }
-}
 
 /// A command that asks about the commits with two ids.
 #[derive(Clone, Copy, Debug)]
@@ -91,11 +47,8 @@ pub(super) fn merge_base(
     Ok(run_merge_base(alloc, folder, path, first, &ids, out))
 }
 
-/// A commit that is planned: the byte that its id repeats, its parents and its generation number.
-type Row = (u8, &'static [u32], u32);
-
 /// A file of two ways from the fourth commit to the first, one of them of a single step.
-const FILE: &[Row] = &[
+const FILE: &[Row<'static>] = &[
     (0x11, &[], 1),
     (0x22, &[0], 2),
     (0x33, &[1], 3),
@@ -104,7 +57,7 @@ const FILE: &[Row] = &[
 ];
 
 /// Two lines that merge each other, and a commit on each merge.
-const CRISS_CROSS: &[Row] = &[
+const CRISS_CROSS: &[Row<'static>] = &[
     (0x11, &[], 1),
     (0x22, &[0], 2),
     (0x33, &[0], 2),
@@ -115,21 +68,21 @@ const CRISS_CROSS: &[Row] = &[
 ];
 
 /// The layers of a chain of the same commits as those of `FILE`.
-const LOWER: &[Row] = &[(0x11, &[], 1), (0x22, &[0], 2)];
+const LOWER: &[Row<'static>] = &[(0x11, &[], 1), (0x22, &[0], 2)];
 
-const UPPER: &[Row] = &[(0x33, &[1], 3), (0xcc, &[2, 0], 4), (0xdd, &[], 1)];
+const UPPER: &[Row<'static>] = &[(0x33, &[1], 3), (0xcc, &[2, 0], 4), (0xdd, &[], 1)];
 
-const TWO: &[Row] = &[(0x11, &[], 1), (0xcc, &[0], 2)];
+const TWO: &[Row<'static>] = &[(0x11, &[], 1), (0xcc, &[0], 2)];
 
 /// The second generation number is not one more than the first.
-const WRONG: &[Row] = &[(0x11, &[], 1), (0xcc, &[0], 3)];
+const WRONG: &[Row<'static>] = &[(0x11, &[], 1), (0xcc, &[0], 3)];
 
 /// The bytes of a file of these commits over these base layers.
 fn built(
     alloc: Global,
     kind: Kind,
     bases: &[ObjectId],
-    rows: &[Row],
+    rows: &[Row<'_>],
 ) -> Result<Vec<u8>, AllocError> {
     let mut commits = Vec::new(alloc);
     for (byte, parents, generation) in rows {

@@ -1,6 +1,6 @@
 //! Tests of the commands of `historytool`, on layers and chains that are built for them.
 //!
-//! [`fixtures`] has the graphs, and a writer that fails.
+//! [`fixtures`] has the graphs.
 #![tactic(auto)]
 
 #[cfg(test)]

@@ -1,8 +1,9 @@
 //! Merge bases, and how far commits have come apart.
 
 use crate::answers::{CS, CS_OF_SHA256, DS, LARGE_CS, NO_ANSWERS, ONES, ONES_OF_SHA256, TWOS};
-use crate::fixtures::{Sink, graphs, merge_base};
+use crate::fixtures::{graphs, merge_base};
 use graph_commands::run::WriteFailed;
+use graph_vectors::Sink;
 use std::test::Fail;
 
 const SIXES: &str = "6666666666666666666666666666666666666666";

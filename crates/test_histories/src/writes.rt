@@ -1,8 +1,9 @@
 //! How answers are written, and writes that fail.
 
 use crate::answers::ONES;
-use crate::fixtures::{Command, Sink, graphs, line};
+use crate::fixtures::{Command, graphs, line};
 use graph_commands::run::WriteFailed;
+use graph_vectors::Sink;
 use std::test::Fail;
 
 const CS: &str = "cccccccccccccccccccccccccccccccccccccccc";

@@ -14,6 +14,7 @@ from checks.program import processor_seconds
 from damage import trees
 from damage.built import NO_PARENT, TOP_BIT
 from damage.layer import big_endian, contents, with_chunks
+from expected import filters as path_filters
 from expected import judge
 from expected.facts import verified
 from expected.further import told
@@ -74,15 +75,29 @@ def check_chain(histories, tally, repository):
         repository.write_graph("--split=no-merge", *flags, generation_version=1 if last else 2)
         filters = size * ((number + 1) // 2) or None
         check_right(histories, tally, repository, "%d layers" % (number + 1), not last, filters)
+        check_bits(tally, repository, "%d layers" % (number + 1), repository.chain())
     repository.write_graph("--split=replace", "--changed-paths")
     check_right(histories, tally, repository, "layers merged", True, len(history))
+    check_bits(tally, repository, "layers merged", repository.chain())
+
+
+def check_bits(tally, repository, name, layers):
+    """Each filter that was computed has the bits of the paths that its commit changes, and no others."""
+    kind, words, differ = repository.object_format, repository.words(), []
+    for _, layer in layers:
+        stored, settings = path_filters.stored(layer, kind)
+        for commit, own in stored.items():
+            paths = repository.changed_paths(commit, words[commit].parents)
+            if own not in (b"", path_filters.made(paths, settings)):
+                differ.append("%s is %s" % (commit, own.hex()))
+    tally.check("%s, bits, %s" % (kind, name), "; ".join(differ[:3]) or None)
 
 
 class Change:
-    """A commit to be made: its time, the places of its parents, and the paths that it changes."""
+    """A commit to be made: its time, the places of its parents, the paths that it changes, and those that it removes."""
 
-    def __init__(self, when, parents, paths):
-        self.time, self.parents, self.paths = when, parents, paths
+    def __init__(self, when, parents, paths, removed=()):
+        self.time, self.parents, self.paths, self.removed = when, parents, paths, removed
 
 
 FIVE = [
@@ -103,27 +118,45 @@ def add_changes(repository, changes):
         stream += b"committer %s %d +0000\ndata %d\n%s" % (PERSON.encode(), change.time, len(message), message)
         for which, parent in enumerate(change.parents):
             stream += b"%s :%d\n" % (b"merge" if which else b"from", parent + 1)
+        stream += b"".join(b'D "%s"\n' % quoted(path) for path in change.removed)
         for path in change.paths:
-            quoted = b"".join(b"\\%03o" % byte if byte > 126 else bytes([byte]) for byte in path)
-            stream += b'M 100644 inline "%s"\ndata %d\n%s\n' % (quoted, len(message), message)
+            stream += b'M 100644 inline "%s"\ndata %d\n%s\n' % (quoted(path), len(message), message)
         stream += b"\n"
     repository.git("fast-import", "--quiet", "--force", "--export-marks=" + repository.folder + "/marks", stdin=stream)
     marks = dict(line.split() for line in read_bytes(repository.folder + "/marks").decode().splitlines())
     return [marks[":%d" % (place + 1)] for place in range(len(changes))]
 
 
+def quoted(path):
+    """A path as git fast-import reads it between quotes."""
+    return b"".join(b"\\%03o" % byte if byte > 126 else bytes([byte]) for byte in path)
+
+
+def many_paths():
+    """Commits that change no path, many and too many, with and without folders; paths of odd bytes; and removed ones."""
+    names = [b"file-%d-%%d" % place for place in range(7)] + [b"folder/file-%d", b"a/b/c/file-%d", b"a/b/c/d-%d/e"]
+    counts = [0, 1, 511, 512, 513, 0, 3, 511, 510, 300]
+    lists = [[name % number for number in range(count)] for name, count in zip(names, counts)]
+    lists += [[bytes([byte, 200]) for byte in range(128, 256)], [bytes(range(255, 200 - size, -1)) for size in range(9)]]
+    changes = [Change(1000 + place, (place - 1,) if place else (), paths) for place, paths in enumerate(lists)]
+    last = len(changes) - 1
+    removal = Change(3000, (last,), [b"folder", b"a/b/c/d-0/e/f"], [b"folder/file-1", b"folder", b"a/b/c/d-0/e"])
+    return changes + [removal, Change(4000, (last + 1, last), [], [b"a"])]
+
+
 def check_filters(histories, tally, repository):
     """Filters of many paths and of too many, of odd bytes and of no change, and some that are not computed."""
-    counts = [0, 1, 511, 512, 513, 0, 3]
-    changes = [
-        Change(1000 + place, (place - 1,) if place else (), [b"file-%d-%d" % (place, number) for number in range(count)])
-        for place, count in enumerate(counts)
-    ] + [Change(2000, (6,), [bytes([byte, 200]) for byte in range(128, 256)])]
-    add_changes(repository, changes)
-    for most in (3, len(changes)):
+    count = len(add_changes(repository, many_paths()))
+    for most, computed in ((3, 3), (count, count)):
         repository.write_graph("--changed-paths", "--max-new-filters=%d" % most)
         name = "filters, at most %d new ones" % most
-        check_right(histories, tally, repository, name, True, min(most + (3 if most > 3 else 0), len(changes)))
+        check_right(histories, tally, repository, name, True, computed)
+        check_bits(tally, repository, name, [("", read_bytes(repository.graph_path()))])
+    for version in (1, 2):
+        name = "filters of version %d, where Git writes them" % version
+        layer = repository.new_graph("--changed-paths", filter_version=version)
+        check_right(histories, tally, repository, name, True, count)
+        check_bits(tally, repository, name, [("", layer)])
 
 
 def check_long_time(histories, tally, repository):
@@ -144,6 +177,7 @@ def check_damage(histories, tally, repository):
     repository.write_graph("--changed-paths")
     layer, words = read_bytes(path), repository.words()
     plain = answers(repository, words, "false")
+    check_bits(tally, repository, "five commits", [("", layer)])
     for name, refusal, edits in damages(layer, kind):
         chunks = {key: content for key, content in {**dict(contents(layer, kind)), **edits}.items() if content is not None}
         edited = with_chunks(layer, kind, list(chunks.items()))

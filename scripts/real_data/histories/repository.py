@@ -73,12 +73,22 @@ class Repository:
             for (commit, *parents), body in zip(map(str.split, lines), bodies)
         }
 
-    def write_graph(self, *flags, generation_version=2, tips=None):
-        """Writes a commit-graph of all commits, or of those that lead to the tips."""
-        setting = "commitGraph.generationVersion=%d" % generation_version
+    def write_graph(self, *flags, generation_version=2, filter_version=1, tips=None):
+        """Writes a commit-graph of all commits, or of those that lead to the tips.
+
+        Releases of Git that know one version of filters alone write that.
+        """
+        settings = "commitGraph.generationVersion=%d", "commitGraph.changedPathsVersion=%d"
+        versions = [word % number for word, number in zip(settings, (generation_version, filter_version))]
         start = "--reachable" if tips is None else "--stdin-commits"
         listed = "".join(tip + "\n" for tip in tips or []).encode()
-        self.git("-c", setting, "commit-graph", "write", "--no-progress", start, *flags, stdin=listed)
+        words = ("-c", versions[0], "-c", versions[1], "commit-graph", "write", "--no-progress", start)
+        self.git(*words, *flags, stdin=listed)
+
+    def changed_paths(self, commit, parents):
+        """The paths that a commit changes against its first parent, or all of its paths where it has none."""
+        pair = (parents[0], commit) if parents else ("--root", "--no-commit-id", commit)
+        return self.git("diff-tree", "-r", "-z", "--name-only", "--no-renames", *pair).split(b"\0")[:-1]
 
     def git_verdict(self):
         """What `git commit-graph verify` says of the graph that stands here."""
@@ -123,11 +133,11 @@ class Repository:
         """The folder in which Git writes the files of a chain."""
         return os.path.join(self.info_path(), "commit-graphs")
 
-    def new_graph(self, *flags, generation_version=2):
+    def new_graph(self, *flags, generation_version=2, filter_version=1):
         """The bytes of the single-file commit-graph that Git writes from nothing."""
         if os.path.exists(self.graph_path()):
             os.remove(self.graph_path())
-        self.write_graph(*flags, generation_version=generation_version)
+        self.write_graph(*flags, generation_version=generation_version, filter_version=filter_version)
         return read_bytes(self.graph_path())
 
     def chain(self):

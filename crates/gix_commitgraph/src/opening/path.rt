@@ -19,7 +19,7 @@ pub(super) fn join(alloc: Global, folder: &str, name: &str) -> Result<String, Al
 }
 
 /// The path of the layer that a line of the folder's chain file names.
-#[tactic(auto, using(crate::proofs::PathLemmas::join_laws))]
+#[tactic(auto, using(crate::proofs::opening::PathLemmas::join_laws))]
 pub(super) fn layer_path(alloc: Global, folder: &str, line: &str) -> Result<String, AllocError>
     ensures { IfOk result (λ path. string_bytes path ≡ layer_path folder.now line.now) }
 {

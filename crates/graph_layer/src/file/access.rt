@@ -10,8 +10,8 @@ ghost use Rattle.graph_layer.specs.Commit.{commit_layer, commit_pos};
 
 use crate::file::{Commit, File, Position};
 use gix_hash_core::{Kind, oid};
-use graph_layout::chunks::{record_len, start_of};
-use graph_layout::layout::find_chunk;
+use graph_format::chunks::{record_len, start_of};
+use graph_format::layout::find_chunk;
 
 /// The id of this kind that begins at an offset.
 fn id_from(bytes: &[u8], start: usize, kind: Kind) -> oid<'_>

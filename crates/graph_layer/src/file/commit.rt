@@ -68,7 +68,7 @@ impl<'a> Commit<'a> {
     }
 
     /// The commit's generation number (its topological level), at most 1073741823.
-    #[tactic(auto, using(graph_layout::proofs::DecodedRecordLemmas::field_laws))]
+    #[tactic(auto, using(graph_format::proofs::DecodedRecordLemmas::field_laws))]
     pub fn generation(&self) -> u32
         ensures { result ≡ (commit_record self.now).generation }
     {
@@ -77,7 +77,7 @@ impl<'a> Commit<'a> {
 
     /// When the commit was made: the committer's time, in seconds since 1970-01-01 00:00:00 UTC, at
     /// most 17179869183.
-    #[tactic(auto, using(graph_layout::proofs::DecodedRecordLemmas::field_laws))]
+    #[tactic(auto, using(graph_format::proofs::DecodedRecordLemmas::field_laws))]
     pub fn committer_timestamp(&self) -> u64
         ensures { result ≡ (commit_record self.now).time }
     {
@@ -168,7 +168,7 @@ impl<'a> Commit<'a> {
     }
 
     /// Both parent fields.
-    #[tactic(auto, using(graph_layout::proofs::DecodedRecordLemmas::field_laws))]
+    #[tactic(auto, using(graph_format::proofs::DecodedRecordLemmas::field_laws))]
     pub(crate) fn parent_fields(&self) -> (u32, u32)
         ensures first { result.0 ≡ (commit_record self.now).parent1 }
         ensures second { result.1 ≡ (commit_record self.now).parent2 }

@@ -7,8 +7,8 @@ ghost use Rattle.graph_format.specs.Refusal.{refusal};
 
 use crate::file::File;
 use graph_format::error::FileError;
-use graph_layout::layout::layout_of;
-use graph_layout::records::decode_records_and_edges;
+use graph_format::layout::layout_of;
+use graph_format::records::decode_records_and_edges;
 use std::alloc::Global;
 
 impl File {

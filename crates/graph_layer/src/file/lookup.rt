@@ -11,8 +11,8 @@ ghost use Rattle.graph_format.specs.Lookup.{digits};
 
 use crate::file::{File, Position};
 use gix_hash_core::oid;
-use graph_layout::fan::fan_at;
-use graph_layout::numbers::long_at;
+use graph_format::fan::fan_at;
+use graph_format::numbers::long_at;
 use std::cmp::Ordering;
 
 /// How two ids compare. Their first eight bytes, which hardly ever agree, are compared as numbers.

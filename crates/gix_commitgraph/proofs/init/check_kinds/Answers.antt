@@ -4,7 +4,7 @@ use Rattle.graph_format.specs.declared.error.GraphError.TheVariants.{HashMismatc
 use Rattle.std.proofs.lemmas.Option.{slice_get_read}
 use Rattle.first_faults.proofs.FirstLemmas.{first_below-none, first_below-none_more, first_below-found}
 use Rattle.gix_commitgraph.specs.GraphRefusal.{mismatch_after, mismatch_refusal}
-use Rattle.gix_commitgraph.proofs.LayerListLemmas.{mismatch-is}
+use Rattle.gix_commitgraph.proofs.layers.LayerListLemmas.{mismatch-is}
 use Rattle.gix_commitgraph.proofs.init.check_kinds.Goals as goal
 
 pub loop-below-init : goal.loop-below-init

@@ -3,7 +3,7 @@ use Rattle.std.proofs.lemmas.List.{take_all}
 use Rattle.std.proofs.lemmas.List.Elements.{All-more}
 use Rattle.std.proofs.lemmas.Option.{slice_get_read}
 use Rattle.graph_format.specs.Layer.{IsOpened}
-use Rattle.gix_commitgraph.proofs.LayerListLemmas.{start-none, start-more, start-all}
+use Rattle.gix_commitgraph.proofs.layers.LayerListLemmas.{start-none, start-more, start-all}
 use Rattle.gix_commitgraph.proofs.init.commits_of_all.Goals as goal
 
 pub loop-file-init : goal.loop-file-init

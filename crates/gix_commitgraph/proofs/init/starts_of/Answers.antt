@@ -1,7 +1,7 @@
 use Rattle.std.proofs.Common.{◌≡◌, ◌+◌, Some, length, slice_get, refl, sym, arith}
 use Rattle.std.proofs.lemmas.Option.{slice_get_read}
-use Rattle.gix_commitgraph.proofs.LayerListLemmas.{start-none, start-more, start-fits}
-use Rattle.gix_commitgraph.proofs.LayerStartLemmas.{starts-none, starts-more}
+use Rattle.gix_commitgraph.proofs.layers.LayerListLemmas.{start-none, start-more, start-fits}
+use Rattle.gix_commitgraph.proofs.layers.LayerStartLemmas.{starts-none, starts-more}
 use Rattle.gix_commitgraph.proofs.init.starts_of.Goals as goal
 
 pub loop-file-init : goal.loop-file-init

@@ -1,6 +1,6 @@
 use Rattle.std.proofs.Common.{◌≡◌}
 use Rattle.gix_commitgraph.specs.Graph.{start}
-use Rattle.gix_commitgraph.proofs.LayerStartLemmas.{StartsUpTo}
+use Rattle.gix_commitgraph.proofs.layers.LayerStartLemmas.{StartsUpTo}
 use Rattle.gix_commitgraph.proofs.init.starts_of.Given as goal
 
 -- the starts of the layers so far, and the one that comes next

@@ -8,6 +8,7 @@ use Rattle.graph_history.specs.Answer.{numbers_of}
 use Rattle.graph_history.proofs.CoatLemmas.{so_first, so_other, bare_level, begun_first, begun_more, begun_all}
 use Rattle.graph_history.proofs.CoatLemmas.{number_at, number_contained}
 use Rattle.graph_history.proofs.EdgeLemmas.{painted_queued, visits_told}
+use Rattle.graph_history.proofs.PassLemmas.{passed_kept}
 use Rattle.graph_history.proofs.BaseLemmas.{painted_is_exact}
 use Rattle.graph_history.proofs.painting.paint_from.Goals as goal
 
@@ -36,6 +37,9 @@ loop-other-init c =
       first = c.add.ensures.first ∙ p.first;
       others = c.add.ensures.others ∙ p.others;
       painting = c.in_ok-add.ensures.painting;
+      lists = λ l.
+          rw (c.add.ensures.graph, c.add.ensures.trails)
+          (passed_kept s.coats.all.items _ _ c.add.new.self.coats.all.items c.in_ok-add.ensures.adds.grows (p.lists l));
       begun =
           begun_first h s.coats.all.items (heap_items s.queue) p.bare p.empty c.args.first.0 (numbers_of c.args.others.now)
           c.add.new.self.coats.all.items c.in_ok-add.ensures.adds;
@@ -72,6 +76,10 @@ loop-other-preserved c =
       first = c.add-in-loop-other.ensures.first ∙ i.first;
       others = c.add-in-loop-other.ensures.others ∙ i.others;
       painting = c.in_ok-add-2.ensures.painting;
+      lists = λ k.
+          rw (c.add-in-loop-other.ensures.graph, c.add-in-loop-other.ensures.trails)
+          (passed_kept l.painting.coats.all.items _ _ c.add-in-loop-other.new.self.coats.all.items
+          c.in_ok-add-2.ensures.adds.grows (i.lists k));
       begun =
           begun_more h c.args.first.0 (numbers_of c.args.others.now) l.other-index other.0 l.painting.coats.all.items
           c.add-in-loop-other.new.self.coats.all.items i.begun (number_at c.args.others.now l.other-index)

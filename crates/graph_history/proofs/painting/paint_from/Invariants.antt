@@ -2,7 +2,7 @@ use Rattle.std.proofs.Common.{◌≡◌, heap_items}
 use Rattle.graph_walks.specs.declared.TheConstants.{GENERATION_NUMBER_MAX}
 use Rattle.graph_format.specs.StoredHistory.{history_of}
 use Rattle.graph_history.specs.Answer.{numbers_of}
-use Rattle.graph_history.specs.Painting.{IsPainting, IsLevel}
+use Rattle.graph_history.specs.Painting.{IsPainting, ArePassed, IsLevel}
 use Rattle.graph_history.proofs.CoatLemmas.{IsBegun}
 use Rattle.graph_history.proofs.painting.paint_from.Given as goal
 
@@ -13,6 +13,7 @@ invariant-loop-other l = record {
   first : l.painting.first ≡ l.fn.first;
   others : l.painting.others.now ≡ l.fn.others;
   painting : IsPainting l.painting;
+  lists : ArePassed l.painting;
   begun : IsBegun (history_of l.fn.graph) l.fn.first.0 (numbers_of l.fn.others) l.other-index l.painting.coats.all.items;
   level : IsLevel (history_of l.fn.graph) l.painting.coats.all.items (heap_items l.painting.queue) GENERATION_NUMBER_MAX;
 }

@@ -1,6 +1,6 @@
 use Rattle.graph_format.specs.Parents.{no_parents}
 use Rattle.graph_format.specs.StoredHistory.{history_of}
-use Rattle.gix_commitgraph.proofs.EdgeListLemmas.{no_parents_tallied}
+use Rattle.gix_commitgraph.proofs.check.EdgeListLemmas.{no_parents_tallied}
 use Rattle.gix_commitgraph.proofs.graph.Graph.after_first.Goals as goal
 
 pub returns-in-GraphPosition : goal.returns-in-GraphPosition

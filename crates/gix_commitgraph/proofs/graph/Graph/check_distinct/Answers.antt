@@ -5,9 +5,9 @@ use Rattle.graph_format.specs.Faults.{id_at}
 use Rattle.graph_format.specs.Layer.{Layer}
 use Rattle.graph_layer.specs.Commit.{commit_pos}
 use Rattle.gix_commitgraph.specs.Graph.{start}
-use Rattle.gix_commitgraph.proofs.DistinctLemmas.{none-below_distinct}
-use Rattle.gix_commitgraph.proofs.DuplicateLemmas.{duplicate-is, id-told}
-use Rattle.gix_commitgraph.proofs.LayerListLemmas.{size}
+use Rattle.gix_commitgraph.proofs.lookup.DistinctLemmas.{none-below_distinct}
+use Rattle.gix_commitgraph.proofs.lookup.DuplicateLemmas.{duplicate-is, id-told}
+use Rattle.gix_commitgraph.proofs.layers.LayerListLemmas.{size}
 use Rattle.gix_commitgraph.proofs.graph.Graph.check_distinct.Goals as goal
 
 pub find_below-requires : goal.find_below-requires

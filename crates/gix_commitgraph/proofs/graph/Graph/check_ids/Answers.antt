@@ -2,7 +2,7 @@ use Rattle.std.proofs.Common.{◌≡◌, ◌+◌, Some, None, refl, sym, ◌∙�
 use Rattle.std.proofs.lemmas.Result.{err_from_is_err_and}
 use Rattle.graph_layer.specs.Commit.{commit_pos}
 use Rattle.gix_commitgraph.specs.Graph.{start}
-use Rattle.gix_commitgraph.proofs.DuplicateLemmas.{ids-answered, asked-found}
+use Rattle.gix_commitgraph.proofs.lookup.DuplicateLemmas.{ids-answered, asked-found}
 use Rattle.gix_commitgraph.proofs.graph.Graph.check_ids.Goals as goal
 
 pub returns-in-Some : goal.returns-in-Some

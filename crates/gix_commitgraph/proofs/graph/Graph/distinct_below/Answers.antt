@@ -1,4 +1,4 @@
-use Rattle.gix_commitgraph.proofs.IdPlaceLemmas.{distinct-below}
+use Rattle.gix_commitgraph.proofs.lookup.IdPlaceLemmas.{distinct-below}
 use Rattle.gix_commitgraph.proofs.graph.Graph.distinct_below.Goals as goal
 
 pub returns : goal.returns

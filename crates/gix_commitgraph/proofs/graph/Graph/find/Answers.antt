@@ -2,10 +2,10 @@ use Rattle.std.proofs.Common.{◌<◌, length, subst, arith}
 use Rattle.std.proofs.lemmas.Option.{slice_get_within}
 use Rattle.gix_hash_core.specs.Oid.{oid_bytes}
 use Rattle.gix_commitgraph.specs.Graph.{IsGraph}
-use Rattle.gix_commitgraph.proofs.LayerListLemmas.{counted-fits, graph_commits-counted, graph_ids-counted}
-use Rattle.gix_commitgraph.proofs.LayerStartLemmas.{start-kept, layer-kept}
-use Rattle.gix_commitgraph.proofs.GraphLookupLemmas.{missed-none, missed-more}
-use Rattle.gix_commitgraph.proofs.DuplicateLemmas.{take-layer, found-below, none-below}
+use Rattle.gix_commitgraph.proofs.layers.LayerListLemmas.{counted-fits, graph_commits-counted, graph_ids-counted}
+use Rattle.gix_commitgraph.proofs.layers.LayerStartLemmas.{start-kept, layer-kept}
+use Rattle.gix_commitgraph.proofs.lookup.GraphLookupLemmas.{missed-none, missed-more}
+use Rattle.gix_commitgraph.proofs.lookup.DuplicateLemmas.{take-layer, found-below, none-below}
 use Rattle.gix_commitgraph.proofs.graph.Graph.find.Goals as goal
 
 pub loop-below-init : goal.loop-below-init

@@ -1,6 +1,6 @@
 use Rattle.std.proofs.Common.{Some, None, take}
 use Rattle.gix_hash_core.specs.Oid.{oid_bytes}
-use Rattle.gix_commitgraph.proofs.GraphLemmas.{scanned}
+use Rattle.gix_commitgraph.proofs.layers.GraphLemmas.{scanned}
 use Rattle.gix_commitgraph.proofs.graph.Graph.find_below.Goals as goal
 
 pub returns-in_err-found : goal.returns-in_err-found

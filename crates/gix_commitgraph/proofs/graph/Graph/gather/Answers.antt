@@ -1,7 +1,7 @@
 use Rattle.std.proofs.Common.{◌≡◌, ℕ, ◌%◌, ◌<◌, subst, ◌+◌, None, ◌∙◌, arith, length-set}
 use Rattle.std.specs.Prelude.{slice_index_or}
 use Rattle.gix_commitgraph.specs.Tallies.{IsGathered}
-use Rattle.gix_commitgraph.proofs.GatherLemmas.{one-more}
+use Rattle.gix_commitgraph.proofs.check.GatherLemmas.{one-more}
 use Rattle.gix_commitgraph.proofs.graph.Graph.gather.Goals as goal
 
 pub loop-index-init : goal.loop-index-init

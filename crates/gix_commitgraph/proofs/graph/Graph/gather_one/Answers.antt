@@ -1,8 +1,8 @@
 use Rattle.graph_format.specs.Parents.{second_parents}
 use Rattle.graph_format.specs.StoredHistory.{history_of}
 use Rattle.graph_layer.proofs.ParentCountLemmas.{second-few}
-use Rattle.gix_commitgraph.proofs.LayerSpanLemmas.{span-opened}
-use Rattle.gix_commitgraph.proofs.EdgeListLemmas.{tallied_few}
+use Rattle.gix_commitgraph.proofs.layers.LayerSpanLemmas.{span-opened}
+use Rattle.gix_commitgraph.proofs.check.EdgeListLemmas.{tallied_few}
 use Rattle.gix_commitgraph.proofs.graph.Graph.gather_one.Goals as goal
 
 pub with_parent-requires-clause-few : goal.with_parent-requires-clause-few

@@ -1,5 +1,5 @@
 use Rattle.std.proofs.Common.{◌∙◌, arith}
-use Rattle.gix_commitgraph.proofs.LayerSpanLemmas.{span-stop, span-total, span-commit, generation-in_graph}
+use Rattle.gix_commitgraph.proofs.layers.LayerSpanLemmas.{span-stop, span-total, span-commit, generation-in_graph}
 use Rattle.gix_commitgraph.proofs.graph.Graph.generation_at.Goals as goal
 
 pub commit_at-requires : goal.commit_at-requires

@@ -1,6 +1,6 @@
 use Rattle.std.proofs.Common.{nat_lt, rules}
 use Rattle.std.proofs.lemmas.List.Sorted.{IsNonDecreasingBy-from_sort, answers_always}
-use Rattle.gix_commitgraph.proofs.FrontLemmas.{risen, all-fronts, distinct-by_fronts}
+use Rattle.gix_commitgraph.proofs.lookup.FrontLemmas.{risen, all-fronts, distinct-by_fronts}
 use Rattle.gix_commitgraph.proofs.graph.Graph.has_distinct_fronts.Goals as goal
 
 pub returns : goal.returns

@@ -3,9 +3,9 @@ use Rattle.std.proofs.lemmas.List.{length_push}
 use Rattle.std.proofs.lemmas.Option.{slice_get_within}
 use Rattle.graph_layer.specs.Commit.{layer_and_position}
 use Rattle.gix_commitgraph.specs.Graph.{graph_ids, graph_commits}
-use Rattle.gix_commitgraph.proofs.ElementLemmas.{left-first}
-use Rattle.gix_commitgraph.proofs.IdPlaceLemmas.{id-at_commit, places-more}
-use Rattle.gix_commitgraph.proofs.PositionLemmas.{length-graph_commits}
+use Rattle.gix_commitgraph.proofs.lookup.ElementLemmas.{left-first}
+use Rattle.gix_commitgraph.proofs.lookup.IdPlaceLemmas.{id-at_commit, places-more}
+use Rattle.gix_commitgraph.proofs.layers.PositionLemmas.{length-graph_commits}
 use Rattle.gix_commitgraph.proofs.graph.Graph.id_places.Goals as goal
 
 pub overflow_add-pos : goal.overflow_add-pos

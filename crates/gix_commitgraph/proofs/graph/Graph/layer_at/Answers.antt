@@ -1,4 +1,4 @@
-use Rattle.gix_commitgraph.proofs.LayerStartLemmas.{IsKeptPlace, place-kept}
+use Rattle.gix_commitgraph.proofs.layers.LayerStartLemmas.{IsKeptPlace, place-kept}
 use Rattle.gix_commitgraph.proofs.graph.Graph.layer_at.Goals as goal
 
 placed : (c : goal.After-index-2) → IsKeptPlace c.args.self.now c.args.pos.0 c.index.result.now c.index-2.result.now

@@ -2,8 +2,8 @@ use Rattle.std.proofs.Common.{◌≡◌, ◌+◌, ◌-◌, ◌/◌, ◌<◌, ◌
 use Rattle.graph_format.specs.Lookup.{digits}
 use Rattle.graph_format.proofs.DigitLemmas.{digits-enough, digits-lower}
 use Rattle.gix_commitgraph.specs.Graph.{IsGraph}
-use Rattle.gix_commitgraph.proofs.LayerListLemmas.{start-none, start-all}
-use Rattle.gix_commitgraph.proofs.LayerStartLemmas.{digits-rise, digits-upper, digits-one, start-kept}
+use Rattle.gix_commitgraph.proofs.layers.LayerListLemmas.{start-none, start-all}
+use Rattle.gix_commitgraph.proofs.layers.LayerStartLemmas.{digits-rise, digits-upper, digits-one, start-kept}
 use Rattle.gix_commitgraph.proofs.graph.Graph.layer_of_counted.Goals as goal
 
 -- there is a start for each layer

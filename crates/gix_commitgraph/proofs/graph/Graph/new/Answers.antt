@@ -1,5 +1,5 @@
 use Rattle.gix_commitgraph.specs.Graph.{IsGraph}
-use Rattle.gix_commitgraph.proofs.LayerListLemmas.{graph-accepted}
+use Rattle.gix_commitgraph.proofs.layers.LayerListLemmas.{graph-accepted}
 use Rattle.gix_commitgraph.proofs.graph.Graph.new.Goals as goal
 
 pub starts_of-requires : goal.starts_of-requires

@@ -1,7 +1,7 @@
 use Rattle.std.proofs.Common.{◌≡◌, ◌+◌, ◌-◌, ◌<◌, Some, List, ℕ, length, slice_get, ap, subst, arith}
 use Rattle.graph_format.specs.Layer.{Layer}
 use Rattle.gix_commitgraph.specs.Graph.{total, IsGraph}
-use Rattle.gix_commitgraph.proofs.LayerStartLemmas.{start-kept, layer-kept, last-stop}
+use Rattle.gix_commitgraph.proofs.layers.LayerStartLemmas.{start-kept, layer-kept, last-stop}
 use Rattle.gix_commitgraph.proofs.graph.Graph.num_commits.Goals as goal
 
 -- what is read at the number of the last layer is that layer

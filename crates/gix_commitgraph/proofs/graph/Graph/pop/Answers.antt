@@ -1,6 +1,6 @@
 use Rattle.std.proofs.Common.{◌≡◌, ◌-◌, ◌<◌, length, arith}
 use Rattle.std.specs.Vec.{vec_len}
-use Rattle.gix_commitgraph.proofs.LayerStartLemmas.{kept-taken}
+use Rattle.gix_commitgraph.proofs.layers.LayerStartLemmas.{kept-taken}
 use Rattle.gix_commitgraph.proofs.graph.Graph.pop.Goals as goal
 
 pub invariant_of-self : goal.invariant_of-self

@@ -1,7 +1,7 @@
 use Rattle.std.proofs.Common.{◌≡◌, ◌∷◌, ◌++◌, [], refl, sym, ap, ◌∙◌}
 use Rattle.gix_commitgraph.specs.Graph.{total}
-use Rattle.gix_commitgraph.proofs.LayerListLemmas.{graph-accepted}
-use Rattle.gix_commitgraph.proofs.LayerStartLemmas.{starts-pushed}
+use Rattle.gix_commitgraph.proofs.layers.LayerListLemmas.{graph-accepted}
+use Rattle.gix_commitgraph.proofs.layers.LayerStartLemmas.{starts-pushed}
 use Rattle.gix_commitgraph.proofs.graph.Graph.push.Goals as goal
 
 pub invariant_of-self-else-is_err-2 : goal.invariant_of-self-else-is_err-2

@@ -9,7 +9,7 @@ use Rattle.gix_commitgraph.specs.Verify.{item_refusal}
 use Rattle.gix_commitgraph.specs.declared.verify.VerifyError.TheVariants.{ParentOutOfRange}
 use Rattle.graph_layer.specs.Commit.{commit_pos, commit_parents}
 use Rattle.graph_layer.specs.RemainingParents.{parents_left}
-use Rattle.gix_commitgraph.proofs.GatherLemmas.{refusal-told, within-unrefused}
+use Rattle.gix_commitgraph.proofs.check.GatherLemmas.{refusal-told, within-unrefused}
 use Rattle.gix_commitgraph.proofs.graph.Graph.refused_parent.Goals as goal
 
 -- a parent below the end is not refused

@@ -1,7 +1,7 @@
 use Rattle.std.proofs.Common.{◌≡◌, Some, length, slice_get, ap, subst, arith}
 use Rattle.gix_commitgraph.specs.Graph.{start, IsGraph}
-use Rattle.gix_commitgraph.proofs.LayerListLemmas.{start-more, counted-fits}
-use Rattle.gix_commitgraph.proofs.LayerStartLemmas.{start-kept, layer-kept}
+use Rattle.gix_commitgraph.proofs.layers.LayerListLemmas.{start-more, counted-fits}
+use Rattle.gix_commitgraph.proofs.layers.LayerStartLemmas.{start-kept, layer-kept}
 use Rattle.gix_commitgraph.proofs.graph.Graph.span_at.Goals as goal
 
 pub index-first-requires : goal.index-first-requires

@@ -1,5 +1,5 @@
 use Rattle.graph_layer.specs.Commit.{commit_pos}
-use Rattle.gix_commitgraph.proofs.GatherLemmas.{gathered-refusal, gathered-tally}
+use Rattle.gix_commitgraph.proofs.check.GatherLemmas.{gathered-refusal, gathered-tally}
 use Rattle.gix_commitgraph.proofs.graph.Graph.tally_parents.Goals as goal
 
 pub returns-in-Some : goal.returns-in-Some

@@ -1,10 +1,10 @@
 use Rattle.std.proofs.Common.{refl, ◌∙◌}
 use Rattle.std.proofs.lemmas.Result.{err_from_is_err_and}
 use Rattle.graph_format.specs.StoredHistory.{history_of}
-use Rattle.gix_commitgraph.proofs.LayerSpanLemmas.{span-commit, generation-in_graph}
-use Rattle.gix_commitgraph.proofs.CommitCheckLemmas.{refused_by_ids, refused_by_parents, refused_by_generation}
-use Rattle.gix_commitgraph.proofs.CommitCheckLemmas.{stopped_by_processor, commit_passed, wrong_generation, right_generation}
-use Rattle.gix_commitgraph.proofs.CommitCheckLemmas.{expected-is}
+use Rattle.gix_commitgraph.proofs.layers.LayerSpanLemmas.{span-commit, generation-in_graph}
+use Rattle.gix_commitgraph.proofs.check.CommitCheckLemmas.{refused_by_ids, refused_by_parents, refused_by_generation}
+use Rattle.gix_commitgraph.proofs.check.CommitCheckLemmas.{stopped_by_processor, commit_passed, expected-is}
+use Rattle.gix_commitgraph.proofs.check.CommitCheckLemmas.{wrong_generation, right_generation}
 use Rattle.gix_commitgraph.proofs.graph.Graph.verify_commit.Goals as goal
 
 pub returns-in_err-check_ids-clause-agrees : goal.returns-in_err-check_ids-clause-agrees

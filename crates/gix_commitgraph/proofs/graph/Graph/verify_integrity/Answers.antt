@@ -1,6 +1,6 @@
 use Rattle.std.proofs.Common.{false, refl, arith, rules}
-use Rattle.gix_commitgraph.proofs.HeadlineLemmas.{judged, right_stats, right_lookups}
-use Rattle.gix_commitgraph.proofs.RightBelowLemmas.{history-none}
+use Rattle.gix_commitgraph.proofs.sound.HeadlineLemmas.{judged, right_stats, right_lookups}
+use Rattle.gix_commitgraph.proofs.sound.RightBelowLemmas.{history-none}
 use Rattle.gix_commitgraph.proofs.graph.Graph.verify_integrity.Goals as goal
 
 pub returns-clause-sound : goal.returns-clause-sound

@@ -1,7 +1,7 @@
 use Rattle.std.proofs.Common.{rules}
-use Rattle.gix_commitgraph.proofs.HeadlineLemmas.{judged_with, right_stats}
-use Rattle.gix_commitgraph.proofs.RightBelowLemmas.{numbered, whole_fault}
-use Rattle.gix_commitgraph.proofs.SoundLemmas.{ordered-all}
+use Rattle.gix_commitgraph.proofs.sound.HeadlineLemmas.{judged_with, right_stats}
+use Rattle.gix_commitgraph.proofs.sound.RightBelowLemmas.{numbered, whole_fault}
+use Rattle.gix_commitgraph.proofs.sound.SoundLemmas.{ordered-all}
 use Rattle.gix_commitgraph.proofs.graph.Graph.verify_integrity_from.Goals as goal
 
 pub verify_layers-requires : goal.verify_layers-requires

@@ -6,10 +6,10 @@ use Rattle.graph_format.specs.StoredHistory.{history_of}
 use Rattle.graph_layer.specs.Remaining.{commits_left}
 use Rattle.graph_format.specs.Layer.{positions_from}
 use Rattle.graph_format.proofs.PointLemmas.{ran_out}
-use Rattle.gix_commitgraph.proofs.HistoryLemmas.{node_at}
-use Rattle.gix_commitgraph.proofs.LayerSpanLemmas.{span-commit, span-stop, take-next, take-fits, parents-told}
-use Rattle.gix_commitgraph.proofs.LayerCheckLemmas.{turn, place-none, refused_by_bases, reached_first, stops_at_commit}
-use Rattle.gix_commitgraph.proofs.LayerCheckLemmas.{reached_next, layer_passed}
+use Rattle.gix_commitgraph.proofs.history.HistoryLemmas.{node_at}
+use Rattle.gix_commitgraph.proofs.layers.LayerSpanLemmas.{span-commit, span-stop, take-next, take-fits, parents-told}
+use Rattle.gix_commitgraph.proofs.check.LayerCheckLemmas.{turn, place-none, refused_by_bases, reached_first, stops_at_commit}
+use Rattle.gix_commitgraph.proofs.check.LayerCheckLemmas.{reached_next, layer_passed}
 use Rattle.gix_commitgraph.proofs.graph.Graph.verify_layer.Goals as goal
 
 pub returns-in_err-check_bases-clause-agrees : goal.returns-in_err-check_bases-clause-agrees

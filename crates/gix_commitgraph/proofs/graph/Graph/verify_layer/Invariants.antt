@@ -3,7 +3,7 @@ use Rattle.graph_format.specs.StoredHistory.{history_of}
 use Rattle.graph_layer.specs.Remaining.{commits_left}
 use Rattle.graph_format.specs.Layer.{positions_from}
 use Rattle.gix_commitgraph.specs.Tallies.{Tallies, IsBlock}
-use Rattle.gix_commitgraph.proofs.LayerCheckLemmas.{ReachesCommit}
+use Rattle.gix_commitgraph.proofs.check.LayerCheckLemmas.{ReachesCommit}
 use Rattle.gix_commitgraph.proofs.graph.Graph.verify_layer.Given as goal
 
 abbrev pub invariant-loop-commit : goal.invariant-loop-commit

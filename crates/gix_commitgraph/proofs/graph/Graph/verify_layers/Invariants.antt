@@ -3,7 +3,7 @@ use Rattle.gix_commitgraph.specs.Graph.{start}
 use Rattle.graph_format.specs.StoredHistory.{history_of}
 use Rattle.gix_commitgraph.specs.GraphLaw.{IsOrdered}
 use Rattle.gix_commitgraph.specs.Tallies.{Tallies}
-use Rattle.gix_commitgraph.proofs.GraphCheckLemmas.{ReachesLayer}
+use Rattle.gix_commitgraph.proofs.check.GraphCheckLemmas.{ReachesLayer}
 use Rattle.gix_commitgraph.proofs.graph.Graph.verify_layers.Given as goal
 
 abbrev pub invariant-loop-layer : goal.invariant-loop-layer

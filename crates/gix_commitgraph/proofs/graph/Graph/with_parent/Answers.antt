@@ -1,7 +1,7 @@
 use Rattle.std.proofs.Common.{◌≡◌, max, refl, arith}
 use Rattle.graph_format.specs.StoredHistory.{history_of}
 use Rattle.graph_walks.specs.History.{generation_at}
-use Rattle.gix_commitgraph.proofs.EdgeListLemmas.{one_before, refused_before}
+use Rattle.gix_commitgraph.proofs.check.EdgeListLemmas.{one_before, refused_before}
 use Rattle.gix_commitgraph.proofs.graph.Graph.with_parent.Goals as goal
 
 pub returns-in_err-others-clause-tally : goal.returns-in_err-others-clause-tally

@@ -1,6 +1,6 @@
 use Rattle.std.proofs.Common.{map, ap, ◌∙◌}
 use Rattle.gix_commitgraph.specs.GraphRemaining.{id_of}
-use Rattle.gix_commitgraph.proofs.PositionLemmas.{ids-of_commits}
+use Rattle.gix_commitgraph.proofs.layers.PositionLemmas.{ids-of_commits}
 use Rattle.gix_commitgraph.proofs.iter.GraphIds.new.Goals as goal
 
 pub returns : goal.returns

@@ -1,4 +1,4 @@
-use Rattle.gix_commitgraph.proofs.PositionLemmas.{ids-next}
+use Rattle.gix_commitgraph.proofs.layers.PositionLemmas.{ids-next}
 use Rattle.gix_commitgraph.proofs.iter.GraphIdsIterator.next.Goals as goal
 
 pub returns-clause-steps : goal.returns-clause-steps

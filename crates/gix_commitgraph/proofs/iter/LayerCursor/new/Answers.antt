@@ -1,5 +1,5 @@
 use Rattle.std.proofs.Common.{◌∙◌, arith}
-use Rattle.gix_commitgraph.proofs.PositionLemmas.{all-places, length-all_places}
+use Rattle.gix_commitgraph.proofs.layers.PositionLemmas.{all-places, length-all_places}
 use Rattle.gix_commitgraph.proofs.iter.LayerCursor.new.Goals as goal
 
 pub invariant_of-result : goal.invariant_of-result

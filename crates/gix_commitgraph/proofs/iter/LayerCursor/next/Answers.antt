@@ -1,7 +1,7 @@
 use Rattle.std.proofs.Common.{◌≡◌, [], sym, ◌∙◌, arith}
 use Rattle.gix_commitgraph.specs.Graph.{graph_commits}
 use Rattle.gix_commitgraph.specs.GraphRemaining.{cursor_left}
-use Rattle.gix_commitgraph.proofs.PositionLemmas.{places-next, length-places-next, places-none}
+use Rattle.gix_commitgraph.proofs.layers.PositionLemmas.{places-next, length-places-next, places-none}
 use Rattle.gix_commitgraph.proofs.iter.LayerCursor.next.Goals as goal
 
 pub overflow_sub-self : goal.overflow_sub-self

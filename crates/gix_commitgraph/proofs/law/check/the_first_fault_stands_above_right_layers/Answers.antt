@@ -1,4 +1,4 @@
-use Rattle.gix_commitgraph.proofs.RightBelowLemmas.{whole_fault}
+use Rattle.gix_commitgraph.proofs.sound.RightBelowLemmas.{whole_fault}
 use Rattle.gix_commitgraph.proofs.law.check.the_first_fault_stands_above_right_layers.Goals as goal
 
 pub returns : goal.returns

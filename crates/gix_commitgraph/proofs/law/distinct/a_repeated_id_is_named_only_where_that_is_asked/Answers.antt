@@ -1,4 +1,4 @@
-use Rattle.gix_commitgraph.proofs.DuplicateNameLemmas.{asked-from_named}
+use Rattle.gix_commitgraph.proofs.check.DuplicateNameLemmas.{asked-from_named}
 use Rattle.gix_commitgraph.proofs.law.distinct.a_repeated_id_is_named_only_where_that_is_asked.Goals as goal
 
 pub returns : goal.returns

@@ -1,5 +1,5 @@
 use Rattle.std.proofs.Common.{true, refl}
-use Rattle.gix_commitgraph.proofs.SoundLemmas.{sound_with-from_none, none-from_sound_with}
+use Rattle.gix_commitgraph.proofs.sound.SoundLemmas.{sound_with-from_none, none-from_sound_with}
 use Rattle.gix_commitgraph.proofs.law.distinct.distinct_ids_are_without_fault.Goals as goal
 
 pub returns : goal.returns

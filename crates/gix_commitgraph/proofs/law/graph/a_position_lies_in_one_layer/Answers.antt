@@ -1,4 +1,4 @@
-use Rattle.gix_commitgraph.proofs.GraphLemmas.{lies-in_one}
+use Rattle.gix_commitgraph.proofs.layers.GraphLemmas.{lies-in_one}
 use Rattle.gix_commitgraph.proofs.law.graph.a_position_lies_in_one_layer.Goals as goal
 
 pub returns : goal.returns

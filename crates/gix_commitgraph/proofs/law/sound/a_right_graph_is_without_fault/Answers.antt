@@ -1,4 +1,4 @@
-use Rattle.gix_commitgraph.proofs.SoundLemmas.{none-from_sound}
+use Rattle.gix_commitgraph.proofs.sound.SoundLemmas.{none-from_sound}
 use Rattle.gix_commitgraph.proofs.law.sound.a_right_graph_is_without_fault.Goals as goal
 
 pub returns : goal.returns

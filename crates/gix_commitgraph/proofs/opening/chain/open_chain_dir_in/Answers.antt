@@ -1,5 +1,5 @@
 use Rattle.gix_commitgraph.specs.OpenAlways.{IsFromChain}
-use Rattle.gix_commitgraph.proofs.OpenedPathLemmas.{graph_from}
+use Rattle.gix_commitgraph.proofs.opening.OpenedPathLemmas.{graph_from}
 use Rattle.gix_commitgraph.proofs.opening.chain.open_chain_dir_in.Goals as goal
 
 pub returns-clause-from : goal.returns-clause-from

@@ -2,9 +2,9 @@ use Rattle.std.proofs.Common.{rules, ◌≡◌, ◌+◌, ◌<◌, ◌∷◌, ◌
 use Rattle.std.proofs.lemmas.Grind.{common_steps}
 use Rattle.std.proofs.lemmas.Result.{err_from_is_err_and}
 use Rattle.std.specs.Str.Lines.{lines}
-use Rattle.gix_commitgraph.proofs.ChainOpeningLemmas.{layers_with-next}
-use Rattle.gix_commitgraph.proofs.OpenErrorLemmas.{line-within, lines-counted}
-use Rattle.gix_commitgraph.proofs.OpenedPathLemmas.{from-pushed}
+use Rattle.gix_commitgraph.proofs.opening.ChainOpeningLemmas.{layers_with-next}
+use Rattle.gix_commitgraph.proofs.opening.OpenErrorLemmas.{line-within, lines-counted}
+use Rattle.gix_commitgraph.proofs.opening.OpenedPathLemmas.{from-pushed}
 use Rattle.gix_commitgraph.proofs.opening.chain.open_layers.Goals as goal
 
 pub loop-line-preserved : goal.loop-line-preserved

@@ -2,7 +2,7 @@ use Rattle.std.proofs.Common.{◌≡◌, ◌+◌, Some, length, vec_len}
 use Rattle.std.specs.Str.Lines.{lines}
 use Rattle.graph_folder.specs.Tree.{Tree}
 use Rattle.gix_commitgraph.specs.OpenAlways.{IsFromChain}
-use Rattle.gix_commitgraph.proofs.ChainOpeningLemmas.{layers_from, layers_with}
+use Rattle.gix_commitgraph.proofs.opening.ChainOpeningLemmas.{layers_from, layers_with}
 use Rattle.gix_commitgraph.proofs.opening.chain.open_layers.Given as goal
 
 -- the lines that are left name what follows the layers so far, of which there is one for each line before; each is a file that a

@@ -1,5 +1,5 @@
 use Rattle.std.proofs.Common.{◌∙◌}
-use Rattle.gix_commitgraph.proofs.Utf8Lemmas.{is_ok-from_utf8}
+use Rattle.gix_commitgraph.proofs.opening.Utf8Lemmas.{is_ok-from_utf8}
 use Rattle.gix_commitgraph.proofs.opening.chain.text_of.Goals as goal
 
 pub returns-clause-variant : goal.returns-clause-variant

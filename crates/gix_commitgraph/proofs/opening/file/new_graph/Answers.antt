@@ -1,5 +1,5 @@
 use Rattle.std.proofs.lemmas.Result.{err_from_is_err_and}
-use Rattle.gix_commitgraph.proofs.OpenErrorLemmas.{layers_error}
+use Rattle.gix_commitgraph.proofs.opening.OpenErrorLemmas.{layers_error}
 use Rattle.gix_commitgraph.proofs.opening.file.new_graph.Goals as goal
 
 pub returns-in_err-new-clause-errors : goal.returns-in_err-new-clause-errors

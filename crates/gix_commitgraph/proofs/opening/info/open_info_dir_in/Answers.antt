@@ -1,9 +1,9 @@
 use Rattle.std.proofs.Common.{◌≡◌, true, false, ◌∙◌, inl, inr}
 use Rattle.gix_commitgraph.specs.OpenAlways.{IsFromInfo}
 use Rattle.graph_layer.specs.OpenAnswer.{is_settled}
-use Rattle.gix_commitgraph.proofs.InfoOpeningLemmas.{info_opens-file, info_opens-chain}
-use Rattle.gix_commitgraph.proofs.OpenErrorLemmas.{folder_error-file}
-use Rattle.gix_commitgraph.proofs.OpenedPathLemmas.{from_wider}
+use Rattle.gix_commitgraph.proofs.opening.InfoOpeningLemmas.{info_opens-file, info_opens-chain}
+use Rattle.gix_commitgraph.proofs.opening.OpenErrorLemmas.{folder_error-file}
+use Rattle.gix_commitgraph.proofs.opening.OpenedPathLemmas.{from_wider}
 use Rattle.gix_commitgraph.proofs.opening.info.open_info_dir_in.Goals as goal
 
 pub returns-then-is_settled-clause-opens : goal.returns-then-is_settled-clause-opens

@@ -3,7 +3,7 @@ use Rattle.std.proofs.lemmas.Option.{slice_get_read, slice_get_within}
 use Rattle.std.proofs.lemmas.Slice.Eq.{bytes_eq-Decides}
 use Rattle.gix_hash_core.specs.Oid.{oid_bytes}
 use Rattle.gix_commitgraph.specs.declared.verify.distinct.IdPlace.{IdPlace}
-use Rattle.gix_commitgraph.proofs.IdPlaceLemmas.{same-place, repeats-more}
+use Rattle.gix_commitgraph.proofs.lookup.IdPlaceLemmas.{same-place, repeats-more}
 use Rattle.gix_commitgraph.proofs.verify.distinct.first_repeat.Goals as goal
 use Rattle.gix_commitgraph.proofs.verify.distinct.first_repeat.Goals.{then-eq, else-eq}
 

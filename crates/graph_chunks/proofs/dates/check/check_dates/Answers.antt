@@ -4,7 +4,7 @@ use Rattle.first_faults.proofs.FirstLemmas.{first_below-none}
 use Rattle.graph_format.specs.Layer.{Layer}
 use Rattle.graph_format.specs.StoredHistory.{history_of}
 use Rattle.gix_commitgraph.specs.Graph.{start}
-use Rattle.gix_commitgraph.proofs.LayerListLemmas.{start-none, start-all}
+use Rattle.gix_commitgraph.proofs.layers.LayerListLemmas.{start-none, start-all}
 use Rattle.graph_chunks.specs.StoredDates.{times_of}
 use Rattle.graph_chunks.specs.Dates.{date_fault}
 use Rattle.graph_chunks.proofs.StoredDateLemmas.{layer-fits}

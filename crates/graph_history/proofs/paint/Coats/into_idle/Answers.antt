@@ -12,6 +12,7 @@ returns c =
     record {
       coats_len = refl;
       bare = c.requires;
+      trails = search;
       counted = record {
         fresh = none is_fresh refl;
         ahead = none (λ (m : Coat). is_ahead m.paint) refl;

@@ -4,6 +4,7 @@ use Rattle.graph_format.specs.StoredHistory.{history_of}
 use Rattle.graph_history.specs.Answer.{numbers_of}
 use Rattle.graph_history.proofs.CoatLemmas.{gathered_none}
 use Rattle.graph_history.proofs.EdgeLemmas.{paint_none, waiting_none, visiting_none}
+use Rattle.graph_history.proofs.PassLemmas.{passed_none}
 use Rattle.graph_history.proofs.TouchLemmas.{touched_none}
 use Rattle.graph_history.proofs.painting.Painting.new.Goals as goal
 
@@ -18,6 +19,7 @@ returns-clause-painting c =
     let commits : total c.args.graph.now ≡ length h =
     sym (c.the_history_of_a_graph_is_that_of_its_layers.ensures.counted c.args.graph.now made.opened) in
     record {
+      graph = made;
       sound = c.num_commits-commits.ensures.right;
       commits = commits;
       few = omega (arith, e.coats_len, made.makes.few);
@@ -28,3 +30,6 @@ returns-clause-painting c =
       touched = touched_none coats c.new-3.result.items (heap_items c.new.result) e.bare;
       visiting = λ _. visiting_none h a bs coats e.bare;
     }
+
+pub returns-clause-lists : goal.returns-clause-lists
+returns-clause-lists c = λ l. passed_none _ _ _ (c.requires.idle.trails l)

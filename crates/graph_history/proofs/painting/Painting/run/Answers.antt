@@ -10,9 +10,11 @@ use Rattle.graph_history.specs.declared.paint.Coat.{Coat}
 use Rattle.graph_history.specs.Painting.{IsSpread, IsLevel, IsDone}
 use Rattle.graph_walks.specs.History.{generation_at}
 use Rattle.graph_walks.specs.Walks.{Reaches}
-use Rattle.graph_history.specs.Paint.{is_painted, is_fresh, is_visited}
+use Rattle.graph_history.specs.Paint.{is_painted, is_fresh, is_visited, paint_at, Grows}
 use Rattle.graph_history.proofs.EdgeLemmas.{next_queued, painted_below_cap, visiting_taken}
 use Rattle.graph_history.proofs.CoatLemmas.{coat_with, none_fresh, stops, taken_entry, all_low, taken_by, gathered_same}
+use Rattle.graph_history.proofs.PaintLemmas.{grows_refl}
+use Rattle.graph_history.proofs.PassLemmas.{passed_kept}
 use Rattle.graph_history.proofs.TouchLemmas.{touched_taken}
 use Rattle.graph_history.proofs.painting.Painting.run.Goals as goal
 use Rattle.graph_history.proofs.painting.Painting.run.Goals.{else-self-eq0-via-then-self-eq0+else-is_below_cap}
@@ -79,7 +81,12 @@ visit-requires c =
     let never_rises : (p q : ℕ) → Reaches h p q → generation_at h q ≤ generation_at h p =
     λ p q. c.generations_never_rise_along_walks.ensures h p q i.painting.sound.generations in
     record {
+      lists = λ l.
+          rw c.set.ensures.trails
+          (passed_kept coats _ _ c.set.new.self.all.items
+          (λ q. subst (Grows (paint_at coats q)) (sym (after.same q)) (grows_refl (paint_at coats q))) (i.lists l));
       painting = record {
+        graph = i.painting.graph;
         sound = i.painting.sound;
         commits = i.painting.commits;
         few = omega (arith, i.painting.few, ap length c.set.ensures.coats, length-set coats c.in-Some.next.1 new);

@@ -5,7 +5,7 @@ use Rattle.graph_layer.proofs.BucketLemmas.{view-other_len}
 use Rattle.graph_format.proofs.DigitLemmas.{digits-enough, digits-lower}
 use Rattle.graph_layer.proofs.SearchLemmas.{stands_within-bucket, stands_within-lower, stands_within-upper, found-equal}
 use Rattle.graph_layer.proofs.SearchLemmas.{found-none, found-other_len}
-use Rattle.graph_layout.proofs.LayoutLemmas.{view-kind}
+use Rattle.graph_format.proofs.LayoutLemmas.{view-kind}
 use Rattle.graph_layer.proofs.file.File.lookup_counted.Goals as goal
 
 pub returns-then-wanted-size-clause-found : goal.returns-then-wanted-size-clause-found

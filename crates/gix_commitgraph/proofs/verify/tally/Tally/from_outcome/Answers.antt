@@ -3,7 +3,7 @@ use Rattle.graph_walks.specs.Counts.{greatest}
 use Rattle.graph_walks.specs.History.{Node, generations}
 use Rattle.gix_commitgraph.specs.Tallies.{AreNumbered}
 use Rattle.gix_commitgraph.specs.Verify.{Summarizes}
-use Rattle.gix_commitgraph.proofs.OutcomeLemmas.{greatest-capped, greatest_of_none, greatest_of_edges, greatest_at_cap}
+use Rattle.gix_commitgraph.proofs.check.OutcomeLemmas.{greatest-capped, greatest_of_none, greatest_of_edges, greatest_at_cap}
 use Rattle.gix_commitgraph.proofs.verify.tally.Tally.from_outcome.Goals.{in-Some, in-Some-2, in-None}
 use Rattle.gix_commitgraph.proofs.verify.tally.Tally.from_outcome.Goals as goal
 

@@ -1,0 +1,9 @@
+pub mod BaseIdLemmas
+pub mod CommitCheckLemmas
+pub mod LayerCheckLemmas
+pub mod GraphCheckLemmas
+pub mod GraphCallLemmas
+pub mod EdgeListLemmas
+pub mod GatherLemmas
+pub mod DuplicateNameLemmas
+pub mod OutcomeLemmas

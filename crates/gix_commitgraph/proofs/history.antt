@@ -1,0 +1,5 @@
+pub mod HistoryLemmas
+pub mod GraphHistoryLemmas
+pub mod KnownParentLemmas
+pub mod IdWalkLemmas
+pub mod GraphTallyLemmas

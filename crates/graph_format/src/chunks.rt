@@ -1,0 +1,202 @@
+//! Where the chunks of a file lie, and whether their sizes are right.
+
+ghost use Rattle.std.specs.Prelude.{◌≡◌, ◌+◌, ◌≤◌, slice_index, Some, IfOk, IfSome, option_map};
+ghost use Rattle.gix_hash_core.specs.Kind.{id_len};
+ghost use Rattle.gix_chunk_core.specs.Table.{Chunks};
+ghost use Rattle.graph_format.specs.Reports.{Reports};
+ghost use Rattle.graph_format.specs.Refusal.{bases_refusal, records_refusal, fan_refusal};
+ghost use Rattle.graph_format.specs.Refusal.{ids_refusal, edges_refusal, sizes_refusal};
+ghost use Rattle.graph_format.specs.ChunkRanges.{IsChunkRange, AreChunkRanges, size_at, start_of};
+
+use crate::error::FileError;
+use gix_chunk_core::Index;
+use gix_hash_core::Kind;
+
+/// The bytes of a file from `start` up to but not including `end`.
+#[derive(Clone, Copy)]
+pub struct ChunkRange {
+    pub start: usize,
+    pub end: usize,
+}
+
+impl ChunkRange {
+    /// How many bytes there are.
+    pub(crate) fn size(self) -> usize
+        requires { self.start ≤ self.end }
+        ensures { result ≡ size_at self }
+    {
+        self.end - self.start
+    }
+}
+
+/// Where the chunks lie.
+#[derive(Clone, Copy)]
+pub struct ChunkRanges {
+    pub fan: ChunkRange,
+    pub ids: ChunkRange,
+    pub records: ChunkRange,
+    pub edges: Option<ChunkRange>,
+    pub bases: Option<ChunkRange>,
+}
+
+/// Where a chunk begins, 0 where it is missing.
+pub fn start_of(place: Option<ChunkRange>) -> usize
+    ensures { result ≡ start_of place }
+{
+    match place {
+        Some(place) => place.start,
+        None => 0,
+    }
+}
+
+/// The chunk of the section "OID Fanout".
+const OID_FAN_CHUNK_ID: [u8; 4] = *b"OIDF";
+
+/// The chunk of the section "OID Lookup".
+const OID_LOOKUP_CHUNK_ID: [u8; 4] = *b"OIDL";
+
+/// The chunk of the section "Commit Data".
+const COMMIT_DATA_CHUNK_ID: [u8; 4] = *b"CDAT";
+
+/// The chunk of the section "Extra Edge List".
+const EXTENDED_EDGES_LIST_CHUNK_ID: [u8; 4] = *b"EDGE";
+
+/// The chunk of the section "Base Graphs List".
+const BASE_GRAPHS_LIST_CHUNK_ID: [u8; 4] = *b"BASE";
+
+/// How many numbers the fan has.
+const FAN_LEN: usize = 256;
+
+/// How many bytes a word of the extra edge list and a number of the fan have.
+const WORD_LEN: usize = 4;
+
+/// The greatest number of words in the extra edge list. With two more, a number of parents fits 32
+/// bits.
+const MAX_EDGES: usize = 4294967294;
+
+/// How many bytes a record has beside the id of its root tree: two parent fields, and 64 bits of
+/// generation number and time.
+const RECORD_LEN_WITHOUT_ID: usize = 2 * WORD_LEN + 8;
+
+/// How many bytes a record has.
+pub fn record_len(kind: Kind) -> usize
+    ensures { result ≡ id_len kind + 16 }
+{
+    kind.len_in_bytes() + RECORD_LEN_WITHOUT_ID
+}
+
+/// Refuses a list of base ids that ends within an id, or has another number of ids than the header
+/// says.
+#[tactic(auto, unfolding(crate::specs::Refusal::bases_refusal))]
+fn check_bases(kind: Kind, count: u8, place: Option<ChunkRange>) -> Result<(), FileError>
+    requires { IfSome place (λ p. p.start ≤ p.end) }
+    ensures { Reports result (bases_refusal kind count (option_map size_at place)) }
+{
+    if let Some(place) = place {
+        if place.size() % kind.len_in_bytes() != 0 {
+            return Err(FileError::BaseSize);
+        }
+        if place.size() / kind.len_in_bytes() != count as usize {
+            return Err(FileError::BaseCount);
+        }
+    }
+    Ok(())
+}
+
+/// Refuses records that are missing, or that end within a record.
+#[tactic(auto, unfolding(crate::specs::Refusal::records_refusal))]
+fn check_records(kind: Kind, place: Option<ChunkRange>) -> Result<ChunkRange, FileError>
+    requires { IfSome place (λ p. p.start ≤ p.end) }
+    ensures refusal { Reports result (records_refusal kind (option_map size_at place)) }
+    ensures same { IfOk result (λ p. place ≡ Some p) }
+{
+    match place {
+        None => Err(FileError::NoCommitData),
+        Some(place) if place.size() % record_len(kind) != 0 => Err(FileError::CommitDataSize),
+        Some(place) => Ok(place),
+    }
+}
+
+/// Refuses a fan that is missing, or that does not have 256 numbers.
+#[tactic(auto, unfolding(crate::specs::Refusal::fan_refusal))]
+fn check_fan(place: Option<ChunkRange>) -> Result<ChunkRange, FileError>
+    requires { IfSome place (λ p. p.start ≤ p.end) }
+    ensures refusal { Reports result (fan_refusal (option_map size_at place)) }
+    ensures same { IfOk result (λ p. place ≡ Some p) }
+    ensures size { IfOk result (λ p. p.end ≡ p.start + 1024) }
+{
+    match place {
+        None => Err(FileError::NoFan),
+        Some(place) if place.size() != FAN_LEN * WORD_LEN => Err(FileError::FanSize),
+        Some(place) => Ok(place),
+    }
+}
+
+/// Refuses ids that are missing, or that end within an id.
+#[tactic(auto, unfolding(crate::specs::Refusal::ids_refusal))]
+fn check_ids(kind: Kind, place: Option<ChunkRange>) -> Result<ChunkRange, FileError>
+    requires { IfSome place (λ p. p.start ≤ p.end) }
+    ensures refusal { Reports result (ids_refusal kind (option_map size_at place)) }
+    ensures same { IfOk result (λ p. place ≡ Some p) }
+{
+    match place {
+        None => Err(FileError::NoIds),
+        Some(place) if place.size() % kind.len_in_bytes() != 0 => Err(FileError::IdsSize),
+        Some(place) => Ok(place),
+    }
+}
+
+/// Refuses an extra edge list that has too many words.
+#[tactic(auto, unfolding(crate::specs::Refusal::edges_refusal))]
+fn check_edges(place: Option<ChunkRange>) -> Result<(), FileError>
+    requires { IfSome place (λ p. p.start ≤ p.end) }
+    ensures { Reports result (edges_refusal (option_map size_at place)) }
+{
+    match place {
+        Some(place) if place.size() / WORD_LEN > MAX_EDGES => Err(FileError::TooManyEdges),
+        _ => Ok(()),
+    }
+}
+
+/// Where the chunk with an id lies, by a table that was read.
+#[tactic(auto, using(crate::proofs::ChunkLemmas::chunk_laws))]
+pub(crate) fn chunk_range(bytes: &[u8], index: &Index<'_>, id: [u8; 4]) -> Option<ChunkRange>
+    requires { Chunks bytes.now 8 (slice_index bytes.now 6) index.now }
+    ensures { IsChunkRange bytes.now id result }
+{
+    match index.range_by_id(id) {
+        Some(range) => Some(ChunkRange {
+            start: range.start,
+            end: range.end,
+        }),
+        None => None,
+    }
+}
+
+/// Where the chunks lie, if those that have to be there are there, and each has a right size.
+#[tactic(auto, using(crate::proofs::ChunkLemmas::size_laws), unfolding(crate::specs::Refusal::sizes_refusal))]
+pub(crate) fn chunk_ranges(
+    bytes: &[u8],
+    index: &Index<'_>,
+    kind: Kind,
+) -> Result<ChunkRanges, FileError>
+    requires { Chunks bytes.now 8 (slice_index bytes.now 6) index.now }
+    ensures chunks { IfOk result (AreChunkRanges bytes.now) }
+    ensures fan { IfOk result (λ chunks. chunks.fan.end ≡ chunks.fan.start + 1024) }
+    ensures refusal { Reports result (sizes_refusal kind bytes.now) }
+{
+    let bases = chunk_range(bytes, index, BASE_GRAPHS_LIST_CHUNK_ID);
+    check_bases(kind, bytes[7], bases)?;
+    let records = check_records(kind, chunk_range(bytes, index, COMMIT_DATA_CHUNK_ID))?;
+    let fan = check_fan(chunk_range(bytes, index, OID_FAN_CHUNK_ID))?;
+    let ids = check_ids(kind, chunk_range(bytes, index, OID_LOOKUP_CHUNK_ID))?;
+    let edges = chunk_range(bytes, index, EXTENDED_EDGES_LIST_CHUNK_ID);
+    check_edges(edges)?;
+    Ok(ChunkRanges {
+        fan,
+        ids,
+        records,
+        edges,
+        bases,
+    })
+}

@@ -1,0 +1,37 @@
+//! The fan of a file: for each first byte how many ids begin with it or a lesser one.
+
+ghost use Rattle.std.specs.Prelude.{◌≡◌, ◌+◌, ◌<◌, slice_index};
+ghost use Rattle.graph_format.specs.Reports.{Reports};
+ghost use Rattle.graph_format.specs.Format.{fan_of, fan_id};
+ghost use Rattle.graph_format.specs.Refusal.{falling_refusal};
+ghost use Rattle.graph_format.specs.ChunkRanges.{IsAt};
+
+use crate::chunks::ChunkRange;
+use crate::error::FileError;
+use crate::numbers::word_at;
+
+/// The number at a place of the fan.
+#[tactic(auto, using(crate::proofs::FanLemmas::fan_laws))]
+pub fn fan_at(bytes: &[u8], fan: ChunkRange, i: usize) -> u32
+    requires place { IsAt bytes.now fan_id fan }
+    requires size { fan.end ≡ fan.start + 1024 }
+    requires within { i < 256 }
+    ensures { result ≡ slice_index (fan_of bytes.now) i }
+{
+    word_at(bytes, fan.start + 4 * i)
+}
+
+/// Refuses a fan that falls.
+#[tactic(auto, using(crate::proofs::FanLemmas::first_laws), unfolding(crate::specs::Refusal::falling_refusal))]
+pub(crate) fn check_rising(bytes: &[u8], fan: ChunkRange) -> Result<(), FileError>
+    requires place { IsAt bytes.now fan_id fan }
+    requires size { fan.end ≡ fan.start + 1024 }
+    ensures { Reports result (falling_refusal (fan_of bytes.now)) }
+{
+    for i in 0..255 {
+        if fan_at(bytes, fan, i + 1) < fan_at(bytes, fan, i) {
+            return Err(FileError::FanFalls { at: i as u8 + 1 });
+        }
+    }
+    Ok(())
+}

@@ -1,7 +1,0 @@
-use Rattle.graph_layout.specs.DecodedRecords.{AreDecoded}
-use Rattle.graph_layout.proofs.DecodedRecordLemmas.{first_records}
-use Rattle.graph_layout.proofs.records.Records.decode.Given as goal
-
--- the records so far are decoded
-abbrev pub invariant-loop-pos : goal.invariant-loop-pos
-invariant-loop-pos l = AreDecoded (first_records l.kind l.bytes l.pos) l.records

@@ -1,0 +1,160 @@
+use crate::fixtures::{built, hex_of, put_chain, with_commits};
+use crate::verifying::expect_verify;
+use gix_hash_core::ObjectId;
+use graph_commands::run::{WriteFailed, run_find};
+use graph_folder::folder::{Folder, Memory};
+use graph_vectors::{DIAMOND, Sink};
+use std::alloc::Global;
+use std::process::Abort;
+
+/// Asserts the status of `find`, and what it writes.
+pub fn expect_find<T: Folder>(
+    rt: &impl Abort,
+    alloc: Global,
+    folder: &mut T,
+    (path, hex): (&str, &str),
+    (status, want): (u8, &str),
+) {
+    let mut out = Sink::new(alloc, usize::MAX, None);
+    let answer = run_find(alloc, folder, path, hex, &mut out);
+    assert_eq!(rt; answer.expect(rt, "a status"), status);
+    assert_eq!(rt; out.text(), want);
+}
+
+/// Forty times a digit.
+const FOURS: &str = "4444444444444444444444444444444444444444";
+
+const FIVES: &str = "5555555555555555555555555555555555555555";
+
+const ZS: &str = "zzzzzzzzzzzzzzzzzzzzzzzzzzzzzzzzzzzzzzzz";
+
+/// Sixty-four times a digit.
+const LONG_FOURS: &str = "4444444444444444444444444444444444444444444444444444444444444444";
+
+/// Paths and texts of ids, each with the status of `find` and what it writes.
+const SEARCHES: &[(&str, &str, u8, &str)] = &[
+    ("g", FOURS, 0, "position 3 generation 3 time 7\n"),
+    ("g", FIVES, 1, "none\n"),
+    ("g", LONG_FOURS, 1, "none\n"),
+    ("g", ZS, 2, "refused id 2\n"),
+    ("nothing", ZS, 2, "refused id 2\n"),
+    ("g", "zz", 2, "refused id 1\n"),
+    ("g", "", 2, "refused id 1\n"),
+    ("nothing", "", 2, "refused id 1\n"),
+    ("nothing", FOURS, 1, "refused open 1\n"),
+];
+
+#[test]
+fn finds_a_commit(rt: HostRuntime) {
+    let alloc = rt.alloc();
+    let mut folder = with_commits(&rt, alloc, "g", DIAMOND);
+    for (path, hex, status, want) in SEARCHES {
+        expect_find(&rt, alloc, &mut folder, (path, hex), (*status, want));
+    }
+}
+
+/// The texts that are no ids, each with the line that refuses it.
+const NO_IDS: &[(&str, &str)] = &[(ZS, "refused id 2\n"), ("", "refused id 1\n")];
+
+#[test]
+fn a_text_that_is_no_id_opens_nothing(rt: HostRuntime) {
+    let alloc = rt.alloc();
+    let mut folder = with_commits(&rt, alloc, "g", DIAMOND);
+    folder.fail_read(0);
+    for (hex, want) in NO_IDS {
+        expect_find(&rt, alloc, &mut folder, ("g", hex), (2, want));
+        assert_eq!(rt; folder.failures(), 0);
+    }
+    expect_verify(&rt, alloc, &mut folder, "g", (1, "refused open 3\n"));
+    assert_eq!(rt; folder.failures(), 1);
+}
+
+const CASES: &[&str] = &[
+    "abababababababababababababababababababab",
+    "ABABABABABABABABABABABABABABABABABABABAB",
+    "aBAbabABabababababababababababababababAB",
+];
+
+#[test]
+fn digits_are_of_either_case(rt: HostRuntime) {
+    let alloc = rt.alloc();
+    let mut folder = with_commits(&rt, alloc, "g", &[(0xab, &[], 9)]);
+    for hex in CASES {
+        let want = (0, "position 0 generation 9 time 7\n");
+        expect_find(&rt, alloc, &mut folder, ("g", hex), want);
+    }
+}
+
+/// The bytes that ids repeat, each with the status of `find` and what it writes.
+const IN_A_CHAIN: &[(u8, u8, &str)] = &[
+    (0x11, 0, "position 0 generation 1 time 7\n"),
+    (0x33, 0, "position 1 generation 2 time 7\n"),
+    (0x44, 0, "position 3 generation 6 time 7\n"),
+    (0x55, 0, "position 4 generation 7 time 7\n"),
+    (0x66, 1, "none\n"),
+];
+
+#[test]
+fn finds_a_commit_in_a_chain(rt: HostRuntime) {
+    let alloc = rt.alloc();
+    let lower = built(&rt, alloc, &[], &[(0x11, &[], 1), (0x33, &[0], 2)]);
+    let base = ObjectId::from([0xab; 20]);
+    let rows = [(0x33, [].as_slice(), 5), (0x44, &[0], 6), (0x55, &[1], 7)];
+    let upper = built(&rt, alloc, &[base], &rows);
+    let mut folder = Memory::new(alloc);
+    put_chain(&rt, alloc, &mut folder, "graphs", &[&lower, &upper]);
+    for (id, status, want) in IN_A_CHAIN {
+        let hex = hex_of(&rt, alloc, *id);
+        expect_find(
+            &rt,
+            alloc,
+            &mut folder,
+            ("graphs", hex.as_str()),
+            (*status, want),
+        );
+    }
+}
+
+/// Asserts that a search writes its line at once, and nothing where that write fails.
+fn expect_one_write(rt: &impl Abort, alloc: Global, folder: &mut Memory, hex: &str) {
+    let mut whole = Sink::new(alloc, usize::MAX, None);
+    assert!(rt; run_find(alloc, folder, "g", hex, &mut whole).is_ok());
+    assert_eq!(rt; whole.writes, 1);
+    let mut out = Sink::new(alloc, usize::MAX, Some(0));
+    let answer = run_find(alloc, folder, "g", hex, &mut out);
+    assert!(rt; matches!(answer, Err(WriteFailed)));
+    assert_eq!(rt; out.bytes.len(), 0);
+}
+
+#[test]
+fn writes_the_line_of_a_search_at_once(rt: HostRuntime) {
+    let alloc = rt.alloc();
+    let mut folder = with_commits(&rt, alloc, "g", DIAMOND);
+    for hex in [FOURS, FIVES, ZS] {
+        expect_one_write(&rt, alloc, &mut folder, hex);
+    }
+}
+
+/// Asserts the status of a search, and the answer to each of its writes that fails.
+fn try_writes(rt: &impl Abort, alloc: Global, folder: &mut Memory, hex: &str, status: u8) {
+    let mut whole = Sink::new(alloc, 5, None);
+    let answer = run_find(alloc, folder, "g", hex, &mut whole);
+    assert_eq!(rt; answer.expect(rt, "a status"), status);
+    for write in 0..whole.writes {
+        let mut out = Sink::new(alloc, 5, Some(write));
+        let answer = run_find(alloc, folder, "g", hex, &mut out);
+        assert!(rt; matches!(answer, Err(WriteFailed)));
+    }
+    let mut out = Sink::new(alloc, 5, Some(whole.writes));
+    let answer = run_find(alloc, folder, "g", hex, &mut out);
+    assert_eq!(rt; answer.expect(rt, "a status"), status);
+}
+
+#[test]
+fn reports_each_write_of_a_search_that_fails(rt: HostRuntime) {
+    let alloc = rt.alloc();
+    let mut folder = with_commits(&rt, alloc, "g", DIAMOND);
+    try_writes(&rt, alloc, &mut folder, FOURS, 0);
+    try_writes(&rt, alloc, &mut folder, FIVES, 1);
+    try_writes(&rt, alloc, &mut folder, ZS, 2);
+}

@@ -1,0 +1,114 @@
+//! A history of 600 commits, in one layer and in three: more than are looked at in one go.
+//!
+//! The first four bytes of the id of commit i are the number 6,000,000 * (i + 1), the others are
+//! null. Commit 0 has no parents. Each other has commit i - 1 as its first parent and commit i / 2,
+//! rounded down, as its second; where i is a multiple of 3, it has commit i / 3 as its third. Its
+//! generation number is i + 1.
+
+use crate::finding::expect_find;
+use crate::fixtures::{checksum_of, put_chain};
+use crate::verifying::expect_verify;
+use gix_hash_core::{Kind, ObjectId};
+use graph_commands::run::run_list;
+use graph_folder::folder::Memory;
+use graph_vectors::{LayerPlan, PlanCommit, Sink, build};
+use std::alloc::{AllocError, Global};
+use std::process::Abort;
+
+/// The id of a commit.
+fn id(commit: u32) -> ObjectId {
+    let number = commit.saturating_add(1).saturating_mul(6_000_000);
+    let mut id = [0; 20];
+    id[..4].copy_from_slice(&number.to_be_bytes());
+    ObjectId::from(id)
+}
+
+/// The parents of a commit.
+fn parents(alloc: Global, commit: u32) -> Result<Vec<u32>, AllocError> {
+    let all = [commit.saturating_sub(1), commit / 2, commit / 3];
+    let count = if commit == 0 {
+        0
+    } else if commit % 3 == 0 {
+        3
+    } else {
+        2
+    };
+    Vec::from_slice(alloc, &all[..count])
+}
+
+/// What the layer of the commits from one on, up to another, on these bases, is to say.
+fn plan(alloc: Global, bases: &[ObjectId], from: u32, to: u32) -> Result<LayerPlan, AllocError> {
+    let mut plan = LayerPlan::new(alloc, Kind::Sha1, bases)?;
+    for commit in from..to {
+        let (parents, generation) = (parents(alloc, commit)?, commit.saturating_add(1));
+        let commit = PlanCommit::new(alloc, id(commit), &parents, generation)?;
+        plan.commits.push(commit)?;
+    }
+    Ok(plan)
+}
+
+/// The listing of that layer.
+fn listing(alloc: Global, bases: &[ObjectId], from: u32, to: u32) -> Result<String, AllocError> {
+    let (count, commits) = (bases.len(), to.saturating_sub(from));
+    let mut text = format!(in alloc; "layer sha1 bases {count} commits {commits}\n")?;
+    for base in bases {
+        text.push_str(&format!(in alloc; "base {base}\n")?)?;
+    }
+    for commit in from..to {
+        let (place, generation) = (commit.saturating_sub(from), commit.saturating_add(1));
+        let (id, tree) = (id(commit), ObjectId::from([0x99; 20]));
+        text.push_str(&format!(in alloc; "{place} {id} {tree} {generation} 7 ")?)?;
+        for (place, parent) in parents(alloc, commit)?.iter().enumerate() {
+            text.push_str(if place == 0 { "" } else { "," })?;
+            text.push_str(&format!(in alloc; "{parent}")?)?;
+        }
+        text.push_str(if commit == 0 { "-\n" } else { "\n" })?;
+    }
+    Ok(text)
+}
+
+/// Builds the file of that layer, and asserts its listing.
+fn listed(rt: &impl Abort, alloc: Global, bases: &[ObjectId], from: u32, to: u32) -> Vec<u8> {
+    let plan = plan(alloc, bases, from, to).expect(rt, "memory for a plan");
+    assert!(rt; plan.is_buildable());
+    let bytes = build(alloc, &plan).expect(rt, "memory for a file");
+    let mut out = Sink::new(alloc, usize::MAX, None);
+    let status = run_list(alloc, &mut &*bytes, &mut out);
+    assert_eq!(rt; status.expect(rt, "a status"), 0);
+    let want = listing(alloc, bases, from, to).expect(rt, "memory for a text");
+    assert_eq!(rt; out.text(), want.as_str());
+    bytes
+}
+
+const CHECKED: &str = "ok commits 600 longest 599\n\
+    parents 0 commits 1\n\
+    parents 2 commits 400\n\
+    parents 3 commits 199\n";
+
+/// Where the layers end of which the history is made, the lowest first.
+const STOPS: &[&[u32]] = &[&[600], &[300, 590, 600]];
+
+#[test]
+fn lists_and_checks_six_hundred_commits(rt: HostRuntime) {
+    let alloc = rt.alloc();
+    for stops in STOPS {
+        let (mut files, mut bases) = (Vec::new(alloc), Vec::new(alloc));
+        let mut from = 0;
+        for stop in *stops {
+            let file = listed(&rt, alloc, &bases, from, *stop);
+            bases.push(checksum_of(&file)).expect(&rt, "memory");
+            files.push(file).expect(&rt, "memory");
+            from = *stop;
+        }
+        let mut layers: Vec<&[u8]> = Vec::new(alloc);
+        for file in &files {
+            layers.push(file).expect(&rt, "memory");
+        }
+        let mut folder = Memory::new(alloc);
+        put_chain(&rt, alloc, &mut folder, "graphs", &layers);
+        expect_verify(&rt, alloc, &mut folder, "graphs", (0, CHECKED));
+        let last = id(599).to_string(alloc).expect(&rt, "memory");
+        let found = (0, "position 599 generation 600 time 7\n");
+        expect_find(&rt, alloc, &mut folder, ("graphs", last.as_str()), found);
+    }
+}

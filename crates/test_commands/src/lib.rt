@@ -1,0 +1,25 @@
+//! Tests of the commands of `graphtool`, on layers, chains and folders that are built for them.
+//!
+//! [`fixtures`] has what several tests share: layers built from rows, and folders that hold them.
+#![tactic(auto)]
+
+#[cfg(test)]
+mod ancestors;
+#[cfg(test)]
+mod distinct;
+#[cfg(test)]
+mod finding;
+#[cfg(test)]
+mod fixtures;
+#[cfg(test)]
+mod large;
+#[cfg(test)]
+mod lines;
+#[cfg(test)]
+mod on_disk;
+#[cfg(test)]
+mod opening;
+#[cfg(test)]
+mod refusing;
+#[cfg(test)]
+mod verifying;

@@ -1,0 +1,17 @@
+//! Tests of graphs: of reading and checking them, on files that are built for them.
+//!
+//! The module `fixtures` has what several tests share.
+#![tactic(auto)]
+
+#[cfg(test)]
+mod distinct;
+#[cfg(test)]
+mod fixtures;
+#[cfg(test)]
+mod graphs;
+#[cfg(test)]
+mod large;
+#[cfg(test)]
+mod texts;
+#[cfg(test)]
+mod verifying;

@@ -1,0 +1,123 @@
+use crate::fixtures::{empty_layer, graph, layer};
+use gix_commitgraph::verify::{CommitFault, VerifyError, VerifyOptions};
+use gix_commitgraph::{File, Graph, GraphError, Position};
+use gix_hash_core::{Kind, ObjectId};
+use graph_history::{CheckedGraph, NoFault, PushError};
+use graph_vectors::Row;
+use std::alloc::Global;
+use std::process::Abort;
+
+/// The positions 0 and 1.
+const LOWER: &[Row<'static>] = &[(0x11, &[], 1), (0x22, &[0], 2)];
+
+/// The checked graph of these two commits.
+fn checked(rt: &impl Abort, alloc: Global, distinct_ids: bool) -> CheckedGraph {
+    let options = VerifyOptions { distinct_ids };
+    let graph = graph(rt, alloc, &[LOWER]);
+    CheckedGraph::new_with(alloc, options, graph).expect(rt, "a right graph")
+}
+
+/// The checksum of the highest layer.
+fn top(rt: &impl Abort, graph: &Graph) -> ObjectId {
+    let file = graph.layers().last().expect(rt, "a layer");
+    file.checksum().to_owned()
+}
+
+/// The layer of three more commits, the first of which has the number of three others below it.
+const RIGHT: &[Row<'static>] = &[(0x33, &[1], 3), (0x44, &[2, 0, 1], 4), (0x55, &[], 1)];
+
+#[test]
+fn a_right_layer_is_put_on_top(rt: HostRuntime) {
+    let alloc = rt.alloc();
+    let mut pushed = checked(&rt, alloc, true);
+    let base = top(&rt, pushed.as_checked().graph());
+    let answer = pushed.push(alloc, layer(&rt, alloc, &[base], RIGHT));
+    assert!(&rt; answer == Ok(()));
+    let whole = graph(&rt, alloc, &[LOWER, RIGHT]);
+    let whole = CheckedGraph::new(alloc, whole).expect(&rt, "a right graph");
+    let (pushed, whole) = (pushed.as_checked(), whole.as_checked());
+    assert!(&rt; pushed.outcome() == whole.outcome());
+    assert!(&rt; pushed.num_commits() == 5 && pushed.outcome().longest_path_length == Some(3));
+    let merge = pushed.position(3).expect(&rt, "the merge");
+    let root = pushed.position(0).expect(&rt, "the root");
+    let found = pushed.is_ancestor(alloc, merge, root);
+    assert!(&rt; found.expect(&rt, "memory"));
+}
+
+/// The commits of a layer, and why it is refused on two commits whose ids are to be distinct.
+const REFUSED: &[(&[Row<'static>], VerifyError<NoFault>)] = &[
+    (
+        &[(0x33, &[1], 2)],
+        VerifyError::Generation {
+            pos: Position(2),
+            expected: 3,
+        },
+    ),
+    (
+        &[(0x33, &[1], 3), (0x44, &[9], 4)],
+        VerifyError::ParentOutOfRange {
+            pos: Position(3),
+            parent: Position(9),
+        },
+    ),
+    (
+        &[(0x33, &[], 1), (0x33, &[], 1)],
+        VerifyError::Commit {
+            pos: Position(3),
+            fault: CommitFault::Order,
+        },
+    ),
+    (
+        &[(0x22, &[], 1)],
+        VerifyError::DuplicateId {
+            pos: Position(2),
+            earlier: Position(1),
+        },
+    ),
+];
+
+/// Compares the refusal of a layer on the two commits, after which they are left.
+fn compare_refused(
+    rt: &impl Abort,
+    alloc: Global,
+    lower: &mut CheckedGraph,
+    file: File,
+    want: &PushError,
+) {
+    let answer = lower.push(alloc, file);
+    assert!(rt; matches!(&answer, Err(error) if error == want));
+    let left = lower.as_checked();
+    assert!(rt; left.num_commits() == 2 && left.outcome().longest_path_length == Some(1));
+}
+
+#[test]
+fn a_wrong_layer_is_refused_as_the_whole_graph(rt: HostRuntime) {
+    let alloc = rt.alloc();
+    let mut lower = checked(&rt, alloc, true);
+    let base = top(&rt, lower.as_checked().graph());
+    for (rows, want) in REFUSED {
+        let whole = graph(&rt, alloc, &[LOWER, *rows]);
+        let answer = CheckedGraph::new_with(alloc, VerifyOptions { distinct_ids: true }, whole);
+        assert!(&rt; matches!(&answer, Err(error) if error == want));
+        let Err(error) = answer else {
+            panic!(&rt; "a wrong graph")
+        };
+        let file = layer(&rt, alloc, &[base], rows);
+        compare_refused(&rt, alloc, &mut lower, file, &PushError::Check(error));
+    }
+    let file = layer(&rt, alloc, &[ObjectId::from([0x33; 20])], &[]);
+    let want = VerifyError::BaseId { layer: 1, index: 0 };
+    compare_refused(&rt, alloc, &mut lower, file, &PushError::Check(want));
+    let other = empty_layer(&rt, alloc, Kind::Sha256);
+    let want = GraphError::HashMismatch { layer: 1 };
+    compare_refused(&rt, alloc, &mut lower, other, &PushError::Graph(want));
+}
+
+#[test]
+fn a_repeated_id_is_put_on_top_where_none_was_asked_about(rt: HostRuntime) {
+    let alloc = rt.alloc();
+    let mut lower = checked(&rt, alloc, false);
+    let base = top(&rt, lower.as_checked().graph());
+    let answer = lower.push(alloc, layer(&rt, alloc, &[base], &[(0x22, &[], 1)]));
+    assert!(&rt; answer == Ok(()));
+}

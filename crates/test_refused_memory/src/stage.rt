@@ -1,0 +1,209 @@
+//! What the calls need: plans, bytes, layers and graphs, and folders in memory and on disk.
+
+use crate::calls::SECOND;
+use crate::further::with_chunks;
+use anyhow::{Result, ensure};
+use gix_commitgraph::{File, Graph};
+use gix_hash_core::{Kind, ObjectId};
+use graph_folder::folder::Memory;
+use graph_history::CheckedGraph;
+use graph_vectors::{LayerPlan, Row, build};
+use std::alloc::{AllocError, Global};
+use std::rt::Files;
+use std::{fs, slice};
+
+/// What stands ready before a call.
+#[derive(Drop)]
+pub struct Stage {
+    /// The plan of a layer of four commits, one of which has three parents.
+    pub plan: LayerPlan,
+    /// The file of that plan.
+    pub bytes: Vec<u8>,
+    /// The path of a file.
+    pub path: String,
+    /// The layer of that file.
+    pub layer: File,
+    /// The layers of a chain of two, each of one commit.
+    pub layers: Vec<File>,
+    /// The graph of the same layers.
+    pub graph: Graph,
+    /// The graph of the first of them, checked.
+    pub lower: CheckedGraph,
+    /// The graph of a layer of ten commits in a line, the last of which has its parent three times.
+    pub line: Graph,
+    /// The graph of a layer of two commits in a line, with corrected dates and a filter.
+    pub dated: Graph,
+    /// The file `f`, the file `dated` of that graph, and the folders `chain`, `info` and `damaged`:
+    /// that of the chain, an info folder with the chain, and one with a damaged file beside the
+    /// chain.
+    pub memory: Memory,
+    /// The id of the chain's second commit.
+    pub others: Vec<String>,
+    /// Room for what is written.
+    pub out: Vec<u8>,
+}
+
+impl Stage {
+    /// The same each time. The folder `disk` is an info folder with the chain, and `f` a file.
+    pub fn new<R: Files + Alloc>(rt: &R, alloc: Global) -> Result<Stage> {
+        let plan = LayerPlan::of_rows(
+            alloc,
+            &[],
+            &[(1, &[], 1), (2, &[0], 2), (3, &[1], 3), (4, &[0, 0, 2], 4)],
+        )?;
+        let bytes = file(alloc, &plan)?;
+        let chain = chain(alloc)?;
+        put_on_disk(rt, alloc, &bytes, &chain)?;
+        let dated = dated(alloc)?;
+        let mut memory = memory(alloc, &bytes, &chain)?;
+        put(alloc, &mut memory, "dated", &dated)?;
+        Ok(Stage {
+            layer: opened(alloc, &bytes)?,
+            dated: Graph::new(alloc, layers(alloc, slice::from_ref(&dated))?)?,
+            memory,
+            layers: layers(alloc, &chain)?,
+            graph: Graph::new(alloc, layers(alloc, &chain)?)?,
+            lower: lower(alloc, &chain)?,
+            line: line(alloc)?,
+            others: vec![in alloc; String::from_str(alloc, SECOND)?]?,
+            path: String::from_str(alloc, "f")?,
+            out: Vec::with_capacity(alloc, 4096)?,
+            plan,
+            bytes,
+        })
+    }
+}
+
+fn file(alloc: Global, plan: &LayerPlan) -> Result<Vec<u8>> {
+    ensure!(plan.is_buildable(), "no file can hold it");
+    Ok(build(alloc, plan)?)
+}
+
+fn opened(alloc: Global, bytes: &[u8]) -> Result<File> {
+    let path = String::from_str(alloc, "f")?;
+    Ok(File::new(alloc, Vec::from_slice(alloc, bytes)?, path)?)
+}
+
+/// The files of a chain of two layers of one commit, the second on the first.
+fn chain(alloc: Global) -> Result<Vec<Vec<u8>>> {
+    let mut files = Vec::new(alloc);
+    let mut checksums = Vec::new(alloc);
+    let rows: [Row<'_>; 2] = [(1, &[], 1), (2, &[0], 2)];
+    for row in rows {
+        let bytes = file(alloc, &LayerPlan::of_rows(alloc, &checksums, &[row])?)?;
+        checksums.push(opened(alloc, &bytes)?.checksum().to_owned())?;
+        files.push(bytes)?;
+    }
+    Ok(files)
+}
+
+fn layers(alloc: Global, chain: &[Vec<u8>]) -> Result<Vec<File>> {
+    let mut layers = Vec::new(alloc);
+    for bytes in chain {
+        layers.push(opened(alloc, bytes)?)?;
+    }
+    Ok(layers)
+}
+
+/// The graph of the lowest layer of a chain, checked.
+fn lower(alloc: Global, chain: &[Vec<u8>]) -> Result<CheckedGraph> {
+    let graph = Graph::new(alloc, layers(alloc, &chain[..chain.len().min(1)])?)?;
+    Ok(CheckedGraph::new(alloc, graph)?)
+}
+
+/// The graph of a layer of ten commits in a line, the last of which has its parent three times.
+fn line(alloc: Global) -> Result<Graph> {
+    let rows: [Row<'_>; 10] = [
+        (1, &[], 1),
+        (2, &[0], 2),
+        (3, &[1], 3),
+        (4, &[2], 4),
+        (5, &[3], 5),
+        (6, &[4], 6),
+        (7, &[5], 7),
+        (8, &[6], 8),
+        (9, &[7], 9),
+        (10, &[8, 8, 8], 10),
+    ];
+    let bytes = file(alloc, &LayerPlan::of_rows(alloc, &[], &rows)?)?;
+    Ok(Graph::new(alloc, layers(alloc, slice::from_ref(&bytes))?)?)
+}
+
+/// A file of two commits in a line, with corrected dates, and a filter of the first commit.
+fn dated(alloc: Global) -> Result<Vec<u8>> {
+    let plain = file(
+        alloc,
+        &LayerPlan::of_rows(alloc, &[], &[(1, &[], 1), (2, &[0], 2)])?,
+    )?;
+    with_chunks(
+        alloc,
+        &plain,
+        &[
+            (b"GDA2", b"\0\0\0\0\0\0\0\x01"),
+            (b"BIDX", b"\0\0\0\x01\0\0\0\x01"),
+            (b"BDAT", b"\0\0\0\x01\0\0\0\x07\0\0\0\x0a\xff"),
+        ],
+    )
+}
+
+/// The name of a layer's file in its folder, and the line of the chain file.
+fn name_and_line(alloc: Global, bytes: &[u8]) -> Result<(String, String)> {
+    let layer = opened(alloc, bytes)?;
+    let checksum = layer.checksum();
+    let name = format!(in alloc; "graph-{checksum}.graph")?;
+    Ok((name, format!(in alloc; "{checksum}\n")?))
+}
+
+fn memory(alloc: Global, bytes: &[u8], chain: &[Vec<u8>]) -> Result<Memory> {
+    let mut memory = Memory::new(alloc);
+    put(alloc, &mut memory, "f", bytes)?;
+    put(alloc, &mut memory, "damaged/commit-graph", b"damaged")?;
+    for folder in ["chain", "info/commit-graphs", "damaged/commit-graphs"] {
+        memory.put_dir(String::from_str(alloc, folder)?)?;
+        let mut lines = String::new(alloc);
+        for bytes in chain {
+            let (name, line) = name_and_line(alloc, bytes)?;
+            lines.push_str(&line)?;
+            put(
+                alloc,
+                &mut memory,
+                format!(in alloc; "{folder}/{name}")?.as_str(),
+                bytes,
+            )?;
+        }
+        let path = format!(in alloc; "{folder}/commit-graph-chain")?;
+        memory.put_file(path, lines.into_bytes())?;
+    }
+    for folder in ["info", "damaged"] {
+        memory.put_dir(String::from_str(alloc, folder)?)?;
+    }
+    Ok(memory)
+}
+
+fn put(alloc: Global, memory: &mut Memory, path: &str, bytes: &[u8]) -> Result<(), AllocError> {
+    memory.put_file(
+        String::from_str(alloc, path)?,
+        Vec::from_slice(alloc, bytes)?,
+    )
+}
+
+fn put_on_disk<R: Files + Alloc>(
+    rt: &R,
+    alloc: Global,
+    bytes: &[u8],
+    chain: &[Vec<u8>],
+) -> Result<()> {
+    let _ = fs::remove_dir_all(rt, "disk");
+    fs::write(rt, "f", bytes)?;
+    fs::create_dir(rt, "disk")?;
+    fs::create_dir(rt, "disk/commit-graphs")?;
+    let mut lines = String::new(alloc);
+    for bytes in chain {
+        let (name, line) = name_and_line(alloc, bytes)?;
+        lines.push_str(&line)?;
+        let path = format!(in alloc; "disk/commit-graphs/{name}")?;
+        fs::write(rt, path.as_str(), bytes.as_slice())?;
+    }
+    fs::write(rt, "disk/commit-graphs/commit-graph-chain", lines.as_str())?;
+    Ok(())
+}

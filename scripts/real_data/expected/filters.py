@@ -1,0 +1,78 @@
+"""The changed-path filters that a layer has, and those that the changed paths of its commits give.
+
+The rules are those of Git's commit-graph format, "Bloom Filter Index" and "Bloom Filter Data".
+"""
+
+from damage.layer import contents
+from expected.further import numbers
+from histories.repository import ID_LENGTH
+
+MOST_PATHS = 512
+"""The filter of a commit with more paths, the folders among them, is one byte that has all bits."""
+
+SEEDS = (0x293AE76F, 0x7E646E2C)
+"""The seeds of the hash for the first probe of a path, and for the step from one probe to the next."""
+
+WORD = 2**32
+
+
+def stored(layer, kind):
+    """The filters of a layer by the ids of their commits, with the version, the number of hashes and the bits per entry.
+
+    A filter of no bytes was not computed. A layer without filters has none at all.
+    """
+    chunks, size = dict(contents(layer, kind)), ID_LENGTH[kind]
+    if b"BIDX" not in chunks:
+        return {}, None
+    ends, filters = numbers(chunks[b"BIDX"], 4), chunks[b"BDAT"][12:]
+    ids = [chunks[b"OIDL"][at : at + size].hex() for at in range(0, len(chunks[b"OIDL"]), size)]
+    parts = [filters[start:end] for start, end in zip([0, *ends], ends)]
+    return dict(zip(ids, parts)), numbers(chunks[b"BDAT"][:12], 4)
+
+
+def made(paths, settings):
+    """The filter of a commit that changes these paths: it has the bits of each of them, and of each folder that leads there."""
+    version, hashes, bits = settings
+    entries = {path[:end] for path in paths for end in [len(path), *slashes(path)]}
+    if len(entries) > MOST_PATHS:
+        return b"\xff"
+    size = max(1, -(-bits * len(entries) // 8))
+    filter_bits = 0
+    for entry in entries:
+        first, step = (murmur3(seed, entry, version == 1) for seed in SEEDS)
+        for number in range(hashes):
+            filter_bits |= 1 << (first + number * step) % WORD % (8 * size)
+    return filter_bits.to_bytes(size, "little")
+
+
+def slashes(path):
+    """Where the slashes of a path stand."""
+    return [place for place, byte in enumerate(path) if byte == ord("/")]
+
+
+def murmur3(seed, text, signed):
+    """The 32-bit murmur3 hash of bytes, which are read as signed numbers or as unsigned ones."""
+    read = [byte - 256 if signed and byte > 127 else byte for byte in text]
+    value, whole = seed, len(text) // 4 * 4
+    for at in range(0, whole, 4):
+        word = 0
+        for place in range(4):
+            word |= read[at + place] << 8 * place
+        value = (rotated(value ^ scrambled(word), 13) * 5 + 0xE6546B64) % WORD
+    last = 0
+    for place, byte in enumerate(read[whole:]):
+        last ^= byte << 8 * place
+    value ^= scrambled(last) ^ len(text)
+    value = (value ^ value >> 16) * 0x85EBCA6B % WORD
+    value = (value ^ value >> 13) * 0xC2B2AE35 % WORD
+    return value ^ value >> 16
+
+
+def scrambled(word):
+    """A word as it goes into the hash."""
+    return rotated(word * 0xCC9E2D51 % WORD, 15) * 0x1B873593 % WORD
+
+
+def rotated(word, bits):
+    """A word with its upper bits moved to its lower end."""
+    return (word << bits | word >> 32 - bits) % WORD
