@@ -3,7 +3,7 @@
 #![tactic(auto)]
 
 ghost use Rattle.std.specs.Prelude.{◌≡◌, ◌≢◌, ◌+◌, ◌*◌, ◌<◌, ◌≤◌, ◌^◌, ◌++◌, All, length, Some};
-ghost use Rattle.std.specs.Prelude.{None, IfOk, IfErr};
+ghost use Rattle.std.specs.Prelude.{None, IfOk, IfErr, ℕ, List};
 ghost use Rattle.graph_format.specs.Reports.{Reports};
 ghost use Rattle.corrected_dates.specs.StoredDates.{offset_of, date_of, date_fault, dates_refusal};
 ghost use Rattle.corrected_dates.specs.StoredDates.{stored_dates, NamesOneOf};
@@ -82,8 +82,8 @@ fn date_of(offsets: &[u8], overflow: &[u8], times: &[u64], pos: u32) -> Result<u
 ///
 /// # Errors
 ///
-/// The first of [`LayerDatesError`] that holds, or `OutOfMemory`. Some dates may have been put
-/// there.
+/// The first of [`LayerDatesError`] that holds, or `OutOfMemory`. Dates of some commits may then
+/// stand after those of the layers below, which are as they were.
 #[tactic(auto, using(crate::proofs::DecodingLemmas::decoding_laws), unfolding(crate::specs::StoredDates::dates_refusal))]
 pub fn decode_dates(
     dates: &mut Vec<u64>,
@@ -100,6 +100,7 @@ pub fn decode_dates(
     ensures fault { IfErr result (λ fault. fault ≢ OutOfMemory
         → dates_refusal offsets.now overflow.now times.now ≡ Some fault) }
     ensures place { IfErr result (NamesOneOf (length times.now)) }
+    ensures kept { (more : List ℕ) × (dates.new.items ≡ dates.old.items ++ more) }
 {
     if offsets.len() != 4 * times.len() {
         return Err(LayerDatesError::DataSize);

@@ -1,6 +1,6 @@
 -- the check of the dates of a graph
 use Rattle.std.proofs.Common.{◌≡◌, ℕ, ◌+◌, ◌<◌, not, max, Bool, true, false, List, map, length, All, Some, None}
-use Rattle.std.proofs.Common.{option_map, get_or, slice_get, refl, sym, ap, ◌∙◌, arith}
+use Rattle.std.proofs.Common.{option_map, get_or, slice_get, refl, sym, ap, subst, ◌∙◌, arith}
 use Rattle.std.specs.Bool.{then_some}
 use Rattle.std.specs.Option.{option_or}
 use Rattle.std.proofs.lemmas.Bool.{eqb-true, eq-eqb, ne_eqb}
@@ -15,7 +15,7 @@ use Rattle.graph_format.specs.Parents.{parents_of, position_of}
 use Rattle.graph_format.specs.StoredHistory.{history_of}
 use Rattle.gix_commitgraph.specs.Graph.{graph_commits, start, stop, total}
 use Rattle.gix_commitgraph.proofs.history.GraphHistoryLemmas.{parents-at, length-history}
-use Rattle.gix_commitgraph.proofs.layers.LayerListLemmas.{graph_commits-counted, start-more, start-fits}
+use Rattle.gix_commitgraph.proofs.layers.LayerListLemmas.{graph_commits-counted, start-all, start-more, start-fits}
 use Rattle.graph_layer.specs.Commit.{commit_layer, commit_pos, commit_record, commit_parents}
 use Rattle.graph_layer.specs.declared.file.commit.Commit.{Commit}
 use Rattle.graph_chunks.specs.StoredDates.{times_of, dates_of}
@@ -97,6 +97,13 @@ is_place layers files i before place layer same within counted is inside =
       below = omega (arith, counted, inside, start-more layers i layer here, start-fits layers (i + 1));
     }
 
+-- no fault in all layers is none in the graph
+pub none_found : (layers : List Layer) (dates : List ℕ) (n : ℕ) → n ≡ length layers
+    → first_below (date_fault (history_of layers) (times_of layers) dates) (start layers n) ≡ None
+    → first_below (date_fault (history_of layers) (times_of layers) dates) (total layers) ≡ None
+none_found layers dates n all =
+    subst (λ (end : ℕ). first_below (date_fault (history_of layers) (times_of layers) dates) end ≡ None) (start-all layers n (omega (arith, all)))
+
 -- the end of a layer is the start of the next one
 pub stop-is : (layers files : List Layer) (i before : ℕ) (layer : Layer) → files ≡ layers → i < length layers
     → before ≡ start layers i → layer ≡ get_or files i layer → before + length layer.ids ≡ stop layers i
@@ -135,4 +142,14 @@ refusal-date layers dates error same read found =
     ∙ ap (λ (ds : List ℕ). first_below (date_fault (history_of layers) (times_of layers) ds) (total layers)) (sym same)
     ∙ found
 
-pub ruleset refusal_laws = (refusal-reading, refusal-date)
+pub refusal-none : (layers : List Layer) (dates : List ℕ) → dates ≡ dates_of layers
+    → first_below (reading_fault layers) (length layers) ≡ None
+    → first_below (date_fault (history_of layers) (times_of layers) dates) (total layers) ≡ None
+    → graph_dates_refusal layers ≡ None
+unfolding graph_dates_refusal
+refusal-none layers dates same read none =
+    ap (λ o. option_or o (first_below (date_fault (history_of layers) (times_of layers) (dates_of layers)) (total layers))) read
+    ∙ ap (λ (ds : List ℕ). first_below (date_fault (history_of layers) (times_of layers) ds) (total layers)) (sym same)
+    ∙ none
+
+pub ruleset refusal_laws = (refusal-reading, refusal-date, refusal-none)

@@ -1,6 +1,7 @@
 //! The corrected commit dates of a graph.
 
-ghost use Rattle.std.specs.Prelude.{◌≡◌, ◌≢◌, ◌<◌, All, Some, length, IfOk, IfErr, IfSome, IfNone};
+ghost use Rattle.std.specs.Prelude.{◌≡◌, ◌≢◌, ◌<◌, All, Some, None, length};
+ghost use Rattle.std.specs.Prelude.{IfOk, IfErr, IfSome, IfNone};
 ghost use Rattle.graph_walks.specs.Dates.{number_at, AreRight};
 ghost use Rattle.graph_format.specs.StoredHistory.{history_of};
 ghost use Rattle.gix_commitgraph.specs.Graph.{total};
@@ -82,6 +83,8 @@ impl CorrectedDates {
             (AreRight (history_of graph.now) (times_of graph.now))) }
         ensures commits { IfOk result (λ found. IfSome found
             (λ dates. length dates ≡ total graph.now)) }
+        ensures accepted { IfOk result (λ found. IfSome found
+            (λ _. graph_dates_refusal graph.now ≡ None)) }
         ensures all { IfErr result (λ _. All HasDates graph.now) }
         ensures refusal { IfErr result (λ error. error ≢ OutOfMemory
             → graph_dates_refusal graph.now ≡ Some error) }

@@ -33,11 +33,12 @@ pub record Findings : Type 0 where
   pub dates : Option ℕ
   pub filters : Option ℕ
 
--- some layer has no dates, or all of the commits have one and the dates are right
+-- some layer has no dates; or all of the commits have one, no condition refuses the dates, and they are right
 abbrev pub AreDatesFound : List Layer → Option ℕ → Type 0
 AreDatesFound layers None = ¬ All HasDates layers
 AreDatesFound layers (Some commits) =
-    All HasDates layers × AreRight (history_of layers) (times_of layers) (dates_of layers) × (commits ≡ total layers)
+    All HasDates layers × (graph_dates_refusal layers ≡ None)
+    × AreRight (history_of layers) (times_of layers) (dates_of layers) × (commits ≡ total layers)
 
 -- the filters are not refused, and so many were computed, if some layer has filters
 abbrev pub AreFiltersFound : List Layer → Option ℕ → Type 0

@@ -74,6 +74,9 @@ pub(super) fn check_dates(alloc: Global, graph: &Graph, dates: &[u64]) -> Result
     requires small { (p : ℕ) → number_at dates.now p < 2 ^ 63 }
     ensures right { IfOk result (λ _.
         AreRight (history_of graph.now) (times_of graph.now) dates.now) }
+    ensures none { IfOk result (λ _.
+        first_below (date_fault (history_of graph.now) (times_of graph.now) dates.now)
+        (total graph.now) ≡ None) }
     ensures fault { IfErr result (λ fault. fault ≢ OutOfMemory
         → first_below (date_fault (history_of graph.now) (times_of graph.now) dates.now)
         (total graph.now) ≡ Some fault) }

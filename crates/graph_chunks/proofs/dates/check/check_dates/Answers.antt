@@ -4,11 +4,11 @@ use Rattle.first_faults.proofs.FirstLemmas.{first_below-none}
 use Rattle.graph_format.specs.Layer.{Layer}
 use Rattle.graph_format.specs.StoredHistory.{history_of}
 use Rattle.gix_commitgraph.specs.Graph.{start}
-use Rattle.gix_commitgraph.proofs.layers.LayerListLemmas.{start-none, start-all}
+use Rattle.gix_commitgraph.proofs.layers.LayerListLemmas.{start-none}
 use Rattle.graph_chunks.specs.StoredDates.{times_of}
 use Rattle.graph_chunks.specs.Dates.{date_fault}
 use Rattle.graph_chunks.proofs.StoredDateLemmas.{layer-fits}
-use Rattle.graph_chunks.proofs.DateCheckLemmas.{dates-right, stop-is}
+use Rattle.graph_chunks.proofs.DateCheckLemmas.{dates-right, none_found, stop-is}
 use Rattle.graph_chunks.proofs.dates.check.check_dates.Goals as goal
 
 pub loop-layer-init : goal.loop-layer-init
@@ -47,9 +47,13 @@ loop-layer-preserved c =
 
 pub returns-clause-right : goal.returns-clause-right
 returns-clause-right c =
-    let layers = c.args.graph.now in
-    let all = ap (λ (items : List Layer). length items) c.layers-layer-end.ensures.same in
-    let fault = date_fault (history_of layers) (times_of layers) c.args.dates.now in
-    dates-right layers c.args.dates.now c.num_commits-commits.ensures.graph.opened c.requires.dates
-    (subst (λ (n : ℕ). first_below fault n ≡ None)
-    (start-all layers c.loop-layer.layer (omega (arith, c.loop-layer-test.false, all))) c.loop-layer.invariant.right)
+    dates-right c.args.graph.now c.args.dates.now c.num_commits-commits.ensures.graph.opened c.requires.dates
+    (none_found c.args.graph.now c.args.dates.now c.loop-layer.layer
+    (omega (arith, c.loop-layer-test.false, ap (λ (items : List Layer). length items) c.layers-layer-end.ensures.same))
+    c.loop-layer.invariant.right)
+
+pub returns-clause-none : goal.returns-clause-none
+returns-clause-none c =
+    none_found c.args.graph.now c.args.dates.now c.loop-layer.layer
+    (omega (arith, c.loop-layer-test.false, ap (λ (items : List Layer). length items) c.layers-layer-end.ensures.same))
+    c.loop-layer.invariant.right
