@@ -102,7 +102,8 @@ pub none_found : (layers : List Layer) (dates : List ℕ) (n : ℕ) → n ≡ le
     → first_below (date_fault (history_of layers) (times_of layers) dates) (start layers n) ≡ None
     → first_below (date_fault (history_of layers) (times_of layers) dates) (total layers) ≡ None
 none_found layers dates n all =
-    subst (λ (end : ℕ). first_below (date_fault (history_of layers) (times_of layers) dates) end ≡ None) (start-all layers n (omega (arith, all)))
+    subst (λ (end : ℕ). first_below (date_fault (history_of layers) (times_of layers) dates) end ≡ None)
+    (start-all layers n (omega (arith, all)))
 
 -- the end of a layer is the start of the next one
 pub stop-is : (layers files : List Layer) (i before : ℕ) (layer : Layer) → files ≡ layers → i < length layers
