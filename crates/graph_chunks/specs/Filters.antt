@@ -1,10 +1,10 @@
 -- The changed-path filters of a graph ("Bloom Filter Index", "Bloom Filter Data"), and the first condition that refuses them.
-use Rattle.std.specs.Prelude.{◌≡◌, ◌==◌, ◌||◌, ◌<◌, ℕ, ◌+◌, not, Bool, true, false, List, [], ◌∷◌, length, map, slice_get}
+use Rattle.std.specs.Prelude.{◌==◌, ◌||◌, ℕ, ◌+◌, not, Bool, true, false, List, [], ◌∷◌, length, map, slice_get}
 use Rattle.std.specs.Prelude.{Option, Some, None, option_map, count_by}
 use Rattle.std.specs.Option.{option_and_then, option_or}
 use Rattle.first_faults.specs.First.{◌when◌, ◌otherwise◌, first_below}
 use Rattle.changed_paths.specs.Filter.{IsPossible, IsAbsent}
-use Rattle.changed_paths.specs.Filters.{Filters, version_of, filter_of}
+use Rattle.changed_paths.specs.Filters.{version_of, filter_of}
 use Rattle.changed_paths.specs.declared.filters.HashVersion.{HashVersion}
 use Rattle.changed_paths.specs.declared.filters.HashVersion.TheVariants.{One, Two}
 use Rattle.changed_paths.specs.declared.filters.LayerFiltersError.{LayerFiltersError}

@@ -18,7 +18,7 @@ use Rattle.graph_chunks.specs.declared.dates.DatesError.{DatesError}
 use Rattle.graph_chunks.specs.declared.dates.DatesError.TheVariants as date_error
 use Rattle.graph_chunks.specs.declared.filters.FiltersError.{FiltersError}
 use Rattle.graph_chunks.specs.declared.filters.FiltersError.TheVariants as filter_error
-use Rattle.graph_commands.specs.Refusal.{refusal_text, refusal_status}
+use Rattle.graph_commands.specs.Refusal.{refusal_text}
 use Rattle.graph_commands.specs.Report.{outcome_text}
 use Rattle.graph_commands.specs.Text.{◌⧺◌, newline}
 use Rattle.graph_commands.specs.declared.refusal.Refusal.{Refusal}

@@ -1,7 +1,6 @@
-use Rattle.std.proofs.Common.{◌≡◌, ◌<◌, ◌+◌, ℕ, List, [], ◌∷◌, ◌++◌, Option, length, sym, ap, subst, ◌∙◌, arith}
-use Rattle.std.proofs.lemmas.Option.{slice_get_read}
+use Rattle.std.proofs.Common.{◌≡◌, ◌<◌, ◌+◌, List, [], ◌∷◌, ◌++◌, Option, length, sym, ap, subst, ◌∙◌, arith}
 use Rattle.std.specs.Option.{option_or}
-use Rattle.first_faults.proofs.FirstLemmas.{first_below-none, first_below-none_more, first_below-found}
+use Rattle.first_faults.proofs.FirstLemmas.{first_below-none, first_below-none_more}
 use Rattle.graph_format.specs.Layer.{Layer}
 use Rattle.gix_commitgraph.proofs.layers.LayerListLemmas.{start-none, start-more, counted-fits}
 use Rattle.graph_chunks.specs.Filters.{filters_fault, settings_of, settings_in}
