@@ -8,6 +8,23 @@ use Rattle.graph_history.specs.Answer.{numbers_of}
 use Rattle.graph_format.specs.declared.Position.{Position}
 use Rattle.commitgraph_c.specs.Answers.{written}
 
+-- what a list has from a place on begins with the item there
+pub item_at : {T : Type 0} (xs : List T) (i : ℕ) (x : T) (rest : List T) → drop i xs ≡ x ∷ rest → slice_get xs i ≡ Some x
+item_at [] zero x rest is = cc
+item_at [] (suc i) x rest is = cc
+item_at (y ∷ ys) zero x rest is = cc
+item_at (y ∷ ys) (suc i) x rest is = item_at ys i x rest is
+
+-- and goes on with what it has from the next place on
+pub items_after : {T : Type 0} (xs : List T) (i : ℕ) (x : T) (rest : List T) → drop i xs ≡ x ∷ rest → rest ≡ drop (i + 1) xs
+items_after [] zero x rest is = cc
+items_after [] (suc i) x rest is = cc
+items_after (y ∷ ys) zero x rest is = cc
+items_after (y ∷ ys) (suc i) x rest is = items_after ys i x rest is ∙ ap (λ n. drop n (y ∷ ys)) (next i)
+  where
+    next : (n : ℕ) → suc (n + 1) ≡ suc n + 1
+    next n = omega arith
+
 -- the first places of a list are so many
 pub first_places : {T : Type 0} (xs : List T) (i : ℕ) → i ≤ length xs → length (take i xs) ≡ i
 first_places xs zero le = refl

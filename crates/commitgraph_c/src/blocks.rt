@@ -34,8 +34,12 @@ fn write_commits(graph: &Graph, first: u32, out: &mut [CgCommit]) -> u32
 {
     the_commits_of_layers_add_up();
     let count = graph.num_commits().saturating_sub(first);
-    for place in 0..out.len().min(count as usize) {
-        out[place] = told(graph.commit_at(Position(first + place as u32)));
+    let mut commits = graph.iter_commits_from(Position(first));
+    for place in 0..out.len() {
+        let Some(commit) = commits.next() else {
+            break;
+        };
+        out[place] = told(commit);
     }
     count
 }
@@ -80,10 +84,13 @@ fn write_block(graph: &Graph, first: u32, answers: &mut [CgParents], out: &mut [
     the_commits_of_layers_add_up();
     let left = graph.num_commits().saturating_sub(first);
     let places = answers.len().min(left as usize);
+    let mut commits = graph.iter_commits_from(Position(first));
     let mut used = 0;
     for place in 0..places {
+        let Some(commit) = commits.next() else {
+            break;
+        };
         let room = (out.len() - used) as u64;
-        let commit = graph.commit_at(Position(first + place as u32));
         let told = write_parents(commit, &mut out[used..]);
         answers[place] = told;
         if told.count > room {

@@ -1,7 +1,7 @@
 //! Accessors of a graph.
 
 ghost use Rattle.std.specs.Prelude.{◌≡◌, ◌+◌, ◌^◌, ◌<◌, ◌≤◌, All, length, slice_get, option_map};
-ghost use Rattle.std.specs.Prelude.{Some, IfSome, take};
+ghost use Rattle.std.specs.Prelude.{Some, IfSome, drop, take};
 ghost use Rattle.gix_hash_core.specs.Oid.{oid_bytes};
 ghost use Rattle.graph_layer.specs.Commit.{commit_layer, commit_pos, layer_and_position};
 ghost use Rattle.gix_commitgraph.specs.Graph.{IsGraph, graph_ids, graph_commits, start, stop};
@@ -84,6 +84,14 @@ impl Graph {
         ensures { graph_commits_left result ≡ graph_commits self.now }
     {
         GraphCommits::new(self)
+    }
+
+    /// The commits from a position on, in order; none where the position is not below
+    /// `num_commits()`.
+    pub fn iter_commits_from(&self, first: Position) -> GraphCommits<'_>
+        ensures { graph_commits_left result ≡ drop first.0 (graph_commits self.now) }
+    {
+        GraphCommits::from(self, first)
     }
 
     /// The position of an id. The layers are searched from the lowest on, each as `File::lookup`

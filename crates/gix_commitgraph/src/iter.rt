@@ -1,10 +1,11 @@
 //! Iterators over the commits of a graph, in order.
 
 ghost use Rattle.std.specs.Prelude.{◌≡◌, ◌∷◌, [], ◌++◌, ◌<◌, ◌≤◌, length, MatchOption, IfSome};
-ghost use Rattle.std.specs.Prelude.{Some};
+ghost use Rattle.std.specs.Prelude.{Some, drop};
 ghost use Rattle.gix_commitgraph.specs.Graph.{graph_ids, graph_commits};
 ghost use Rattle.graph_format.specs.Layer.{positions_from};
 
+use crate::Position;
 use crate::file::{self, Commit, File};
 use crate::graph::Graph;
 use gix_hash_core::oid;
@@ -34,6 +35,36 @@ impl<'a> LayerCursor<'a> {
             next: 0,
             rest: &graph.files[1..],
             left: graph.num_commits() as usize,
+        }
+    }
+
+    /// From a position on; at the end where that is none of the graph's.
+    fn from(graph: &'a Graph, first: Position) -> LayerCursor<'a>
+        ensures { cursor_left result ≡ drop first.0 (graph_commits graph.now) }
+    {
+        let commits = graph.num_commits();
+        if first.0 >= commits {
+            return LayerCursor::at_end(graph);
+        }
+        let (layer, _) = graph.layer_of_counted(first);
+        LayerCursor {
+            file: &graph.files[layer],
+            next: first.0 - graph.starts[layer],
+            rest: &graph.files[layer + 1..],
+            left: (commits - first.0) as usize,
+        }
+    }
+
+    /// At the end, where no position is left.
+    fn at_end(graph: &'a Graph) -> LayerCursor<'a>
+        ensures { cursor_left result ≡ [] }
+    {
+        let file = &graph.files[0];
+        LayerCursor {
+            file,
+            next: file.num_commits(),
+            rest: &[],
+            left: 0,
         }
     }
 
@@ -133,6 +164,14 @@ impl<'a> GraphCommits<'a> {
     {
         GraphCommits {
             places: LayerCursor::new(graph),
+        }
+    }
+
+    pub(crate) fn from(graph: &'a Graph, first: Position) -> GraphCommits<'a>
+        ensures { graph_commits_left result ≡ drop first.0 (graph_commits graph.now) }
+    {
+        GraphCommits {
+            places: LayerCursor::from(graph, first),
         }
     }
 }

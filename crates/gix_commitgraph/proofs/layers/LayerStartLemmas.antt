@@ -1,12 +1,12 @@
 -- laws of the starts of the layers of a graph, and of a search that halves them
-use Rattle.std.proofs.Common.{◌≡◌, ℕ, ◌+◌, ◌-◌, ◌/◌, ◌<◌, ◌≤◌, List, [], ◌∷◌, ◌++◌, length, take, slice_get, slice_index}
+use Rattle.std.proofs.Common.{◌≡◌, ℕ, ◌+◌, ◌-◌, ◌/◌, ◌<◌, ◌≤◌, List, [], ◌∷◌, ◌++◌, drop, length, take, slice_get, slice_index}
 use Rattle.std.proofs.Common.{get_or, Some, refl, sym, ap, ◌∙◌, arith, ⊎_elim}
 use Rattle.std.proofs.lemmas.Bool.{cases_lt}
 use Rattle.std.proofs.lemmas.List.{get_or_read, get_or_append_left, get_or_push, get_or-take, length_push, length-take-le}
-use Rattle.std.proofs.lemmas.List.{take-append-le, take-take}
+use Rattle.std.proofs.lemmas.List.{length-drop, take-append-le, take-take, take_all}
 use Rattle.std.proofs.lemmas.List.Elements.{All-take}
 use Rattle.std.proofs.lemmas.Option.{slice_get_read}
-use Rattle.graph_format.specs.Layer.{Layer}
+use Rattle.graph_format.specs.Layer.{Layer, positions_from}
 use Rattle.graph_format.specs.Lookup.{digits}
 use Rattle.graph_format.proofs.DigitLemmas.{digits-half, digits-enough, digits-needed}
 use Rattle.graph_format.specs.Layer.{IsOpened}
@@ -14,6 +14,7 @@ use Rattle.gix_commitgraph.specs.Graph.{graph_ids, graph_commits, start, stop, t
 use Rattle.gix_commitgraph.specs.GraphLaw.{LiesIn}
 use Rattle.gix_commitgraph.proofs.layers.GraphLemmas.{place-in}
 use Rattle.gix_commitgraph.proofs.layers.LayerListLemmas.{size, start-more, start-all, start-fits}
+use Rattle.gix_commitgraph.proofs.layers.PositionLemmas.{commits-from}
 use Rattle.gix_commitgraph.specs.LayerStarts.{AreStarts, IsGraphWithStarts}
 
 -- a lesser number has no more digits
@@ -94,6 +95,23 @@ place-kept layers files starts pos i first layer view kept within read_start rea
       id = rw is_first place.id;
       within = omega (arith, is_first, from, below, start-more layers i layer here);
     }
+
+-- the commits from a position on: those of its layer, and the layers after it
+pub places-kept : (layers items files : List Layer) (starts : List ℕ) (pos i first : ℕ) (layer : Layer) → items ≡ layers
+    → files ≡ items → IsGraphWithStarts items starts → i < length layers
+    → first ≡ get_or starts i first → layer ≡ get_or items i layer → start layers i ≤ pos → pos < stop layers i
+    → positions_from layer (pos - first) ++ graph_commits (take (length files - (i + 1)) (drop (i + 1) files))
+    ≡ drop pos (graph_commits layers)
+places-kept layers items files starts pos i first layer view value kept within read_start read_layer from below =
+    let is_first = start-kept layers items starts i first view kept within read_start in
+    let here = layer-kept layers items i layer view within read_layer in
+    let inside : pos - first ≤ size layer = omega (arith, is_first, from, below, start-more layers i layer here) in
+    let all : take (length files - (i + 1)) (drop (i + 1) files) ≡ drop (i + 1) layers =
+    take_all (length files - (i + 1)) (drop (i + 1) files) (omega (arith, length-drop (i + 1) files))
+    ∙ ap (drop (i + 1)) (value ∙ view) in
+    ap (λ (ls : List Layer). positions_from layer (pos - first) ++ graph_commits ls) all
+    ∙ sym (commits-from layers i (pos - first) layer here inside)
+    ∙ ap (λ (n : ℕ). drop n (graph_commits layers)) (omega (arith, is_first, from))
 
 -- a layer that is put on top
 start-front : (layers rest : List Layer) (i : ℕ) → i ≤ length layers → start (layers ++ rest) i ≡ start layers i

@@ -1,18 +1,19 @@
 -- laws of what the iterators over a graph have left
-use Rattle.std.proofs.Common.{◌≡◌, ℕ, ◌+◌, ◌-◌, ◌<◌, ◌≤◌, List, [], ◌∷◌, ◌++◌, map, length, take, drop, Some, unwrap_or, get_or}
-use Rattle.std.proofs.Common.{slice_get, refl, sym, ap, ◌∙◌, arith, length-append}
+use Rattle.std.proofs.Common.{◌≡◌, ℕ, zero, suc, ◌+◌, ◌-◌, ◌<◌, ◌≤◌, List, [], ◌∷◌, ◌++◌, map, length, take, drop, unwrap_or}
+use Rattle.std.proofs.Common.{Some, get_or, slice_get, refl, sym, ap, ◌∙◌, arith, length-append}
 use Rattle.std.specs.List.{range_with_len}
-use Rattle.std.proofs.lemmas.List.{map-append, same_lists, take_all}
+use Rattle.std.proofs.lemmas.List.{drop_all, length-drop, map-append, same_lists, take_all}
 use Rattle.std.proofs.lemmas.List.FromFn.{length-map-range_with_len, get_or-map-range_with_len}
 use Rattle.std.proofs.lemmas.List.Sums.{sum_by-cons}
-use Rattle.std.proofs.lemmas.Option.{unwrap_or-slice_get, get_or_from_slice_get, slice_get-get_or}
+use Rattle.std.proofs.lemmas.Option.{unwrap_or-slice_get, get_or_from_slice_get, slice_get-get_or, same_Some}
+use Rattle.std.proofs.Math.Seq.{drop-append-add}
 use Rattle.std.proofs.lemmas.Simd.{map-map}
 use Rattle.graph_format.specs.Layer.{Layer}
 use Rattle.graph_format.specs.Layer.{positions_from}
-use Rattle.gix_commitgraph.specs.Graph.{graph_ids, graph_commits, total}
+use Rattle.gix_commitgraph.specs.Graph.{graph_ids, graph_commits, start, total}
 use Rattle.gix_commitgraph.specs.GraphRemaining.{id_of}
 use Rattle.graph_layer.proofs.ElementLemmas.{range-next}
-use Rattle.gix_commitgraph.proofs.layers.LayerListLemmas.{size, length-places}
+use Rattle.gix_commitgraph.proofs.layers.LayerListLemmas.{size, length-places, start-cons, start-none}
 
 -- the position that comes next
 pub places-next : (layer : Layer) (i : ℕ) (rest : List (Layer × ℕ)) → i < length layer.ids
@@ -23,6 +24,38 @@ places-next layer i rest h =
 pub length-places-next : (layer : Layer) (i : ℕ) (rest : List (Layer × ℕ)) → i < length layer.ids
     → length (positions_from layer i ++ rest) ≡ length (positions_from layer (i + 1) ++ rest) + 1
 length-places-next layer i rest h = ap length (places-next layer i rest h) ∙ omega arith
+
+-- the positions that follow the first so many
+places-after : (layer : Layer) (i k : ℕ) (rest : List (Layer × ℕ)) → i + k ≤ length layer.ids
+    → drop k (positions_from layer i ++ rest) ≡ positions_from layer (i + k) ++ rest
+places-after layer i zero rest h = ap (λ (n : ℕ). positions_from layer n ++ rest) (omega arith)
+places-after layer i (suc k) rest h =
+    ap (drop (suc k)) (places-next layer i rest (omega (arith, h)))
+    ∙ places-after layer (i + 1) k rest (omega (arith, h))
+    ∙ ap (λ (n : ℕ). positions_from layer n ++ rest) (omega arith)
+
+-- the commits from a position of a layer on
+pub commits-from : (layers : List Layer) (i j : ℕ) (layer : Layer) → slice_get layers i ≡ Some layer → j ≤ size layer
+    → drop (start layers i + j) (graph_commits layers) ≡ positions_from layer j ++ graph_commits (drop (i + 1) layers)
+commits-from [] i j layer here h = cc
+commits-from (x ∷ xs) zero j layer here h =
+    let same : x ≡ layer = same_Some x layer here in
+    ap (λ (n : ℕ). drop (n + j) (graph_commits (x ∷ xs))) (start-none (x ∷ xs))
+    ∙ ap (λ (n : ℕ). drop n (graph_commits (x ∷ xs))) (none j)
+    ∙ places-after x 0 j (graph_commits xs) (omega (arith, h, ap size same))
+    ∙ ap (λ (n : ℕ). positions_from x n ++ graph_commits xs) (none j)
+    ∙ ap (λ (l : Layer). positions_from l j ++ graph_commits xs) same
+  where
+    none : (n : ℕ) → 0 + n ≡ n
+    none n = omega arith
+commits-from (x ∷ xs) (suc i) j layer here h =
+    ap (λ (n : ℕ). drop n (graph_commits (x ∷ xs))) (omega (arith, start-cons x xs i, length-places x))
+    ∙ drop-append-add (positions_from x 0) (graph_commits xs) (start xs i + j)
+    ∙ commits-from xs i j layer here h
+    ∙ ap (λ (n : ℕ). positions_from layer j ++ graph_commits (drop n (x ∷ xs))) (more i)
+  where
+    more : (n : ℕ) → suc (n + 1) ≡ suc n + 1
+    more n = omega arith
 
 -- as many as there are commits
 pub length-graph_commits : (layers : List Layer) → length (graph_commits layers) ≡ total layers
@@ -98,3 +131,13 @@ places-none layer i [] h none =
     no-more : (n m : ℕ) → n ≤ m → n - m ≡ 0
     no-more n m k = omega arith
 places-none layer i (x ∷ xs) h none = absurd (omega (arith, none))
+
+-- as many as the graph has from there on
+pub length-places_kept : (layers : List Layer) (left : List (Layer × ℕ)) (pos : ℕ) → left ≡ drop pos (graph_commits layers)
+    → total layers - pos ≡ length left
+length-places_kept layers left pos is =
+    omega (arith, length-graph_commits layers, length-drop pos (graph_commits layers), ap length is)
+
+-- past the last position there is none
+pub places-past : (layers : List Layer) (pos : ℕ) → total layers ≤ pos → drop pos (graph_commits layers) ≡ []
+places-past layers pos h = drop_all pos (graph_commits layers) (omega (arith, h, length-graph_commits layers))
