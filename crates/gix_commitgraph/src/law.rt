@@ -11,6 +11,6 @@ pub mod walk;
 
 pub use graph_format::law::{
     bytes_fall_into_pieces, each_id_has_a_record, each_is_answered, each_is_refused_or_read, edges,
-    falling_fans_are_named, limits_are_these_numbers, lookup,
+    falling_fans_are_named, files_are_refused_for_their_heads, limits_are_these_numbers, lookup,
     positions_are_ordered_by_their_numbers,
 };

@@ -1,5 +1,5 @@
 -- Where a check has no fault: neither has any of its parts.
-use Rattle.std.proofs.Common.{◌≡◌, ℕ, ◌<◌, Bool, true, false, List, [], ◌∷◌, ◌++◌, length, get_or, slice_get, Option, Some, None}
+use Rattle.std.proofs.Common.{◌≡◌, ℕ, ◌<◌, List, [], ◌∷◌, ◌++◌, length, get_or, slice_get, Option, Some, None}
 use Rattle.std.proofs.Common.{refl, sym, ◌∙◌, subst, arith}
 use Rattle.std.specs.Prelude.{◌↔◌, All}
 use Rattle.std.specs.List.{flat_map, range_with_len, enumerate_from}
@@ -8,7 +8,6 @@ use Rattle.std.proofs.lemmas.List.FromFn.{length-range_with_len, get_or-range_wi
 use Rattle.std.proofs.lemmas.List.FromFn.{get_or-enumerate_from}
 use Rattle.std.proofs.lemmas.Option.{slice_get_within, slice_get-get_or, get_or_from_slice_get}
 use Rattle.std.specs.Option.{option_map}
-use Rattle.first_faults.specs.First.{◌when◌}
 use Rattle.graph_format.specs.Points.{Point, check, call, first_some, first_fault}
 
 pub option_map-none : {X Y : Type 0} (f : X → Y) (o : Option X) → (option_map f o ≡ None) ↔ (o ≡ None)

@@ -18,3 +18,4 @@ pub mod ChunkSizeLemmas
 pub mod DecodedRecordLemmas
 pub mod FanLemmas
 pub mod LayoutLemmas
+pub mod HeadLemmas

@@ -6,10 +6,12 @@ pub mod Reports
 pub mod Format
 pub mod Layer
 pub mod Refusal
+pub mod Head
 pub mod ChunkRanges
 pub mod Layout
 pub mod DecodedRecords
 pub mod Numbers
+pub mod ErrorNumbers
 pub mod Opened
 pub mod Parents
 pub mod Law

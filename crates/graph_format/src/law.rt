@@ -7,9 +7,12 @@ pub mod name;
 
 ghost use Rattle.std.specs.Prelude.{◌≡◌, ℕ, List, length};
 ghost use Rattle.std.specs.Ordering.{nat_cmp};
+ghost use Rattle.graph_format.specs.Format.{chunk_range_of};
+ghost use Rattle.graph_format.specs.Head.{HaveSameHead};
 ghost use Rattle.graph_format.specs.Law.{IsDecided, NamesFirstFall, FallIntoPieces};
 ghost use Rattle.graph_format.specs.Layer.{Layer, IsOpened};
 ghost use Rattle.graph_format.specs.Opened.{IsAnswered};
+ghost use Rattle.graph_format.specs.Refusal.{refusal};
 ghost use Rattle.graph_format.specs.declared.Position.{Position};
 ghost use Rattle.graph_format.specs.declared.TheConstants.{MAX_COMMITS, GENERATION_NUMBER_INFINITY};
 ghost use Rattle.graph_format.specs.declared.file.Position.{Position as LayerPosition};
@@ -33,6 +36,16 @@ pub fn each_is_answered()
 #[tactic(auto, using(crate::proofs::LayerHistoryLemmas::opened_is_paired))]
 pub fn each_id_has_a_record()
     ensures { (layer : Layer) → IsOpened layer → length layer.records ≡ length layer.ids }
+{}
+
+/// Files of the same size, with the same header, table of chunks and fan, are refused alike, and
+/// their chunks lie in the same places.
+#[tactic(auto, using(crate::proofs::HeadLemmas::head_laws))]
+pub fn files_are_refused_for_their_heads()
+    ensures refusal { (bytes other : List ℕ) → HaveSameHead bytes other
+        → refusal bytes ≡ refusal other }
+    ensures places { (bytes other id : List ℕ) → HaveSameHead bytes other
+        → chunk_range_of bytes id ≡ chunk_range_of other id }
 {}
 
 /// A fan is refused for the first byte at which it falls, and a fan that falls nowhere is not.

@@ -38,7 +38,8 @@ use gix_commitgraph::law::walk::{
 };
 use gix_commitgraph::law::{
     bytes_fall_into_pieces, each_id_has_a_record, each_is_answered, each_is_refused_or_read,
-    falling_fans_are_named, limits_are_these_numbers, positions_are_ordered_by_their_numbers,
+    falling_fans_are_named, files_are_refused_for_their_heads, limits_are_these_numbers,
+    positions_are_ordered_by_their_numbers,
 };
 use gix_commitgraph::opening::{open_chain_dir_in, open_file_in, open_in, open_info_dir_in};
 use gix_commitgraph::verify::Outcome;
