@@ -10,7 +10,7 @@ use Rattle.graph_history.specs.Comparison.{IsComparisonOf}
 use Rattle.graph_history.specs.declared.Reached.{Reached}
 use Rattle.graph_history.specs.declared.bases.Comparison.{Comparison}
 use Rattle.gix_commitgraph.specs.Graph.{graph_ids, graph_commits}
-use Rattle.commitgraph_c.specs.Numbers.{parent_number}
+use Rattle.graph_format.specs.ErrorNumbers.{parent_number}
 use Rattle.commitgraph_c.specs.declared.bases.CgBases.{CgBases}
 use Rattle.commitgraph_c.specs.declared.parents.CgParents.{CgParents}
 use Rattle.commitgraph_c.specs.declared.query.CgReached.{CgReached}

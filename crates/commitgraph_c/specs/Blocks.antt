@@ -7,7 +7,7 @@ use Rattle.graph_format.specs.Layer.{Layer}
 use Rattle.graph_history.specs.Answer.{numbers_of}
 use Rattle.gix_commitgraph.specs.Graph.{graph_commits}
 use Rattle.commitgraph_c.specs.Answers.{parents_in, written}
-use Rattle.commitgraph_c.specs.Numbers.{parent_number}
+use Rattle.graph_format.specs.ErrorNumbers.{parent_number}
 use Rattle.commitgraph_c.specs.declared.blocks.CgBlock.{CgBlock}
 use Rattle.commitgraph_c.specs.declared.parents.CgParents.{CgParents}
 

@@ -1,65 +1,15 @@
--- the numbers by which errors are told: those of the lines of graphtool
+-- what is told of errors and faults beside the numbers of graphtool
 use Rattle.std.specs.Prelude.{ℕ}
-use Rattle.gix_chunk_core.specs.declared.error.ChunkError.{ChunkError}
-use Rattle.gix_chunk_core.specs.declared.error.ChunkError.TheVariants as chunk
-use Rattle.graph_format.specs.declared.fault.CommitFault.{CommitFault}
-use Rattle.graph_format.specs.declared.fault.CommitFault.TheVariants as commit
-use Rattle.graph_format.specs.declared.fault.LayerFault.{LayerFault}
-use Rattle.graph_format.specs.declared.fault.LayerFault.TheVariants as layer
+use Rattle.graph_format.specs.ErrorNumbers.{chunk_number}
 use Rattle.graph_format.specs.declared.error.FileError.{FileError}
 use Rattle.graph_format.specs.declared.error.FileError.TheVariants as file
-use Rattle.graph_format.specs.declared.error.GraphError.{GraphError}
-use Rattle.graph_format.specs.declared.error.GraphError.TheVariants as graph
-use Rattle.graph_format.specs.declared.parents.ParentError.{ParentError}
-use Rattle.graph_format.specs.declared.parents.ParentError.TheVariants as parent
-
-abbrev pub file_number : FileError → ℕ
-file_number file.TooSmall = 1
-file_number file.Signature = 2
-file_number (file.Version byte) = 3
-file_number (file.Hash byte) = 4
-file_number (file.Chunks error) = 5
-file_number file.BaseSize = 6
-file_number file.BaseCount = 7
-file_number file.NoCommitData = 8
-file_number file.CommitDataSize = 9
-file_number file.NoFan = 10
-file_number file.FanSize = 11
-file_number file.NoIds = 12
-file_number file.IdsSize = 13
-file_number file.TooManyEdges = 14
-file_number file.Trailer = 15
-file_number file.BaseMissing = 16
-file_number (file.FanFalls at) = 17
-file_number file.IdCount = 18
-file_number file.RecordCount = 19
-file_number file.OutOfMemory = 20
-
-abbrev pub table_number : ChunkError → ℕ
-table_number chunk.NoChunks = 1
-table_number chunk.TableTooSmall = 2
-table_number (chunk.EarlyEnd entry) = 3
-table_number (chunk.Duplicate id) = 4
-table_number (chunk.OutOfFile entry) = 5
-table_number (chunk.Falling entry) = 6
-table_number (chunk.NoEnd id) = 7
+use Rattle.graph_format.specs.declared.fault.LayerFault.{LayerFault}
+use Rattle.graph_format.specs.declared.fault.LayerFault.TheVariants as layer
 
 -- the number of what is wrong with the table of chunks, 0 where that is not the reason
 abbrev pub chunk_fault : FileError → ℕ
-chunk_fault (file.Chunks error) = table_number error
+chunk_fault (file.Chunks error) = chunk_number error
 chunk_fault x = 0
-
-abbrev pub graph_number : GraphError → ℕ
-graph_number graph.NoFiles = 1
-graph_number (graph.TooManyCommits sum) = 2
-graph_number (graph.HashMismatch layer) = 3
-graph_number graph.OutOfMemory = 4
-
-abbrev pub parent_number : ParentError → ℕ
-parent_number parent.SecondWithoutFirst = 1
-parent_number parent.FirstIsEdgeIndex = 2
-parent_number parent.NoEdgeList = 3
-parent_number parent.EdgeOverflow = 4
 
 abbrev pub whole_number : LayerFault → ℕ
 whole_number layer.Checksum = 1
@@ -71,8 +21,3 @@ abbrev pub fan_byte : LayerFault → ℕ
 fan_byte layer.Checksum = 0
 fan_byte layer.FileName = 0
 fan_byte (layer.Fan byte) = byte
-
-abbrev pub ids_number : CommitFault → ℕ
-ids_number commit.NullId = 1
-ids_number commit.Order = 2
-ids_number commit.NullTree = 3

@@ -19,7 +19,8 @@ use Rattle.graph_history.specs.Checked.{MayRefuseWith}
 use Rattle.graph_history.specs.declared.checked.NoFault.{NoFault}
 use Rattle.commitgraph_c.specs.Answers.{written}
 use Rattle.commitgraph_c.specs.Files.{IsOpenedFrom}
-use Rattle.commitgraph_c.specs.Numbers.{fan_byte, ids_number, parent_number, whole_number}
+use Rattle.commitgraph_c.specs.Numbers.{fan_byte, whole_number}
+use Rattle.graph_format.specs.ErrorNumbers.{commit_number, parent_number}
 use Rattle.commitgraph_c.specs.declared.check.CgCount.{CgCount}
 use Rattle.commitgraph_c.specs.declared.check.CgVerdict.{CgVerdict}
 use Rattle.commitgraph_c.specs.declared.open.CgError.{CgError}
@@ -59,7 +60,7 @@ refusal_of error.TooManyFiles = refusal_in_layer 1 0 0 0 0
 refusal_of (error.BaseCount layer) = refusal_in_layer 2 layer 0 0 0
 refusal_of (error.BaseId layer index) = refusal_in_layer 3 layer 0 0 index
 refusal_of (error.Layer layer fault) = refusal_in_layer 4 layer (whole_number fault) (fan_byte fault) 0
-refusal_of (error.Commit pos fault) = refusal_in_commit 5 pos (ids_number fault) 0
+refusal_of (error.Commit pos fault) = refusal_in_commit 5 pos (commit_number fault) 0
 refusal_of (error.Parent pos fault) = refusal_in_commit 6 pos (parent_number fault) 0
 refusal_of (error.ParentOutOfRange pos parent) = refusal_in_commit 7 pos 0 parent.0
 refusal_of (error.Generation pos expected) = refusal_in_commit 8 pos 0 expected

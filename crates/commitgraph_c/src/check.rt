@@ -11,9 +11,10 @@ ghost use Rattle.commitgraph_c.specs.Verdict.{commits_before, refusal_in_layer};
 ghost use Rattle.commitgraph_c.specs.Verdict.{options_of, refusal_at, refusal_of, told_count};
 
 use crate::handle::CgGraph;
-use crate::numbers::{fan_byte, ids_number, parent_number, whole_number};
+use crate::numbers::{fan_byte, whole_number};
 use gix_commitgraph::verify::{Outcome, VerifyError, VerifyOptions};
 use gix_commitgraph::{Graph, Position};
+use graph_format::error_numbers::{commit_number, parent_number};
 use graph_history::{Checked, NoFault};
 use std::alloc::Global;
 use std::collections::BTreeMap;
@@ -198,7 +199,7 @@ pub(crate) fn wrong(error: VerifyError<NoFault>) -> CgVerdict
             fault: whole_number(fault) as u32,
             ..in_layer(4, layer)
         },
-        VerifyError::Commit { pos, fault } => in_commit(5, pos, ids_number(fault), 0),
+        VerifyError::Commit { pos, fault } => in_commit(5, pos, commit_number(fault), 0),
         VerifyError::Parent { pos, error } => in_commit(6, pos, parent_number(error), 0),
         VerifyError::ParentOutOfRange { pos, parent } => in_commit(7, pos, 0, parent.0),
         VerifyError::Generation { pos, expected } => in_commit(8, pos, 0, expected),

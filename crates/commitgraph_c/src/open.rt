@@ -11,10 +11,11 @@ ghost use Rattle.commitgraph_c.specs.Verdict.{FailsCheck, TellsCounts, TellsStat
 
 use crate::check::{CgCount, CgVerdict, right, wrong};
 use crate::handle::CgOwner;
-use crate::numbers::{chunk_fault, file_number, graph_number};
+use crate::numbers::chunk_fault;
 use crate::opened::Opened;
 use gix_commitgraph::verify::VerifyOptions;
 use gix_commitgraph::{File, FileError, Graph, GraphError};
+use graph_format::error_numbers::{file_number, graph_number};
 use graph_history::CheckedGraph;
 use std::alloc::{AllocError, Global};
 

@@ -6,10 +6,10 @@ ghost use Rattle.gix_commitgraph.specs.Graph.{total};
 ghost use Rattle.commitgraph_c.specs.Answers.{HasCommit, TellsParents, layers_of, parents_in};
 
 use crate::handle::CgGraph;
-use crate::numbers::parent_number;
 use gix_commitgraph::Position;
 use gix_commitgraph::file::Commit;
 use gix_commitgraph::law::sound::the_parents_of_a_right_graph_are_there;
+use graph_format::error_numbers::parent_number;
 
 /// The parents of a commit, as far as they can be decoded.
 #[repr(C)]

@@ -9,7 +9,7 @@ use Rattle.graph_format.specs.declared.parents.ParentError.{ParentError}
 use Rattle.graph_format.specs.Format.{Record}
 use Rattle.graph_format.specs.Layer.{Layer}
 use Rattle.graph_format.specs.Parents.{items_of, parents_of}
-use Rattle.graph_commands.specs.Numbers.{parent_number}
+use Rattle.graph_format.specs.ErrorNumbers.{parent_number}
 use Rattle.graph_commands.specs.Text.{◌⧺◌, newline}
 
 -- the name of a kind of hash

@@ -10,8 +10,8 @@ use Rattle.gix_commitgraph.specs.declared.verify.VerifyError.{VerifyError}
 use Rattle.gix_commitgraph.specs.declared.verify.VerifyError.TheVariants as check
 use Rattle.graph_commands.specs.declared.refusal.Refusal.{Refusal}
 use Rattle.graph_commands.specs.declared.refusal.Refusal.TheVariants.{Id, Read, File, Open, Verify, Check, Walk}
-use Rattle.graph_commands.specs.Numbers.{id_number, read_number, chunk_number, file_number, graph_number, commit_number}
-use Rattle.graph_commands.specs.Numbers.{parent_number}
+use Rattle.graph_commands.specs.Numbers.{id_number, read_number}
+use Rattle.graph_format.specs.ErrorNumbers.{chunk_number, commit_number, file_number, graph_number, parent_number}
 use Rattle.graph_commands.specs.Text.{◌⧺◌}
 
 -- a file that is no layer, by its number; a fault of its table of chunks by that number too

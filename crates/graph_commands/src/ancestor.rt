@@ -13,9 +13,10 @@ ghost use Rattle.graph_commands.specs.Opening.{MayOpen};
 ghost use Rattle.graph_commands.specs.Text.{newline};
 
 use crate::block::Block;
-use crate::line::write_line;
+use crate::line::{WriteFailed, write_line};
 use crate::refusal::Refusal;
-use crate::run::{WriteFailed, refuse};
+use crate::run::refuse;
+use crate::status::Status;
 use gix_commitgraph::opening::open_in;
 use gix_commitgraph::{Graph, Position};
 use gix_hash_core::{ObjectId, oid};
@@ -23,12 +24,6 @@ use graph_folder::folder::Folder;
 use graph_history::{Checked, Reached};
 use std::alloc::Global;
 use std::io::Write;
-
-/// The exit status of a query that found a walk.
-const REACHED: u8 = 0;
-
-/// The exit status of a query that found no walk, or that did not find one of its ids.
-const NOT_REACHED: u8 = 1;
 
 /// Looks for a shortest walk along parents from the commit with the first id to the one with the
 /// second, both given in hexadecimal digits of either case, in the graph that the path opens. The
@@ -150,8 +145,8 @@ impl Ancestry {
         ensures { result ≡ ancestry_status self.now }
     {
         match self {
-            Ancestry::Known(Reached { walk: Some(_), .. }) => REACHED,
-            _ => NOT_REACHED,
+            Ancestry::Known(Reached { walk: Some(_), .. }) => Status::Yes as u8,
+            _ => Status::No as u8,
         }
     }
 }

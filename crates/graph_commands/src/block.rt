@@ -8,7 +8,7 @@ ghost use Rattle.gix_hash_core.specs.Oid.{oid_bytes};
 ghost use Rattle.graph_commands.specs.Block.{with_block};
 
 use crate::bytes::{put_decimal, put_hex, put_text};
-use crate::run::WriteFailed;
+use crate::line::WriteFailed;
 use gix_hash_core::oid;
 use std::alloc::{AllocError, Global};
 use std::io::Write;

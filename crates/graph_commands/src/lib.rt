@@ -1,8 +1,8 @@
 //! The commands of `graphtool`, over any folder, reader and writer.
 //!
 //! [`run`] has the commands: the contract of each says what it may write, and with which exit
-//! status. [`refusal`] has the line that says why a command was refused, [`report`] the lines of
-//! what a check and a search found, [`line`] writes a line whole, and [`block`] gathers many lines.
+//! [`status`]. [`refusal`] has the line that says why a command was refused, [`report`] the lines
+//! of what a check and a search found, [`line`] writes a line whole, and [`block`] gathers many.
 #![tactic(auto)]
 
 mod ancestor;
@@ -14,3 +14,4 @@ mod numbers;
 pub mod refusal;
 pub mod report;
 pub mod run;
+pub mod status;

@@ -1,14 +1,23 @@
-//! A line that is written whole.
+//! A line that is written whole, and why it is not.
 
 ghost use Rattle.std.specs.Prelude.{IfSome, OnOk};
 ghost use Rattle.std.specs.Fmt.{with_newline};
 ghost use Rattle.std.specs.Io.KnownBytes.{Appends};
 
-use crate::run::WriteFailed;
 use arrayvec::ArrayString;
-use std::fmt;
 use std::fmt::Display;
 use std::io::Write;
+use std::{fmt, io};
+
+/// A write failed. How much went out before is not known.
+#[derive(Clone, Copy, Debug, PartialEq, Eq)]
+pub struct WriteFailed;
+
+impl From<io::Error> for WriteFailed {
+    fn from(_error: io::Error) -> WriteFailed {
+        WriteFailed
+    }
+}
 
 /// The most bytes of a line that is made before it is written. Each line of the program fits.
 const ROOM: usize = 128;

@@ -12,11 +12,11 @@ ghost use Rattle.graph_commands.specs.Listing.{base_line, listing_text};
 ghost use Rattle.graph_commands.specs.PositionLines.{position_line};
 
 use crate::block::Block;
-use crate::numbers::parent_number;
-use crate::run::WriteFailed;
+use crate::line::WriteFailed;
 use gix_commitgraph::file::commit::{ParentError, Parents};
 use gix_commitgraph::{File, Position, file};
 use gix_hash_core::{Kind, oid};
+use graph_format::error_numbers::parent_number;
 use std::io::Write;
 
 /// Writes the whole listing of a layer through a block, which is empty before. `WriteFailed` comes

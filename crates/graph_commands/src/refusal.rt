@@ -2,14 +2,16 @@
 
 ghost use Rattle.std.specs.Prelude.{◌≡◌, Some};
 
-use crate::numbers::{
-    chunk_number, commit_number, file_number, graph_number, id_number, parent_number, read_number,
-};
+use crate::numbers::{id_number, read_number};
+use crate::status::Status;
 use gix_commitgraph::FileError;
 use gix_commitgraph::opening::OpenError;
 use gix_commitgraph::verify::{LayerFault, VerifyError};
 use gix_hash_core::IdError;
 use graph_folder::folder::ReadError;
+use graph_format::error_numbers::{
+    chunk_number, commit_number, file_number, graph_number, parent_number,
+};
 use graph_history::NoFault;
 use std::convert::Infallible;
 use std::fmt;
@@ -93,12 +95,6 @@ impl From<VerifyError<NoFault>> for Refusal {
     }
 }
 
-/// The exit status of a command that was refused for the text of an id.
-const WRONG_WORDS: u8 = 2;
-
-/// The exit status of a command that was refused for what it read.
-const REFUSED: u8 = 1;
-
 impl Refusal {
     ghost use Rattle.graph_commands.specs.Refusal.{refusal_status};
 
@@ -107,8 +103,8 @@ impl Refusal {
         ensures { result ≡ refusal_status self.now }
     {
         match self {
-            Refusal::Id(_) => WRONG_WORDS,
-            _ => REFUSED,
+            Refusal::Id(_) => Status::Failed as u8,
+            _ => Status::No as u8,
         }
     }
 }

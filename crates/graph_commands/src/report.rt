@@ -6,8 +6,7 @@ ghost use Rattle.std.specs.Io.KnownBytes.{Appends};
 ghost use Rattle.std.specs.Ordering.{nat_cmp};
 ghost use Rattle.graph_commands.specs.Report.{outcome_text};
 
-use crate::line::write_line;
-use crate::run::WriteFailed;
+use crate::line::{WriteFailed, write_line};
 use gix_commitgraph::Position;
 use gix_commitgraph::verify::Outcome;
 use std::fmt;

@@ -15,10 +15,12 @@ ghost use Rattle.graph_commands.specs.Verify.{verify_text, verify_status};
 
 pub use crate::ancestor::{Ancestry, run_ancestor};
 use crate::block::Block;
+pub use crate::line::WriteFailed;
 use crate::line::write_line;
 use crate::listing::write_listing;
 use crate::refusal::Refusal;
 use crate::report::{Found, write_outcome};
+use crate::status::Status;
 use gix_commitgraph::file::Commit;
 use gix_commitgraph::opening::open_in;
 use gix_commitgraph::verify::{Outcome, VerifyError, VerifyOptions};
@@ -27,24 +29,7 @@ use gix_hash_core::{ObjectId, oid};
 use graph_folder::folder::{Folder, read_all};
 use std::alloc::Global;
 use std::convert::Infallible;
-use std::io;
 use std::io::{Read, Write};
-
-/// The exit status of a command that did what was asked.
-const DONE: u8 = 0;
-
-/// The exit status of a search that found nothing.
-const NOT_FOUND: u8 = 1;
-
-/// A write failed. How much went out before is not known.
-#[derive(Clone, Copy, Debug, PartialEq, Eq)]
-pub struct WriteFailed;
-
-impl From<io::Error> for WriteFailed {
-    fn from(_error: io::Error) -> WriteFailed {
-        WriteFailed
-    }
-}
 
 /// Writes the listing of the layer that the reader gives, or one line that says why it is refused.
 /// The answer is the exit status. `WriteFailed` comes where the writer fails.
@@ -60,7 +45,7 @@ pub fn run_list<R: Read, W: Write>(
     match prepare(alloc, reader) {
         Ok((layer, mut block)) => {
             write_listing(&mut block, writer, &layer)?;
-            Ok(DONE)
+            Ok(Status::Yes as u8)
         }
         Err(refusal) => refuse(writer, &refusal),
     }
@@ -148,7 +133,7 @@ fn write_answer<W: Write>(
     match answer {
         Ok(outcome) => {
             write_outcome(writer, &outcome)?;
-            Ok(DONE)
+            Ok(Status::Yes as u8)
         }
         Err(error) => refuse(writer, &Refusal::Verify(error)),
     }
@@ -175,11 +160,11 @@ pub fn run_find<T: Folder, W: Write>(
     match find(alloc, folder, path, hex) {
         Ok(Some(found)) => {
             write_line(writer, found)?;
-            Ok(DONE)
+            Ok(Status::Yes as u8)
         }
         Ok(None) => {
             write_line(writer, "none")?;
-            Ok(NOT_FOUND)
+            Ok(Status::No as u8)
         }
         Err(refusal) => refuse(writer, &refusal),
     }

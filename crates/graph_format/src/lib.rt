@@ -10,6 +10,7 @@ ghost use Rattle.std.specs.Fmt.{styled_decimal};
 
 pub mod chunks;
 pub mod error;
+pub mod error_numbers;
 pub mod fan;
 pub mod fault;
 pub mod file;

@@ -11,10 +11,9 @@ ghost use Rattle.std.specs.Prelude.{◌≡◌, MatchResult};
 #[cfg(test)]
 mod tests;
 
-use graph_commands::line::write_line;
-use graph_commands::run::{
-    WriteFailed, run_ancestor, run_distinct, run_find, run_list, run_verify,
-};
+use graph_commands::line::{WriteFailed, write_line};
+use graph_commands::run::{run_ancestor, run_distinct, run_find, run_list, run_verify};
+use graph_commands::status::Status;
 use graph_folder::folder::{Disk, Folder};
 use std::alloc::Global;
 use std::io::Write;
@@ -25,9 +24,6 @@ const USAGE: &str = "usage: graphtool list | verify PATH | find PATH HEX | ances
     | distinct PATH";
 
 const WRITE_FAILED: &str = "graphtool: the answer could not be written";
-
-/// The exit status of words that are no command, and of a failed write.
-const FAILED: u8 = 2;
 
 fn main(rt: HostRuntime) -> ExitCode {
     let mut errors = rt.stderr();
@@ -78,7 +74,7 @@ fn fail<W: Write>(errors: &mut W, why: &str) -> u8
     ensures { result ≡ 2 }
 {
     let _ = write_line(errors, why);
-    FAILED
+    Status::Failed as u8
 }
 
 /// What the program is asked to do.

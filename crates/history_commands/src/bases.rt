@@ -25,19 +25,14 @@ use gix_commitgraph::Position;
 use gix_commitgraph::opening::open_in;
 use gix_hash_core::{ObjectId, oid};
 use graph_commands::block::Block;
-use graph_commands::line::write_line;
+use graph_commands::line::{WriteFailed, write_line};
 use graph_commands::refusal::Refusal;
-use graph_commands::run::{WriteFailed, refuse};
+use graph_commands::run::refuse;
+use graph_commands::status::Status;
 use graph_folder::folder::Folder;
 use graph_history::{Checked, CheckedGraph, Comparison, Divergence};
 use std::alloc::Global;
 use std::io::Write;
-
-/// The exit status of a question that is answered with merge bases.
-const SOME: u8 = 0;
-
-/// The exit status of any other answer.
-const NONE: u8 = 1;
 
 /// What is found of the commits with some ids.
 #[derive(Debug, Drop)]
@@ -216,8 +211,9 @@ impl Compared {
         ensures { result ≡ compared_status self.now }
     {
         match self {
-            Compared::Known(comparison) if !comparison.bases.positions.is_empty() => SOME,
-            _ => NONE,
+            Compared::Known(comparison) if !comparison.bases.positions.is_empty() =>
+                Status::Yes as u8,
+            _ => Status::No as u8,
         }
     }
 }

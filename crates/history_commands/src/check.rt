@@ -17,21 +17,15 @@ use gix_commitgraph::opening::open_in;
 use gix_commitgraph::verify::Outcome;
 use graph_chunks::dates::{CorrectedDates, DatesError};
 use graph_chunks::filters::{FiltersError, GraphFilters};
-use graph_commands::line::write_line;
+use graph_commands::line::{WriteFailed, write_line};
 use graph_commands::refusal::Refusal;
 use graph_commands::report::write_outcome;
-use graph_commands::run::WriteFailed;
+use graph_commands::status::Status;
 use graph_folder::folder::Folder;
 use graph_history::CheckedGraph;
 use std::alloc::Global;
 use std::fmt;
 use std::io::Write;
-
-/// The exit status where all is right.
-const RIGHT: u8 = 0;
-
-/// The exit status where something was refused.
-const REFUSED: u8 = 1;
 
 /// Why `check` refuses what a path opens. It is displayed as its line, without the line's end.
 #[derive(Debug, Drop)]
@@ -162,11 +156,11 @@ pub fn run_check<T: Folder, W: Write>(
     match check(alloc, folder, path) {
         Ok((graph, dates, filters)) => {
             write_findings(writer, graph.as_checked().outcome(), dates, filters)?;
-            Ok(RIGHT)
+            Ok(Status::Yes as u8)
         }
         Err(refusal) => {
             write_line(writer, refusal)?;
-            Ok(REFUSED)
+            Ok(Status::No as u8)
         }
     }
 }

@@ -13,19 +13,14 @@ pub use crate::check::run_check;
 use crate::question::{Answer, ask};
 pub use crate::walk::run_walk;
 use gix_hash_core::oid;
-use graph_commands::line::write_line;
+use graph_commands::line::{WriteFailed, write_line};
 use graph_commands::refusal::Refusal;
-use graph_commands::run::{WriteFailed, refuse};
+use graph_commands::run::refuse;
+use graph_commands::status::Status;
 use graph_folder::folder::Folder;
 use graph_history::Checked;
 use std::alloc::Global;
 use std::io::Write;
-
-/// The exit status of a question that is answered with a yes or with a walk.
-const YES: u8 = 0;
-
-/// The exit status of any other answer.
-const NO: u8 = 1;
 
 /// Tells whether the commit with the first id is an ancestor of the one with the second, or the
 /// same, in the graph that the path opens: `yes` or `no`. Both ids are given in hexadecimal digits
@@ -118,8 +113,8 @@ impl Answer<bool> {
         ensures { result ≡ told_status self.now }
     {
         match self {
-            Answer::Known(true) => YES,
-            _ => NO,
+            Answer::Known(true) => Status::Yes as u8,
+            _ => Status::No as u8,
         }
     }
 }

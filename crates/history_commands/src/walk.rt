@@ -17,19 +17,14 @@ use crate::question::{Answer, Question, ask};
 use gix_commitgraph::Position;
 use gix_hash_core::oid;
 use graph_commands::block::Block;
-use graph_commands::line::write_line;
+use graph_commands::line::{WriteFailed, write_line};
 use graph_commands::refusal::Refusal;
-use graph_commands::run::{WriteFailed, refuse};
+use graph_commands::run::refuse;
+use graph_commands::status::Status;
 use graph_folder::folder::Folder;
 use graph_history::Checked;
 use std::alloc::Global;
 use std::io::Write;
-
-/// The exit status of a question that is answered with a walk.
-const REACHED: u8 = 0;
-
-/// The exit status of any other answer.
-const NOT_REACHED: u8 = 1;
 
 /// What is found of the walk from one commit to another, by positions: none where there is no walk.
 type Found = Answer<Option<Vec<Position>>>;
@@ -129,8 +124,8 @@ impl Found {
         ensures { result ≡ found_status self.now }
     {
         match self {
-            Answer::Known(Some(_)) => REACHED,
-            _ => NOT_REACHED,
+            Answer::Known(Some(_)) => Status::Yes as u8,
+            _ => Status::No as u8,
         }
     }
 }

@@ -12,8 +12,8 @@ ghost use Rattle.std.specs.Prelude.{◌≡◌, MatchResult};
 #[cfg(test)]
 mod tests;
 
-use graph_commands::line::write_line;
-use graph_commands::run::WriteFailed;
+use graph_commands::line::{WriteFailed, write_line};
+use graph_commands::status::Status;
 use graph_folder::folder::{Disk, Folder};
 use history_commands::run::{run_check, run_is_ancestor, run_merge_base, run_walk};
 use std::alloc::Global;
@@ -48,12 +48,6 @@ const HELP: &str = "usage: historytool is-ancestor PATH HEX HEX | walk PATH HEX 
 const VERSION: &str = "historytool 0.1.0, proved with rattle-kit-13b logic dac8208d650f15bf";
 
 const WRITE_FAILED: &str = "historytool: the answer could not be written";
-
-/// The exit status of a text that was asked for and written.
-const DONE: u8 = 0;
-
-/// The exit status of words that are no command, and of a failed write.
-const FAILED: u8 = 2;
 
 fn main(rt: HostRuntime) -> ExitCode {
     let mut errors = rt.stderr();
@@ -103,7 +97,7 @@ fn fail<W: Write>(errors: &mut W, why: &str) -> u8
     ensures { result ≡ 2 }
 {
     let _ = write_line(errors, why);
-    FAILED
+    Status::Failed as u8
 }
 
 /// What the program is asked to do.
@@ -204,5 +198,5 @@ impl<'a> Command<'a> {
 /// writer fails.
 fn tell<W: Write>(output: &mut W, text: &str) -> Result<u8, WriteFailed> {
     write_line(output, text)?;
-    Ok(DONE)
+    Ok(Status::Yes as u8)
 }
