@@ -14,12 +14,12 @@ ghost use Rattle.graph_history.specs.RightGraph.{record_in};
 
 use crate::checked::Checked;
 use crate::parents::ParentPositions;
-use gix_commitgraph::Position;
 use gix_commitgraph::law::distinct::a_scan_of_distinct_ids_is_exact;
 use gix_commitgraph::law::graph::{
     the_commits_of_layers_add_up, the_history_of_a_graph_says_what_its_records_say,
 };
 use gix_commitgraph::law::sound::a_lookup_in_a_right_graph_is_a_scan;
+use gix_commitgraph::{Graph, Position};
 use gix_hash_core::oid;
 
 impl<'g> Checked<'g> {
@@ -51,10 +51,7 @@ impl<'g> Checked<'g> {
             ↔ ((p < total self.now)
             × (slice_get (graph_ids self.now) p ≡ Some (oid_bytes id.entry))) }
     {
-        a_lookup_in_a_right_graph_is_a_scan();
-        a_scan_of_distinct_ids_is_exact();
-        the_commits_of_layers_add_up();
-        self.graph().lookup(id)
+        least_position(self.graph(), id)
     }
 
     /// The id of the commit at a position ("OID Lookup").
@@ -102,4 +99,19 @@ impl<'g> Checked<'g> {
     {
         ParentPositions::new(self.graph(), pos)
     }
+}
+
+/// The least position of an id in a right graph.
+fn least_position(graph: &Graph, id: oid<'_>) -> Option<Position>
+    requires { Sound graph.now }
+    ensures scanned { position_number result ≡ scan (graph_ids graph.now) (oid_bytes id.entry) }
+    ensures within { IfSome result (λ pos. pos.0 < total graph.now) }
+    ensures exact { AreDistinct graph.now → (p : ℕ) → (position_number result ≡ Some p)
+        ↔ ((p < total graph.now)
+        × (slice_get (graph_ids graph.now) p ≡ Some (oid_bytes id.entry))) }
+{
+    a_lookup_in_a_right_graph_is_a_scan();
+    a_scan_of_distinct_ids_is_exact();
+    the_commits_of_layers_add_up();
+    graph.lookup(id)
 }

@@ -168,6 +168,13 @@ impl<'c, 'g> Comparer<'c, 'g> {
         }
     }
 
+    /// The checked graph.
+    pub fn graph(&self) -> &'c Checked<'g>
+        ensures { result.now ≡ self.now }
+    {
+        self.graph
+    }
+
     /// What [`Checked::compare`] answers. After the first call, one costs no more than what it
     /// visits.
     ///

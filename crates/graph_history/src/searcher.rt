@@ -53,6 +53,14 @@ impl<'g> Searcher<'g> {
         }
     }
 
+    /// The graph.
+    pub fn graph(&self) -> &'g Graph
+        ensures same { result.now ≡ self.now }
+        ensures right { Sound self.now }
+    {
+        self.search.graph
+    }
+
     /// Looks for a shortest walk along parents from one commit to another, at positions that are
     /// below the graph's `num_commits()`.
     ///

@@ -14,4 +14,5 @@ pub mod in_memory;
 pub mod parents;
 pub mod query;
 pub mod reaching;
+pub mod right;
 pub mod walking;

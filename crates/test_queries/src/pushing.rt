@@ -2,7 +2,7 @@ use crate::fixtures::{empty_layer, graph, layer};
 use gix_commitgraph::verify::{CommitFault, VerifyError, VerifyOptions};
 use gix_commitgraph::{File, Graph, GraphError, Position};
 use gix_hash_core::{Kind, ObjectId};
-use graph_history::{CheckedGraph, NoFault, PushError};
+use graph_history::{Checked, CheckedGraph, NoFault, PushError};
 use graph_vectors::Row;
 use std::alloc::Global;
 use std::process::Abort;
@@ -120,4 +120,34 @@ fn a_repeated_id_is_put_on_top_where_none_was_asked_about(rt: HostRuntime) {
     let base = top(&rt, lower.as_checked().graph());
     let answer = lower.push(alloc, layer(&rt, alloc, &[base], &[(0x22, &[], 1)]));
     assert!(&rt; answer == Ok(()));
+}
+
+#[test]
+fn a_checked_graph_says_what_was_asked(rt: HostRuntime) {
+    let alloc = rt.alloc();
+    for distinct_ids in [false, true] {
+        let options = VerifyOptions { distinct_ids };
+        let lower = graph(&rt, alloc, &[LOWER]);
+        let lent = Checked::new_with(alloc, options, &lower).expect(&rt, "a right graph");
+        assert!(&rt; lent.options().distinct_ids == distinct_ids);
+        let owned = checked(&rt, alloc, distinct_ids);
+        assert!(&rt; owned.as_checked().options().distinct_ids == distinct_ids);
+    }
+}
+
+#[test]
+fn what_was_asked_is_asked_of_each_layer(rt: HostRuntime) {
+    let alloc = rt.alloc();
+    let mut pushed = checked(&rt, alloc, true);
+    let base = top(&rt, pushed.as_checked().graph());
+    let answer = pushed.push(alloc, layer(&rt, alloc, &[base], RIGHT));
+    assert!(&rt; answer == Ok(()) && pushed.as_checked().options().distinct_ids);
+    let bases = [base, top(&rt, pushed.as_checked().graph())];
+    let (pos, earlier) = (Position(5), Position(1));
+    for _ in [0, 1] {
+        let answer = pushed.push(alloc, layer(&rt, alloc, &bases, &[(0x22, &[], 1)]));
+        let want = PushError::Check(VerifyError::DuplicateId { pos, earlier });
+        assert!(&rt; matches!(&answer, Err(error) if *error == want));
+        assert!(&rt; pushed.as_checked().options().distinct_ids);
+    }
 }
