@@ -1,12 +1,19 @@
-//! Tests of graphs: of reading and checking them, on files that are built for them.
+//! Tests of graphs: of opening them in folders, in memory and on disk, and of reading and checking
+//! them, on files that are built for them.
 //!
 //! The module `fixtures` has what several tests share.
 #![tactic(auto)]
 
 #[cfg(test)]
+mod by_path;
+#[cfg(test)]
+mod disk;
+#[cfg(test)]
 mod distinct;
 #[cfg(test)]
 mod fixtures;
+#[cfg(test)]
+mod folders;
 #[cfg(test)]
 mod graphs;
 #[cfg(test)]

@@ -1,6 +1,7 @@
-//! Tests of the commands of `historytool`, on layers and chains that are built for them.
+//! Tests of the commands of `historytool`, on layers and chains that are built for them, and of the
+//! chunks that no other command reads: corrected commit dates, and changed-path filters.
 //!
-//! [`fixtures`] has the graphs.
+//! [`fixtures`] has the graphs, and [`further_chunks`] the layers with such chunks.
 #![tactic(auto)]
 
 #[cfg(test)]
@@ -8,7 +9,17 @@ mod answers;
 #[cfg(test)]
 mod checks;
 #[cfg(test)]
+mod checks_of_chunks;
+#[cfg(test)]
+mod dates;
+#[cfg(test)]
+mod filters;
+#[cfg(test)]
 mod fixtures;
+#[cfg(test)]
+mod further_chunks;
+#[cfg(test)]
+mod graph_filters;
 #[cfg(test)]
 mod merge_bases;
 #[cfg(test)]

@@ -1,5 +1,5 @@
-//! Tests of layers: of opening, reading and checking one by itself, on files that are built for
-//! them.
+//! Tests of one layer, of opening, reading and checking it by itself, on files that are built for
+//! them; and of the crates below: ids and digests, the table of chunks, folders and readers.
 //!
 //! The module `fixtures` has what several tests share.
 #![tactic(auto)]
@@ -9,9 +9,15 @@ mod building;
 #[cfg(test)]
 mod checking;
 #[cfg(test)]
+mod chunk_tables;
+#[cfg(test)]
 mod commits;
 #[cfg(test)]
 mod fixtures;
+#[cfg(test)]
+mod folders;
+#[cfg(test)]
+mod ids;
 #[cfg(test)]
 mod lookups;
 #[cfg(test)]

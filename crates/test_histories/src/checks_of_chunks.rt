@@ -2,7 +2,7 @@
 //!
 //! The five commits are those of the rows of dates.
 
-use crate::fixtures::{Chunk, RightRow, right_file};
+use crate::further_chunks::{Chunk, RightRow, right_file};
 use graph_folder::folder::Memory;
 use history_commands::run::run_check;
 use std::alloc::Global;

@@ -4,7 +4,7 @@
 //! 1500; D with parent A, of time 3000; E with parents C and D, of time 2500. They stand in the
 //! order E, B, D, A, C.
 
-use crate::fixtures::{Chunk, Row, graph, layer, words};
+use crate::further_chunks::{Chunk, Row, graph, layer, words};
 use gix_commitgraph::Position;
 use graph_chunks::dates::{CorrectedDates, DatesError};
 use std::alloc::Global;

@@ -1,6 +1,6 @@
 //! The filters of graphs of several layers, by rows that were worked out by hand.
 
-use crate::fixtures::{Row, graph, layer, words};
+use crate::further_chunks::{Row, graph, layer, words};
 use changed_paths::filters::{Answer, HashVersion};
 use changed_paths::key::PathKey;
 use gix_commitgraph::{Graph, Position};

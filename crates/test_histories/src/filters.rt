@@ -1,6 +1,6 @@
 //! Changed-path filters, by values of Git's own tests and by rows that were worked out by hand.
 
-use crate::fixtures::{Row, layer, words};
+use crate::further_chunks::{Row, layer, words};
 use changed_paths::filters::{Answer, LayerFiltersError, PathFilters};
 use changed_paths::key::PathKey;
 use graph_chunks::filters::layer_filters;
