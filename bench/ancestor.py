@@ -1,25 +1,24 @@
 #!/usr/bin/env python3
-"""Measures queries for walks to ancestors, beside the same search in plain Rust, and beside Git.
+"""Measures queries for ancestors, beside the same searches in plain Rust, and beside Git.
 
 usage: python3 bench/ancestor.py [FOLDER]
 
-FOLDER keeps the files and both programs for further runs. The files are those of bench/lookup.py: one
-layer of a million commits, and a chain of ten layers of the same commits. Both programs answer the
-same queries, between 1,000 pairs of commits at random, in turn, and have to give the same number of
-walks, of commits on them and of visits. A line a figure: ours and the baseline's, in microseconds a
-query, each the best of all runs, and their ratio. The check of the graph is not counted.
+FOLDER keeps the files and both programs for further runs. The commits are those of bench/lookup.py, almost a line, in one
+layer and in a chain of ten; and those of bench/bases.py, of topic branches. Both programs answer the same queries over a
+million commits, in turn: 1,000 pairs at random, and 1,000 of the newest 2,000, each for a shortest walk and for whether
+there is one. They have to give the same number of walks, of commits on them and of visits, and the same number of yes. A line a figure: ours
+and the baseline's, in microseconds a query, each the best of all runs, their ratio, and the visits a walk. The check of the
+graph is not counted.
 
-Then the time of `git merge-base --is-ancestor` for the first pairs, one process each, in a repository
-with the same commits and one commit-graph file, and that of a process of Git that does nothing. Git
-has to say yes as often. The last line has the number of visits for these pairs with and without
-generation numbers.
+Then the time of `git merge-base --is-ancestor` for the first pairs of each kind among the topic branches, one process each,
+less that of a process of Git that does nothing. Git has to say yes as often.
 
-Ours is bench/ancestor/main.rt.txt, which is proved and built by LLVM, over the repository's crates. The
-baseline is bench/ancestor/baseline.rs, by `rustc -O` for the same processor. The status is 1 where
-two disagree.
+Ours is bench/ancestor/main.rt.txt, which is proved and built by LLVM, over the repository's crates. The baseline is
+bench/ancestor/baseline.rs, by `rustc -O` for the same processor. The status is 1 where two disagree.
 """
 
 import os
+import random
 import shutil
 import subprocess
 import sys
@@ -27,12 +26,12 @@ import tempfile
 import time
 
 import lookup
+from topics import NEWEST, PAIRS, Made
 
 SOURCES = os.path.join(lookup.TOP, "bench", "ancestor")
 PROGRAM_LIBRARIES = ["gix_hash_core", "gix_commitgraph", "graph_history", "anyhow"]
-PAIRS = 1000
-FIRST_PAIRS = PAIRS // 10
-"""So many pairs are asked of Git, and without generation numbers."""
+FIRST_PAIRS = 50
+"""So many pairs of each kind are asked of Git."""
 ROUNDS = 3
 """How often each program is run. The two take turns."""
 
@@ -42,52 +41,55 @@ def main(folder=None):
     with tempfile.TemporaryDirectory() as scratch:
         folder = os.path.abspath(folder or scratch)
         os.makedirs(folder, exist_ok=True)
-        present, _, _, _, _, *layers = lookup.written_files(folder)
-        files = [pairs_file(folder, present)] + layers
-        ours, baseline = our_program(folder), baseline_program(folder)
-        commits = git_commits(folder)
+        present, _, _, _, _, layer, *chain = lookup.written_files(folder)
+        line, topics = pairs_files(folder, present), Made(folder)
+        programs = our_program(folder), baseline_program(folder)
         print("load     %.2f" % os.getloadavg()[0])
-        rounds = [(figures(ours, files), figures(baseline, files)) for _ in range(ROUNDS)]
-        agreed = report([first for first, _ in rounds], [second for _, second in rounds])
-        return 0 if report_git(folder, commits, rounds[0][1]) and agreed else 1
+        print("%-24s %10s %10s %7s %10s" % ("figure", "ours us", "rust us", "ratio", "visits"))
+        graphs = [("layer", line, [layer]), ("chain", line, chain), ("topics", topics.pairs[:2], topics.layer())]
+        agreed = [report(programs, *graph) for graph in graphs]
+        agreed += [report_git(topics, at, programs[1]) for at in (0, 1)]
+        return 0 if all(agreed) else 1
 
 
-def report(ours, baseline):
-    """Prints a line a figure, and answers whether the two agreed."""
+def report(programs, name, pairs, layers):
+    """Prints a line a figure, and answers whether the two programs agreed."""
+    rounds = [[figures(program, pairs + layers) for program in programs] for _ in range(ROUNDS)]
     agreed = True
-    print("%-6s %10s %10s %7s" % ("figure", "ours us", "rust us", "ratio"))
-    for name in ours[0]:
-        best, other = (min(run[name][0] for run in runs) / PAIRS / 1000 for runs in (ours, baseline))
-        print("%-6s %10.1f %10.1f %7.3f" % (name, best, other, best / other))
-        answers = {run[name][1:] for run in ours + baseline}
+    for kind in rounds[0][0]:
+        best, other = (min(run[at][kind][0] for run in rounds) / PAIRS / 1000 for at in range(2))
+        visits = rounds[0][1][kind][-1] / PAIRS
+        print("%-24s %10.2f %10.2f %7.3f %10.1f" % (name + " " + kind, best, other, best / other, visits), flush=True)
+        answers = {run[at][kind][1:] for run in rounds for at in range(2)}
         if len(answers) != 1:
-            print("%-6s the answers differ: %s" % (name, answers))
+            print("%-24s the answers differ: %s" % (name + " " + kind, answers))
             agreed = False
-    print("%d walks of %d commits, %d visits" % baseline[0]["layer"][1:])
     return agreed
 
 
-def report_git(folder, commits, baseline):
-    """Prints what Git takes, and the number of visits for the same pairs, and answers whether Git agreed."""
-    repository = os.path.join(folder, "commits.git")
-    is_ancestor = ["git", "-C", repository, "merge-base", "--is-ancestor"]
-    taken, yes = 0, 0
-    for first, second in zip(commits[::2], commits[1::2]):
-        started = time.perf_counter()
-        yes += subprocess.call(is_ancestor + [second, first]) == 0
-        taken += time.perf_counter() - started
+def report_git(topics, at, baseline):
+    """Prints what Git takes for the first pairs of a kind, and answers whether it says yes as often."""
+    kind = ("any", "newest")[at]
+    with open(topics.pairs[at], "rb") as file:
+        asked = file.read(2 * 20 * FIRST_PAIRS)
+    ids = [asked[start : start + 20].hex() for start in range(0, len(asked), 20)]
+    is_ancestor = ["git", "-C", topics.folder, "merge-base", "--is-ancestor"]
+    started = time.perf_counter()
+    yes = sum(subprocess.call(is_ancestor + [second, first]) == 0 for first, second in zip(ids[::2], ids[1::2]))
+    taken = time.perf_counter() - started
     started = time.perf_counter()
     for _ in range(FIRST_PAIRS):
-        subprocess.check_call(["git", "-C", repository, "rev-parse", "--git-dir"], stdout=subprocess.DEVNULL)
+        subprocess.check_call(["git", "-C", topics.folder, "rev-parse", "--git-dir"], stdout=subprocess.DEVNULL)
     idle = time.perf_counter() - started
-    print("git %.1f us, of which a process takes %.1f" % (taken * 1e6 / FIRST_PAIRS, idle * 1e6 / FIRST_PAIRS))
-    _, walks, _, pruned = baseline["tenth"]
-    whole, visits = baseline["whole"][0], baseline["whole"][3]
-    unpruned = "%d, %.1f us a query" % (visits, whole / FIRST_PAIRS / 1000)
-    print("%d pairs: %d visits; without generation numbers %s" % (FIRST_PAIRS, pruned, unpruned))
-    if yes != walks:
-        print("git says yes %d times, and there are %d walks" % (yes, walks))
-    return yes == walks
+    first = os.path.join(os.path.dirname(topics.folder), "first")
+    with open(first, "wb") as file:
+        file.write(asked)
+    found = figures(baseline, [first, first] + topics.layer())["any-yes"][1]
+    times = (kind, (taken - idle) * 1e6 / FIRST_PAIRS, idle * 1e6 / FIRST_PAIRS)
+    print("git %-20s %10.1f us a query, and %.1f to start" % times)
+    if yes != found:
+        print("git says yes %d times, and there are %d walks" % (yes, found))
+    return yes == found
 
 
 def figures(program, files):
@@ -96,41 +98,15 @@ def figures(program, files):
     return {name: tuple(map(int, numbers)) for name, *numbers in map(str.split, lines)}
 
 
-def pairs_file(folder, present):
-    """The path of the pairs: the first of the ids in a random order, two by two."""
-    path = os.path.join(folder, "pairs")
-    with open(present, "rb") as source, open(path, "wb") as target:
+def pairs_files(folder, present):
+    """The paths of the pairs: the first of the ids in a random order, two by two, and some of the newest commits."""
+    paths = [os.path.join(folder, name) for name in ("pairs", "near")]
+    newest, chance = range(lookup.COMMITS - NEWEST, lookup.COMMITS), random.Random(9)
+    with open(present, "rb") as source, open(paths[0], "wb") as target:
         target.write(source.read(2 * 20 * PAIRS))
-    return path
-
-
-def git_commits(folder):
-    """The first pairs, as Git names them in a repository with the same commits, and one commit-graph file."""
-    repository = os.path.join(folder, "commits.git")
-    marks = os.path.join(folder, "marks")
-    if not os.path.exists(marks):
-        subprocess.check_call(["git", "init", "--quiet", "--bare", repository])
-        load = ["git", "-C", repository, "fast-import", "--quiet", "--export-marks=" + marks + ".new"]
-        with subprocess.Popen(load, stdin=subprocess.PIPE) as run:
-            for place in range(lookup.COMMITS):
-                run.stdin.write(commit_of(place))
-            run.stdin.close()
-        subprocess.check_call(["git", "-C", repository, "commit-graph", "write", "--reachable", "--no-progress"])
-        os.rename(marks + ".new", marks)
-    with open(marks) as file:
-        names = dict(line.split() for line in file)
-    order = sorted(range(lookup.COMMITS), key=lambda place: lookup.digest("order", place))
-    return [names[":%d" % (place + 1)] for place in order[: 2 * FIRST_PAIRS]]
-
-
-def commit_of(place):
-    """The lines from which `git fast-import` makes a commit."""
-    time_of_commit = 1_000_000_000 + 60 * place
-    lines = ["commit refs/heads/main", "mark :%d" % (place + 1)]
-    lines += ["committer a <a> %d +0000" % time_of_commit, "data 0"]
-    for number, parent in enumerate(lookup.parents(place)):
-        lines.append("%s :%d" % ("merge" if number else "from", parent + 1))
-    return "\n".join(lines + ["", ""]).encode()
+    with open(paths[1], "wb") as target:
+        target.write(b"".join(lookup.digest("commit", place) for place in chance.choices(newest, k=2 * PAIRS)))
+    return paths
 
 
 def baseline_program(folder, sources=SOURCES):

@@ -18,7 +18,6 @@ the repository's crates. The baseline is bench/bases/baseline.rs, by `rustc -O` 
 """
 
 import os
-import random
 import subprocess
 import sys
 import tempfile
@@ -26,16 +25,9 @@ import time
 
 import ancestor
 import lookup
-
-sys.path.insert(0, os.path.join(lookup.TOP, "scripts", "real_data"))
-
-from histories import repository, shapes
+from topics import PAIRS, Made
 
 SOURCES = os.path.join(lookup.TOP, "bench", "bases")
-COMMITS = 1_000_000
-LAYERS = 10
-PAIRS = 1000
-NEWEST = 2000
 FIRST_PAIRS = 50
 """So many pairs of each kind are asked of Git."""
 ROUNDS = 3
@@ -55,62 +47,6 @@ def main(folder=None):
         agreed = [report(programs, name, made.pairs, paths) for name, paths in graphs.items()]
         agreed += [report_git(made, kind, programs[1]) for kind in ("any", "newest")]
         return 0 if all(agreed) else 1
-
-
-class Made:
-    """The repository of the commits, its commit-graphs, and the pairs that are asked for."""
-
-    def __init__(self, folder):
-        self.folder = os.path.join(folder, "topics.git")
-        self.pairs = [os.path.join(folder, kind) for kind in ("any", "newest", "same")]
-        ids_path = os.path.join(folder, "ids")
-        if not os.path.exists(ids_path):
-            self.write(ids_path)
-        with open(ids_path) as file:
-            self.ids = file.read().split()
-        chance, newest = random.Random(9), self.ids[-NEWEST:]
-        same = [commit for commit in chance.sample(self.ids, PAIRS) for _ in range(2)]
-        asked = (chance.choices(self.ids, k=2 * PAIRS), chance.choices(newest, k=2 * PAIRS), same)
-        for path, ids in zip(self.pairs, asked):
-            with open(path, "wb") as file:
-                file.write(bytes.fromhex("".join(ids)))
-
-    def write(self, ids_path):
-        """Makes the repository, with the layer and with the chain."""
-        made, history = repository.Repository(self.folder, "sha1"), shapes.topics(COMMITS, seed=9, disorder=0.01, roots=0)
-        marks = os.path.join(self.folder, "marks")
-        load = ["git", "-C", self.folder, "fast-import", "--quiet", "--export-marks=" + marks]
-        with subprocess.Popen(load, stdin=subprocess.PIPE) as run:
-            for place, commit in enumerate(history):
-                run.stdin.write(commit_command(place, commit))
-            run.stdin.close()
-        with open(marks) as file:
-            names = dict(line.split() for line in file)
-        ids = [names[":%d" % (place + 1)] for place in range(COMMITS)]
-        for layer in range(1, LAYERS + 1):
-            made.write_graph("--split=no-merge", tips=ids[: layer * COMMITS // LAYERS])
-        os.rename(made.chain_path(), self.folder + ".chain")
-        made.write_graph(tips=ids)
-        with open(ids_path, "w") as file:
-            file.write("\n".join(ids))
-
-    def layer(self):
-        """The path of the single file."""
-        return [os.path.join(self.folder, "objects", "info", "commit-graph")]
-
-    def chain(self):
-        """The paths of the chain's files, the lowest first."""
-        with open(os.path.join(self.folder + ".chain", "commit-graph-chain")) as file:
-            return [os.path.join(self.folder + ".chain", "graph-%s.graph" % name) for name in file.read().split()]
-
-
-def commit_command(place, commit):
-    """The lines from which `git fast-import` makes a commit of no files."""
-    lines = [] if commit.parents else ["reset refs/heads/work", ""]
-    lines += ["commit refs/heads/work", "mark :%d" % (place + 1), "committer a <a> %d +0000" % commit.time, "data 0"]
-    for number, parent in enumerate(commit.parents):
-        lines.append("%s :%d" % ("merge" if number else "from", parent + 1))
-    return "\n".join(lines + ["", ""]).encode()
 
 
 def report(programs, name, pairs, layers):
