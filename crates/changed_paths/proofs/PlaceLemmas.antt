@@ -8,7 +8,7 @@ use Rattle.first_faults.specs.First.{first_below}
 use Rattle.first_faults.proofs.FirstLemmas.{first_below-none, first_below-none_more, first_below-found, first_below-none_at}
 use Rattle.first_faults.proofs.FirstLemmas.{option_or-none_left, option_or-none_right, option_or-none, then_some-none}
 use Rattle.first_faults.proofs.FirstLemmas.{then_some-false}
-use Rattle.changed_paths.specs.Filters.{start_of, end_of, place, place_fault, places_refusal}
+use Rattle.changed_paths.specs.Filters.{start_of, end_of, filter_position, place_fault, places_refusal}
 use Rattle.changed_paths.specs.declared.filters.LayerFiltersError.TheVariants.{Falls, PastEnd}
 
 pub not_less : (m n : ℕ) → nat_lt m n ≡ false → n ≤ m
@@ -22,22 +22,24 @@ pub place-none : (index : List ℕ) (room : ℕ) → first_below (place_fault in
 place-none index room = first_below-none (place_fault index room)
 
 pub place-falls : (index : List ℕ) (room p commits : ℕ) → first_below (place_fault index room) p ≡ None
-    → end_of index p < start_of index p → p < commits → places_refusal commits index room ≡ Some (Falls (place p))
+    → end_of index p < start_of index p → p < commits → places_refusal commits index room ≡ Some (Falls (filter_position p))
 unfolding places_refusal
 place-falls index room p commits none falls below =
     first_below-found (place_fault index room) p commits _ none
-    (ap (λ (b : Bool). option_or (then_some b (Falls (place p))) (then_some (nat_lt room (end_of index p)) (PastEnd (place p))))
+    (ap (λ (b : Bool). option_or (then_some b (Falls (filter_position p)))
+    (then_some (nat_lt room (end_of index p)) (PastEnd (filter_position p))))
     (lt-ltb _ _ falls)) below
 
 pub place-past : (index : List ℕ) (room p commits : ℕ) → first_below (place_fault index room) p ≡ None
     → start_of index p ≤ end_of index p → room < end_of index p → p < commits
-    → places_refusal commits index room ≡ Some (PastEnd (place p))
+    → places_refusal commits index room ≡ Some (PastEnd (filter_position p))
 unfolding places_refusal
 place-past index room p commits none order past below =
     first_below-found (place_fault index room) p commits _ none
-    (ap (λ (b : Bool). option_or (then_some b (Falls (place p))) (then_some (nat_lt room (end_of index p)) (PastEnd (place p))))
+    (ap (λ (b : Bool). option_or (then_some b (Falls (filter_position p)))
+    (then_some (nat_lt room (end_of index p)) (PastEnd (filter_position p))))
     (le-ltb _ _ order)
-    ∙ ap (λ (b : Bool). then_some b (PastEnd (place p))) (lt-ltb _ _ past)) below
+    ∙ ap (λ (b : Bool). then_some b (PastEnd (filter_position p))) (lt-ltb _ _ past)) below
 
 pub place-fits : (index : List ℕ) (room p : ℕ) → first_below (place_fault index room) p ≡ None
     → start_of index p ≤ end_of index p → end_of index p ≤ room → first_below (place_fault index room) (p + 1) ≡ None

@@ -45,14 +45,14 @@ unfoldable pub filters_of : List ℕ → List ℕ → List (List ℕ)
 filters_of index body = map (filter_of index body) (range_with_len 0 (length index / 4))
 
 -- the position in the layer
-abbrev pub place : ℕ → Position
-place p = record { 0 = p }
+abbrev pub filter_position : ℕ → Position
+filter_position p = record { 0 = p }
 
 -- why the filter of commit p is refused
 abbrev pub place_fault : List ℕ → ℕ → ℕ → Option LayerFiltersError
 place_fault index room p =
-    Falls (place p) when nat_lt (end_of index p) (start_of index p)
-    otherwise PastEnd (place p) when nat_lt room (end_of index p)
+    Falls (filter_position p) when nat_lt (end_of index p) (start_of index p)
+    otherwise PastEnd (filter_position p) when nat_lt room (end_of index p)
 
 unfoldable pub places_refusal : ℕ → List ℕ → ℕ → Option LayerFiltersError
 places_refusal commits index room = first_below (place_fault index room) commits

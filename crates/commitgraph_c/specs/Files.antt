@@ -8,7 +8,7 @@ use Rattle.graph_format.specs.declared.error.FileError.TheVariants as file
 use Rattle.graph_format.specs.declared.error.GraphError.{GraphError}
 use Rattle.graph_format.specs.declared.error.GraphError.TheVariants as graph
 use Rattle.gix_commitgraph.specs.GraphRefusal.{graph_refusal}
-use Rattle.commitgraph_c.specs.Numbers.{chunk_fault}
+use Rattle.commitgraph_c.specs.FaultNumbers.{chunk_fault}
 use Rattle.graph_format.specs.ErrorNumbers.{file_number, graph_number}
 use Rattle.commitgraph_c.specs.declared.open.CgError.{CgError}
 use Rattle.commitgraph_c.specs.declared.open.CgFile.{CgFile}

@@ -2,6 +2,6 @@ pub mod Answers
 pub mod Blocks
 pub mod Files
 pub mod Held
-pub mod Numbers
+pub mod FaultNumbers
 pub mod State
 pub mod Verdict

@@ -19,7 +19,7 @@ use Rattle.graph_history.specs.Checked.{MayRefuseWith}
 use Rattle.graph_history.specs.declared.checked.NoFault.{NoFault}
 use Rattle.commitgraph_c.specs.Answers.{written}
 use Rattle.commitgraph_c.specs.Files.{IsOpenedFrom}
-use Rattle.commitgraph_c.specs.Numbers.{fan_byte, whole_number}
+use Rattle.commitgraph_c.specs.FaultNumbers.{fan_byte, whole_number}
 use Rattle.graph_format.specs.ErrorNumbers.{commit_number, parent_number}
 use Rattle.commitgraph_c.specs.declared.check.CgCount.{CgCount}
 use Rattle.commitgraph_c.specs.declared.check.CgVerdict.{CgVerdict}

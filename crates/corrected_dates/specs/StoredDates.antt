@@ -25,14 +25,14 @@ unfoldable pub stored_dates : List ℕ → List ℕ → List ℕ → List ℕ
 stored_dates offsets overflow times = map (date_of offsets overflow times) (range_with_len 0 (length times))
 
 -- the position in the layer
-abbrev pub place : ℕ → Position
-place p = record { 0 = p }
+abbrev pub date_position : ℕ → Position
+date_position p = record { 0 = p }
 
 -- why commit p has no date
 abbrev pub date_fault : List ℕ → List ℕ → List ℕ → ℕ → Option LayerDatesError
 date_fault offsets overflow times p =
-    OverflowIndex (place p) when is_none (offset_of offsets overflow p)
-    otherwise TooLarge (place p) when not (nat_lt (date_of offsets overflow times p) (2 ^ 63))
+    OverflowIndex (date_position p) when is_none (offset_of offsets overflow p)
+    otherwise TooLarge (date_position p) when not (nat_lt (date_of offsets overflow times p) (2 ^ 63))
 
 -- the first condition that refuses the chunks of a layer whose commits have these times
 unfoldable pub dates_refusal : List ℕ → List ℕ → List ℕ → Option LayerDatesError

@@ -10,7 +10,7 @@ pub use Rattle.graph_format.specs.Refusal
 pub use Rattle.graph_format.specs.Opened
 pub use Rattle.graph_layer.specs.Commit
 pub use Rattle.graph_format.specs.Parents
-pub use Rattle.graph_format.specs.Law
+pub use Rattle.graph_format.specs.FormatLaws
 pub use Rattle.graph_format.specs.EdgeLaw
 pub use Rattle.graph_layer.specs.RemainingParents
 pub use Rattle.graph_layer.specs.Remaining

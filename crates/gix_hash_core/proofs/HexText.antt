@@ -10,7 +10,7 @@ use Rattle.hex.specs.Hex.{encode_lower, lower_digits}
 use Rattle.hex.proofs.HexLemmas.{IsAscii-encode_with, decode_of-encode_lower, length-encode_with}
 use Rattle.gix_hash_core.specs.Hexadecimal.{IsHexLen}
 use Rattle.gix_hash_core.specs.Kind.{is_id_len}
-use Rattle.gix_hash_core.specs.Law.{IsReadBack}
+use Rattle.gix_hash_core.specs.IdLaws.{IsReadBack}
 
 IsAscii-lower_digits : IsAscii lower_digits
 IsAscii-lower_digits =

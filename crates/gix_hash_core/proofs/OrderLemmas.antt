@@ -6,7 +6,7 @@ use Rattle.std.proofs.lemmas.Cmp.{by_ranked, nat_list_cmp_total, ranked, tied_it
 use Rattle.std.specs.Cmp.Lexicographic.{bytes_decides, slice_cmp}
 use Rattle.std.specs.Ordering.{nat_cmp, ordering_reverse}
 use Rattle.std.specs.declared.cmp.Ordering.TheVariants.{Less, Equal, Greater}
-use Rattle.gix_hash_core.specs.Law.{AreOrdered, IsBefore}
+use Rattle.gix_hash_core.specs.IdLaws.{AreOrdered, IsBefore}
 
 -- a list with something in it comes after the empty one
 IsBefore-nil : (y : ℕ) (ys : List ℕ) → IsBefore [] (y ∷ ys)

@@ -3,4 +3,4 @@ pub mod Oid
 pub mod Digest
 pub mod Inner
 pub mod Hexadecimal
-pub mod Law
+pub mod IdLaws

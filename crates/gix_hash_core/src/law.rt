@@ -6,7 +6,7 @@
 ghost use Rattle.std.specs.Prelude.{◌≡◌, ℕ, List, length};
 ghost use Rattle.gix_hash_core.specs.Digest.{digest_of};
 ghost use Rattle.gix_hash_core.specs.Kind.{id_len};
-ghost use Rattle.gix_hash_core.specs.Law.{AreOfOneKind, AreOrdered, IsReadBack};
+ghost use Rattle.gix_hash_core.specs.IdLaws.{AreOfOneKind, AreOrdered, IsReadBack};
 ghost use Rattle.gix_hash_core.specs.declared.kind.Kind.{Kind};
 
 /// Ids compare as their lists of bytes do: two are equal exactly where the lists are the same, and

@@ -18,8 +18,8 @@ use Rattle.gix_commitgraph.proofs.history.GraphHistoryLemmas.{parents-at, length
 use Rattle.gix_commitgraph.proofs.layers.LayerListLemmas.{graph_commits-counted, start-all, start-more, start-fits}
 use Rattle.graph_layer.specs.Commit.{commit_layer, commit_pos, commit_record, commit_parents}
 use Rattle.graph_layer.specs.declared.file.commit.Commit.{Commit}
-use Rattle.graph_chunks.specs.StoredDates.{times_of, dates_of}
-use Rattle.graph_chunks.specs.Dates.{reading_fault, date_fault, graph_dates_refusal}
+use Rattle.graph_chunks.specs.GraphStoredDates.{times_of, dates_of}
+use Rattle.graph_chunks.specs.GraphDates.{reading_fault, wrong_date, graph_dates_refusal}
 use Rattle.graph_chunks.specs.declared.dates.DatesError.{DatesError}
 use Rattle.graph_chunks.specs.Latest.{latest_of}
 use Rattle.graph_chunks.specs.declared.dates.DatesError.TheVariants.{Date}
@@ -45,28 +45,28 @@ expected-at layers dates p j latest layer opened here is =
     omega (arith, time, parents, is)
 
 pub date-fine : (layers : List Layer) (dates : List ℕ) (p : ℕ)
-    → first_below (date_fault (history_of layers) (times_of layers) dates) p ≡ None
+    → first_below (wrong_date (history_of layers) (times_of layers) dates) p ≡ None
     → number_at dates p ≡ expected_date (history_of layers) (times_of layers) dates p
-    → first_below (date_fault (history_of layers) (times_of layers) dates) (p + 1) ≡ None
+    → first_below (wrong_date (history_of layers) (times_of layers) dates) (p + 1) ≡ None
 date-fine layers dates p none same =
-    first_below-none_more (date_fault (history_of layers) (times_of layers) dates) p none
+    first_below-none_more (wrong_date (history_of layers) (times_of layers) dates) p none
     (then_some-false _ _ (ap not (eq-eqb _ _ same)))
 
 pub date-found : (layers : List Layer) (dates : List ℕ) (p expected : ℕ)
-    → first_below (date_fault (history_of layers) (times_of layers) dates) p ≡ None
+    → first_below (wrong_date (history_of layers) (times_of layers) dates) p ≡ None
     → expected ≡ expected_date (history_of layers) (times_of layers) dates p → (number_at dates p ≡ expected → ⊥)
     → p < total layers
-    → first_below (date_fault (history_of layers) (times_of layers) dates) (total layers) ≡ Some (Date (position_of p) expected)
+    → first_below (wrong_date (history_of layers) (times_of layers) dates) (total layers) ≡ Some (Date (position_of p) expected)
 date-found layers dates p expected none is apart below =
     let other : number_at dates p ≡ expected_date (history_of layers) (times_of layers) dates p → ⊥ =
     λ same. apart (same ∙ sym is) in
-    first_below-found (date_fault (history_of layers) (times_of layers) dates) p (total layers) _ none
+    first_below-found (wrong_date (history_of layers) (times_of layers) dates) p (total layers) _ none
     (ap (λ (b : Bool). then_some (not b) (Date (position_of p) (expected_date (history_of layers) (times_of layers) dates p)))
     (ne_eqb _ _ other)
     ∙ ap (λ (n : ℕ). Some (Date (position_of p) n)) (sym is)) below
 
 pub dates-right : (layers : List Layer) (dates : List ℕ) → All IsOpened layers → length dates ≡ total layers
-    → first_below (date_fault (history_of layers) (times_of layers) dates) (total layers) ≡ None
+    → first_below (wrong_date (history_of layers) (times_of layers) dates) (total layers) ≡ None
     → AreRight (history_of layers) (times_of layers) dates
 dates-right layers dates opened many none =
     let counted = length-history layers opened in
@@ -74,7 +74,7 @@ dates-right layers dates opened many none =
       as_many = omega arith;
       expected = λ p within.
           let here =
-          first_below-none_at (date_fault (history_of layers) (times_of layers) dates) p (total layers) none (omega arith) in
+          first_below-none_at (wrong_date (history_of layers) (times_of layers) dates) p (total layers) none (omega arith) in
           eqb-true _ _ (not_false _ (then_some-none _ _ here));
     } where
       not_false : (b : Bool) → not b ≡ false → b ≡ true
@@ -99,10 +99,10 @@ is_place layers files i before place layer same within counted is inside =
 
 -- no fault in all layers is none in the graph
 pub none_found : (layers : List Layer) (dates : List ℕ) (n : ℕ) → n ≡ length layers
-    → first_below (date_fault (history_of layers) (times_of layers) dates) (start layers n) ≡ None
-    → first_below (date_fault (history_of layers) (times_of layers) dates) (total layers) ≡ None
+    → first_below (wrong_date (history_of layers) (times_of layers) dates) (start layers n) ≡ None
+    → first_below (wrong_date (history_of layers) (times_of layers) dates) (total layers) ≡ None
 none_found layers dates n all =
-    subst (λ (end : ℕ). first_below (date_fault (history_of layers) (times_of layers) dates) end ≡ None)
+    subst (λ (end : ℕ). first_below (wrong_date (history_of layers) (times_of layers) dates) end ≡ None)
     (start-all layers n (omega (arith, all)))
 
 -- the end of a layer is the start of the next one
@@ -131,26 +131,26 @@ pub refusal-reading : (layers : List Layer) (error : DatesError)
     → first_below (reading_fault layers) (length layers) ≡ Some error → graph_dates_refusal layers ≡ Some error
 unfolding graph_dates_refusal
 refusal-reading layers error found =
-    ap (λ o. option_or o (first_below (date_fault (history_of layers) (times_of layers) (dates_of layers)) (total layers))) found
+    ap (λ o. option_or o (first_below (wrong_date (history_of layers) (times_of layers) (dates_of layers)) (total layers))) found
 
 pub refusal-date : (layers : List Layer) (dates : List ℕ) (error : DatesError) → dates ≡ dates_of layers
     → first_below (reading_fault layers) (length layers) ≡ None
-    → first_below (date_fault (history_of layers) (times_of layers) dates) (total layers) ≡ Some error
+    → first_below (wrong_date (history_of layers) (times_of layers) dates) (total layers) ≡ Some error
     → graph_dates_refusal layers ≡ Some error
 unfolding graph_dates_refusal
 refusal-date layers dates error same read found =
-    ap (λ o. option_or o (first_below (date_fault (history_of layers) (times_of layers) (dates_of layers)) (total layers))) read
-    ∙ ap (λ (ds : List ℕ). first_below (date_fault (history_of layers) (times_of layers) ds) (total layers)) (sym same)
+    ap (λ o. option_or o (first_below (wrong_date (history_of layers) (times_of layers) (dates_of layers)) (total layers))) read
+    ∙ ap (λ (ds : List ℕ). first_below (wrong_date (history_of layers) (times_of layers) ds) (total layers)) (sym same)
     ∙ found
 
 pub refusal-none : (layers : List Layer) (dates : List ℕ) → dates ≡ dates_of layers
     → first_below (reading_fault layers) (length layers) ≡ None
-    → first_below (date_fault (history_of layers) (times_of layers) dates) (total layers) ≡ None
+    → first_below (wrong_date (history_of layers) (times_of layers) dates) (total layers) ≡ None
     → graph_dates_refusal layers ≡ None
 unfolding graph_dates_refusal
 refusal-none layers dates same read none =
-    ap (λ o. option_or o (first_below (date_fault (history_of layers) (times_of layers) (dates_of layers)) (total layers))) read
-    ∙ ap (λ (ds : List ℕ). first_below (date_fault (history_of layers) (times_of layers) ds) (total layers)) (sym same)
+    ap (λ o. option_or o (first_below (wrong_date (history_of layers) (times_of layers) (dates_of layers)) (total layers))) read
+    ∙ ap (λ (ds : List ℕ). first_below (wrong_date (history_of layers) (times_of layers) ds) (total layers)) (sym same)
     ∙ none
 
 pub ruleset refusal_laws = (refusal-reading, refusal-date, refusal-none)

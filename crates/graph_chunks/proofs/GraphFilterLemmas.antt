@@ -11,8 +11,8 @@ use Rattle.std.proofs.lemmas.List.Sums.{count_by_more_yes, count_by_more_no}
 use Rattle.std.proofs.lemmas.Option.{slice_get-map, slice_get_read, slice_get_within, same_Some, get_or_from_slice_get}
 use Rattle.first_faults.specs.First.{◌when◌, ◌otherwise◌, first_below}
 use Rattle.first_faults.proofs.FirstLemmas.{first_below-found}
-use Rattle.changed_paths.specs.Filters.{Filters, version_of, start_of, end_of, filters_of, filter_bytes, place, place_fault}
-use Rattle.changed_paths.specs.Filters.{places_refusal, filters_refusal}
+use Rattle.changed_paths.specs.Filters.{Filters, version_of, start_of, end_of, filters_of, filter_bytes}
+use Rattle.changed_paths.specs.Filters.{filter_position, place_fault, places_refusal, filters_refusal}
 use Rattle.changed_paths.specs.declared.filters.HashVersion.{HashVersion}
 use Rattle.changed_paths.specs.declared.filters.HashVersion.TheVariants.{One, Two}
 use Rattle.changed_paths.specs.declared.filters.LayerFiltersError.{LayerFiltersError}
@@ -25,11 +25,11 @@ use Rattle.gix_commitgraph.specs.Graph.{graph_commits, start, stop, total}
 use Rattle.gix_commitgraph.proofs.layers.LayerListLemmas.{get-front, graph_commits-at, start-more}
 use Rattle.gix_commitgraph.proofs.layers.PositionLemmas.{length-graph_commits}
 use Rattle.graph_chunks.specs.StoredFilters.{index_in, data_in, both_refused, layer_filters_refusal}
-use Rattle.graph_chunks.specs.Filters.{FiltersOfGraph, is_computed, settings_with, settings_in, settings_of, filter_with}
-use Rattle.graph_chunks.specs.Filters.{filter_in}
-use Rattle.graph_chunks.specs.Filters.{graph_filters, same_version, differ, fault_in, filters_fault, filters_in_graph}
-use Rattle.graph_chunks.specs.Filters.{graph_filters_refusal}
-use Rattle.graph_chunks.specs.KeptFilters.{NamesOneOf, settings_by, AreFiltersOf, IsKept, AreKept, IsAt}
+use Rattle.graph_chunks.specs.GraphFilters.{FiltersOfGraph, is_computed, settings_with, settings_in, settings_of, filter_with}
+use Rattle.graph_chunks.specs.GraphFilters.{filter_in}
+use Rattle.graph_chunks.specs.GraphFilters.{graph_filters, same_version, differ, fault_in, filters_fault, filters_in_graph}
+use Rattle.graph_chunks.specs.GraphFilters.{graph_filters_refusal}
+use Rattle.graph_chunks.specs.KeptFilters.{NamesFilterOf, settings_by, AreFiltersOf, IsKept, AreKept, IsFilterAt}
 use Rattle.graph_chunks.specs.declared.filters.FilterSettings.{FilterSettings}
 use Rattle.graph_chunks.specs.declared.filters.FiltersError.{FiltersError}
 use Rattle.graph_chunks.specs.declared.filters.FiltersError.TheVariants.{Settings}
@@ -37,34 +37,34 @@ use Rattle.graph_chunks.specs.declared.filters.LayerFilters.{LayerFilters}
 
 -- an error names a commit of the layer
 
-names-or : (n : ℕ) (a b : Option LayerFiltersError) → IfSome a (NamesOneOf n) → IfSome b (NamesOneOf n)
-    → IfSome (option_or a b) (NamesOneOf n)
+names-or : (n : ℕ) (a b : Option LayerFiltersError) → IfSome a (NamesFilterOf n) → IfSome b (NamesFilterOf n)
+    → IfSome (option_or a b) (NamesFilterOf n)
 names-or n None b one two = two
 names-or n (Some error) b one two = one
 
-names-when : (n : ℕ) (b : Bool) (error : LayerFiltersError) → NamesOneOf n error → IfSome (then_some b error) (NamesOneOf n)
+names-when : (n : ℕ) (b : Bool) (error : LayerFiltersError) → NamesFilterOf n error → IfSome (then_some b error) (NamesFilterOf n)
 names-when n true error names = names
 names-when n false error names = tt
 
-names-below : (n : ℕ) (f : ℕ → Option LayerFiltersError) (m : ℕ) → ((i : ℕ) → i < m → IfSome (f i) (NamesOneOf n))
-    → IfSome (first_below f m) (NamesOneOf n)
+names-below : (n : ℕ) (f : ℕ → Option LayerFiltersError) (m : ℕ) → ((i : ℕ) → i < m → IfSome (f i) (NamesFilterOf n))
+    → IfSome (first_below f m) (NamesFilterOf n)
 unfolding first_below
 names-below n f zero each = tt
 names-below n f (suc m) each =
     names-or n (first_below f m) (f m) (names-below n f m (λ i lt. each i (omega (arith, lt)))) (each m (omega arith))
 
-names-place : (index : List ℕ) (room n p : ℕ) → p < n → IfSome (place_fault index room p) (NamesOneOf n)
+names-place : (index : List ℕ) (room n p : ℕ) → p < n → IfSome (place_fault index room p) (NamesFilterOf n)
 names-place index room n p lt =
-    names-or n (then_some (nat_lt (end_of index p) (start_of index p)) (Falls (place p)))
-    (then_some (nat_lt room (end_of index p)) (PastEnd (place p)))
-    (names-when n (nat_lt (end_of index p) (start_of index p)) (Falls (place p)) lt)
-    (names-when n (nat_lt room (end_of index p)) (PastEnd (place p)) lt)
+    names-or n (then_some (nat_lt (end_of index p) (start_of index p)) (Falls (filter_position p)))
+    (then_some (nat_lt room (end_of index p)) (PastEnd (filter_position p)))
+    (names-when n (nat_lt (end_of index p) (start_of index p)) (Falls (filter_position p)) lt)
+    (names-when n (nat_lt room (end_of index p)) (PastEnd (filter_position p)) lt)
 
 -- of seven faults each but the sixth names no commit
 names-first : (n : ℕ) (errors : ℕ → LayerFiltersError) (a b c d e g : Bool) (places : Option LayerFiltersError)
-    → ((i : ℕ) → NamesOneOf n (errors i)) → IfSome places (NamesOneOf n)
+    → ((i : ℕ) → NamesFilterOf n (errors i)) → IfSome places (NamesFilterOf n)
     → IfSome (errors 0 when a otherwise errors 1 when b otherwise errors 2 when c otherwise errors 3 when d otherwise errors 4
-    when e otherwise places otherwise errors 5 when g) (NamesOneOf n)
+    when e otherwise places otherwise errors 5 when g) (NamesFilterOf n)
 names-first n errors true b c d e g places each found = each 0
 names-first n errors false true c d e g places each found = each 1
 names-first n errors false false true d e g places each found = each 2
@@ -74,7 +74,7 @@ names-first n errors false false false false false g (Some error) each found = f
 names-first n errors false false false false false true None each found = each 5
 names-first n errors false false false false false false None each found = tt
 
-names-refusal : (n : ℕ) (index body : List ℕ) → IfSome (filters_refusal n index body) (NamesOneOf n)
+names-refusal : (n : ℕ) (index body : List ℕ) → IfSome (filters_refusal n index body) (NamesFilterOf n)
 unfolding filters_refusal places_refusal
 names-refusal n index body =
     names-first n errors (not (length index == 4 * n)) (nat_lt (length body) 12) (is_none (version_of (word_in body 0)))
@@ -90,7 +90,7 @@ names-refusal n index body =
     errors (suc (suc (suc (suc zero)))) = NoBits
     errors (suc (suc (suc (suc (suc i))))) = LeftOver
 
-    none : (i : ℕ) → NamesOneOf n (errors i)
+    none : (i : ℕ) → NamesFilterOf n (errors i)
     none zero = tt
     none (suc zero) = tt
     none (suc (suc zero)) = tt
@@ -99,14 +99,14 @@ names-refusal n index body =
     none (suc (suc (suc (suc (suc i))))) = tt
 
 names-both : (n : ℕ) (index body : Option (List ℕ)) (error : LayerFiltersError) → both_refused n index body ≡ Some error
-    → NamesOneOf n error
+    → NamesFilterOf n error
 names-both n (Some index) (Some body) error is =
-    subst (λ (o : Option LayerFiltersError). IfSome o (NamesOneOf n)) is (names-refusal n index body)
+    subst (λ (o : Option LayerFiltersError). IfSome o (NamesFilterOf n)) is (names-refusal n index body)
 names-both n (Some index) None error is = absurd (cc)
 names-both n None body error is = absurd (cc)
 
 pub names-layer : (layer : Layer) (error : LayerFiltersError) → layer_filters_refusal layer ≡ Some error
-    → NamesOneOf (length layer.ids) error
+    → NamesFilterOf (length layer.ids) error
 unfolding layer_filters_refusal
 names-layer layer error is = names-both (length layer.ids) (index_in layer) (data_in layer) error is
 
@@ -373,7 +373,7 @@ there (x ∷ xs) (suc i) lt = there xs i (omega (arith, lt))
 is_at_filters : (layers : List Layer) (all : FiltersOfGraph) (settings : Option FilterSettings) (i p j : ℕ) (layer : Layer)
     (filters : Option Filters) → record { settings = settings; filters = graph_filters layers } ≡ all
     → slice_get layers i ≡ Some layer → p ≡ start layers i + j → j < length layer.ids → AreFiltersOf settings layer filters
-    → IsAt all p filters j
+    → IsFilterAt all p filters j
 is_at_filters layers all settings i p j layer None view here at within are =
     ap (λ (a : FiltersOfGraph). slice_get a.filters p) (sym view)
     ∙ ap (slice_get (graph_filters layers)) at
@@ -390,7 +390,7 @@ is_at_filters layers all settings i p j layer (Some filters) view here at within
 
 pub record IsFound (all : FiltersOfGraph) (p : ℕ) (part : LayerFilters) : Type 0 where
   pub after : part.before ≤ p
-  pub at : IsAt all p part.filters (p - part.before)
+  pub at : IsFilterAt all p part.filters (p - part.before)
 
 pub is_found : (layers : List Layer) (all : FiltersOfGraph) (settings : Option FilterSettings) (kept : List LayerFilters)
     (i p : ℕ) (part : LayerFilters) → record { settings = settings; filters = graph_filters layers } ≡ all

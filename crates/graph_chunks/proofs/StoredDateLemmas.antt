@@ -18,8 +18,8 @@ use Rattle.graph_walks.specs.Dates.{number_at}
 use Rattle.gix_commitgraph.specs.Graph.{IsGraph, start, total}
 use Rattle.gix_commitgraph.proofs.layers.LayerListLemmas.{counted-fits, start-more, start-none}
 use Rattle.graph_format.proofs.LayerHistoryLemmas.{opened_is_paired}
-use Rattle.graph_chunks.specs.StoredDates.{offsets_in, overflow_in, times_in, dates_in, dates_of, layer_refusal}
-use Rattle.graph_chunks.specs.Dates.{in_graph, reading_fault}
+use Rattle.graph_chunks.specs.GraphStoredDates.{offsets_in, overflow_in, times_in, dates_in, dates_of, layer_refusal}
+use Rattle.graph_chunks.specs.GraphDates.{in_graph, reading_fault}
 
 -- the dates of the layers below layer i
 abbrev pub dates_below : List Layer → ℕ → List ℕ

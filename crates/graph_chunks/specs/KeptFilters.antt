@@ -5,15 +5,15 @@ use Rattle.changed_paths.specs.declared.filters.LayerFiltersError.{LayerFiltersE
 use Rattle.changed_paths.specs.declared.filters.LayerFiltersError.TheVariants.{Falls, PastEnd}
 use Rattle.graph_format.specs.Layer.{Layer}
 use Rattle.gix_commitgraph.specs.Graph.{start}
-use Rattle.graph_chunks.specs.Filters.{FiltersOfGraph, filter_in}
+use Rattle.graph_chunks.specs.GraphFilters.{FiltersOfGraph, filter_in}
 use Rattle.graph_chunks.specs.declared.filters.FilterSettings.{FilterSettings}
 use Rattle.graph_chunks.specs.declared.filters.LayerFilters.{LayerFilters}
 
 -- the commit that the error names, if it names one, is one of so many
-abbrev pub NamesOneOf : ℕ → LayerFiltersError → Type 0
-NamesOneOf commits (Falls pos) = pos.0 < commits
-NamesOneOf commits (PastEnd pos) = pos.0 < commits
-NamesOneOf commits _ = ⊤
+abbrev pub NamesFilterOf : ℕ → LayerFiltersError → Type 0
+NamesFilterOf commits (Falls pos) = pos.0 < commits
+NamesFilterOf commits (PastEnd pos) = pos.0 < commits
+NamesFilterOf commits _ = ⊤
 
 -- the settings of filters
 abbrev pub settings_by : Filters → FilterSettings
@@ -38,8 +38,8 @@ pub record AreKept (layers : List Layer) (settings : Option FilterSettings) (n :
       → (part : LayerFilters) × (slice_get kept i ≡ Some part) × IsKept settings (start layers i) layer part
 
 -- commit p of the graph is the one at a place of a layer with these filters
-abbrev pub IsAt : FiltersOfGraph → ℕ → Option Filters → ℕ → Type 0
-IsAt all p None place = slice_get all.filters p ≡ Some []
-IsAt all p (Some filters) place =
+abbrev pub IsFilterAt : FiltersOfGraph → ℕ → Option Filters → ℕ → Type 0
+IsFilterAt all p None place = slice_get all.filters p ≡ Some []
+IsFilterAt all p (Some filters) place =
     (place < length filters.filters) × (slice_get all.filters p ≡ slice_get filters.filters place)
     × (all.settings ≡ Some (settings_by filters))

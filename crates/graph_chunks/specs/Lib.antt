@@ -1,6 +1,6 @@
-pub mod StoredDates
-pub mod Dates
+pub mod GraphStoredDates
+pub mod GraphDates
 pub mod Latest
 pub mod StoredFilters
-pub mod Filters
+pub mod GraphFilters
 pub mod KeptFilters

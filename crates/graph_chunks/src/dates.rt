@@ -5,8 +5,8 @@ ghost use Rattle.std.specs.Prelude.{IfOk, IfErr, IfSome, IfNone};
 ghost use Rattle.graph_walks.specs.Dates.{number_at, AreRight};
 ghost use Rattle.graph_format.specs.StoredHistory.{history_of};
 ghost use Rattle.gix_commitgraph.specs.Graph.{total};
-ghost use Rattle.graph_chunks.specs.StoredDates.{HasDates, times_of, dates_of};
-ghost use Rattle.graph_chunks.specs.Dates.{graph_dates_refusal};
+ghost use Rattle.graph_chunks.specs.GraphStoredDates.{HasDates, times_of, dates_of};
+ghost use Rattle.graph_chunks.specs.GraphDates.{graph_dates_refusal};
 ghost use Rattle.graph_chunks.specs.declared.dates.DatesError.TheVariants.{OutOfMemory};
 
 mod check;

@@ -9,10 +9,10 @@ ghost use Rattle.graph_format.specs.Reports.{Reports};
 ghost use Rattle.graph_format.specs.Numbers.{word_in};
 ghost use Rattle.gix_commitgraph.specs.Graph.{total};
 ghost use Rattle.graph_chunks.specs.StoredFilters.{index_in, data_in, layer_filters_refusal};
-ghost use Rattle.graph_chunks.specs.Filters.{settings_in, settings_of, graph_filters, is_computed};
-ghost use Rattle.graph_chunks.specs.Filters.{filters_in_graph, differ, fault_in};
-ghost use Rattle.graph_chunks.specs.Filters.{graph_filters_refusal, IsPossibleBy, IsAbsentBy};
-ghost use Rattle.graph_chunks.specs.KeptFilters.{NamesOneOf, settings_by, IsKept, IsAt};
+ghost use Rattle.graph_chunks.specs.GraphFilters.{settings_in, settings_of, graph_filters};
+ghost use Rattle.graph_chunks.specs.GraphFilters.{is_computed, filters_in_graph, differ, fault_in};
+ghost use Rattle.graph_chunks.specs.GraphFilters.{graph_filters_refusal, IsPossibleBy, IsAbsentBy};
+ghost use Rattle.graph_chunks.specs.KeptFilters.{NamesFilterOf, settings_by, IsKept, IsFilterAt};
 ghost use Rattle.graph_chunks.specs.declared.filters.FiltersError.TheVariants.{OutOfMemory};
 
 use changed_paths::filters::{Answer, HashVersion, LayerFiltersError, PathFilters};
@@ -130,7 +130,7 @@ pub struct GraphFilters<'g> {
 
 impl<'g> Model for GraphFilters<'g> {
     ghost use Rattle.std.specs.Prelude.{◌≡◌, length};
-    ghost use Rattle.graph_chunks.specs.Filters.{FiltersOfGraph, graph_filters};
+    ghost use Rattle.graph_chunks.specs.GraphFilters.{FiltersOfGraph, graph_filters};
     ghost use Rattle.graph_chunks.specs.KeptFilters.{AreKept};
 
     ghost Value = { FiltersOfGraph };
@@ -146,7 +146,7 @@ impl<'g> Model for GraphFilters<'g> {
 
 /// The error of a layer, before which so many commits stand, as one of the graph.
 fn in_graph(layer: usize, before: u32, error: LayerFiltersError, commits: u32) -> FiltersError
-    requires place { NamesOneOf commits error }
+    requires place { NamesFilterOf commits error }
     requires fits { before + commits < 2 ^ 32 }
     ensures { result ≡ filters_in_graph layer before error }
 {
@@ -267,7 +267,7 @@ impl<'g> GraphFilters<'g> {
     /// The filters of the layer of a commit, and the commit's position there.
     fn layer_of(&self, pos: Position) -> (&LayerFilters<'g>, file::Position)
         requires { pos.0 < length self.now.filters }
-        ensures { IsAt self.now pos.0 result.0.now.filters result.1.0 }
+        ensures { IsFilterAt self.now pos.0 result.0.now.filters result.1.0 }
     {
         let (layer, _) = self.graph.layer_of_counted(pos);
         let kept = &self.layers[layer];

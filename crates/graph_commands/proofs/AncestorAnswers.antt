@@ -8,7 +8,7 @@ use Rattle.graph_commands.specs.declared.ancestor.Ancestry.{Ancestry}
 use Rattle.graph_commands.specs.declared.refusal.Refusal.{Refusal}
 use Rattle.graph_commands.specs.declared.refusal.Refusal.TheVariants.{Id, Read, File, Open, Verify, Check, Walk}
 use Rattle.graph_commands.specs.Ancestor.{MayAnswerIn, MayRelate, ancestor_text, ancestor_status}
-use Rattle.graph_commands.specs.Answer.{WritesAnswer, WritesRefusal}
+use Rattle.graph_commands.specs.WrittenAnswer.{WritesAnswer, WritesRefusal}
 
 pub relates : (first second a b : List ℕ) (IsLeftAlone : Type 0) (MayOpen : Result (List Layer) OpenError → Type 0)
     (layers : List Layer) (answer : Result Ancestry Refusal)

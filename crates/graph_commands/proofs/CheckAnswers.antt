@@ -18,9 +18,9 @@ use Rattle.gix_commitgraph.specs.declared.verify.VerifyError.{VerifyError}
 use Rattle.gix_commitgraph.specs.declared.verify.VerifyError.TheVariants as error
 use Rattle.gix_commitgraph.specs.declared.verify.VerifyOptions.{VerifyOptions}
 use Rattle.graph_commands.specs.declared.refusal.Refusal.TheVariants.{Open, Verify}
-use Rattle.graph_commands.specs.Answer.{WritesAnswer, WritesRefusal}
+use Rattle.graph_commands.specs.WrittenAnswer.{WritesAnswer, WritesRefusal}
 use Rattle.graph_commands.specs.Report.{outcome_text}
-use Rattle.graph_commands.specs.Verify.{Passes, Fails, MayCheck, verify_text, verify_status}
+use Rattle.graph_commands.specs.CheckAnswers.{Passes, Fails, MayCheck, verify_text, verify_status}
 
 -- what was written where no graph was opened
 pub writes_unopened : {E : Type 0} (options : VerifyOptions) (MayOpen : Result (List Layer) OpenError → Type 0)

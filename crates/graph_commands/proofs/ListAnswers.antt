@@ -3,7 +3,7 @@ use Rattle.std.proofs.Common.{ℕ, List, refl}
 use Rattle.std.specs.Prelude.{Option, Some, None, Result, Ok, Err, IfOk, IfSome}
 use Rattle.std.specs.Io.KnownBytes.{Appends}
 use Rattle.graph_commands.specs.declared.refusal.Refusal.{Refusal}
-use Rattle.graph_commands.specs.Answer.{WritesAnswer, WritesRefusal}
+use Rattle.graph_commands.specs.WrittenAnswer.{WritesAnswer, WritesRefusal}
 use Rattle.graph_format.specs.Layer.{Layer}
 use Rattle.graph_commands.specs.Listing.{listing_text}
 use Rattle.graph_commands.specs.List.{MayList, list_text, list_status}

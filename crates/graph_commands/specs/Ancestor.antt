@@ -11,13 +11,13 @@ use Rattle.graph_format.specs.declared.Position.{Position}
 use Rattle.graph_layer.specs.declared.opening.error.OpenError.{OpenError}
 use Rattle.gix_commitgraph.specs.GraphLookup.{FoundIn}
 use Rattle.gix_commitgraph.specs.Sound.{Sound}
-use Rattle.graph_history.specs.Answer.{IsAnswer}
+use Rattle.graph_history.specs.WalkAnswer.{IsAnswer}
 use Rattle.graph_history.specs.Checked.{MayRefuseGraph}
 use Rattle.graph_commands.specs.declared.ancestor.Ancestry.{Ancestry}
 use Rattle.graph_commands.specs.declared.ancestor.Ancestry.TheVariants.{FirstUnknown, SecondUnknown, Known}
 use Rattle.graph_commands.specs.declared.refusal.Refusal.{Refusal}
 use Rattle.graph_commands.specs.declared.refusal.Refusal.TheVariants.{Id, Read, File, Open, Verify, Check, Walk}
-use Rattle.graph_commands.specs.Refusal.{refusal_text, refusal_status}
+use Rattle.graph_commands.specs.RefusalLines.{refusal_text, refusal_status}
 use Rattle.graph_commands.specs.Text.{◌⧺◌, newline}
 
 -- what a query between the commits with two ids may find in a right graph: the first of the ids that is not there, by an

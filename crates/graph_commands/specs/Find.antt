@@ -8,12 +8,12 @@ use Rattle.graph_layer.specs.declared.opening.error.OpenError.{OpenError}
 use Rattle.graph_commands.specs.declared.report.Found.{Found}
 use Rattle.graph_commands.specs.declared.refusal.Refusal.{Refusal}
 use Rattle.graph_commands.specs.declared.refusal.Refusal.TheVariants.{Id, Read, File, Open, Verify, Check, Walk}
-use Rattle.graph_commands.specs.Refusal.{refusal_text, refusal_status}
+use Rattle.graph_commands.specs.RefusalLines.{refusal_text, refusal_status}
 use Rattle.graph_commands.specs.Report.{found_line}
 use Rattle.graph_commands.specs.Text.{◌⧺◌, newline}
 
 -- What is reported of a commit: its position in the graph, and the numbers of its record.
-pub record Reports (layers : List Layer) (found : Found) : Type 0 where
+pub record Describes (layers : List Layer) (found : Found) : Type 0 where
   pub layer : Layer
   pub place : ℕ
   pub stands : slice_get (graph_commits layers) found.pos.0 ≡ Some (layer, place)
@@ -22,7 +22,7 @@ pub record Reports (layers : List Layer) (found : Found) : Type 0 where
 
 -- what a search for an id may find in a graph: an answer to its lookup, with the commit there
 abbrev pub MayBeFound : List Layer → List ℕ → Option Found → Type 0
-MayBeFound layers id (Some found) = FoundIn layers id (Some found.pos.0) × Reports layers found
+MayBeFound layers id (Some found) = FoundIn layers id (Some found.pos.0) × Describes layers found
 MayBeFound layers id None = FoundIn layers id None
 
 -- what `find` may answer for the text of an id, given what the opener may answer. For a text that is no id the folder is left

@@ -6,7 +6,7 @@ use Rattle.graph_format.specs.Refusal.{refusal}
 use Rattle.graph_folder.specs.declared.folder.ReadError.TheVariants as read
 use Rattle.graph_commands.specs.declared.refusal.Refusal.{Refusal}
 use Rattle.graph_commands.specs.declared.refusal.Refusal.TheVariants.{Id, Read, File, Open, Verify, Check, Walk}
-use Rattle.graph_commands.specs.Refusal.{refusal_text, refusal_status}
+use Rattle.graph_commands.specs.RefusalLines.{refusal_text, refusal_status}
 use Rattle.graph_commands.specs.Listing.{listing_text}
 use Rattle.graph_commands.specs.Text.{◌⧺◌, newline}
 

@@ -7,9 +7,9 @@ ghost use Rattle.gix_hash_core.specs.Oid.{oid_bytes};
 ghost use Rattle.graph_commands.specs.Ancestor.{MayAnswerIn, MayRelate, ancestor_text};
 ghost use Rattle.graph_commands.specs.Ancestor.{ancestor_status, ancestry_text, ancestry_status};
 ghost use Rattle.graph_commands.specs.Ancestor.{step_text, walk_line, visits_line};
-ghost use Rattle.graph_commands.specs.Answer.{WritesAnswer};
+ghost use Rattle.graph_commands.specs.WrittenAnswer.{WritesAnswer};
 ghost use Rattle.graph_commands.specs.Block.{with_block};
-ghost use Rattle.graph_commands.specs.Opening.{MayOpen};
+ghost use Rattle.graph_commands.specs.OpenerAnswer.{MayOpen};
 ghost use Rattle.graph_commands.specs.Text.{newline};
 
 use crate::block::Block;

@@ -1,7 +1,7 @@
 //! The numbers that stand in the program's lines for errors of ids and of reading.
 
 ghost use Rattle.std.specs.Prelude.{◌≡◌};
-ghost use Rattle.graph_commands.specs.Numbers.{id_number, read_number};
+ghost use Rattle.graph_commands.specs.InputErrorNumbers.{id_number, read_number};
 
 use gix_hash_core::IdError;
 use graph_folder::folder::ReadError;

@@ -96,7 +96,7 @@ impl From<VerifyError<NoFault>> for Refusal {
 }
 
 impl Refusal {
-    ghost use Rattle.graph_commands.specs.Refusal.{refusal_status};
+    ghost use Rattle.graph_commands.specs.RefusalLines.{refusal_status};
 
     /// The exit status of the command.
     pub fn status(&self) -> u8
@@ -110,7 +110,7 @@ impl Refusal {
 }
 
 impl fmt::Display for Refusal {
-    ghost use Rattle.graph_commands.specs.Refusal.{refusal_text};
+    ghost use Rattle.graph_commands.specs.RefusalLines.{refusal_text};
 
     ghost output = { λ refusal. Some (refusal_text refusal) };
 
@@ -132,7 +132,7 @@ impl fmt::Display for Refusal {
 struct FileText<'a>(&'a FileError);
 
 impl fmt::Display for FileText<'_> {
-    ghost use Rattle.graph_commands.specs.Refusal.{file_text};
+    ghost use Rattle.graph_commands.specs.RefusalLines.{file_text};
 
     ghost output = { λ text. Some (file_text text.0.now) };
 
@@ -149,7 +149,7 @@ impl fmt::Display for FileText<'_> {
 struct OpenText<'a>(&'a OpenError);
 
 impl fmt::Display for OpenText<'_> {
-    ghost use Rattle.graph_commands.specs.Refusal.{open_text};
+    ghost use Rattle.graph_commands.specs.RefusalLines.{open_text};
 
     ghost output = { λ text. Some (open_text text.0.now) };
 
@@ -173,9 +173,9 @@ impl fmt::Display for OpenText<'_> {
 struct VerifyText<'a, E>(&'a VerifyError<E>);
 
 impl<E> fmt::Display for VerifyText<'_, E> {
-    ghost use Rattle.graph_commands.specs.Refusal.{verify_text};
+    ghost use Rattle.graph_commands.specs.RefusalLines.{verify_error_text};
 
-    ghost output = { λ text. Some (verify_text text.0.now) };
+    ghost output = { λ text. Some (verify_error_text text.0.now) };
 
     fn fmt<W: fmt::Write>(&self, f: &mut fmt::Formatter<W>) -> fmt::Result {
         match self.0 {
@@ -213,7 +213,7 @@ impl<E> fmt::Display for VerifyText<'_, E> {
 struct FaultText(LayerFault);
 
 impl fmt::Display for FaultText {
-    ghost use Rattle.graph_commands.specs.Refusal.{fault_text};
+    ghost use Rattle.graph_commands.specs.RefusalLines.{fault_text};
 
     ghost output = { λ text. Some (fault_text text.0) };
 

@@ -5,13 +5,13 @@ ghost use Rattle.std.specs.BTreeMap.{IsOrdered};
 ghost use Rattle.std.specs.Io.KnownBytes.{Appends};
 ghost use Rattle.std.specs.Ordering.{nat_cmp};
 ghost use Rattle.gix_hash_core.specs.Oid.{oid_bytes};
-ghost use Rattle.graph_commands.specs.Answer.{WritesAnswer, WritesRefusal};
-ghost use Rattle.graph_commands.specs.Opening.{MayOpen};
+ghost use Rattle.graph_commands.specs.WrittenAnswer.{WritesAnswer, WritesRefusal};
+ghost use Rattle.graph_commands.specs.OpenerAnswer.{MayOpen};
 ghost use Rattle.graph_commands.specs.List.{MayList, list_text, list_status};
 ghost use Rattle.graph_commands.specs.Find.{MayBeFound, MayFind, find_text, find_status};
 ghost use Rattle.graph_commands.specs.Report.{outcome_text};
-ghost use Rattle.graph_commands.specs.Verify.{MayVerify, MayVerifyDistinct};
-ghost use Rattle.graph_commands.specs.Verify.{verify_text, verify_status};
+ghost use Rattle.graph_commands.specs.CheckAnswers.{MayVerify, MayVerifyDistinct};
+ghost use Rattle.graph_commands.specs.CheckAnswers.{verify_text, verify_status};
 
 pub use crate::ancestor::{Ancestry, run_ancestor};
 use crate::block::Block;

@@ -3,7 +3,7 @@ use Rattle.std.proofs.Common.{◌≡◌, ℕ, List, length, Option, Some, None, 
 use Rattle.gix_chunk_core.specs.Table.{Table, Chunks, range_of}
 use Rattle.gix_chunk_core.proofs.TableLemmas.{Chunks-is, range_of-in_file}
 use Rattle.graph_format.specs.Format.{table_of, chunk_range_of, chunk_of}
-use Rattle.graph_format.specs.ChunkRanges.{IsAt, IsChunkRange, size_at}
+use Rattle.graph_format.specs.ChunkRanges.{IsChunkAt, IsChunkRange, size_at}
 use Rattle.graph_format.specs.Refusal.{size_of}
 use Rattle.graph_format.proofs.PieceLemmas.{length-slice_range}
 use Rattle.graph_format.specs.declared.chunks.ChunkRange.{ChunkRange}
@@ -15,7 +15,7 @@ chunk_range_of-from bytes table id right =
     ap (λ (t : Table). range_of t id) (sym (Chunks-is bytes 8 (slice_index bytes 6) table right))
 
 pub chunk_of-found : (bytes : List ℕ) (table : Table) (id : List ℕ) (start end : ℕ) → Chunks bytes 8 (slice_index bytes 6) table
-    → range_of table id ≡ Some (start, end) → IsAt bytes id (record { start = start; end = end })
+    → range_of table id ≡ Some (start, end) → IsChunkAt bytes id (record { start = start; end = end })
 unfolding chunk_of
 chunk_of-found bytes table id start end right found =
     let bounds = range_of-in_file bytes 8 (slice_index bytes 6) table id (start, end) right found in

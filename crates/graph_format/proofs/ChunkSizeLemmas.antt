@@ -3,7 +3,7 @@ use Rattle.std.proofs.Common.{◌≡◌, ℕ, ◌-◌, List, Option, Some, None,
 use Rattle.gix_chunk_core.specs.Table.{Table, Chunks}
 use Rattle.gix_chunk_core.proofs.TableLemmas.{Chunks-is, end_in_file}
 use Rattle.graph_format.specs.Format.{table_of}
-use Rattle.graph_format.specs.ChunkRanges.{IsAt, IsChunkRange}
+use Rattle.graph_format.specs.ChunkRanges.{IsChunkAt, IsChunkRange}
 use Rattle.graph_format.specs.Refusal.{size_of}
 use Rattle.graph_format.specs.declared.chunks.ChunkRange.{ChunkRange}
 use Rattle.graph_format.proofs.ChunkLemmas.{size_of-place}
@@ -13,7 +13,7 @@ pub table_of-end : (bytes : List ℕ) (table : Table) → Chunks bytes 8 (slice_
 unfolding table_of
 table_of-end bytes table right = ap (λ (t : Table). t.end) (sym (Chunks-is bytes 8 (slice_index bytes 6) table right))
 
-pub size_of-at : (bytes id : List ℕ) (place : ChunkRange) → IsAt bytes id place
+pub size_of-at : (bytes id : List ℕ) (place : ChunkRange) → IsChunkAt bytes id place
     → size_of bytes id ≡ Some (place.end - place.start)
 size_of-at bytes id place h = size_of-place bytes id (Some place) h
 

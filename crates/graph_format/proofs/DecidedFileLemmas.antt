@@ -12,7 +12,7 @@ use Rattle.gix_chunk_core.proofs.TableLemmas.{fault_free}
 use Rattle.graph_format.specs.Format.{Record, record_of, record_len, commits_of, kind_in, fan_of, table_of, chunk_of, pieces}
 use Rattle.graph_format.specs.Format.{words, fan_id, ids_id, records_id, bases_id}
 use Rattle.graph_format.specs.Layer.{Layer, IsLayer, decoded_layer}
-use Rattle.graph_format.specs.Law.{IsDecided, IsOnlyLayer}
+use Rattle.graph_format.specs.FormatLaws.{IsDecided, IsOnlyLayer}
 use Rattle.graph_format.specs.Refusal.{header_refusal, bases_refusal, records_refusal, fan_refusal, ids_refusal}
 use Rattle.graph_format.specs.Refusal.{edges_refusal, sizes_refusal, trailer_refusal, counts_refusal}
 use Rattle.graph_format.specs.Refusal.{falling_refusal, fall_after, has_other_count, refusal, size_of}

@@ -6,7 +6,7 @@ use Rattle.std.proofs.lemmas.Bool.{ltb-false, ltb-true, lt-ltb, le-ltb, cases_eq
 use Rattle.first_faults.specs.First.{IsLeastGiving}
 use Rattle.first_faults.proofs.FirstLemmas.{then_some-none, then_some-false, first_below-none_at, first_below-none_from}
 use Rattle.first_faults.proofs.FirstLemmas.{first_below-some_iff}
-use Rattle.graph_format.specs.Law.{FallsFirstAt, NamesFirstFall}
+use Rattle.graph_format.specs.FormatLaws.{FallsFirstAt, NamesFirstFall}
 use Rattle.graph_format.specs.Refusal.{fall_after, falling_refusal}
 use Rattle.graph_format.specs.declared.error.FileError.{FileError}
 use Rattle.graph_format.specs.declared.error.FileError.TheVariants.{FanFalls}

@@ -9,12 +9,12 @@ use Rattle.graph_format.specs.Refusal.{fall_after, falling_refusal}
 use Rattle.graph_format.specs.declared.error.FileError.TheVariants.{FanFalls}
 use Rattle.first_faults.proofs.FirstLemmas.{first_below-none, first_below-none_more, first_below-found}
 use Rattle.graph_format.specs.Format.{words, fan_of, fan_id}
-use Rattle.graph_format.specs.ChunkRanges.{IsAt}
+use Rattle.graph_format.specs.ChunkRanges.{IsChunkAt}
 use Rattle.graph_format.specs.declared.chunks.ChunkRange.{ChunkRange}
 use Rattle.graph_format.proofs.PieceLemmas.{length-slice_range}
 use Rattle.graph_format.proofs.PieceLemmas.{slice_range-slice_range, words-at}
 
-pub fan_of-at : (bytes : List ℕ) (fan : ChunkRange) (i : ℕ) → IsAt bytes fan_id fan → fan.end ≡ fan.start + 1024 → i < 256
+pub fan_of-at : (bytes : List ℕ) (fan : ChunkRange) (i : ℕ) → IsChunkAt bytes fan_id fan → fan.end ≡ fan.start + 1024 → i < 256
     → slice_index (fan_of bytes) i ≡ from_be_bytes w32 (slice_range bytes (fan.start + 4 * i) (fan.start + 4 * i + 4))
 unfolding fan_of
 fan_of-at bytes fan i place size h =

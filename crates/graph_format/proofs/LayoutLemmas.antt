@@ -8,7 +8,7 @@ use Rattle.graph_format.specs.Format.{Record, record_of, record_len, commits_of,
 use Rattle.graph_format.specs.Layer.{Layer, IsLayer, decoded_layer}
 use Rattle.graph_format.specs.Refusal.{refusal}
 use Rattle.graph_format.specs.Layout.{IsLayout}
-use Rattle.graph_format.specs.ChunkRanges.{IsAt, IsChunkRange}
+use Rattle.graph_format.specs.ChunkRanges.{IsChunkAt, IsChunkRange}
 use Rattle.graph_format.specs.declared.layout.Layout.{Layout}
 use Rattle.graph_format.specs.declared.chunks.ChunkRange.{ChunkRange}
 use Rattle.graph_format.proofs.AcceptedFileLemmas.{accepted}
@@ -25,7 +25,7 @@ view-kind bytes path layout layer kept view = same_Some _ _ (sym kept.kind ∙ (
 
 -- the records are those of their chunk
 chunk-records : (kind : Kind) (bytes : List ℕ) (place : ChunkRange) (commits : ℕ) (records : List Record)
-    → IsAt bytes records_id place
+    → IsChunkAt bytes records_id place
     → IsSomeAnd (chunk_of bytes records_id) (λ chunk. (length chunk ≡ record_len kind * commits)
     × (records ≡ map (record_of kind) (pieces (record_len kind) chunk)))
     → records ≡ map (record_of kind) (pieces (record_len kind) (slice_range bytes place.start place.end))

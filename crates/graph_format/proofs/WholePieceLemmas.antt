@@ -8,7 +8,7 @@ use Rattle.std.proofs.lemmas.List.Folds.{concat-append}
 use Rattle.std.proofs.lemmas.List.FromFn.{map-range_with_len_more}
 use Rattle.std.proofs.lemmas.Slice.{between_is}
 use Rattle.graph_format.specs.Format.{pieces}
-use Rattle.graph_format.specs.Law.{FallIntoPieces}
+use Rattle.graph_format.specs.FormatLaws.{FallIntoPieces}
 use Rattle.graph_format.proofs.PieceLemmas.{length-slice_range}
 use Rattle.graph_format.proofs.PieceLemmas.{length-pieces}
 

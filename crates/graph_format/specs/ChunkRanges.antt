@@ -5,7 +5,7 @@ use Rattle.graph_format.specs.declared.chunks.ChunkRange.{ChunkRange}
 use Rattle.graph_format.specs.declared.chunks.ChunkRanges.{ChunkRanges}
 
 -- The chunk of this name lies here.
-pub record IsAt (bytes id : List ℕ) (place : ChunkRange) : Type 0 where
+pub record IsChunkAt (bytes id : List ℕ) (place : ChunkRange) : Type 0 where
   pub chunk : chunk_of bytes id ≡ Some (slice_range bytes place.start place.end)
   pub order : place.start ≤ place.end
   pub in_file : place.end ≤ length bytes
@@ -13,12 +13,12 @@ pub record IsAt (bytes id : List ℕ) (place : ChunkRange) : Type 0 where
 -- the chunk of this name lies here, or is missing
 abbrev pub IsChunkRange : List ℕ → List ℕ → Option ChunkRange → Type 0
 IsChunkRange bytes id None = chunk_of bytes id ≡ None
-IsChunkRange bytes id (Some place) = IsAt bytes id place
+IsChunkRange bytes id (Some place) = IsChunkAt bytes id place
 
 -- where a chunk begins, 0 where it is missing
-abbrev pub start_of : Option ChunkRange → ℕ
-start_of None = 0
-start_of (Some place) = place.start
+abbrev pub chunk_start : Option ChunkRange → ℕ
+chunk_start None = 0
+chunk_start (Some place) = place.start
 
 -- how many bytes a place has
 abbrev pub size_at : ChunkRange → ℕ
@@ -26,9 +26,9 @@ size_at place = place.end - place.start
 
 -- Here lie the chunks.
 pub record AreChunkRanges (bytes : List ℕ) (chunks : ChunkRanges) : Type 0 where
-  pub fan : IsAt bytes fan_id chunks.fan
-  pub ids : IsAt bytes ids_id chunks.ids
-  pub records : IsAt bytes records_id chunks.records
+  pub fan : IsChunkAt bytes fan_id chunks.fan
+  pub ids : IsChunkAt bytes ids_id chunks.ids
+  pub records : IsChunkAt bytes records_id chunks.records
   pub edges : IsChunkRange bytes edges_id chunks.edges
   pub bases : IsChunkRange bytes bases_id chunks.bases
 

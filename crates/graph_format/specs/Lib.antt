@@ -14,7 +14,7 @@ pub mod Numbers
 pub mod ErrorNumbers
 pub mod Opened
 pub mod Parents
-pub mod Law
+pub mod FormatLaws
 pub mod EdgeLaw
 pub mod Order
 pub mod Lookup

@@ -6,7 +6,8 @@ ghost use Rattle.gix_chunk_core.specs.Table.{Chunks};
 ghost use Rattle.graph_format.specs.Reports.{Reports};
 ghost use Rattle.graph_format.specs.Refusal.{bases_refusal, records_refusal, fan_refusal};
 ghost use Rattle.graph_format.specs.Refusal.{ids_refusal, edges_refusal, sizes_refusal};
-ghost use Rattle.graph_format.specs.ChunkRanges.{IsChunkRange, AreChunkRanges, size_at, start_of};
+ghost use Rattle.graph_format.specs.ChunkRanges.{IsChunkRange, AreChunkRanges};
+ghost use Rattle.graph_format.specs.ChunkRanges.{size_at, chunk_start};
 
 use crate::error::FileError;
 use gix_chunk_core::Index;
@@ -41,7 +42,7 @@ pub struct ChunkRanges {
 
 /// Where a chunk begins, 0 where it is missing.
 pub fn start_of(place: Option<ChunkRange>) -> usize
-    ensures { result ≡ start_of place }
+    ensures { result ≡ chunk_start place }
 {
     match place {
         Some(place) => place.start,

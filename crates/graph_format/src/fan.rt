@@ -4,7 +4,7 @@ ghost use Rattle.std.specs.Prelude.{◌≡◌, ◌+◌, ◌<◌, slice_index};
 ghost use Rattle.graph_format.specs.Reports.{Reports};
 ghost use Rattle.graph_format.specs.Format.{fan_of, fan_id};
 ghost use Rattle.graph_format.specs.Refusal.{falling_refusal};
-ghost use Rattle.graph_format.specs.ChunkRanges.{IsAt};
+ghost use Rattle.graph_format.specs.ChunkRanges.{IsChunkAt};
 
 use crate::chunks::ChunkRange;
 use crate::error::FileError;
@@ -13,7 +13,7 @@ use crate::numbers::word_at;
 /// The number at a place of the fan.
 #[tactic(auto, using(crate::proofs::FanLemmas::fan_laws))]
 pub fn fan_at(bytes: &[u8], fan: ChunkRange, i: usize) -> u32
-    requires place { IsAt bytes.now fan_id fan }
+    requires place { IsChunkAt bytes.now fan_id fan }
     requires size { fan.end ≡ fan.start + 1024 }
     requires within { i < 256 }
     ensures { result ≡ slice_index (fan_of bytes.now) i }
@@ -24,7 +24,7 @@ pub fn fan_at(bytes: &[u8], fan: ChunkRange, i: usize) -> u32
 /// Refuses a fan that falls.
 #[tactic(auto, using(crate::proofs::FanLemmas::first_laws), unfolding(crate::specs::Refusal::falling_refusal))]
 pub(crate) fn check_rising(bytes: &[u8], fan: ChunkRange) -> Result<(), FileError>
-    requires place { IsAt bytes.now fan_id fan }
+    requires place { IsChunkAt bytes.now fan_id fan }
     requires size { fan.end ≡ fan.start + 1024 }
     ensures { Reports result (falling_refusal (fan_of bytes.now)) }
 {

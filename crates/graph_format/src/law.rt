@@ -9,7 +9,7 @@ ghost use Rattle.std.specs.Prelude.{◌≡◌, ℕ, List, length};
 ghost use Rattle.std.specs.Ordering.{nat_cmp};
 ghost use Rattle.graph_format.specs.Format.{chunk_range_of};
 ghost use Rattle.graph_format.specs.Head.{HaveSameHead};
-ghost use Rattle.graph_format.specs.Law.{IsDecided, NamesFirstFall, FallIntoPieces};
+ghost use Rattle.graph_format.specs.FormatLaws.{IsDecided, NamesFirstFall, FallIntoPieces};
 ghost use Rattle.graph_format.specs.Layer.{Layer, IsOpened};
 ghost use Rattle.graph_format.specs.Opened.{IsAnswered};
 ghost use Rattle.graph_format.specs.Refusal.{refusal};

@@ -15,13 +15,13 @@ use Rattle.std.proofs.lemmas.List.Sums.{sum_by-set, get_or-le-sum_by}
 use Rattle.graph_walks.specs.declared.TheConstants.{GENERATION_NUMBER_MAX}
 use Rattle.graph_walks.specs.History.{Node, IsParent, generation_at}
 use Rattle.graph_format.specs.declared.Position.{Position}
-use Rattle.graph_history.specs.Answer.{numbers_of}
+use Rattle.graph_history.specs.WalkAnswer.{numbers_of}
 use Rattle.graph_history.specs.declared.paint.Coat.{Coat}
 use Rattle.graph_history.specs.declared.paint.Paint.{Paint}
 use Rattle.graph_history.specs.declared.paint.Paint.TheVariants.{First, Others}
 use Rattle.graph_history.specs.Paint.{is_base, first_leads, others_lead, is_stale, is_painted, covers, joined, passed, unknown}
 use Rattle.graph_history.specs.Paint.{is_fresh, bare, coat_at, paint_at, is_queued, IsSo, IsPaint, Grows}
-use Rattle.graph_history.specs.Painting.{AreGathered, IsSpread, IsSpreadBut, entry_cmp, IsEntry, IsWaiting, IsLevel, Joins}
+use Rattle.graph_history.specs.Painting.{AreBasesGathered, IsSpread, IsSpreadBut, entry_cmp, IsEntry, IsWaiting, IsLevel, Joins}
 use Rattle.graph_history.specs.Painting.{Adds, IsDone}
 use Rattle.graph_history.specs.Painting.{work}
 use Rattle.graph_history.proofs.ReachLemmas.{reaches_itself}
@@ -59,7 +59,7 @@ pub record AddedBy (h : List Node) (a : ℕ) (bs : List ℕ) (p : ℕ) (x : Pain
     (old : List ℕ) : Type 0 where
   pub paint : IsPaint h a bs after
   pub waiting : IsWaiting h after more
-  pub gathered : AreGathered after (if is_base (joined (paint_at coats p) x) then old ++ p ∷ [] else old)
+  pub gathered : AreBasesGathered after (if is_base (joined (paint_at coats p) x) then old ++ p ∷ [] else old)
   pub adds : Adds p x coats after
   pub here : coat_at after p ≡ record { paint = joined (paint_at coats p) x; queued = true }
   pub level : (level : ℕ) → generation_at h p ≤ level → IsLevel h coats queue level → IsLevel h after more level
@@ -141,14 +141,14 @@ module _ (h : List Node) (a : ℕ) (bs : List ℕ) (coats : List Coat) (queue mo
   }
 
   -- where it is a merge base as far as is known, it is gathered
-  module _ (gathered : List ℕ) (are : AreGathered coats gathered) where
+  module _ (gathered : List ℕ) (are : AreBasesGathered coats gathered) where
     grown : (q : ℕ) → Grows (paint_at coats q) (paint_at after q)
     grown q = added.grows q
 
     paint_here : (q : ℕ) → q ≡ p → paint_at after q ≡ joined (paint_at coats p) x
     paint_here q e = ap (λ (m : Coat). m.paint) (here q e)
 
-    added_gathered : is_base (joined (paint_at coats p) x) ≡ false → AreGathered after gathered
+    added_gathered : is_base (joined (paint_at coats p) x) ≡ false → AreBasesGathered after gathered
     added_gathered other = record {
       once = are.once;
       first = λ q contained. (grown q).first (are.first q contained);
@@ -161,7 +161,7 @@ module _ (h : List Node) (a : ℕ) (bs : List ℕ) (coats : List Coat) (queue mo
     }
 
     added_base : covers (paint_at coats p) x ≡ false → is_base (joined (paint_at coats p) x) ≡ true
-        → AreGathered after (gathered ++ p ∷ [])
+        → AreBasesGathered after (gathered ++ p ∷ [])
     added_base uncovered base = record {
       once = all_pairs_push (λ q r. q ≢ r) gathered p are.once
           (λ k d below same.
@@ -187,10 +187,10 @@ module _ (h : List Node) (a : ℕ) (bs : List ℕ) (coats : List Coat) (queue mo
     }
 
     added_all : covers (paint_at coats p) x ≡ false
-        → AreGathered after (if is_base (joined (paint_at coats p) x) then gathered ++ p ∷ [] else gathered)
+        → AreBasesGathered after (if is_base (joined (paint_at coats p) x) then gathered ++ p ∷ [] else gathered)
     added_all uncovered = by_cases (is_base (joined (paint_at coats p) x)) refl where
       by_cases : (b : Bool) → is_base (joined (paint_at coats p) x) ≡ b
-          → AreGathered after (if b then gathered ++ p ∷ [] else gathered)
+          → AreBasesGathered after (if b then gathered ++ p ∷ [] else gathered)
       by_cases true e = added_base uncovered e
       by_cases false e = added_gathered e
 
@@ -204,7 +204,7 @@ module _ (h : List Node) (a : ℕ) (bs : List ℕ) (coats : List Coat) (queue mo
       let longer = joins.longer in
       omega arith
 
-  pub added_by : length more ≡ length queue + cond (is_queued coats p) 0 1 → (gathered : List ℕ) → AreGathered coats gathered
+  pub added_by : length more ≡ length queue + cond (is_queued coats p) 0 1 → (gathered : List ℕ) → AreBasesGathered coats gathered
       → covers (paint_at coats p) x ≡ false
       → AddedBy h a bs p x coats after queue more gathered
   added_by len gathered are uncovered = record {
@@ -219,7 +219,7 @@ module _ (h : List Node) (a : ℕ) (bs : List ℕ) (coats : List Coat) (queue mo
 
 -- Those that were gathered, where no paint changes, and where nothing is known.
 pub gathered_same : (coats after : List Coat) (gathered : List ℕ) → ((q : ℕ) → paint_at after q ≡ paint_at coats q)
-    → AreGathered coats gathered → AreGathered after gathered
+    → AreBasesGathered coats gathered → AreBasesGathered after gathered
 gathered_same coats after gathered same are = record {
   once = are.once;
   first = λ q contained. ap first_leads (same q) ∙ are.first q contained;
@@ -227,7 +227,7 @@ gathered_same coats after gathered same are = record {
   all = λ q base. are.all q (ap is_base (sym (same q)) ∙ base);
 }
 
-pub gathered_none : (coats : List Coat) → ((p : ℕ) → coat_at coats p ≡ bare) → AreGathered coats []
+pub gathered_none : (coats : List Coat) → ((p : ℕ) → coat_at coats p ≡ bare) → AreBasesGathered coats []
 gathered_none coats none = record {
   once = λ i j d lt lt'. absurd (omega arith);
   first = λ q (k, lt, at). absurd (omega arith);

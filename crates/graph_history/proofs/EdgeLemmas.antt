@@ -14,7 +14,7 @@ use Rattle.graph_walks.specs.declared.TheConstants.{GENERATION_NUMBER_MAX}
 use Rattle.graph_walks.specs.History.{Node, IsParent, generation_at}
 use Rattle.graph_walks.specs.Walks.{Reaches, IsProperAncestor}
 use Rattle.graph_history.specs.Bases.{IsStart, AreBelowCap, IsOnOneSide, IsAtEdge, IsAboveEdge, AreVisits, IsMergeBase}
-use Rattle.graph_history.specs.Counts.{IsNumberOf}
+use Rattle.graph_history.specs.Cardinality.{IsNumberOf}
 use Rattle.graph_history.specs.declared.paint.Coat.{Coat}
 use Rattle.graph_history.specs.declared.paint.Paint.{Paint}
 use Rattle.graph_history.specs.Paint.{is_painted, is_stale, is_fresh, is_visited, is_on_one_side, covers, joined, bare}

@@ -18,12 +18,12 @@ use Rattle.std.proofs.lemmas.Map.Keys.{IsStrictlyIncreasing-from_distinct, IsDis
 use Rattle.std.proofs.lemmas.Map.Made.{IsDistinct-from_AllPairs}
 use Rattle.graph_walks.specs.History.{Node}
 use Rattle.graph_format.specs.declared.Position.{Position}
-use Rattle.graph_history.specs.Answer.{numbers_of}
+use Rattle.graph_history.specs.WalkAnswer.{numbers_of}
 use Rattle.graph_history.specs.Bases.{AreMergeBases, IsAhead, IsBehind}
-use Rattle.graph_history.specs.Counts.{IsNumberOf}
+use Rattle.graph_history.specs.Cardinality.{IsNumberOf}
 use Rattle.graph_history.specs.declared.paint.Coat.{Coat}
 use Rattle.graph_history.specs.Paint.{is_base, is_ahead, is_behind, first_leads, bare, coat_at, paint_at}
-use Rattle.graph_history.specs.Painting.{AreGathered, AreBases, IsPainted}
+use Rattle.graph_history.specs.Painting.{AreBasesGathered, AreBases, IsPainted}
 use Rattle.graph_history.proofs.ReachLemmas.{reaches_within}
 use Rattle.graph_history.proofs.ListLemmas.{head_contained, tail_contained, contained_cases}
 
@@ -216,8 +216,8 @@ module _ (t : ℕ → Bool) (xs : List ℕ) (i : ℕ) (lt : i < length xs) where
       ∙ append-nil (filter t (take i xs))
 
 -- those of a sorted list that are merge bases
-pub sorted_bases : (coats : List Coat) (gathered sorted : List ℕ) → AreGathered coats gathered → IsPermutation gathered sorted
-    → IsSorted nat_cmp sorted → AreBases coats (filter (λ p. is_base (paint_at coats p)) sorted)
+pub sorted_bases : (coats : List Coat) (gathered sorted : List ℕ) → AreBasesGathered coats gathered
+    → IsPermutation gathered sorted → IsSorted nat_cmp sorted → AreBases coats (filter (λ p. is_base (paint_at coats p)) sorted)
 sorted_bases coats gathered sorted are moved up =
     let t : ℕ → Bool = λ p. is_base (paint_at coats p) in record {
       ascending =

@@ -3,8 +3,8 @@ use Rattle.std.proofs.Common.{ℕ, zero, suc, ◌<◌, ◌≤◌, List, [], ◌�
 use Rattle.std.proofs.lemmas.Option.{none-some}
 use Rattle.graph_walks.specs.History.{Node, generation_at}
 use Rattle.graph_walks.specs.Walks.{IsWalkBetween, Reaches}
-use Rattle.graph_history.specs.Answer.{IsShortestWalk, IsAtOrAbove, IsAbove}
-use Rattle.graph_history.specs.Counts.{AtLeast, AtMost}
+use Rattle.graph_history.specs.WalkAnswer.{IsShortestWalk, IsAtOrAbove, IsAbove}
+use Rattle.graph_history.specs.Cardinality.{AtLeast, AtMost}
 
 module _ (h : List Node) (p : ℕ) (within : p < length h) where
   one_walk : IsWalkBetween h p p (p ∷ [])

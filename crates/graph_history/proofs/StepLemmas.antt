@@ -4,7 +4,7 @@ use Rattle.std.proofs.lemmas.List.{reverse-append}
 use Rattle.graph_walks.specs.History.{Node, IsParent}
 use Rattle.graph_walks.proofs.WalkPathLemmas.{Path}
 use Rattle.graph_format.specs.declared.Position.{Position}
-use Rattle.graph_history.specs.Answer.{numbers_of}
+use Rattle.graph_history.specs.WalkAnswer.{numbers_of}
 use Rattle.graph_history.specs.Marks.{Marked}
 use Rattle.graph_history.specs.Queue.{commit_in, child_in, IsQueue, Depth}
 

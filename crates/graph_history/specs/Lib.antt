@@ -1,7 +1,7 @@
 pub mod Checked
 pub mod RightGraph
-pub mod Counts
-pub mod Answer
+pub mod Cardinality
+pub mod WalkAnswer
 pub mod Marks
 pub mod Queue
 pub mod BreadthFirst

@@ -15,7 +15,7 @@ use Rattle.graph_format.specs.declared.Position.{Position}
 use Rattle.graph_format.specs.declared.parents.ExtraEdge.TheVariants as extra
 use Rattle.gix_commitgraph.specs.Graph.{IsGraph, total}
 use Rattle.gix_commitgraph.specs.Sound.{Sound}
-use Rattle.graph_history.specs.Answer.{numbers_of}
+use Rattle.graph_history.specs.WalkAnswer.{numbers_of}
 use Rattle.graph_history.specs.Bases.{IsMergeBase, IsAhead, IsBehind, IsStart, AreBelowCap}
 use Rattle.graph_history.specs.Commits.{named_by, list_in}
 use Rattle.graph_history.specs.Paint.{is_on_one_side, is_visited, IsSo}
@@ -76,7 +76,7 @@ pub record Adds (p : ℕ) (paint : Paint) (old new : List Coat) : Type 0 where
   pub others : (q : ℕ) → q ≢ p → coat_at new q ≡ coat_at old q
 
 -- All commits that are merge bases as far as is known were gathered, with others to which both lead, each once.
-pub record AreGathered (coats : List Coat) (gathered : List ℕ) : Type 0 where
+pub record AreBasesGathered (coats : List Coat) (gathered : List ℕ) : Type 0 where
   pub once : AllPairs (λ p q. p ≢ q) gathered
   pub first : (p : ℕ) → Contains gathered p → first_leads (paint_at coats p) ≡ true
   pub others : (p : ℕ) → Contains gathered p → others_lead (paint_at coats p) ≡ true
@@ -127,7 +127,7 @@ pub record IsPainting (s : Painting) : Type 0 where
   pub counted : IsCounted s.coats
   pub paint : IsPaint (history_of s.graph.now) s.first.0 (numbers_of s.others.now) s.coats.all.items
   pub waiting : IsWaiting (history_of s.graph.now) s.coats.all.items (heap_items s.queue)
-  pub gathered : AreGathered s.coats.all.items s.gathered.items
+  pub gathered : AreBasesGathered s.coats.all.items s.gathered.items
   pub touched : AreTouched s.coats.all.items s.taken.items (heap_items s.queue)
   pub visiting : AreBelowCap (history_of s.graph.now) s.first.0 (numbers_of s.others.now)
       → IsVisiting (history_of s.graph.now) s.first.0 (numbers_of s.others.now) s.coats.all.items s.visits

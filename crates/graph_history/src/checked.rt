@@ -7,7 +7,7 @@ ghost use Rattle.gix_commitgraph.specs.Distinct.{IsSoundWith};
 ghost use Rattle.gix_commitgraph.specs.Graph.{total};
 ghost use Rattle.gix_commitgraph.specs.Headline.{Stats};
 ghost use Rattle.gix_commitgraph.specs.Sound.{Sound};
-ghost use Rattle.graph_history.specs.Answer.{IsAnswer};
+ghost use Rattle.graph_history.specs.WalkAnswer.{IsAnswer};
 ghost use Rattle.graph_history.specs.Checked.{MayRefuseGraph, MayRefuseWith};
 
 use crate::Reached;

@@ -8,14 +8,14 @@ ghost use Rattle.std.specs.BinaryHeap.{heap_items};
 ghost use Rattle.graph_walks.specs.History.{generation_at};
 ghost use Rattle.graph_format.specs.StoredHistory.{history_of};
 ghost use Rattle.gix_commitgraph.specs.Graph.{total};
-ghost use Rattle.graph_history.specs.Answer.{numbers_of};
+ghost use Rattle.graph_history.specs.WalkAnswer.{numbers_of};
 ghost use Rattle.graph_history.specs.Bases.{AreBelowCap, AreVisits};
 ghost use Rattle.graph_history.specs.Painting.{IsKnownEdge, IsVisiting};
 ghost use Rattle.graph_history.specs.Paint.{is_painted, is_stale, is_queued};
 ghost use Rattle.graph_history.specs.Paint.{is_ahead, is_behind, is_base, bare, coat_at, paint_at};
 ghost use Rattle.graph_history.specs.Paint.{IsSo, IsCounted, IsPaint, AreIdle};
 ghost use Rattle.graph_history.specs.Painting.{IsSpread, IsLevel, Joins, Adds, ArePassed};
-ghost use Rattle.graph_history.specs.Painting.{AreGathered, IsDone, IsPainting, IsPainted};
+ghost use Rattle.graph_history.specs.Painting.{AreBasesGathered, IsDone, IsPainting, IsPainted};
 ghost use Rattle.graph_history.specs.Painting.{AreBases, AreTouched, work};
 
 use crate::bases::Divergence;
@@ -181,7 +181,7 @@ impl<'p, 'g> Painting<'p, 'g> {
         ensures counted { OnOk result (IsCounted self.new.coats) }
         ensures touched { OnOk result (AreTouched self.new.coats.all.items self.new.taken.items
             (heap_items self.new.queue)) }
-        ensures gathered { OnOk result (AreGathered self.new.coats.all.items
+        ensures gathered { OnOk result (AreBasesGathered self.new.coats.all.items
             self.new.gathered.items) }
         ensures paint { OnOk result (IsPaint (history_of self.old.graph.now) self.old.first.0
             (numbers_of self.old.others.now) self.new.coats.all.items) }
@@ -234,7 +234,7 @@ impl<'p, 'g> Painting<'p, 'g> {
 
     /// The commits that are merge bases as far as is known, in the order of their positions.
     pub(crate) fn bases(&mut self, alloc: Global) -> Result<Vec<Position>, AllocError>
-        requires { AreGathered self.old.coats.all.items self.old.gathered.items }
+        requires { AreBasesGathered self.old.coats.all.items self.old.gathered.items }
         ensures coats { self.new.coats ≡ self.old.coats }
         ensures queue { heap_items self.new.queue ≡ heap_items self.old.queue }
         ensures taken { self.new.taken.items ≡ self.old.taken.items }
@@ -289,7 +289,7 @@ pub(crate) fn paint_from<'p, 'g>(
     ensures counted { IfOk result (λ s. IsCounted s.coats) }
     ensures touched { IfOk result (λ s. AreTouched s.coats.all.items s.taken.items
         (heap_items s.queue)) }
-    ensures gathered { IfOk result (λ s. AreGathered s.coats.all.items s.gathered.items) }
+    ensures gathered { IfOk result (λ s. AreBasesGathered s.coats.all.items s.gathered.items) }
     ensures painted { IfOk result (λ s. IsPainted (history_of graph.now) first.0
         (numbers_of others.now) s.coats.all.items) }
     ensures visits { IfOk result (λ s. AreBelowCap (history_of graph.now) first.0

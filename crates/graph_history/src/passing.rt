@@ -5,7 +5,7 @@ ghost use Rattle.std.specs.BinaryHeap.{heap_items};
 ghost use Rattle.graph_walks.specs.History.{IsParent, generation_at};
 ghost use Rattle.graph_format.specs.StoredHistory.{history_of};
 ghost use Rattle.gix_commitgraph.specs.Graph.{total};
-ghost use Rattle.graph_history.specs.Answer.{numbers_of};
+ghost use Rattle.graph_history.specs.WalkAnswer.{numbers_of};
 ghost use Rattle.graph_history.specs.Bases.{AreBelowCap};
 ghost use Rattle.graph_history.specs.Commits.{IsReading, NamesParents, Names, list_in, named_from};
 ghost use Rattle.graph_history.specs.Paint.{is_painted, is_queued, paint_at, passed, Grows};

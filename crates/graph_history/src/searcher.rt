@@ -6,7 +6,7 @@ ghost use Rattle.graph_walks.specs.Walks.{Reaches};
 ghost use Rattle.graph_format.specs.StoredHistory.{history_of};
 ghost use Rattle.gix_commitgraph.specs.Graph.{total};
 ghost use Rattle.gix_commitgraph.specs.Sound.{Sound};
-ghost use Rattle.graph_history.specs.Answer.{IsAnswer};
+ghost use Rattle.graph_history.specs.WalkAnswer.{IsAnswer};
 ghost use Rattle.graph_history.specs.Search.{IsIdle};
 
 use crate::Reached;

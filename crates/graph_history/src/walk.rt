@@ -5,7 +5,7 @@ ghost use Rattle.graph_walks.specs.History.{generation_at};
 ghost use Rattle.graph_walks.specs.Walks.{IsWalkBetween};
 ghost use Rattle.graph_format.specs.StoredHistory.{history_of};
 ghost use Rattle.gix_commitgraph.specs.Graph.{total};
-ghost use Rattle.graph_history.specs.Answer.{IsAnswer, numbers_of};
+ghost use Rattle.graph_history.specs.WalkAnswer.{IsAnswer, numbers_of};
 ghost use Rattle.graph_history.specs.Queue.{commit_in, Depth};
 ghost use Rattle.graph_history.specs.Search.{queued_by, IsIdle, IsSearching};
 

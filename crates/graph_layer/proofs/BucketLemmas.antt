@@ -6,7 +6,7 @@ use Rattle.gix_hash_core.specs.Kind.{id_len}
 use Rattle.graph_format.specs.Format.{commits_of, fan_of, fan_id, chunk_of, words}
 use Rattle.graph_format.specs.Layer.{Layer, IsLayer, decoded_layer}
 use Rattle.graph_format.specs.Layout.{IsLayout}
-use Rattle.graph_format.specs.ChunkRanges.{IsAt}
+use Rattle.graph_format.specs.ChunkRanges.{IsChunkAt}
 use Rattle.graph_format.specs.declared.layout.Layout.{Layout}
 use Rattle.graph_format.specs.declared.chunks.ChunkRange.{ChunkRange}
 use Rattle.graph_format.proofs.PieceLemmas.{length-slice_range}
@@ -20,7 +20,7 @@ is-layer bytes path layout layer kept view =
     let P : List ℕ → Type 0 = λ b. IsLayer b layer.path layer in
     subst P (view-bytes bytes path layout layer kept view) (view-layer bytes path layout layer kept view)
 
-fan-size : (bytes fan : List ℕ) (place : ChunkRange) → IsAt bytes fan_id place
+fan-size : (bytes fan : List ℕ) (place : ChunkRange) → IsChunkAt bytes fan_id place
     → IsSomeAnd (chunk_of bytes fan_id) (λ chunk. (length chunk ≡ 1024) × (fan ≡ words chunk)) → place.end ≡ place.start + 1024
 fan-size bytes fan place at h =
     let is = rw at.chunk at h in

@@ -13,7 +13,7 @@ use Rattle.graph_format.specs.Format.{Record, record_of, record_len, part, commi
 use Rattle.graph_format.specs.Format.{records_id, bases_id}
 use Rattle.graph_format.specs.Layer.{Layer, IsLayer, decoded_layer, record_at, no_record, bytes_of}
 use Rattle.graph_format.specs.Layout.{IsLayout}
-use Rattle.graph_format.specs.ChunkRanges.{start_of, IsAt, IsChunkRange, ArePieces}
+use Rattle.graph_format.specs.ChunkRanges.{chunk_start, IsChunkAt, IsChunkRange, ArePieces}
 use Rattle.graph_format.specs.declared.layout.Layout.{Layout}
 use Rattle.graph_format.specs.declared.chunks.ChunkRange.{ChunkRange}
 use Rattle.graph_format.proofs.LayoutLemmas.{is-layer, view-kind, view-edges}
@@ -61,7 +61,7 @@ pub commits-fan : (bytes path : List ℕ) (layout : Layout) (layer : Layer) → 
     → decoded_layer bytes path ≡ layer → layout.commits ≡ commits_of layer.fan
 commits-fan bytes path layout layer kept view = sym (view-commits bytes path layout layer kept view)
 
-ids-lie : (kind : Kind) (commits : ℕ) (bytes : List ℕ) (place : ChunkRange) (ids : List (List ℕ)) → IsAt bytes ids_id place
+ids-lie : (kind : Kind) (commits : ℕ) (bytes : List ℕ) (place : ChunkRange) (ids : List (List ℕ)) → IsChunkAt bytes ids_id place
     → IsSomeAnd (chunk_of bytes ids_id) (λ chunk. (length chunk ≡ id_len kind * commits) × (ids ≡ pieces (id_len kind) chunk))
     → (length ids ≡ commits) × ArePieces bytes place.start (id_len kind) ids
 ids-lie kind commits bytes place ids at h =
@@ -132,7 +132,7 @@ view-checksum bytes path layout layer kept view =
     ∙ sym (is-layer bytes path layout layer kept view).checksum
 
 records-lie : (kind : Kind) (commits : ℕ) (bytes : List ℕ) (place : ChunkRange) (records : List Record)
-    → IsAt bytes records_id place
+    → IsChunkAt bytes records_id place
     → IsSomeAnd (chunk_of bytes records_id) (λ chunk. (length chunk ≡ record_len kind * commits)
     × (records ≡ map (record_of kind) (pieces (record_len kind) chunk))) → (length records ≡ commits)
     × ((parts : List (List ℕ)) × ArePieces bytes place.start (record_len kind) parts × (records ≡ map (record_of kind) parts))
@@ -239,7 +239,7 @@ view-tree-fits bytes path layout layer i size n kept view k e is =
 bases-lie : (kind : Kind) (count : ℕ) (bytes : List ℕ) (place : Option ChunkRange) (bases : List (List ℕ))
     → IsChunkRange bytes bases_id place
     → MatchOption (chunk_of bytes bases_id) ((count ≡ 0) × (bases ≡ [])) (λ chunk. (length chunk ≡ id_len kind * count)
-    × (bases ≡ pieces (id_len kind) chunk)) → (length bases ≡ count) × ArePieces bytes (start_of place) (id_len kind) bases
+    × (bases ≡ pieces (id_len kind) chunk)) → (length bases ≡ count) × ArePieces bytes (chunk_start place) (id_len kind) bases
 bases-lie kind count bytes None bases at h =
     let is = rw at at h in
     let none : length bases ≡ 0 = ap length is.1 in (
@@ -259,7 +259,8 @@ bases-lie kind count bytes (Some place) bases at h =
     )
 
 view-bases : (bytes path : List ℕ) (layout : Layout) (layer : Layer) → IsLayout bytes layout → decoded_layer bytes path ≡ layer
-    → (length layer.bases ≡ slice_index bytes 7) × ArePieces bytes (start_of layout.chunks.bases) (id_len layer.kind) layer.bases
+    → (length layer.bases ≡ slice_index bytes 7)
+    × ArePieces bytes (chunk_start layout.chunks.bases) (id_len layer.kind) layer.bases
 view-bases bytes path layout layer kept view =
     bases-lie layer.kind _ bytes layout.chunks.bases layer.bases kept.chunks.bases
     (is-layer bytes path layout layer kept view).bases
@@ -271,13 +272,13 @@ base_count-bases bytes path layout layer kept view = kept.base_count ∙ sym (vi
 pub view-base : (bytes path : List ℕ) (layout : Layout) (layer : Layer) (i : ℕ) → IsLayout bytes layout
     → decoded_layer bytes path ≡ layer → i < length layer.bases
     → slice_get layer.bases i
-    ≡ Some (slice_range bytes (start_of layout.chunks.bases + id_len layer.kind * i)
-    (start_of layout.chunks.bases + id_len layer.kind * i + id_len layer.kind))
+    ≡ Some (slice_range bytes (chunk_start layout.chunks.bases + id_len layer.kind * i)
+    (chunk_start layout.chunks.bases + id_len layer.kind * i + id_len layer.kind))
 view-base bytes path layout layer i kept view k = (view-bases bytes path layout layer kept view).1.each i k
 
 pub view-base-fits : (bytes path : List ℕ) (layout : Layout) (layer : Layer) (i : ℕ) → IsLayout bytes layout
     → decoded_layer bytes path ≡ layer → i < length layer.bases
-    → start_of layout.chunks.bases + id_len layer.kind * i + id_len layer.kind ≤ length bytes
+    → chunk_start layout.chunks.bases + id_len layer.kind * i + id_len layer.kind ≤ length bytes
 view-base-fits bytes path layout layer i kept view k =
     (piece-fits bytes _ _ layer.bases i (view-bases bytes path layout layer kept view).1 k)
 

@@ -13,10 +13,10 @@ use Rattle.graph_walks.specs.History.{Node, generations, parent_numbers}
 use Rattle.graph_format.specs.StoredHistory.{node_of, layer_history}
 use Rattle.graph_format.specs.Parents.{parents_of}
 use Rattle.graph_format.specs.Layer.{IsOpened}
-use Rattle.graph_layer.specs.Traverse.{Summarizes, FileStats}
+use Rattle.graph_layer.specs.Traverse.{SummarizesLayer, FileStats}
 use Rattle.graph_layer.specs.declared.file.verify.Outcome.{Outcome}
 use Rattle.graph_layer.specs.declared.file.verify.tally.Tally.{Tally}
-use Rattle.graph_layer.specs.Tallies.{Tallies}
+use Rattle.graph_layer.specs.LayerTallies.{LayerTallies}
 use Rattle.graph_layer.specs.ParentCounts.{counted}
 use Rattle.graph_format.proofs.LayerHistoryLemmas.{opened_is_paired, length-layer_history}
 
@@ -106,8 +106,8 @@ module _ (layer : Layer) (n : ℕ) (inside : n < length layer.records) where
   count_generations : length (generations before_it) ≡ n
   count_generations = length-map before_it (λ node. node.generation) ∙ counted_before
 
-  summarized : (before tally : Tally) → Tallies before_it before → IsMore (record_at layer n).generation parents before tally
-      → Tallies (take (n + 1) (layer_history layer)) tally
+  summarized : (before tally : Tally) → LayerTallies before_it before → IsMore (record_at layer n).generation parents before tally
+      → LayerTallies (take (n + 1) (layer_history layer)) tally
   summarized before tally summary more =
       let generation = (record_at layer n).generation in
       record {
@@ -142,8 +142,8 @@ module _ (layer : Layer) (n : ℕ) (inside : n < length layer.records) where
 
   -- the statistics with one more commit
   pub Tallies-more : (before tally : Tally) (count : ℕ) → count ≡ length (parents_of (record_at layer n) layer.edges).positions
-      → Tallies before_it before → IsMore (record_at layer n).generation count before tally
-      → Tallies (take (n + 1) (layer_history layer)) tally
+      → LayerTallies before_it before → IsMore (record_at layer n).generation count before tally
+      → LayerTallies (take (n + 1) (layer_history layer)) tally
   Tallies-more before tally count is summary more =
       let positions = (parents_of (record_at layer n) layer.edges).positions in
       let counted : count ≡ parents = is ∙ sym (length-map positions (λ pos. pos.0)) in
@@ -151,12 +151,12 @@ module _ (layer : Layer) (n : ℕ) (inside : n < length layer.records) where
 
 -- with each commit of an opened layer, the statistics are those of the layer
 pub stats_of_all : (layer : Layer) (n : ℕ) (outcome : Outcome) → IsOpened layer → n ≡ length layer.ids
-    → Summarizes (take n (layer_history layer)) outcome → FileStats layer outcome
+    → SummarizesLayer (take n (layer_history layer)) outcome → FileStats layer outcome
 stats_of_all layer n outcome opened is summary =
     let paired = opened_is_paired layer opened in
     let all : take n (layer_history layer) ≡ layer_history layer =
     take_all n (layer_history layer) (omega (arith, is, paired, length-layer_history layer)) in
     record {
       num_commits = summary.num_commits ∙ length-history layer n (omega (arith, is, paired)) ∙ is;
-      commits = subst (λ (history : List Node). Summarizes history outcome) all summary;
+      commits = subst (λ (history : List Node). SummarizesLayer history outcome) all summary;
     }

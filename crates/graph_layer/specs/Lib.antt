@@ -8,7 +8,7 @@ pub use Rattle.graph_format.specs.Layer
 pub use Rattle.graph_format.specs.Refusal
 pub use Rattle.graph_format.specs.Opened
 pub use Rattle.graph_format.specs.Parents
-pub use Rattle.graph_format.specs.Law
+pub use Rattle.graph_format.specs.FormatLaws
 pub use Rattle.graph_format.specs.EdgeLaw
 pub use Rattle.graph_format.specs.Order
 pub use Rattle.graph_format.specs.Lookup
@@ -28,5 +28,5 @@ pub mod OpenRefusals
 pub mod OpenAnswer
 pub mod LayerOpening
 pub mod ParentCounts
-pub mod Tallies
+pub mod LayerTallies
 pub mod ListedParents

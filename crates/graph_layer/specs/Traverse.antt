@@ -49,7 +49,7 @@ module _ {E : Type 0} where
   cause_of x = refused x
 
 -- The statistics of some commits of a layer.
-pub record Summarizes (history : List Node) (outcome : Outcome) : Type 0 where
+pub record SummarizesLayer (history : List Node) (outcome : Outcome) : Type 0 where
   pub max_generation : outcome.max_generation ≡ greatest (generations history)
   pub min_generation : outcome.min_generation ≡ least (generations history)
   pub max_parents : outcome.max_parents ≡ greatest (parent_numbers history)
@@ -60,10 +60,10 @@ pub record Summarizes (history : List Node) (outcome : Outcome) : Type 0 where
 -- The statistics of a layer: those of its history, which has one commit for each id.
 pub record FileStats (layer : Layer) (outcome : Outcome) : Type 0 where
   pub num_commits : outcome.num_commits ≡ length layer.ids
-  pub commits : Summarizes (layer_history layer) outcome
+  pub commits : SummarizesLayer (layer_history layer) outcome
 
 -- A second outcome that is equal in each field: its counts are the same, in the same order.
-pub record IsCopy (outcome copy : Outcome) : Type 0 where
+pub record IsCopyOfLayer (outcome copy : Outcome) : Type 0 where
   pub max_generation : copy.max_generation ≡ outcome.max_generation
   pub min_generation : copy.min_generation ≡ outcome.min_generation
   pub max_parents : copy.max_parents ≡ outcome.max_parents

@@ -6,7 +6,7 @@ use Rattle.std.proofs.lemmas.List.{drop_at}
 use Rattle.graph_format.specs.declared.parents.ParentEdge.TheVariants as edge
 use Rattle.graph_format.specs.Parents.{DecodedParents, edge_of, no_parents, followed_by, listed, second_parents, both_parents}
 use Rattle.graph_vectors.specs.ExtraEdges.{no_parent, top_bit, listed_words, extra_words, first_field, second_field}
-use Rattle.graph_vectors.specs.Said.{parents_at}
+use Rattle.graph_vectors.specs.Said.{planned_parents}
 use Rattle.graph_vectors.proofs.Pieces.{All-first, All-others}
 
 edge_of-position : (p : ℕ) → p < no_parent → edge_of p ≡ edge.GraphPosition (record { 0 = p })
@@ -19,7 +19,7 @@ edge_of-index k =
 
 -- a listing says its parents
 listed-listed_words : (parent : ℕ) (more rest : List ℕ) → All (λ p. p < no_parent) (parent ∷ more)
-    → listed (listed_words parent more ++ rest) ≡ parents_at (parent ∷ more)
+    → listed (listed_words parent more ++ rest) ≡ planned_parents (parent ∷ more)
 listed-listed_words parent [] rest h =
     rw (le-ltb (top_bit + parent) top_bit (omega arith))
     (ap (λ (n : ℕ). followed_by (record { 0 = n }) no_parents) (omega arith))
@@ -36,7 +36,8 @@ Hold edges words = (k : ℕ) → k < length words → second_parents (edge.Extra
 -- the fields of a commit, whose extra words come after others, say its parents
 pub both_parents-fields : (parents before after : List ℕ) (edges : Option (List ℕ)) → All (λ p. p < no_parent) parents
     → Hold edges (before ++ (extra_words parents ++ after))
-    → both_parents (edge_of (first_field parents)) (edge_of (second_field (length before) parents)) edges ≡ parents_at parents
+    → both_parents (edge_of (first_field parents)) (edge_of (second_field (length before) parents)) edges
+    ≡ planned_parents parents
 both_parents-fields [] before after edges h e = refl
 both_parents-fields (first ∷ []) before after edges h e =
     rw (edge_of-position first (All-first (λ p. p < no_parent) first [] h)) refl
@@ -49,7 +50,7 @@ both_parents-fields (first ∷ second ∷ []) before after edges h e =
 both_parents-fields (first ∷ second ∷ third ∷ more) before after edges h e =
     let others = All-others (λ p. p < no_parent) first (second ∷ third ∷ more) h in
     let words : List ℕ = listed_words second (third ∷ more) ++ after in
-    let held : second_parents (edge.ExtraEdgeIndex (length before)) edges ≡ parents_at (second ∷ third ∷ more) =
+    let held : second_parents (edge.ExtraEdgeIndex (length before)) edges ≡ planned_parents (second ∷ third ∷ more) =
     e (length before) (omega (arith, length-append before (listed_words second (third ∷ more) ++ after)))
     ∙ ap listed (drop_at before (listed_words second (third ∷ more) ++ after) (length before) refl)
     ∙ listed-listed_words second (third ∷ more) after others in

@@ -11,14 +11,14 @@ use Rattle.graph_vectors.specs.declared.plan.LayerPlan.{LayerPlan}
 use Rattle.graph_vectors.specs.declared.plan.PlanCommit.{PlanCommit}
 
 -- parents at these positions, and no fault
-abbrev pub parents_at : List ℕ → DecodedParents
-parents_at positions = record { positions = map (λ p. record { 0 = p }) positions; fault = None }
+abbrev pub planned_parents : List ℕ → DecodedParents
+planned_parents positions = record { positions = map (λ p. record { 0 = p }) positions; fault = None }
 
 -- The record of a commit, in a layer with these edges, says what the plan says of it. Where it has more than two parents,
 -- the second field names its first extra word, which has this index.
 pub record SaysCommit (edges : Option (List ℕ)) (index : ℕ) (commit : PlanCommit) (r : Record) : Type 0 where
   pub tree : r.tree ≡ commit.tree
-  pub parents : parents_of r edges ≡ parents_at commit.parents.items
+  pub parents : parents_of r edges ≡ planned_parents commit.parents.items
   pub extra : 2 < length commit.parents.items → r.parent2 ≡ top_bit + index
   pub generation : r.generation ≡ commit.generation
   pub time : r.time ≡ commit.time

@@ -5,12 +5,12 @@ use Rattle.graph_format.specs.Layer.{Layer}
 use Rattle.graph_layer.specs.declared.opening.error.OpenError.{OpenError}
 use Rattle.graph_commands.specs.declared.refusal.Refusal.{Refusal}
 use Rattle.graph_commands.specs.declared.refusal.Refusal.TheVariants.{Walk}
-use Rattle.history_commands.specs.Answer.{MayAnswer, MayBeAsked, MayFind}
+use Rattle.history_commands.specs.Question.{MayAnswer, MayBeAsked, MayFindBoth}
 use Rattle.history_commands.specs.declared.question.Answer.{Answer}
 
 pub answers : {A : Type 0} (IsSo : List Layer → ℕ → ℕ → A → Type 0) (first second a b : List ℕ) (IsLeftAlone : Type 0)
     (MayOpen : Result (List Layer) OpenError → Type 0) (layers : List Layer) (result : Result (Answer A) Refusal)
-    → MayBeAsked first second MayOpen layers a b → IfOk result (MayFind IsSo layers a b)
+    → MayBeAsked first second MayOpen layers a b → IfOk result (MayFindBoth IsSo layers a b)
     → IfErr result (λ (refusal : Refusal). refusal ≡ Walk)
     → MayAnswer IsSo first second IsLeftAlone MayOpen result
 answers IsSo first second a b IsLeftAlone MayOpen layers (Ok answer) asked found refused = (a, b, layers, asked, found)

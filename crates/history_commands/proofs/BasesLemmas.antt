@@ -14,10 +14,10 @@ use Rattle.graph_format.specs.Layer.{Layer}
 use Rattle.graph_format.specs.Lookup.{scan}
 use Rattle.graph_format.specs.declared.Position.{Position}
 use Rattle.gix_commitgraph.specs.Graph.{graph_ids, total}
-use Rattle.graph_history.specs.Answer.{numbers_of}
-use Rattle.graph_commands.specs.Answer.{WritesAnswer, WritesRefusal}
+use Rattle.graph_history.specs.WalkAnswer.{numbers_of}
+use Rattle.graph_commands.specs.WrittenAnswer.{WritesAnswer, WritesRefusal}
 use Rattle.graph_commands.specs.declared.refusal.Refusal.{Refusal}
-use Rattle.history_commands.specs.MergeBases.{SpellNotAll, IsAt, IsFirstUnknown, MayFindOfAll, merge_base_text}
+use Rattle.history_commands.specs.MergeBases.{SpellNotAll, IsIdAt, IsFirstUnknown, MayFindOfAll, merge_base_text}
 use Rattle.history_commands.specs.MergeBases.{merge_base_status}
 use Rattle.history_commands.specs.declared.bases.Compared.{Compared}
 use Rattle.history_commands.specs.declared.bases.Compared.TheVariants.{Unknown}
@@ -58,26 +58,26 @@ text_at texts i text within read =
 module _ (layers : List Layer) where
   -- one more id, and the position where it was found
   pub found_more : (ids : List (List ℕ)) (found : List Position) (i : ℕ) (id : List ℕ) (pos : Position)
-      → AllZip (IsAt layers) (take i ids) (numbers_of found) → slice_get ids i ≡ Some id
-      → scan (graph_ids layers) id ≡ Some pos.0 → AllZip (IsAt layers) (take (i + 1) ids) (numbers_of (found ++ pos ∷ []))
+      → AllZip (IsIdAt layers) (take i ids) (numbers_of found) → slice_get ids i ≡ Some id
+      → scan (graph_ids layers) id ≡ Some pos.0 → AllZip (IsIdAt layers) (take (i + 1) ids) (numbers_of (found ++ pos ∷ []))
   found_more ids found i id pos before at scanned =
-      subst (AllZip (IsAt layers) (take (i + 1) ids)) (sym (map-append (λ (p : Position). p.0) found (pos ∷ [])))
-      (zip_more (IsAt layers) ids (numbers_of found) i id pos.0 before at scanned)
+      subst (AllZip (IsIdAt layers) (take (i + 1) ids)) (sym (map-append (λ (p : Position). p.0) found (pos ∷ [])))
+      (zip_more (IsIdAt layers) ids (numbers_of found) i id pos.0 before at scanned)
 
   pub within_more : (found : List Position) (pos : Position) → All (λ (p : Position). p.0 < total layers) found
       → pos.0 < total layers → All (λ (p : Position). p.0 < total layers) (found ++ pos ∷ [])
   within_more found pos before here = All-push (λ (p : Position). p.0 < total layers) found pos before here
 
-  all_there : (ids : List (List ℕ)) (positions : List ℕ) → AllZip (IsAt layers) ids positions
-      → All (λ id. (p : ℕ) × IsAt layers id p) ids
-  all_there [] positions at = All-nil (λ (id : List ℕ). (p : ℕ) × IsAt layers id p)
+  all_there : (ids : List (List ℕ)) (positions : List ℕ) → AllZip (IsIdAt layers) ids positions
+      → All (λ id. (p : ℕ) × IsIdAt layers id p) ids
+  all_there [] positions at = All-nil (λ (id : List ℕ). (p : ℕ) × IsIdAt layers id p)
   all_there (id ∷ ids) [] at = absurd at
   all_there (id ∷ ids) (p ∷ positions) at =
-      All-cons (λ (one : List ℕ). (q : ℕ) × IsAt layers one q) id ids (p, at.0) (all_there ids positions at.1)
+      All-cons (λ (one : List ℕ). (q : ℕ) × IsIdAt layers one q) id ids (p, at.0) (all_there ids positions at.1)
 
   -- an id that is not there comes after some that are
   pub first_unknown : (ids : List (List ℕ)) (positions : List ℕ) (i : ℕ) (id : List ℕ)
-      → AllZip (IsAt layers) (take i ids) positions → slice_get ids i ≡ Some id → scan (graph_ids layers) id ≡ None
+      → AllZip (IsIdAt layers) (take i ids) positions → slice_get ids i ≡ Some id → scan (graph_ids layers) id ≡ None
       → (i < length ids) × IsFirstUnknown layers ids i
   first_unknown ids positions i id found at none =
       (slice_get_within ids i id at, (all_there (take i ids) positions found, (id, at, none)))
@@ -85,14 +85,14 @@ module _ (layers : List Layer) where
   -- the first id of all is not there
   pub unknown_first : (id : List ℕ) (ids : List (List ℕ)) → scan (graph_ids layers) id ≡ None
       → MayFindOfAll layers (id ∷ ids) (Unknown 1)
-  unknown_first id ids none = (0, (All-nil (λ (one : List ℕ). (p : ℕ) × IsAt layers one p), (id, refl, none)), refl)
+  unknown_first id ids none = (0, (All-nil (λ (one : List ℕ). (p : ℕ) × IsIdAt layers one p), (id, refl, none)), refl)
 
   -- the first id of all is there, and one of the others is not
-  pub unknown_later : (id : List ℕ) (ids : List (List ℕ)) (p place : ℕ) → IsAt layers id p → IsFirstUnknown layers ids place
+  pub unknown_later : (id : List ℕ) (ids : List (List ℕ)) (p place : ℕ) → IsIdAt layers id p → IsFirstUnknown layers ids place
       → MayFindOfAll layers (id ∷ ids) (Unknown (place + 2))
   unknown_later id ids p place at unknown = (
     suc place,
-    (All-cons (λ (one : List ℕ). (q : ℕ) × IsAt layers one q) id (take place ids) (p, at) unknown.0, unknown.1),
+    (All-cons (λ (one : List ℕ). (q : ℕ) × IsIdAt layers one q) id (take place ids) (p, at) unknown.0, unknown.1),
     omega arith,
   )
 

@@ -14,13 +14,13 @@ use Rattle.graph_format.specs.Lookup.{scan}
 use Rattle.graph_format.specs.declared.Position.{Position}
 use Rattle.gix_commitgraph.specs.Graph.{graph_ids}
 use Rattle.gix_commitgraph.proofs.history.HistoryLemmas.{history-counted}
-use Rattle.graph_history.specs.Answer.{IsAnswer, IsShortestWalk, numbers_of}
+use Rattle.graph_history.specs.WalkAnswer.{IsAnswer, IsShortestWalk, numbers_of}
 use Rattle.graph_history.specs.declared.Reached.{Reached}
 use Rattle.graph_history.proofs.RightGraphLemmas.{all_within}
-use Rattle.graph_commands.specs.Answer.{WritesAnswer, WritesRefusal}
+use Rattle.graph_commands.specs.WrittenAnswer.{WritesAnswer, WritesRefusal}
 use Rattle.graph_commands.specs.declared.refusal.Refusal.{Refusal}
-use Rattle.history_commands.specs.Answer.{MayFind}
-use Rattle.history_commands.specs.Walk.{IsWalkOfIds, AreWithin, id_in, id_line, with_ids, found_text, found_status}
+use Rattle.history_commands.specs.Question.{MayFindBoth}
+use Rattle.history_commands.specs.Walk.{IsWalkOfIds, AreInGraph, id_in, id_line, with_ids, walk_found_text, found_status}
 use Rattle.history_commands.specs.Walk.{walk_text, walk_status}
 use Rattle.history_commands.specs.declared.question.Answer.{Answer}
 use Rattle.history_commands.specs.declared.question.Answer.TheVariants.{FirstUnknown, SecondUnknown, Known}
@@ -38,7 +38,7 @@ ids_of layers (pos ∷ steps) = ap (λ (rest : List (List ℕ)). id_in layers po
 
 module _ (layers : List Layer) (p q : ℕ) where
   are_within : (walk : Option (Vec Position Global)) → All IsOpened layers
-      → IfSome walk (λ w. IsShortestWalk (history_of layers) p q (numbers_of w.items)) → AreWithin layers (Known walk)
+      → IfSome walk (λ w. IsShortestWalk (history_of layers) p q (numbers_of w.items)) → AreInGraph layers (Known walk)
   are_within None opened shortest = tt
   are_within (Some walk) opened shortest =
       subst (λ (bound : ℕ). All (λ (pos : Position). pos.0 < bound) walk.items) (history-counted layers opened)
@@ -55,20 +55,20 @@ module _ (layers : List Layer) (p q : ℕ) where
 -- the answer to the query between the positions where two ids are found
 pub known_walk : (layers : List Layer) (p q : ℕ) (a b : List ℕ) (reached : Reached)
     → Some p ≡ scan (graph_ids layers) a → Some q ≡ scan (graph_ids layers) b → IsAnswer (history_of layers) p q reached
-    → MayFind IsWalkOfIds layers a b (with_ids layers (Known reached.walk))
+    → MayFindBoth IsWalkOfIds layers a b (with_ids layers (Known reached.walk))
 known_walk layers p q a b reached first second answer =
     (p, q, sym first, sym second, walk_of_ids layers p q reached.walk answer.walk answer.none)
 
 -- its positions are those of commits
 pub known_within : (layers : List Layer) (p q : ℕ) (reached : Reached) → All IsOpened layers
-    → IsAnswer (history_of layers) p q reached → AreWithin layers (Known reached.walk)
+    → IsAnswer (history_of layers) p q reached → AreInGraph layers (Known reached.walk)
 known_within layers p q reached opened answer = are_within layers p q reached.walk opened answer.walk
 
 pub ids_text : (layers : List Layer) (found : Answer (Option (Vec Position Global))) (walk : Vec Position Global)
     → found ≡ Known (Some walk)
-    → found_text (with_ids layers found) ≡ flat_map (λ (pos : Position). id_line (id_in layers pos.0)) walk.items
+    → walk_found_text (with_ids layers found) ≡ flat_map (λ (pos : Position). id_line (id_in layers pos.0)) walk.items
 ids_text layers found walk is =
-    ap (λ (x : Answer (Option (Vec Position Global))). found_text (with_ids layers x)) is
+    ap (λ (x : Answer (Option (Vec Position Global))). walk_found_text (with_ids layers x)) is
     ∙ flat_map-map id_line (λ (pos : Position). id_in layers pos.0) walk.items
 
 pub same_status : (layers : List Layer) (found : Answer (Option (Vec Position Global)))

@@ -11,14 +11,14 @@ use Rattle.gix_commitgraph.specs.Headline.{Stats}
 use Rattle.gix_commitgraph.specs.Sound.{Sound}
 use Rattle.gix_commitgraph.specs.declared.verify.Outcome.{Outcome}
 use Rattle.graph_history.specs.Checked.{MayRefuseGraph}
-use Rattle.graph_chunks.specs.StoredDates.{HasDates, times_of, dates_of}
-use Rattle.graph_chunks.specs.Dates.{graph_dates_refusal}
-use Rattle.graph_chunks.specs.Filters.{settings_of, computed_in, graph_filters_refusal}
+use Rattle.graph_chunks.specs.GraphStoredDates.{HasDates, times_of, dates_of}
+use Rattle.graph_chunks.specs.GraphDates.{graph_dates_refusal}
+use Rattle.graph_chunks.specs.GraphFilters.{settings_of, computed_in, graph_filters_refusal}
 use Rattle.graph_chunks.specs.declared.dates.DatesError.{DatesError}
 use Rattle.graph_chunks.specs.declared.dates.DatesError.TheVariants as date_error
 use Rattle.graph_chunks.specs.declared.filters.FiltersError.{FiltersError}
 use Rattle.graph_chunks.specs.declared.filters.FiltersError.TheVariants as filter_error
-use Rattle.graph_commands.specs.Refusal.{refusal_text}
+use Rattle.graph_commands.specs.RefusalLines.{refusal_text}
 use Rattle.graph_commands.specs.Report.{outcome_text}
 use Rattle.graph_commands.specs.Text.{◌⧺◌, newline}
 use Rattle.graph_commands.specs.declared.refusal.Refusal.{Refusal}
@@ -121,13 +121,13 @@ check_refusal_text (Dates error) = codes "refused dates " ⧺ dates_text error
 check_refusal_text (Filters error) = codes "refused filters " ⧺ filters_text error
 
 -- the lines of a graph with these statistics, dates and filters
-abbrev pub found_text : Outcome → Option ℕ → Option ℕ → List ℕ
-found_text outcome dates filters =
+abbrev pub check_found_text : Outcome → Option ℕ → Option ℕ → List ℕ
+check_found_text outcome dates filters =
     outcome_text outcome ⧺ commits_line (codes "dates") dates ⧺ commits_line (codes "filters") filters
 
 -- the lines of what is found, or of a refusal
 abbrev pub check_text : Result Findings CheckRefusal → List ℕ
-check_text (Ok findings) = found_text findings.outcome findings.dates findings.filters
+check_text (Ok findings) = check_found_text findings.outcome findings.dates findings.filters
 check_text (Err refusal) = check_refusal_text refusal ⧺ newline
 
 -- 0 where all is right, and else 1

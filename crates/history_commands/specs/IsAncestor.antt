@@ -3,7 +3,7 @@ use Rattle.std.specs.Prelude.{◌↔◌, ℕ, List, Bool, true, false, IsTrue, R
 use Rattle.graph_walks.specs.Walks.{Reaches}
 use Rattle.graph_format.specs.Layer.{Layer}
 use Rattle.graph_format.specs.StoredHistory.{history_of}
-use Rattle.graph_commands.specs.Refusal.{refusal_text, refusal_status}
+use Rattle.graph_commands.specs.RefusalLines.{refusal_text, refusal_status}
 use Rattle.graph_commands.specs.Text.{◌⧺◌, newline}
 use Rattle.graph_commands.specs.declared.refusal.Refusal.{Refusal}
 use Rattle.history_commands.specs.declared.question.Answer.{Answer}

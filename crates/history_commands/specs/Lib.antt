@@ -1,4 +1,4 @@
-pub mod Answer
+pub mod Question
 pub mod IsAncestor
 pub mod MergeBases
 pub mod Walk

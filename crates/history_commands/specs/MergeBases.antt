@@ -13,13 +13,13 @@ use Rattle.graph_format.specs.declared.Position.{Position}
 use Rattle.graph_layer.specs.declared.opening.error.OpenError.{OpenError}
 use Rattle.gix_commitgraph.specs.Graph.{graph_ids, total}
 use Rattle.gix_commitgraph.specs.Sound.{Sound}
-use Rattle.graph_history.specs.Answer.{numbers_of}
+use Rattle.graph_history.specs.WalkAnswer.{numbers_of}
 use Rattle.graph_history.specs.Bases.{AreMergeBases, IsAhead, IsBehind, AreBelowCap, AreVisits}
 use Rattle.graph_history.specs.Checked.{MayRefuseGraph}
-use Rattle.graph_history.specs.Counts.{IsNumberOf}
+use Rattle.graph_history.specs.Cardinality.{IsNumberOf}
 use Rattle.graph_history.specs.declared.bases.Comparison.{Comparison}
 use Rattle.graph_commands.specs.Ancestor.{visits_line}
-use Rattle.graph_commands.specs.Refusal.{refusal_text, refusal_status}
+use Rattle.graph_commands.specs.RefusalLines.{refusal_text, refusal_status}
 use Rattle.graph_commands.specs.Text.{◌⧺◌, newline}
 use Rattle.graph_commands.specs.declared.refusal.Refusal.{Refusal}
 use Rattle.graph_commands.specs.declared.refusal.Refusal.TheVariants.{Id, Read, File, Open, Verify, Check, Walk}
@@ -38,13 +38,13 @@ pub record IsComparison (history : List Node) (first : ℕ) (others : List ℕ) 
   pub visits : AreBelowCap history first others → AreVisits history first others comparison.bases.visits
 
 -- the least position where an id is
-abbrev pub IsAt : List Layer → List ℕ → ℕ → Type 0
-IsAt layers id p = scan (graph_ids layers) id ≡ Some p
+abbrev pub IsIdAt : List Layer → List ℕ → ℕ → Type 0
+IsIdAt layers id p = scan (graph_ids layers) id ≡ Some p
 
 -- the first id that is not in a graph stands at this place
 abbrev pub IsFirstUnknown : List Layer → List (List ℕ) → ℕ → Type 0
 IsFirstUnknown layers ids place =
-    All (λ id. (p : ℕ) × IsAt layers id p) (take place ids)
+    All (λ id. (p : ℕ) × IsIdAt layers id p) (take place ids)
     × ((id : List ℕ) × (slice_get ids place ≡ Some id) × (scan (graph_ids layers) id ≡ None))
 
 -- what may be found of ids in a graph: the first of them that is not there, by its number, which is 1 for the first id; else
@@ -53,7 +53,7 @@ abbrev pub MayFindOfAll : List Layer → List (List ℕ) → Compared → Type 0
 MayFindOfAll layers ids (Unknown number) =
     (place : ℕ) × IsFirstUnknown layers ids place × (number ≡ place + 1)
 MayFindOfAll layers ids (Known comparison) =
-    (first : ℕ) × (others : List ℕ) × AllZip (IsAt layers) ids (first ∷ others)
+    (first : ℕ) × (others : List ℕ) × AllZip (IsIdAt layers) ids (first ∷ others)
     × IsComparison (history_of layers) first others comparison
 
 -- the first of the texts that is no id, and why
@@ -88,13 +88,13 @@ MayCompare texts IsLeftAlone MayOpen (Ok (layers, compared)) =
 MayCompare texts IsLeftAlone MayOpen (Err refusal) = MayRefuseAll texts IsLeftAlone MayOpen refusal
 
 -- the line of a base: its position and its id
-abbrev pub base_line : List Layer → Position → List ℕ
-base_line layers base = codes "base " ⧺ decimal base.0 ⧺ codes " " ⧺ encode_lower (id_in layers base.0) ⧺ newline
+abbrev pub merge_base_line : List Layer → Position → List ℕ
+merge_base_line layers base = codes "base " ⧺ decimal base.0 ⧺ codes " " ⧺ encode_lower (id_in layers base.0) ⧺ newline
 
 -- the lines of the bases, or that there is none
 abbrev pub bases_text : List Layer → List Position → List ℕ
 bases_text layers [] = codes "none" ⧺ newline
-bases_text layers (base ∷ bases) = flat_map (base_line layers) (base ∷ bases)
+bases_text layers (base ∷ bases) = flat_map (merge_base_line layers) (base ∷ bases)
 
 -- how many commits are on one side alone
 abbrev pub divergence_line : ℕ → ℕ → List ℕ

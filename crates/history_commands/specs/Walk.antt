@@ -9,8 +9,8 @@ use Rattle.graph_format.specs.Layer.{Layer}
 use Rattle.graph_format.specs.StoredHistory.{history_of}
 use Rattle.graph_format.specs.declared.Position.{Position}
 use Rattle.gix_commitgraph.specs.Graph.{graph_ids, total}
-use Rattle.graph_history.specs.Answer.{IsShortestWalk}
-use Rattle.graph_commands.specs.Refusal.{refusal_text, refusal_status}
+use Rattle.graph_history.specs.WalkAnswer.{IsShortestWalk}
+use Rattle.graph_commands.specs.RefusalLines.{refusal_text, refusal_status}
 use Rattle.graph_commands.specs.Text.{◌⧺◌, newline}
 use Rattle.graph_commands.specs.declared.refusal.Refusal.{Refusal}
 use Rattle.history_commands.specs.declared.question.Answer.{Answer}
@@ -32,11 +32,11 @@ abbrev pub id_line : List ℕ → List ℕ
 id_line id = encode_lower id ⧺ newline
 
 -- what is found: the line of each id on the walk
-abbrev pub found_text : Answer (Option (List (List ℕ))) → List ℕ
-found_text FirstUnknown = codes "unknown 1" ⧺ newline
-found_text SecondUnknown = codes "unknown 2" ⧺ newline
-found_text (Known (Some ids)) = flat_map id_line ids
-found_text (Known None) = codes "none" ⧺ newline
+abbrev pub walk_found_text : Answer (Option (List (List ℕ))) → List ℕ
+walk_found_text FirstUnknown = codes "unknown 1" ⧺ newline
+walk_found_text SecondUnknown = codes "unknown 2" ⧺ newline
+walk_found_text (Known (Some ids)) = flat_map id_line ids
+walk_found_text (Known None) = codes "none" ⧺ newline
 
 -- 0 for a walk, and 1 where there is none or an id is not there
 abbrev pub found_status : {A : Type 0} → Answer (Option A) → ℕ
@@ -45,7 +45,7 @@ found_status answer = 1
 
 -- the lines of what is found, or of a refusal
 abbrev pub walk_text : Result (Answer (Option (List (List ℕ)))) Refusal → List ℕ
-walk_text (Ok answer) = found_text answer
+walk_text (Ok answer) = walk_found_text answer
 walk_text (Err refusal) = refusal_text refusal ⧺ newline
 
 -- the status of what is found, and else that of the refusal
@@ -60,8 +60,8 @@ with_ids layers SecondUnknown = SecondUnknown
 with_ids layers (Known walk) = Known (option_map (λ steps. map (λ pos. id_in layers pos.0) steps.items) walk)
 
 -- each position is one of the graph's
-abbrev pub AreWithin : List Layer → Answer (Option (Vec Position Global)) → Type 0
-AreWithin layers FirstUnknown = ⊤
-AreWithin layers SecondUnknown = ⊤
-AreWithin layers (Known None) = ⊤
-AreWithin layers (Known (Some walk)) = All (λ pos. pos.0 < total layers) walk.items
+abbrev pub AreInGraph : List Layer → Answer (Option (Vec Position Global)) → Type 0
+AreInGraph layers FirstUnknown = ⊤
+AreInGraph layers SecondUnknown = ⊤
+AreInGraph layers (Known None) = ⊤
+AreInGraph layers (Known (Some walk)) = All (λ pos. pos.0 < total layers) walk.items

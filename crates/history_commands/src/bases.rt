@@ -8,16 +8,16 @@ ghost use Rattle.gix_hash_core.specs.Hexadecimal.{SpellsId};
 ghost use Rattle.gix_hash_core.specs.Oid.{oid_bytes};
 ghost use Rattle.gix_hash_core.specs.declared.object_id.IdError.{IdError};
 ghost use Rattle.gix_commitgraph.specs.Graph.{IsGraph, total};
-ghost use Rattle.graph_history.specs.Answer.{numbers_of};
-ghost use Rattle.graph_commands.specs.Answer.{WritesAnswer};
+ghost use Rattle.graph_history.specs.WalkAnswer.{numbers_of};
+ghost use Rattle.graph_commands.specs.WrittenAnswer.{WritesAnswer};
 ghost use Rattle.graph_commands.specs.Block.{with_block};
-ghost use Rattle.graph_commands.specs.Opening.{MayOpen};
+ghost use Rattle.graph_commands.specs.OpenerAnswer.{MayOpen};
 ghost use Rattle.graph_commands.specs.declared.refusal.Refusal.TheVariants.{Id, Walk};
-ghost use Rattle.history_commands.specs.MergeBases.{AreBasesWithin, IsAt, IsFirstUnknown};
+ghost use Rattle.history_commands.specs.MergeBases.{AreBasesWithin, IsIdAt, IsFirstUnknown};
 ghost use Rattle.history_commands.specs.MergeBases.{OnUnknown};
 ghost use Rattle.history_commands.specs.MergeBases.{MayBeAskedOfAll, MayCompare, MayFindOfAll};
 ghost use Rattle.history_commands.specs.MergeBases.{MayRefuseAll};
-ghost use Rattle.history_commands.specs.MergeBases.{SpellNotAll, bases_text, base_line};
+ghost use Rattle.history_commands.specs.MergeBases.{SpellNotAll, bases_text, merge_base_line};
 ghost use Rattle.history_commands.specs.MergeBases.{compared_text, compared_status};
 ghost use Rattle.history_commands.specs.MergeBases.{merge_base_text, merge_base_status};
 
@@ -186,7 +186,7 @@ fn compare_in(
 /// The positions of the commits with these ids, in a graph that was checked.
 fn find_all(alloc: Global, graph: &Checked<'_>, ids: &[ObjectId]) -> Result<Vec<Position>, NotFound>
     ensures found { IfOk result (λ found.
-        AllZip (IsAt graph.now) ids.now (numbers_of found.items)) }
+        AllZip (IsIdAt graph.now) ids.now (numbers_of found.items)) }
     ensures within { IfOk result (λ found. All (λ pos. pos.0 < total graph.now) found.items) }
     ensures unknown { IfErr result (OnUnknown (λ place. (place < length ids.now)
         × IsFirstUnknown graph.now ids.now place)) }
@@ -285,7 +285,7 @@ fn push_base<W: Write>(
 ) -> Result<(), WriteFailed>
     requires { base.0 < total graph.now }
     ensures { OnOk result (Appends (with_block (W.contents writer.old) block.old)
-        (with_block (W.contents writer.new) block.new) (base_line graph.now base)) }
+        (with_block (W.contents writer.new) block.new) (merge_base_line graph.now base)) }
 {
     block.push_text(writer, "base ")?;
     block.push_decimal(writer, base.0 as u64)?;

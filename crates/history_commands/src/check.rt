@@ -4,13 +4,13 @@ ghost use Rattle.std.specs.Prelude.{◌≡◌, Some, IfErr, IfOk, OnOk, Ok};
 ghost use Rattle.std.specs.BTreeMap.{IsOrdered};
 ghost use Rattle.std.specs.Io.KnownBytes.{Appends};
 ghost use Rattle.std.specs.Ordering.{nat_cmp};
-ghost use Rattle.graph_commands.specs.Answer.{WritesAnswer};
-ghost use Rattle.graph_commands.specs.Opening.{MayOpen};
+ghost use Rattle.graph_commands.specs.WrittenAnswer.{WritesAnswer};
+ghost use Rattle.graph_commands.specs.OpenerAnswer.{MayOpen};
 ghost use Rattle.history_commands.specs.Check.{AreDatesFound, AreFiltersFound, MayFindInAll};
 ghost use Rattle.history_commands.specs.Check.{MayRefuseDates, MayRefuseFilters};
 ghost use Rattle.history_commands.specs.Check.{MayRefuseToCheck, MayRefuseToStart};
 ghost use Rattle.history_commands.specs.Check.{check_text, check_status, commits_line};
-ghost use Rattle.history_commands.specs.Check.{found_text};
+ghost use Rattle.history_commands.specs.Check.{check_found_text};
 
 use gix_commitgraph::Graph;
 use gix_commitgraph::opening::open_in;
@@ -174,7 +174,7 @@ fn write_findings<W: Write>(
     filters: Option<u32>,
 ) -> Result<(), WriteFailed>
     ensures written { OnOk result (Appends (W.contents writer.old) (W.contents writer.new)
-        (found_text outcome.now dates filters)) }
+        (check_found_text outcome.now dates filters)) }
     ensures ascending { OnOk result (IsOrdered nat_cmp outcome.now.parent_counts) }
 {
     write_outcome(writer, outcome)?;

@@ -1,8 +1,8 @@
 //! A question about the commits with two ids.
 
 ghost use Rattle.std.specs.Prelude.{◌≡◌, IfErr, IfOk};
-ghost use Rattle.graph_commands.specs.Opening.{MayOpen};
-ghost use Rattle.history_commands.specs.Answer.{MayBeAsked, MayBeRefused};
+ghost use Rattle.graph_commands.specs.OpenerAnswer.{MayOpen};
+ghost use Rattle.history_commands.specs.Question.{MayBeAsked, MayBeRefused};
 
 use gix_commitgraph::opening::open_in;
 use gix_hash_core::ObjectId;

@@ -2,9 +2,9 @@
 
 ghost use Rattle.std.specs.Prelude.{◌≡◌, IfErr, IfOk};
 ghost use Rattle.gix_hash_core.specs.Oid.{oid_bytes};
-ghost use Rattle.graph_commands.specs.Answer.{WritesAnswer};
-ghost use Rattle.graph_commands.specs.Opening.{MayOpen};
-ghost use Rattle.history_commands.specs.Answer.{MayAnswer, MayFind};
+ghost use Rattle.graph_commands.specs.WrittenAnswer.{WritesAnswer};
+ghost use Rattle.graph_commands.specs.OpenerAnswer.{MayOpen};
+ghost use Rattle.history_commands.specs.Question.{MayAnswer, MayFindBoth};
 ghost use Rattle.history_commands.specs.IsAncestor.{IsTold, told_status, told_word};
 ghost use Rattle.history_commands.specs.IsAncestor.{is_ancestor_text, is_ancestor_status};
 
@@ -79,7 +79,7 @@ fn told_in(
     first: oid<'_>,
     second: oid<'_>,
 ) -> Result<Answer<bool>, Refusal>
-    ensures found { IfOk result (MayFind IsTold
+    ensures found { IfOk result (MayFindBoth IsTold
         graph.now (oid_bytes first.entry) (oid_bytes second.entry)) }
     ensures refused { IfErr result (λ refusal. refusal ≡ Refusal.Walk) }
 {

@@ -5,12 +5,12 @@ ghost use Rattle.std.specs.Io.KnownBytes.{Appends};
 ghost use Rattle.std.specs.List.{flat_map};
 ghost use Rattle.gix_hash_core.specs.Oid.{oid_bytes};
 ghost use Rattle.gix_commitgraph.specs.Graph.{IsGraph, total};
-ghost use Rattle.graph_commands.specs.Answer.{WritesAnswer};
+ghost use Rattle.graph_commands.specs.WrittenAnswer.{WritesAnswer};
 ghost use Rattle.graph_commands.specs.Block.{with_block};
-ghost use Rattle.graph_commands.specs.Opening.{MayOpen};
-ghost use Rattle.history_commands.specs.Answer.{MayAnswer, MayBeRefused, MayFind};
-ghost use Rattle.history_commands.specs.Walk.{IsWalkOfIds, AreWithin, with_ids};
-ghost use Rattle.history_commands.specs.Walk.{id_line, id_in, found_text, found_status};
+ghost use Rattle.graph_commands.specs.OpenerAnswer.{MayOpen};
+ghost use Rattle.history_commands.specs.Question.{MayAnswer, MayBeRefused, MayFindBoth};
+ghost use Rattle.history_commands.specs.Walk.{IsWalkOfIds, AreInGraph, with_ids};
+ghost use Rattle.history_commands.specs.Walk.{id_line, id_in, walk_found_text, found_status};
 ghost use Rattle.history_commands.specs.Walk.{walk_text, walk_status};
 
 use crate::question::{Answer, Question, ask};
@@ -75,7 +75,7 @@ fn prepare<T: Folder>(
         (MayOpen (T.tree folder.old) path.now (T.failure_count folder.old)
         (T.failure_count folder.new))
         (Ok (with_ids prepared.0.graph prepared.1))) }
-    ensures within { IfOk result (λ prepared. AreWithin prepared.0.graph prepared.1) }
+    ensures within { IfOk result (λ prepared. AreInGraph prepared.0.graph prepared.1) }
     ensures block { IfOk result (λ prepared. prepared.2 ≡ []) }
     ensures refused { IfErr result (MayBeRefused first.now second.now (folder.new ≡ folder.old)
         (MayOpen (T.tree folder.old) path.now (T.failure_count folder.old)
@@ -101,9 +101,9 @@ fn walk_in(
     second: oid<'_>,
 ) -> Result<Found, Refusal>
     requires { IsGraph graph.now }
-    ensures found { IfOk result (λ found. MayFind IsWalkOfIds
+    ensures found { IfOk result (λ found. MayFindBoth IsWalkOfIds
         graph.now (oid_bytes first.entry) (oid_bytes second.entry) (with_ids graph.now found)) }
-    ensures within { IfOk result (AreWithin graph.now) }
+    ensures within { IfOk result (AreInGraph graph.now) }
     ensures refused { IfErr result (λ refusal. refusal ≡ Refusal.Walk) }
 {
     let Some(first) = graph.find(first) else {
@@ -138,9 +138,9 @@ fn write_found<W: Write>(
     found: &Found,
 ) -> Result<(), WriteFailed>
     requires empty { block.old ≡ [] }
-    requires within { AreWithin graph.now found.now }
+    requires within { AreInGraph graph.now found.now }
     ensures { OnOk result (Appends (W.contents writer.old) (W.contents writer.new)
-        (found_text (with_ids graph.now found.now))) }
+        (walk_found_text (with_ids graph.now found.now))) }
 {
     match found {
         Answer::FirstUnknown => write_line(writer, "unknown 1"),
@@ -157,9 +157,9 @@ fn write_reached<W: Write>(
     reached: &Option<Vec<Position>>,
 ) -> Result<(), WriteFailed>
     requires empty { block.old ≡ [] }
-    requires within { AreWithin graph.now (Answer.Known reached.now) }
+    requires within { AreInGraph graph.now (Answer.Known reached.now) }
     ensures { OnOk result (Appends (W.contents writer.old) (W.contents writer.new)
-        (found_text (with_ids graph.now (Answer.Known reached.now)))) }
+        (walk_found_text (with_ids graph.now (Answer.Known reached.now)))) }
 {
     match reached {
         Some(walk) => write_ids(block, writer, graph, walk),

@@ -7,8 +7,8 @@ ghost use Rattle.graph_format.specs.StoredHistory.{history_of};
 ghost use Rattle.graph_walks.specs.Dates.{number_at, AreRight};
 ghost use Rattle.graph_layer.specs.Commit.{commit_layer, commit_record, commit_parents};
 ghost use Rattle.gix_commitgraph.specs.Graph.{IsGraph, start, stop, total};
-ghost use Rattle.graph_chunks.specs.StoredDates.{times_of};
-ghost use Rattle.graph_chunks.specs.Dates.{date_fault};
+ghost use Rattle.graph_chunks.specs.GraphStoredDates.{times_of};
+ghost use Rattle.graph_chunks.specs.GraphDates.{wrong_date};
 ghost use Rattle.graph_chunks.specs.Latest.{latest_of, AreLatest};
 ghost use Rattle.graph_chunks.specs.declared.dates.DatesError.TheVariants.{OutOfMemory};
 
@@ -44,13 +44,13 @@ fn check_layer(
     requires before { before ≡ start graph.now layer }
     requires dates { length dates.now ≡ total graph.now }
     requires small { (p : ℕ) → number_at dates.now p < 2 ^ 63 }
-    requires right { first_below (date_fault (history_of graph.now) (times_of graph.now) dates.now)
+    requires right { first_below (wrong_date (history_of graph.now) (times_of graph.now) dates.now)
         (start graph.now layer) ≡ None }
     ensures right { IfOk result (λ _.
-        first_below (date_fault (history_of graph.now) (times_of graph.now) dates.now)
+        first_below (wrong_date (history_of graph.now) (times_of graph.now) dates.now)
         (stop graph.now layer) ≡ None) }
     ensures fault { IfErr result (λ fault. fault ≢ OutOfMemory
-        → first_below (date_fault (history_of graph.now) (times_of graph.now) dates.now)
+        → first_below (wrong_date (history_of graph.now) (times_of graph.now) dates.now)
         (total graph.now) ≡ Some fault) }
 {
     let file = &graph.layers()[layer];
@@ -75,10 +75,10 @@ pub(super) fn check_dates(alloc: Global, graph: &Graph, dates: &[u64]) -> Result
     ensures right { IfOk result (λ _.
         AreRight (history_of graph.now) (times_of graph.now) dates.now) }
     ensures none { IfOk result (λ _.
-        first_below (date_fault (history_of graph.now) (times_of graph.now) dates.now)
+        first_below (wrong_date (history_of graph.now) (times_of graph.now) dates.now)
         (total graph.now) ≡ None) }
     ensures fault { IfErr result (λ fault. fault ≢ OutOfMemory
-        → first_below (date_fault (history_of graph.now) (times_of graph.now) dates.now)
+        → first_below (wrong_date (history_of graph.now) (times_of graph.now) dates.now)
         (total graph.now) ≡ Some fault) }
 {
     let _commits = graph.num_commits();

@@ -6,8 +6,8 @@ ghost use Rattle.std.specs.Prelude.{IfOk, IfErr};
 ghost use Rattle.corrected_dates.specs.StoredDates.{NamesOneOf};
 ghost use Rattle.corrected_dates.specs.declared.LayerDatesError.TheVariants as layer_error;
 ghost use Rattle.first_faults.specs.First.{first_below};
-ghost use Rattle.graph_chunks.specs.StoredDates.{HasDates, dates_in, dates_of, layer_refusal};
-ghost use Rattle.graph_chunks.specs.Dates.{in_graph, reading_fault};
+ghost use Rattle.graph_chunks.specs.GraphStoredDates.{HasDates, dates_in, dates_of, layer_refusal};
+ghost use Rattle.graph_chunks.specs.GraphDates.{in_graph, reading_fault};
 ghost use Rattle.graph_chunks.specs.declared.dates.DatesError.TheVariants as error;
 
 use crate::dates::DatesError;
@@ -38,7 +38,7 @@ pub(super) fn has_dates(graph: &Graph) -> bool
 }
 
 /// Puts the dates of a layer after those of the layers below it.
-#[tactic(auto, unfolding(crate::specs::StoredDates::dates_in, crate::specs::StoredDates::layer_refusal))]
+#[tactic(auto, unfolding(crate::specs::GraphStoredDates::dates_in, crate::specs::GraphStoredDates::layer_refusal))]
 fn read_layer(dates: &mut Vec<u64>, file: &File) -> Result<(), LayerDatesError>
     ensures dates { IfOk result (λ _. dates.new.items ≡ dates.old.items ++ dates_in file.now) }
     ensures small { IfOk result (λ _. All (λ date. date < 2 ^ 63) dates.old.items

@@ -55,11 +55,11 @@ pub struct Outcome {
 }
 
 impl Outcome {
-    ghost use Rattle.graph_layer.specs.Traverse.{IsCopy};
+    ghost use Rattle.graph_layer.specs.Traverse.{IsCopyOfLayer};
 
     /// An equal outcome. The error is that an allocation failed.
     pub fn try_clone(&self) -> Result<Outcome, AllocError>
-        ensures { IfOk result (IsCopy self.now) }
+        ensures { IfOk result (IsCopyOfLayer self.now) }
     {
         Ok(Outcome {
             parent_counts: self.parent_counts.clone()?,

@@ -1,5 +1,5 @@
 use Rattle.std.proofs.Common.{refl, ◌∙◌}
-use Rattle.graph_chunks.specs.Filters.{settings_in}
+use Rattle.graph_chunks.specs.GraphFilters.{settings_in}
 use Rattle.graph_chunks.proofs.GraphFilterLemmas.{names-layer, own-settings, own-filters, read-fault, read-differ, read-test}
 use Rattle.graph_chunks.proofs.filters.read_layer.Goals as goal
 

@@ -1,6 +1,6 @@
 use Rattle.std.proofs.Common.{inr, refl, ◌≡◌}
 use Rattle.std.proofs.lemmas.Result.{err_from_is_err_and}
-use Rattle.graph_commands.specs.Opening.{MayOpen}
+use Rattle.graph_commands.specs.OpenerAnswer.{MayOpen}
 use Rattle.graph_commands.proofs.AncestorAnswers.{relates}
 use Rattle.graph_commands.proofs.ancestor.ancestor.Goals as goal
 

@@ -1,6 +1,6 @@
 use Rattle.std.proofs.Common.{true}
 use Rattle.gix_commitgraph.specs.Distinct.{IsSoundWith}
-use Rattle.graph_commands.specs.Opening.{MayOpen}
+use Rattle.graph_commands.specs.OpenerAnswer.{MayOpen}
 use Rattle.graph_commands.proofs.CheckAnswers.{writes_check, writes_unopened}
 use Rattle.graph_commands.proofs.run.run_distinct.Goals as goal
 

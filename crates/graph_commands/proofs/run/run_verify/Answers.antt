@@ -1,6 +1,6 @@
 use Rattle.std.proofs.Common.{false}
 use Rattle.gix_commitgraph.specs.Sound.{Sound}
-use Rattle.graph_commands.specs.Opening.{MayOpen}
+use Rattle.graph_commands.specs.OpenerAnswer.{MayOpen}
 use Rattle.graph_commands.proofs.CheckAnswers.{sound-plain, writes_check, writes_unopened}
 use Rattle.graph_commands.proofs.run.run_verify.Goals as goal
 

@@ -1,7 +1,7 @@
 use Rattle.std.proofs.Common.{◌≡◌, ◌<◌, ℕ, List, ◌∷◌, [], length, sym, ap, subst, eqb-true, arith}
 use Rattle.graph_format.specs.StoredHistory.{history_of}
-use Rattle.graph_history.specs.Answer.{IsShortestWalk, IsAtOrAbove, numbers_of}
-use Rattle.graph_history.specs.Counts.{AtLeast}
+use Rattle.graph_history.specs.WalkAnswer.{IsShortestWalk, IsAtOrAbove, numbers_of}
+use Rattle.graph_history.specs.Cardinality.{AtLeast}
 use Rattle.graph_history.proofs.KnownAnswerLemmas.{one_is_shortest, one_is_visited, none_is_visited, none_is_above}
 use Rattle.graph_history.proofs.searcher.walk_between.Goals as goal
 

@@ -26,12 +26,12 @@ impl Tally {
     ghost use Rattle.graph_walks.specs.History.{Node};
     ghost use Rattle.graph_layer.specs.Commit.{commit_layer, commit_pos, commit_parents};
     ghost use Rattle.graph_format.specs.StoredHistory.{layer_history};
-    ghost use Rattle.graph_layer.specs.Tallies.{Tallies};
-    ghost use Rattle.graph_layer.specs.Traverse.{Summarizes};
+    ghost use Rattle.graph_layer.specs.LayerTallies.{LayerTallies};
+    ghost use Rattle.graph_layer.specs.Traverse.{SummarizesLayer};
 
     /// The statistics of no commits.
     pub(super) fn new(alloc: Global) -> Tally
-        ensures { Tallies [] result }
+        ensures { LayerTallies [] result }
     {
         Tally {
             max_generation: 0,
@@ -47,11 +47,11 @@ impl Tally {
         requires small { commit_pos commit.now + 1 < 2 ^ 32 }
         requires record { commit_pos commit.now < length (commit_layer commit.now).records }
         requires parents { parents ≡ length (commit_parents commit.now).positions }
-        requires before { Tallies
+        requires before { LayerTallies
             (take (commit_pos commit.now) (layer_history (commit_layer commit.now))) self.old }
         ensures { OnOk result
-            (Tallies (take (commit_pos commit.now + 1) (layer_history (commit_layer commit.now)))
-            self.new) }
+            (LayerTallies
+            (take (commit_pos commit.now + 1) (layer_history (commit_layer commit.now))) self.new) }
     {
         self.parent_counts.add(parents)?;
         let generation = commit.generation();
@@ -69,7 +69,7 @@ impl Tally {
     /// The statistics as an outcome, once all commits are added.
     pub(super) fn outcome(self, alloc: Global) -> Result<Outcome, AllocError>
         ensures { IfOk result (λ outcome.
-            (seen : List Node) → Tallies seen self → Summarizes seen outcome) }
+            (seen : List Node) → LayerTallies seen self → SummarizesLayer seen outcome) }
     {
         Ok(Outcome {
             max_generation: self.max_generation,

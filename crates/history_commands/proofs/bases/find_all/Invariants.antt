@@ -3,13 +3,13 @@ use Rattle.std.proofs.Common.{◌≡◌, ◌<◌, All, take}
 use Rattle.std.specs.List.{AllZip}
 use Rattle.graph_format.specs.declared.Position.{Position}
 use Rattle.gix_commitgraph.specs.Graph.{total}
-use Rattle.graph_history.specs.Answer.{numbers_of}
-use Rattle.history_commands.specs.MergeBases.{IsAt}
+use Rattle.graph_history.specs.WalkAnswer.{numbers_of}
+use Rattle.history_commands.specs.MergeBases.{IsIdAt}
 use Rattle.history_commands.proofs.bases.find_all.Given as goal
 
 abbrev pub invariant-loop-id : goal.invariant-loop-id
 invariant-loop-id l = record {
   place : l.place ≡ l.id-index;
-  found : AllZip (IsAt l.graph) (take l.id-index l.ids) (numbers_of l.found.items);
+  found : AllZip (IsIdAt l.graph) (take l.id-index l.ids) (numbers_of l.found.items);
   within : All (λ (pos : Position). pos.0 < total l.graph) l.found.items;
 }

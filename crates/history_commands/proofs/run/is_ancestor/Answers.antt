@@ -1,6 +1,6 @@
 -- What is found in the graph of the question is the answer.
 use Rattle.std.proofs.Common.{◌≡◌}
-use Rattle.graph_commands.specs.Opening.{MayOpen}
+use Rattle.graph_commands.specs.OpenerAnswer.{MayOpen}
 use Rattle.history_commands.specs.IsAncestor.{IsTold}
 use Rattle.history_commands.proofs.AskLemmas.{answers}
 use Rattle.history_commands.proofs.run.is_ancestor.Goals as goal

@@ -5,8 +5,8 @@ use Rattle.graph_format.specs.Layer.{Layer}
 use Rattle.graph_format.specs.StoredHistory.{history_of}
 use Rattle.gix_commitgraph.specs.Graph.{start}
 use Rattle.gix_commitgraph.proofs.layers.LayerListLemmas.{start-none}
-use Rattle.graph_chunks.specs.StoredDates.{times_of}
-use Rattle.graph_chunks.specs.Dates.{date_fault}
+use Rattle.graph_chunks.specs.GraphStoredDates.{times_of}
+use Rattle.graph_chunks.specs.GraphDates.{wrong_date}
 use Rattle.graph_chunks.proofs.StoredDateLemmas.{layer-fits}
 use Rattle.graph_chunks.proofs.DateCheckLemmas.{dates-right, none_found, stop-is}
 use Rattle.graph_chunks.proofs.dates.check.check_dates.Goals as goal
@@ -15,7 +15,7 @@ pub loop-layer-init : goal.loop-layer-init
 loop-layer-init c = record {
   counted = sym (start-none c.args.graph.now);
   right =
-      let fault = date_fault (history_of c.args.graph.now) (times_of c.args.graph.now) c.args.dates.now in
+      let fault = wrong_date (history_of c.args.graph.now) (times_of c.args.graph.now) c.args.dates.now in
       subst (λ (n : ℕ). first_below fault n ≡ None) (sym (start-none c.args.graph.now)) (first_below-none fault);
 }
 

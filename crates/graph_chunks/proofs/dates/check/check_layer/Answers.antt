@@ -2,8 +2,8 @@ use Rattle.std.proofs.Common.{◌≡◌, ◌+◌, ℕ, length, None, ap, ◌∙�
 use Rattle.first_faults.specs.First.{first_below}
 use Rattle.graph_walks.specs.Dates.{number_at}
 use Rattle.graph_format.specs.StoredHistory.{history_of}
-use Rattle.graph_chunks.specs.StoredDates.{times_of}
-use Rattle.graph_chunks.specs.Dates.{date_fault}
+use Rattle.graph_chunks.specs.GraphStoredDates.{times_of}
+use Rattle.graph_chunks.specs.GraphDates.{wrong_date}
 use Rattle.graph_chunks.proofs.DateCheckLemmas.{date-fine, date-found, is_place, stop-is, expected-of}
 use Rattle.graph_chunks.proofs.dates.check.check_layer.Goals as goal
 
@@ -49,7 +49,7 @@ loop-place-preserved c =
     c.expected_date-expected.result c.index-layers-layer.result c.commit_at-commit.result c.requires.graph.opened at.commit
     c.commit_at-commit.ensures.layer c.commit_at-commit.ensures.pos c.expected_date-expected.ensures in
     let next : c.args.before + c.loop-place.place + 1 ≡ c.args.before + (c.loop-place.place + 1) = omega arith in
-    let fault = date_fault (history_of c.args.graph.now) (times_of c.args.graph.now) c.args.dates.now in
+    let fault = wrong_date (history_of c.args.graph.now) (times_of c.args.graph.now) c.args.dates.now in
     subst (λ (n : ℕ). first_below fault n ≡ None)
     next
     (date-fine c.args.graph.now c.args.dates.now (c.args.before + c.loop-place.place) c.loop-place.invariant
@@ -62,6 +62,6 @@ returns-clause-right c =
     c.requires.layer c.requires.before c.index-layers-layer.is in
     let all : c.loop-place.place ≡ length c.index-layers-layer.result.ids =
     omega (arith, c.loop-place-test.false, c.loop-place.auto.place-end, c.num_commits-place-end.ensures.ids) in
-    let fault = date_fault (history_of c.args.graph.now) (times_of c.args.graph.now) c.args.dates.now in
+    let fault = wrong_date (history_of c.args.graph.now) (times_of c.args.graph.now) c.args.dates.now in
     subst (λ (n : ℕ). first_below fault n ≡ None)
     (ap (λ (n : ℕ). c.args.before + n) all ∙ end) c.loop-place.invariant

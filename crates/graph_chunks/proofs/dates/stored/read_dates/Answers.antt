@@ -1,7 +1,7 @@
 use Rattle.std.proofs.Common.{◌<◌, ◌++◌, ℕ, List, length, sym, ap, ◌∙◌, arith}
 use Rattle.graph_format.specs.Layer.{Layer}
 use Rattle.gix_commitgraph.proofs.layers.LayerListLemmas.{start-none}
-use Rattle.graph_chunks.specs.StoredDates.{dates_in, layer_refusal}
+use Rattle.graph_chunks.specs.GraphStoredDates.{dates_in, layer_refusal}
 use Rattle.graph_chunks.proofs.StoredDateLemmas.{layer-fits, layer-next, read-more, reading-none, reading-fine}
 use Rattle.graph_chunks.proofs.dates.stored.read_dates.Goals as goal
 

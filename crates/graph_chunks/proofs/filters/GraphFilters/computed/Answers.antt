@@ -1,5 +1,5 @@
 use Rattle.std.proofs.Common.{◌≤◌, ◌≡◌, ◌+◌, ℕ, length, sym, ap, ◌∙◌, arith, rules}
-use Rattle.graph_chunks.specs.Filters.{FiltersOfGraph}
+use Rattle.graph_chunks.specs.GraphFilters.{FiltersOfGraph}
 use Rattle.graph_chunks.proofs.GraphFilterLemmas.{length-filters, computed-more, computed-no_more, computed-all}
 use Rattle.graph_chunks.proofs.filters.GraphFilters.computed.Goals.{then-not-is_empty, else-not-is_empty}
 use Rattle.graph_chunks.proofs.filters.GraphFilters.computed.Goals as goal

@@ -1,6 +1,6 @@
 -- So many of the filters so far are computed.
 use Rattle.std.proofs.Common.{◌≡◌, ◌≤◌, count_by, take}
-use Rattle.graph_chunks.specs.Filters.{is_computed}
+use Rattle.graph_chunks.specs.GraphFilters.{is_computed}
 use Rattle.graph_chunks.proofs.filters.GraphFilters.computed.Given as goal
 
 abbrev pub invariant-loop-pos : goal.invariant-loop-pos

@@ -1,5 +1,5 @@
 use Rattle.std.proofs.Common.{length, ap, arith}
-use Rattle.graph_chunks.specs.Filters.{FiltersOfGraph}
+use Rattle.graph_chunks.specs.GraphFilters.{FiltersOfGraph}
 use Rattle.graph_chunks.proofs.GraphFilterLemmas.{is_found, length-filters}
 use Rattle.graph_chunks.proofs.filters.GraphFilters.layer_of.Goals as goal
 

@@ -3,7 +3,7 @@ use Rattle.std.specs.Option.{option_or}
 use Rattle.first_faults.proofs.FirstLemmas.{first_below-none, first_below-none_more}
 use Rattle.graph_format.specs.Layer.{Layer}
 use Rattle.gix_commitgraph.proofs.layers.LayerListLemmas.{start-none, start-more, counted-fits}
-use Rattle.graph_chunks.specs.Filters.{filters_fault, settings_of, settings_in}
+use Rattle.graph_chunks.specs.GraphFilters.{filters_fault, settings_of, settings_in}
 use Rattle.graph_chunks.specs.KeptFilters.{AreKept}
 use Rattle.graph_chunks.specs.declared.filters.FilterSettings.{FilterSettings}
 use Rattle.graph_chunks.specs.declared.filters.LayerFilters.{LayerFilters}

@@ -2,7 +2,7 @@
 use Rattle.std.proofs.Common.{◌≡◌, None, take}
 use Rattle.first_faults.specs.First.{first_below}
 use Rattle.gix_commitgraph.specs.Graph.{start}
-use Rattle.graph_chunks.specs.Filters.{filters_fault, settings_of}
+use Rattle.graph_chunks.specs.GraphFilters.{filters_fault, settings_of}
 use Rattle.graph_chunks.specs.KeptFilters.{AreKept}
 use Rattle.graph_chunks.proofs.filters.GraphFilters.of_graph.Given as goal
 

@@ -1,6 +1,6 @@
 use Rattle.std.proofs.Common.{◌∙◌, ⊎_elim}
 use Rattle.graph_format.specs.StoredHistory.{history_of}
-use Rattle.graph_history.specs.Answer.{numbers_of}
+use Rattle.graph_history.specs.WalkAnswer.{numbers_of}
 use Rattle.graph_history.proofs.PaintLemmas.{grows_trans}
 use Rattle.graph_history.proofs.PassLemmas.{spread_ends}
 use Rattle.graph_history.proofs.painting.Painting.visit.Goals as goal

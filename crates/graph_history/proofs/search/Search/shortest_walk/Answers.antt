@@ -3,7 +3,7 @@ use Rattle.std.proofs.lemmas.Bool.{false≢true}
 use Rattle.std.proofs.lemmas.List.{length-map}
 use Rattle.graph_format.specs.StoredHistory.{history_of}
 use Rattle.graph_format.specs.declared.Position.{Position}
-use Rattle.graph_history.specs.Answer.{numbers_of}
+use Rattle.graph_history.specs.WalkAnswer.{numbers_of}
 use Rattle.graph_history.specs.Queue.{commit_in}
 use Rattle.graph_history.specs.Search.{queued_by}
 use Rattle.graph_history.proofs.ShortestWalkLemmas.{depth_within}

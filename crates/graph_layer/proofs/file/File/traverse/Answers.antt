@@ -1,7 +1,7 @@
 use Rattle.std.proofs.Common.{◌≡◌, refl, ◌+◌, ◌<◌, ◌≤◌, length, take, arith}
 use Rattle.std.proofs.lemmas.Result.{err_from_is_err_and}
 use Rattle.graph_format.specs.StoredHistory.{layer_history}
-use Rattle.graph_layer.specs.Tallies.{Tallies}
+use Rattle.graph_layer.specs.LayerTallies.{LayerTallies}
 use Rattle.graph_layer.proofs.TraverseLemmas.{reached_first, reached_next, stops_at_commit, said_there, stands_there, few_there}
 use Rattle.graph_layer.proofs.TraverseLemmas.{reached_end}
 use Rattle.graph_layer.proofs.LayerStatisticsLemmas.{stats_of_all}
@@ -68,7 +68,7 @@ loop-number-preserved g c =
       reached =
           reached_next g.F.FnMut c.args.self.now c.args.processor.now commit c.loop-number.number at.layer at.pos inside _ _
           c.loop-number.invariant.reached c.in_ok-parents.ensures.agrees;
-      tally = said_there commit at.layer at.pos (λ layer pos. Tallies (take (pos + 1) (layer_history layer)) c.add.new.self)
+      tally = said_there commit at.layer at.pos (λ layer pos. LayerTallies (take (pos + 1) (layer_history layer)) c.add.new.self)
           c.in_ok-add.ensures;
     }
 

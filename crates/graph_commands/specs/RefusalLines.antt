@@ -10,7 +10,7 @@ use Rattle.gix_commitgraph.specs.declared.verify.VerifyError.{VerifyError}
 use Rattle.gix_commitgraph.specs.declared.verify.VerifyError.TheVariants as check
 use Rattle.graph_commands.specs.declared.refusal.Refusal.{Refusal}
 use Rattle.graph_commands.specs.declared.refusal.Refusal.TheVariants.{Id, Read, File, Open, Verify, Check, Walk}
-use Rattle.graph_commands.specs.Numbers.{id_number, read_number}
+use Rattle.graph_commands.specs.InputErrorNumbers.{id_number, read_number}
 use Rattle.graph_format.specs.ErrorNumbers.{chunk_number, commit_number, file_number, graph_number, parent_number}
 use Rattle.graph_commands.specs.Text.{◌⧺◌}
 
@@ -36,18 +36,18 @@ fault_text FileName = codes "2"
 fault_text (Fan byte) = codes "3 byte " ⧺ decimal byte
 
 -- a graph that fails its check. The processors of the program refuse no commit, so that the line of such a refusal never comes
-abbrev pub verify_text : {E : Type 0} → VerifyError E → List ℕ
-verify_text check.TooManyFiles = codes "1"
-verify_text (check.BaseCount layer) = codes "2 layer " ⧺ decimal layer
-verify_text (check.BaseId layer index) = codes "3 layer " ⧺ decimal layer ⧺ codes " index " ⧺ decimal index
-verify_text (check.Layer layer fault) = codes "4 layer " ⧺ decimal layer ⧺ codes " fault " ⧺ fault_text fault
-verify_text (check.Commit pos fault) = codes "5 position " ⧺ decimal pos.0 ⧺ codes " fault " ⧺ decimal (commit_number fault)
-verify_text (check.Parent pos error) = codes "6 position " ⧺ decimal pos.0 ⧺ codes " error " ⧺ decimal (parent_number error)
-verify_text (check.ParentOutOfRange pos parent) = codes "7 position " ⧺ decimal pos.0 ⧺ codes " parent " ⧺ decimal parent.0
-verify_text (check.Generation pos expected) = codes "8 position " ⧺ decimal pos.0 ⧺ codes " expected " ⧺ decimal expected
-verify_text (check.Processor pos error) = codes "9 position " ⧺ decimal pos.0
-verify_text check.OutOfMemory = codes "10"
-verify_text (check.DuplicateId pos earlier) = codes "11 position " ⧺ decimal pos.0 ⧺ codes " earlier " ⧺ decimal earlier.0
+abbrev pub verify_error_text : {E : Type 0} → VerifyError E → List ℕ
+verify_error_text check.TooManyFiles = codes "1"
+verify_error_text (check.BaseCount layer) = codes "2 layer " ⧺ decimal layer
+verify_error_text (check.BaseId layer index) = codes "3 layer " ⧺ decimal layer ⧺ codes " index " ⧺ decimal index
+verify_error_text (check.Layer layer fault) = codes "4 layer " ⧺ decimal layer ⧺ codes " fault " ⧺ fault_text fault
+verify_error_text (check.Commit pos fault) = codes "5 position " ⧺ decimal pos.0 ⧺ codes " fault " ⧺ decimal (commit_number fault)
+verify_error_text (check.Parent pos error) = codes "6 position " ⧺ decimal pos.0 ⧺ codes " error " ⧺ decimal (parent_number error)
+verify_error_text (check.ParentOutOfRange pos parent) = codes "7 position " ⧺ decimal pos.0 ⧺ codes " parent " ⧺ decimal parent.0
+verify_error_text (check.Generation pos expected) = codes "8 position " ⧺ decimal pos.0 ⧺ codes " expected " ⧺ decimal expected
+verify_error_text (check.Processor pos error) = codes "9 position " ⧺ decimal pos.0
+verify_error_text check.OutOfMemory = codes "10"
+verify_error_text (check.DuplicateId pos earlier) = codes "11 position " ⧺ decimal pos.0 ⧺ codes " earlier " ⧺ decimal earlier.0
 
 -- why a command was refused
 abbrev pub refusal_text : Refusal → List ℕ
@@ -55,8 +55,8 @@ refusal_text (Id error) = codes "refused id " ⧺ decimal (id_number error)
 refusal_text (Read error) = codes "refused read " ⧺ decimal (read_number error)
 refusal_text (File error) = codes "refused " ⧺ file_text error
 refusal_text (Open error) = codes "refused open " ⧺ open_text error
-refusal_text (Verify error) = codes "refused verify " ⧺ verify_text error
-refusal_text (Check error) = codes "refused verify " ⧺ verify_text error
+refusal_text (Verify error) = codes "refused verify " ⧺ verify_error_text error
+refusal_text (Check error) = codes "refused verify " ⧺ verify_error_text error
 refusal_text Walk = codes "refused walk"
 
 -- 2 for a text that is no id, and 1 for what is wrong with what was read

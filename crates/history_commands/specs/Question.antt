@@ -13,11 +13,11 @@ use Rattle.history_commands.specs.declared.question.Answer.TheVariants.{FirstUnk
 
 -- what may be found of two ids in a graph: the first of them that is not there; else what is so of the least positions where
 -- they are
-abbrev pub MayFind : {A : Type 0} → (List Layer → ℕ → ℕ → A → Type 0) → List Layer → List ℕ → List ℕ → Answer A → Type 0
-MayFind IsSo layers first second FirstUnknown = scan (graph_ids layers) first ≡ None
-MayFind IsSo layers first second SecondUnknown =
+abbrev pub MayFindBoth : {A : Type 0} → (List Layer → ℕ → ℕ → A → Type 0) → List Layer → List ℕ → List ℕ → Answer A → Type 0
+MayFindBoth IsSo layers first second FirstUnknown = scan (graph_ids layers) first ≡ None
+MayFindBoth IsSo layers first second SecondUnknown =
     (p : ℕ) × (scan (graph_ids layers) first ≡ Some p) × (scan (graph_ids layers) second ≡ None)
-MayFind IsSo layers first second (Known answer) =
+MayFindBoth IsSo layers first second (Known answer) =
     (p q : ℕ) × (scan (graph_ids layers) first ≡ Some p) × (scan (graph_ids layers) second ≡ Some q) × IsSo layers p q answer
 
 -- the texts spell these ids, and the graph of these layers, which the opener may answer, is right
@@ -34,5 +34,5 @@ MayBeRefused first second IsLeftAlone MayOpen refusal = MayRelate first second I
 abbrev pub MayAnswer : {A : Type 0} → (List Layer → ℕ → ℕ → A → Type 0) → List ℕ → List ℕ → Type 0
     → (Result (List Layer) OpenError → Type 0) → Result (Answer A) Refusal → Type 0
 MayAnswer IsSo first second IsLeftAlone MayOpen (Ok answer) =
-    (a b : List ℕ) × (layers : List Layer) × MayBeAsked first second MayOpen layers a b × MayFind IsSo layers a b answer
+    (a b : List ℕ) × (layers : List Layer) × MayBeAsked first second MayOpen layers a b × MayFindBoth IsSo layers a b answer
 MayAnswer IsSo first second IsLeftAlone MayOpen (Err refusal) = MayBeRefused first second IsLeftAlone MayOpen refusal

@@ -6,7 +6,7 @@ use Rattle.graph_layer.specs.ParentCounts.{counted}
 use Rattle.graph_layer.specs.declared.file.verify.tally.Tally.{Tally}
 
 -- The statistics of the commits so far.
-pub record Tallies (seen : List Node) (tally : Tally) : Type 0 where
+pub record LayerTallies (seen : List Node) (tally : Tally) : Type 0 where
   pub max_generation : tally.max_generation ≡ greatest (generations seen)
   pub min_generation : tally.min_generation ≡ least (generations seen)
   pub max_parents : tally.max_parents ≡ greatest (parent_numbers seen)

@@ -10,7 +10,7 @@ use Rattle.graph_format.specs.Layer.{Layer}
 use Rattle.graph_format.specs.Parents.{position_of}
 use Rattle.graph_format.specs.StoredHistory.{history_of}
 use Rattle.gix_commitgraph.specs.Graph.{start, total}
-use Rattle.graph_chunks.specs.StoredDates.{layer_refusal, times_of, dates_of}
+use Rattle.graph_chunks.specs.GraphStoredDates.{layer_refusal, times_of, dates_of}
 use Rattle.graph_chunks.specs.declared.dates.DatesError.{DatesError}
 use Rattle.graph_chunks.specs.declared.dates.DatesError.TheVariants as error
 
@@ -27,8 +27,8 @@ abbrev pub reading_fault : List Layer → ℕ → Option DatesError
 reading_fault layers i = option_map (in_graph i (start layers i)) (option_and_then layer_refusal (slice_get layers i))
 
 -- what is wrong with the date of commit p
-abbrev pub date_fault : List Node → List ℕ → List ℕ → ℕ → Option DatesError
-date_fault history times dates p =
+abbrev pub wrong_date : List Node → List ℕ → List ℕ → ℕ → Option DatesError
+wrong_date history times dates p =
     error.Date (position_of p) (expected_date history times dates p)
     when not (number_at dates p == expected_date history times dates p)
 
@@ -36,4 +36,4 @@ date_fault history times dates p =
 unfoldable pub graph_dates_refusal : List Layer → Option DatesError
 graph_dates_refusal layers =
     first_below (reading_fault layers) (length layers)
-    otherwise first_below (date_fault (history_of layers) (times_of layers) (dates_of layers)) (total layers)
+    otherwise first_below (wrong_date (history_of layers) (times_of layers) (dates_of layers)) (total layers)
