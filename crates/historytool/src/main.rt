@@ -45,7 +45,7 @@ const HELP: &str = "usage: historytool is-ancestor PATH HEX HEX | walk PATH HEX 
     1 for any other answer, and 2 for wrong words, a text that is no id or a\n\
     failed write.";
 
-const VERSION: &str = "historytool 0.1.0, proved with rattle-kit-13b logic dac8208d650f15bf";
+const VERSION: &str = "historytool 0.1.0, proved with rattle-kit-13f logic dac8208d650f15bf";
 
 const WRITE_FAILED: &str = "historytool: the answer could not be written";
 

@@ -95,7 +95,7 @@ fn other_words_are_no_question(rt: HostRuntime) -> Result<(), Fail> {
     Ok(())
 }
 
-const VERSION_LINE: &str = "historytool 0.1.0, proved with rattle-kit-13b logic dac8208d650f15bf\n";
+const VERSION_LINE: &str = "historytool 0.1.0, proved with rattle-kit-13f logic dac8208d650f15bf\n";
 
 #[test]
 fn tells_its_version_and_its_help(rt: HostRuntime) -> Result<(), Fail> {
