@@ -6,8 +6,8 @@ use Rattle.graph_format.specs.Layer.{Layer}
 use Rattle.graph_format.specs.Parents.{DecodedParents}
 use Rattle.graph_format.specs.StoredHistory.{history_of}
 use Rattle.graph_layer.specs.ListedParents.{AreListed}
-use Rattle.gix_commitgraph.specs.declared.verify.layer.LayerSpan.{LayerSpan}
-use Rattle.gix_commitgraph.specs.declared.verify.commit.ParentTally.{ParentTally}
+use Rattle.gix_commitgraph.specs.declared.verify.span.LayerSpan.{LayerSpan}
+use Rattle.gix_commitgraph.specs.declared.verify.parents.ParentTally.{ParentTally}
 
 -- These parents are decoded without a fault, and stand before `stop`.
 pub record AreWithin (stop : ℕ) (parents : DecodedParents) : Type 0 where

@@ -7,9 +7,9 @@ use Rattle.graph_walks.specs.declared.TheConstants.{GENERATION_NUMBER_MAX}
 use Rattle.graph_format.specs.Layer.{Layer, record_at}
 use Rattle.graph_format.specs.Parents.{DecodedParents, parents_of}
 use Rattle.graph_format.specs.StoredHistory.{history_of}
-use Rattle.gix_commitgraph.specs.declared.verify.layer.LayerSpan.{LayerSpan}
+use Rattle.gix_commitgraph.specs.declared.verify.span.LayerSpan.{LayerSpan}
 use Rattle.gix_commitgraph.specs.declared.verify.tally.Tally.{Tally}
-use Rattle.gix_commitgraph.specs.declared.verify.commit.ParentTally.{ParentTally}
+use Rattle.gix_commitgraph.specs.declared.verify.parents.ParentTally.{ParentTally}
 use Rattle.gix_commitgraph.specs.ListedTallies.{IsTally}
 
 -- The statistics of the commits so far.

@@ -17,6 +17,7 @@ ghost use Rattle.graph_layer.specs.OpenRefusals.{OutOfMemoryStandsAlone};
 mod by_path;
 mod chain;
 mod file;
+mod graph;
 mod info;
 mod path;
 

@@ -6,6 +6,8 @@ mod gather;
 mod ids;
 mod layer;
 mod lists;
+mod parents;
+mod span;
 mod tally;
 
 ghost use Rattle.std.specs.Prelude.{◌≤◌, All, IfOk, IsTrue, MatchResult, length, take};

@@ -22,7 +22,7 @@ use Rattle.graph_format.specs.declared.parents.ParentError.{ParentError}
 use Rattle.gix_commitgraph.specs.declared.verify.VerifyError.{VerifyError}
 use Rattle.gix_commitgraph.specs.declared.verify.VerifyOptions.{VerifyOptions}
 use Rattle.gix_commitgraph.specs.declared.verify.VerifyError.TheVariants as error
-use Rattle.gix_commitgraph.specs.declared.verify.layer.LayerSpan.{LayerSpan}
+use Rattle.gix_commitgraph.specs.declared.verify.span.LayerSpan.{LayerSpan}
 use Rattle.graph_format.proofs.PointLemmas.{Reaches, reached_start, reached_past_check, refused_at_check, reached_past_call}
 use Rattle.graph_format.proofs.PointLemmas.{stopped_at_call, passed}
 

@@ -9,7 +9,7 @@ use Rattle.graph_format.specs.Parents.{DecodedParents, no_parents, faulty, follo
 use Rattle.graph_format.specs.declared.Position.{Position}
 use Rattle.graph_format.specs.declared.parents.ParentError.{ParentError}
 use Rattle.gix_commitgraph.specs.ListedTallies.{AreWithin, tally_of, IsTally}
-use Rattle.gix_commitgraph.specs.declared.verify.commit.ParentTally.{ParentTally}
+use Rattle.gix_commitgraph.specs.declared.verify.parents.ParentTally.{ParentTally}
 
 -- one parent before others stands in the layer, and the others do
 within-more : (stop : ℕ) (parents : DecodedParents) (pos : Position) → AreWithin stop parents → pos.0 < stop

@@ -19,8 +19,8 @@ use Rattle.gix_commitgraph.specs.Verify.{item_refusal, parents_refusal}
 use Rattle.gix_commitgraph.specs.LayerSpans.{IsSpan, IsInSpan}
 use Rattle.gix_commitgraph.specs.ListedTallies.{AreWithin}
 use Rattle.gix_commitgraph.specs.Tallies.{ParentsTally, IsGathered, decoded_at}
-use Rattle.gix_commitgraph.specs.declared.verify.commit.ParentTally.{ParentTally}
-use Rattle.gix_commitgraph.specs.declared.verify.layer.LayerSpan.{LayerSpan}
+use Rattle.gix_commitgraph.specs.declared.verify.parents.ParentTally.{ParentTally}
+use Rattle.gix_commitgraph.specs.declared.verify.span.LayerSpan.{LayerSpan}
 use Rattle.gix_commitgraph.proofs.history.GraphHistoryLemmas.{parents-at}
 use Rattle.gix_commitgraph.proofs.layers.LayerSpanLemmas.{span-commit}
 use Rattle.gix_commitgraph.proofs.sound.ParentFaultFreeLemmas.{unrefused, known-unrefused}

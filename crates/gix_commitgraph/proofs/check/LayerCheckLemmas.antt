@@ -21,7 +21,7 @@ use Rattle.graph_layer.specs.declared.file.commit.Commit.{Commit}
 use Rattle.gix_commitgraph.specs.declared.verify.VerifyError.{VerifyError}
 use Rattle.gix_commitgraph.specs.declared.verify.VerifyOptions.{VerifyOptions}
 use Rattle.gix_commitgraph.specs.declared.verify.VerifyError.TheVariants as error
-use Rattle.gix_commitgraph.specs.declared.verify.layer.LayerSpan.{LayerSpan}
+use Rattle.gix_commitgraph.specs.declared.verify.span.LayerSpan.{LayerSpan}
 use Rattle.graph_format.proofs.PointLemmas.{Reaches, reached_start, reached_past_check, refused_at_check, passed}
 use Rattle.graph_format.proofs.PointLemmas.{reached_past_part, stops_in_part}
 use Rattle.graph_layer.proofs.ElementLemmas.{range-next}
@@ -48,7 +48,7 @@ pub record IsTurn (span : LayerSpan) (commit : Commit) (q p : ℕ) (rest : List 
 
 pub turn : (span : LayerSpan) (commit : Commit) (q p pos : ℕ) (left rest : List (Layer × ℕ))
     → left ≡ positions_from span.file.now q → left ≡ layer_and_position commit ∷ rest
-    → pos ≡ commit_pos commit → p ≡ span.first + pos → IsTurn span commit q p rest
+    → pos ≡ commit_pos commit → p ≡ span.start + pos → IsTurn span commit q p rest
 turn span commit q p pos left rest is taken is_pos is_p =
     let layer : Layer = span.file.now in
     ⊎_elim

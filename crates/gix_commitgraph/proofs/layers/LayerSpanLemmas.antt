@@ -13,7 +13,7 @@ use Rattle.graph_walks.specs.History.{generation_at, parents_at}
 use Rattle.graph_format.specs.StoredHistory.{history_of}
 use Rattle.gix_commitgraph.specs.LayerSpans.{IsSpan, IsInSpan}
 use Rattle.graph_layer.specs.declared.file.commit.Commit.{Commit}
-use Rattle.gix_commitgraph.specs.declared.verify.layer.LayerSpan.{LayerSpan}
+use Rattle.gix_commitgraph.specs.declared.verify.span.LayerSpan.{LayerSpan}
 use Rattle.gix_commitgraph.proofs.layers.LayerListLemmas.{size, start-more, start-fits, graph_commits-counted}
 use Rattle.gix_commitgraph.proofs.history.GraphHistoryLemmas.{generation-at, parents-at, take-history}
 use Rattle.gix_commitgraph.proofs.history.HistoryLemmas.{node_at}
@@ -21,8 +21,8 @@ use Rattle.graph_layer.proofs.ParentCountLemmas.{both-few}
 use Rattle.graph_layer.proofs.ParentItemLemmas.{numbers_of, numbers-parents}
 
 -- where a layer ends
-pub span-stop : (layers : List Layer) (span : LayerSpan) → IsSpan layers span → span.stop ≡ span.first + size span.file.now
-span-stop layers span is = omega (arith, is.first, is.stop, start-more layers span.layer span.file.now is.there)
+pub span-stop : (layers : List Layer) (span : LayerSpan) → IsSpan layers span → span.stop ≡ span.start + size span.file.now
+span-stop layers span is = omega (arith, is.start, is.stop, start-more layers span.layer span.file.now is.there)
 
 pub span-total : (layers : List Layer) (span : LayerSpan) → IsSpan layers span → span.stop ≤ total layers
 span-total layers span is = omega (arith, is.stop, start-fits layers (span.layer + 1))
@@ -34,7 +34,7 @@ span-commit layers span commit p is at =
     let below : commit_pos commit < size span.file.now =
     subst (λ (l : Layer). commit_pos commit < size l) at.layer commit.in_range in
     ap (slice_get (graph_commits layers)) at.at
-    ∙ graph_commits-counted layers span.layer span.first (commit_pos commit) span.file.now is.first is.there below
+    ∙ graph_commits-counted layers span.layer span.start (commit_pos commit) span.file.now is.start is.there below
     ∙ ap (λ (l : Layer). Some (l, commit_pos commit)) (sym at.layer)
 
 -- what is stored of a commit is what the history tells
@@ -73,9 +73,9 @@ numbers-few layers span commit p is at =
 
 -- the commits up to and with one
 pub take-next : (layers : List Layer) (span : LayerSpan) (commit : Commit) (q next p : ℕ) → IsSpan layers span
-    → InGraph layers p commit → p ≡ span.first + q → next ≡ q + 1
-    → take (span.first + next) (history_of layers)
-    ≡ take (span.first + q) (history_of layers) ++ node_at (layer_and_position commit) ∷ []
+    → InGraph layers p commit → p ≡ span.start + q → next ≡ q + 1
+    → take (span.start + next) (history_of layers)
+    ≡ take (span.start + q) (history_of layers) ++ node_at (layer_and_position commit) ∷ []
 take-next layers span commit q next p is here at more =
     ap (λ (n : ℕ). take n (history_of layers)) (omega arith)
     ∙ take-history layers p (commit_pos commit) (commit_layer commit) is.graph.opened here
@@ -83,11 +83,11 @@ take-next layers span commit q next p is here at more =
 
 -- how many commits stand before one
 pub take-fits : (layers : List Layer) (span : LayerSpan) (q : ℕ) → IsSpan layers span → q < size span.file.now
-    → length (take (span.first + q) (history_of layers)) + 1 < 2 ^ 32
+    → length (take (span.start + q) (history_of layers)) + 1 < 2 ^ 32
 take-fits layers span q is below =
     omega (
       arith,
-      length-take (span.first + q) (history_of layers),
+      length-take (span.start + q) (history_of layers),
       span-stop layers span is,
       span-total layers span is,
       is.graph.makes.few,

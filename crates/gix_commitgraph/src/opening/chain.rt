@@ -17,7 +17,7 @@ ghost use Rattle.gix_commitgraph.specs.Paths.{chain_path, layer_path};
 use crate::file::File;
 use crate::graph::Graph;
 use crate::opening::OpenError;
-use crate::opening::file::new_graph;
+use crate::opening::graph::new_graph;
 use crate::opening::path::{join, layer_path};
 use graph_folder::chain::Lines;
 use graph_folder::folder::Folder;

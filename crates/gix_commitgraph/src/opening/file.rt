@@ -1,16 +1,16 @@
 //! The opener of a file, as a graph of one layer.
 
-ghost use Rattle.std.specs.Prelude.{◌≡◌, IfOk, IfErr, IsErrOf, MatchResult};
+ghost use Rattle.std.specs.Prelude.{◌≡◌, IfOk, IfErr, MatchResult};
 ghost use Rattle.std.specs.Option.{ForSome};
 ghost use Rattle.gix_commitgraph.specs.Graph.{IsGraph};
-ghost use Rattle.gix_commitgraph.specs.OpenAlways.{IsFromFile, IsFileError, IsErrorOfLayers};
+ghost use Rattle.gix_commitgraph.specs.OpenAlways.{IsFromFile, IsFileError};
 ghost use Rattle.graph_layer.specs.OpenAnswer.{IsAsExpected, failures_after_opening};
-ghost use Rattle.gix_commitgraph.specs.Opening.{graph_of_layers, file_opened};
+ghost use Rattle.gix_commitgraph.specs.Opening.{file_opened};
 ghost use Rattle.graph_layer.specs.OpenRefusals.{OutOfMemoryStandsAlone};
 
-use crate::file::File;
 use crate::graph::Graph;
 use crate::opening::OpenError;
+use crate::opening::graph::new_graph;
 use graph_folder::folder::Folder;
 use graph_layer::opening::open_layer;
 use std::alloc::Global;
@@ -46,16 +46,4 @@ pub fn open_file_in<T: Folder>(
     let mut files = Vec::new(alloc);
     files.push(file)?;
     new_graph(alloc, files)
-}
-
-/// The graph of the layers.
-pub(super) fn new_graph(alloc: Global, files: Vec<File>) -> Result<Graph, OpenError>
-    ensures opens { IsAsExpected result (graph_of_layers files.items) }
-    ensures no_device { ¬ (IsErrOf result OpenError.Device) }
-    ensures layers { IfOk result (λ layers. layers ≡ files.items) }
-    ensures errors { IfErr result (IsErrorOfLayers files.items) }
-    ensures graph { IfOk result IsGraph }
-    ensures memory { IfErr result OutOfMemoryStandsAlone }
-{
-    Ok(Graph::new(alloc, files)?)
 }

@@ -8,9 +8,9 @@ ghost use Rattle.std.specs.Prelude.{◌≡◌, ◌+◌, ◌%◌, ◌<◌, length
 use crate::file;
 use crate::file::commit::ParentEdge;
 use crate::graph::Graph;
-use crate::verify::commit::ParentTally;
-use crate::verify::layer::LayerSpan;
 use crate::verify::lists::{ListedTally, NO_PARENTS};
+use crate::verify::parents::ParentTally;
+use crate::verify::span::LayerSpan;
 use graph_layer::check::parent_edges;
 
 /// For how many commits parents are gathered at a time.

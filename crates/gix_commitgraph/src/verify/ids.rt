@@ -7,7 +7,7 @@ ghost use Rattle.gix_hash_core.specs.Oid.{oid_bytes};
 use crate::Position;
 use crate::file::Commit;
 use crate::graph::Graph;
-use crate::verify::layer::LayerSpan;
+use crate::verify::span::LayerSpan;
 use crate::verify::{VerifyError, VerifyOptions};
 use gix_hash_core::oid;
 use graph_layer::check::{id_fault, tree_fault};

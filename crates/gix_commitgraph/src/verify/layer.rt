@@ -1,29 +1,17 @@
 //! The check of one layer of a graph.
 
-ghost use Rattle.std.specs.Prelude.{◌≡◌, ◌<◌, All, length, take, OnOk};
+ghost use Rattle.std.specs.Prelude.{◌≡◌, All, take, OnOk};
 ghost use Rattle.std.specs.Result.{result_err};
 
 use crate::Position;
-use crate::file::{Commit, File};
+use crate::file::Commit;
 use crate::graph::Graph;
 use crate::verify::gather::NOTHING;
+use crate::verify::span::LayerSpan;
 use crate::verify::tally::Tally;
 use crate::verify::{VerifyError, VerifyOptions};
 use graph_layer::check::{base_id_at, layer_fault};
 use std::alloc::Global;
-
-/// A layer of a graph, and the positions of its commits there.
-#[derive(Clone, Copy)]
-pub(super) struct LayerSpan<'a> {
-    pub(super) file: &'a File,
-    /// How many layers are below it.
-    pub(super) layer: usize,
-    /// The position of its first commit, and the one after its last.
-    pub(super) first: u32,
-    pub(super) stop: u32,
-    /// A position of the graph below which no two commits have one id.
-    pub(super) distinct: u32,
-}
 
 impl Graph {
     ghost use Rattle.graph_format.specs.StoredHistory.{history_of};
@@ -34,25 +22,6 @@ impl Graph {
     ghost use Rattle.gix_commitgraph.specs.Tallies.{Tallies};
     ghost use Rattle.gix_commitgraph.specs.GraphLaw.{IsOrdered};
     ghost use Rattle.gix_commitgraph.specs.LayerSpans.{IsSpan};
-    ghost use Rattle.gix_commitgraph.specs.Distinct.{AreDistinctBelow};
-
-    /// The layer of this number, with a position below which no two commits have one id.
-    pub(super) fn span_at(&self, layer: usize, distinct: u32) -> LayerSpan<'_>
-        requires layer { layer < length self.now }
-        requires distinct { AreDistinctBelow self.now distinct }
-        ensures span { IsSpan self.now result }
-        ensures layer { result.layer ≡ layer }
-    {
-        let file = &self.files[layer];
-        let first = self.starts[layer];
-        LayerSpan {
-            file,
-            layer,
-            first,
-            stop: first + file.num_commits(),
-            distinct,
-        }
-    }
 
     /// One layer: its base ids, the layer as a whole, and then each commit. Those below it have
     /// passed, so that their ids ascend under exact fans.
@@ -69,7 +38,7 @@ impl Graph {
         requires span { IsSpan self.now span }
         requires below { All IsOrdered (take span.layer self.now) }
         requires callable { MayBeCalled F.FnMut (InGraph self.now) }
-        requires tally { Tallies (take span.first (history_of self.now)) tally.old }
+        requires tally { Tallies (take span.start (history_of self.now)) tally.old }
         ensures agrees { Agrees (CalledOn F.FnMut (InGraph self.now))
             (layer_points options self.now span.entry.layer span.entry.file.now)
             processor.old processor.new cause_of result }
@@ -88,7 +57,7 @@ impl Graph {
         for commit in span.file.iter_commits() {
             let place = commit.position().0;
             let gathered = self.gathered(span, &tallies, place, &mut block);
-            let pos = Position(span.first + place);
+            let pos = Position(span.start + place);
             let parents = self.verify_commit(options, span, &commit, pos, gathered, processor)?;
             tally.add(commit.generation(), parents)?;
         }

@@ -7,8 +7,8 @@ ghost use Rattle.std.specs.Prelude.{◌≡◌, ◌<◌, IfSome, IfOk};
 use crate::Position;
 use crate::file::commit::ExtraEdge;
 use crate::graph::Graph;
-use crate::verify::commit::ParentTally;
-use crate::verify::layer::LayerSpan;
+use crate::verify::parents::ParentTally;
+use crate::verify::span::LayerSpan;
 use graph_layer::check::extra_edges;
 use std::alloc::{AllocError, Global};
 use std::marker::Model;
@@ -28,7 +28,7 @@ pub(super) struct ListedTally {
 
 impl Model for ListedTally {
     ghost use Rattle.std.specs.Prelude.{◌==◌, if◌then◌else◌, Option, Some, None};
-    ghost use Rattle.gix_commitgraph.specs.declared.verify.commit.ParentTally.{ParentTally};
+    ghost use Rattle.gix_commitgraph.specs.declared.verify.parents.ParentTally.{ParentTally};
 
     ghost Value = { Option ParentTally };
 

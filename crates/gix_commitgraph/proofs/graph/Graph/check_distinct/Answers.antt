@@ -22,7 +22,7 @@ returns-then-pos-span g c =
     let layer = c.args.span.file.now in
     let place = commit_pos c.args.commit.now in
     let is_p : c.args.pos.0 ≡ start layers c.args.span.layer + place =
-    omega (arith, c.requires.commit.at, c.requires.span.first) in
+    omega (arith, c.requires.commit.at, c.requires.span.start) in
     let within : place < size layer =
     subst (λ (l : Layer). place < size l) c.requires.commit.layer c.args.commit.now.in_range in
     let none =
@@ -33,7 +33,7 @@ returns-then-pos-span g c =
 pub returns-in-Some : goal.returns-in-Some
 returns-in-Some g c =
     let is_p : c.args.pos.0 ≡ start c.args.self.now c.args.span.layer + commit_pos c.args.commit.now =
-    omega (arith, c.requires.commit.at, c.requires.span.first) in
+    omega (arith, c.requires.commit.at, c.requires.span.start) in
     duplicate-is c.args.self.now c.args.span.layer c.args.span.file.now (commit_pos c.args.commit.now) c.args.pos.0
     (oid_bytes c.id.result) (Some c.in-Some.earlier.0)
     (id-told _ c.args.span.file.now _ _ c.requires.commit.layer c.id.ensures) is_p c.in-Some.ensures
@@ -41,7 +41,7 @@ returns-in-Some g c =
 pub returns-in-None : goal.returns-in-None
 returns-in-None g c =
     let is_p : c.args.pos.0 ≡ start c.args.self.now c.args.span.layer + commit_pos c.args.commit.now =
-    omega (arith, c.requires.commit.at, c.requires.span.first) in
+    omega (arith, c.requires.commit.at, c.requires.span.start) in
     duplicate-is c.args.self.now c.args.span.layer c.args.span.file.now (commit_pos c.args.commit.now) c.args.pos.0
     (oid_bytes c.id.result) None
     (id-told _ c.args.span.file.now _ _ c.requires.commit.layer c.id.ensures) is_p c.in-None.ensures

@@ -4,7 +4,7 @@ use Rattle.graph_format.specs.StoredHistory.{history_of}
 use Rattle.graph_format.specs.declared.parents.ExtraEdge.{ExtraEdge}
 use Rattle.graph_layer.proofs.EdgeListLemmas.{passed_none, passed_more, passed_few, passed_all, passed_nothing}
 use Rattle.gix_commitgraph.specs.ListedTallies.{IsTally}
-use Rattle.gix_commitgraph.specs.declared.verify.commit.ParentTally.{ParentTally}
+use Rattle.gix_commitgraph.specs.declared.verify.parents.ParentTally.{ParentTally}
 use Rattle.gix_commitgraph.proofs.layers.LayerSpanLemmas.{span-opened}
 use Rattle.gix_commitgraph.proofs.check.EdgeListLemmas.{nothing-tallied, no_parents_tallied, tallied_few}
 use Rattle.gix_commitgraph.proofs.graph.Graph.tally_lists.Goals as goal

@@ -37,14 +37,14 @@ loop-commit-init g c = record {
 pub gathered-gathered-requires-clause-within : goal.gathered-gathered-requires-clause-within
 gathered-gathered-requires-clause-within g c =
     let this =
-    turn c.args.span c.in-Some-commit.commit (length c.loop-commit.yielded) (c.args.span.first + c.position-place.result.0) _
+    turn c.args.span c.in-Some-commit.commit (length c.loop-commit.yielded) (c.args.span.start + c.position-place.result.0) _
     _ _ c.loop-commit.invariant.left c.in-Some-commit.ensures.steps c.position-place.ensures.value refl in
     omega (arith, c.position-place.ensures.value, this.pos, this.below)
 
 pub gathered-gathered-requires-clause-before : goal.gathered-gathered-requires-clause-before
 gathered-gathered-requires-clause-before g c =
     let this =
-    turn c.args.span c.in-Some-commit.commit (length c.loop-commit.yielded) (c.args.span.first + c.position-place.result.0) _
+    turn c.args.span c.in-Some-commit.commit (length c.loop-commit.yielded) (c.args.span.start + c.position-place.result.0) _
     _ _ c.loop-commit.invariant.left c.in-Some-commit.ensures.steps c.position-place.ensures.value refl in
     let place : c.position-place.result.0 ≡ length c.loop-commit.yielded =
     omega (arith, c.position-place.ensures.value, this.pos) in
@@ -53,14 +53,14 @@ gathered-gathered-requires-clause-before g c =
 pub overflow_add-pos : goal.overflow_add-pos
 overflow_add-pos g c =
     let this =
-    turn c.args.span c.in-Some-commit.commit (length c.loop-commit.yielded) (c.args.span.first + c.position-place.result.0) _
+    turn c.args.span c.in-Some-commit.commit (length c.loop-commit.yielded) (c.args.span.start + c.position-place.result.0) _
     _ _ c.loop-commit.invariant.left c.in-Some-commit.ensures.steps c.position-place.ensures.value refl in
     omega (arith, this.below, this.pos, c.position-place.ensures.value, span-stop c.args.self.now c.args.span c.requires.span)
 
 pub verify_commit-requires : goal.verify_commit-requires
 verify_commit-requires g c κs =
     let this =
-    turn c.args.span c.in-Some-commit.commit (length c.loop-commit.yielded) (c.args.span.first + c.position-place.result.0) _
+    turn c.args.span c.in-Some-commit.commit (length c.loop-commit.yielded) (c.args.span.start + c.position-place.result.0) _
     _ _ c.loop-commit.invariant.left c.in-Some-commit.ensures.steps c.position-place.ensures.value refl in
     let stands = span-commit c.args.self.now c.args.span c.in-Some-commit.commit _ c.requires.span this.in_span in
     let known = rw c.position-place.ensures.value at c.gathered-gathered.ensures.result in
@@ -69,7 +69,7 @@ verify_commit-requires g c κs =
 pub returns-in_err-parents-clause-agrees : goal.returns-in_err-parents-clause-agrees
 returns-in_err-parents-clause-agrees g c =
     let this =
-    turn c.args.span c.in-Some-commit.commit (length c.loop-commit.yielded) (c.args.span.first + c.position-place.result.0) _
+    turn c.args.span c.in-Some-commit.commit (length c.loop-commit.yielded) (c.args.span.start + c.position-place.result.0) _
     _ _ c.loop-commit.invariant.left c.in-Some-commit.ensures.steps c.position-place.ensures.value refl in
     let handed = err_from_is_err_and c.from_residual-in_err-parents.result c.from_residual-in_err-parents.ensures.1 in
     rw (handed.1, handed.2)
@@ -79,9 +79,9 @@ returns-in_err-parents-clause-agrees g c =
 pub add-requires : goal.add-requires
 add-requires g c =
     let this =
-    turn c.args.span c.in-Some-commit.commit (length c.loop-commit.yielded) (c.args.span.first + c.position-place.result.0) _
+    turn c.args.span c.in-Some-commit.commit (length c.loop-commit.yielded) (c.args.span.start + c.position-place.result.0) _
     _ _ c.loop-commit.invariant.left c.in-Some-commit.ensures.steps c.position-place.ensures.value refl in (
-      take (c.args.span.first + length c.loop-commit.yielded) (history_of c.args.self.now),
+      take (c.args.span.start + length c.loop-commit.yielded) (history_of c.args.self.now),
       c.loop-commit.invariant.tally,
       take-fits c.args.self.now c.args.span (length c.loop-commit.yielded) c.requires.span this.below,
     )
@@ -89,7 +89,7 @@ add-requires g c =
 pub returns-in_err-add-clause-agrees : goal.returns-in_err-add-clause-agrees
 returns-in_err-add-clause-agrees g c =
     let this =
-    turn c.args.span c.in-Some-commit.commit (length c.loop-commit.yielded) (c.args.span.first + c.position-place.result.0) _
+    turn c.args.span c.in-Some-commit.commit (length c.loop-commit.yielded) (c.args.span.start + c.position-place.result.0) _
     _ _ c.loop-commit.invariant.left c.in-Some-commit.ensures.steps c.position-place.ensures.value refl in
     let next =
     reached_next g.F.FnMut c.args.options c.args.self.now c.args.span _ (length c.loop-commit.yielded) c.in-Some-commit.commit
@@ -100,7 +100,7 @@ returns-in_err-add-clause-agrees g c =
 pub loop-commit-preserved : goal.loop-commit-preserved
 loop-commit-preserved g c =
     let this =
-    turn c.args.span c.in-Some-commit.commit (length c.loop-commit.yielded) (c.args.span.first + c.position-place.result.0) _
+    turn c.args.span c.in-Some-commit.commit (length c.loop-commit.yielded) (c.args.span.start + c.position-place.result.0) _
     _ _ c.loop-commit.invariant.left c.in-Some-commit.ensures.steps c.position-place.ensures.value refl in
     let place : c.position-place.result.0 ≡ length c.loop-commit.yielded =
     omega (arith, c.position-place.ensures.value, this.pos) in
@@ -136,6 +136,6 @@ pub returns-clause-tally : goal.returns-clause-tally
 returns-clause-tally g c =
     let past =
     place-none c.args.span.file.now (length c.loop-commit.yielded) _ c.loop-commit.invariant.left c.in-None.ensures.steps.0 in
-    let end : c.args.span.stop ≡ c.args.span.first + length c.loop-commit.yielded =
+    let end : c.args.span.stop ≡ c.args.span.start + length c.loop-commit.yielded =
     omega (arith, past, c.loop-commit.invariant.within, span-stop c.args.self.now c.args.span c.requires.span) in
     rw end c.loop-commit.invariant.tally

@@ -11,6 +11,6 @@ invariant-loop-commit g l = record {
   left : commits_left l.commit-iterator ≡ positions_from l.span.file.now (length l.yielded);
   within : length l.yielded ≤ length l.span.file.now.ids;
   reached : ReachesCommit g.F.FnMut l.options l.self l.span l.fn.processor (length l.yielded) l.processor;
-  tally : Tallies (take (l.span.first + length l.yielded) (history_of l.self)) l.tally;
+  tally : Tallies (take (l.span.start + length l.yielded) (history_of l.self)) l.tally;
   block : IsBlock l.self l.span (length l.yielded) l.block;
 }

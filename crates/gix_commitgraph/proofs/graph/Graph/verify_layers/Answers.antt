@@ -33,7 +33,7 @@ verify_layer-requires g c κs =
           below,
           (
             c.requires.callable,
-            rw (c.span_at-span.ensures.span.first, c.span_at-span.ensures.layer)
+            rw (c.span_at-span.ensures.span.start, c.span_at-span.ensures.layer)
                 c.loop-layer.invariant.tally,
           ),
         ),
