@@ -115,7 +115,7 @@ module _ {F E : Type 0} (step : F → ℕ → Result (Unit {0}) E → F → Type
       ∷ call p
       ∷ []) f
   at_ids =
-      let here : start layers span.layer + commit_pos commit ≡ p = omega (arith, is.first, at.at) in
+      let here : start layers span.layer + commit_pos commit ≡ p = omega (arith, is.start, at.at) in
       let from : ℕ → List (Point (VerifyError E)) = λ q.
       check (ids_refusal options layers span.layer span.file.now (commit_pos commit))
       ∷ check (parents_refusal layers span.layer span.file.now (commit_pos commit))

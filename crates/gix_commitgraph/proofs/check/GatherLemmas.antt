@@ -39,7 +39,7 @@ pub refusal-told : {E : Type 0} (layers : List Layer) (span : LayerSpan) (commit
     → first_some (map (item_refusal {E = E} p span.stop) (items_of (commit_parents commit)))
     ≡ parents_refusal {E = E} layers span.layer span.file.now (commit_pos commit)
 refusal-told {E} layers span commit p is at =
-    let here : p ≡ start layers span.layer + commit_pos commit = omega (arith, at.at, is.first) in
+    let here : p ≡ start layers span.layer + commit_pos commit = omega (arith, at.at, is.start) in
     ap (λ (q : ℕ). first_some (map (item_refusal {E = E} q span.stop) (items_of (commit_parents commit)))) here
     ∙ ap (λ (end : ℕ). first_some (map (item_refusal {E = E} (start layers span.layer + commit_pos commit) end)
     (items_of (commit_parents commit)))) is.stop

@@ -4,8 +4,8 @@ use Rattle.gix_commitgraph.proofs.layers.LayerListLemmas.{start-more, counted-fi
 use Rattle.gix_commitgraph.proofs.layers.LayerStartLemmas.{start-kept, layer-kept}
 use Rattle.gix_commitgraph.proofs.graph.Graph.span_at.Goals as goal
 
-pub index-first-requires : goal.index-first-requires
-index-first-requires c = omega (arith, c.requires.layer, c.self.invariant.counted.one_each, ap length c.self.view_is)
+pub index-start-requires : goal.index-start-requires
+index-start-requires c = omega (arith, c.requires.layer, c.self.invariant.counted.one_each, ap length c.self.view_is)
 
 -- the layer is the one of this number
 layer-there : (c : goal.After-num_commits) → slice_get c.args.self.now c.args.layer ≡ Some c.index-file.result.now
@@ -14,28 +14,28 @@ layer-there c =
     c.index-file.ensures
 
 -- and it starts where the graph keeps it
-first-kept : (c : goal.After-num_commits) → c.index-first.result.now ≡ start c.args.self.now c.args.layer
-first-kept c =
-    start-kept c.args.self.now c.self.inside.files.items c.self.inside.starts.items c.args.layer c.index-first.result.now
-    c.self.view_is c.self.invariant c.requires.layer c.index-first.ensures
+start-at : (c : goal.After-num_commits) → c.index-start.result.now ≡ start c.args.self.now c.args.layer
+start-at c =
+    start-kept c.args.self.now c.self.inside.files.items c.self.inside.starts.items c.args.layer c.index-start.result.now
+    c.self.view_is c.self.invariant c.requires.layer c.index-start.ensures
 
 pub overflow_add-result : goal.overflow_add-result
 overflow_add-result c =
     omega (
       arith,
       c.num_commits.ensures.ids,
-      counted-fits c.args.self.now c.args.layer c.index-first.result.now c.index-file.result.now
-          (subst IsGraph c.self.view_is c.self.invariant.graph) (first-kept c) (layer-there c),
+      counted-fits c.args.self.now c.args.layer c.index-start.result.now c.index-file.result.now
+          (subst IsGraph c.self.view_is c.self.invariant.graph) (start-at c) (layer-there c),
     )
 
 pub returns-clause-span : goal.returns-clause-span
 returns-clause-span c = record {
   graph = subst IsGraph c.self.view_is c.self.invariant.graph;
   there = layer-there c;
-  first = first-kept c;
+  start = start-at c;
   stop = omega (
     arith,
-    first-kept c,
+    start-at c,
     c.num_commits.ensures.ids,
     start-more c.args.self.now c.args.layer c.index-file.result.now (layer-there c),
   );

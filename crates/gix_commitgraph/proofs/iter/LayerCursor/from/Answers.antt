@@ -1,4 +1,4 @@
-use Rattle.std.proofs.Common.{◌≡◌, ◌-◌, sym, ap, ◌∙◌, arith}
+use Rattle.std.proofs.Common.{◌-◌, sym, ap, ◌∙◌, arith}
 use Rattle.gix_commitgraph.proofs.layers.LayerStartLemmas.{place-kept, places-kept}
 use Rattle.gix_commitgraph.proofs.layers.PositionLemmas.{length-places_kept, places-past}
 use Rattle.gix_commitgraph.proofs.iter.LayerCursor.from.Goals as goal
