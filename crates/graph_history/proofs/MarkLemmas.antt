@@ -1,128 +1,125 @@
--- A table of marks, as marks are set and cleared in it.
-use Rattle.std.proofs.Common.{◌≡◌, ◌≢◌, ◌⊎◌, ◌↔◌, ℕ, suc, zero, ◌<◌, ◌≤◌, List, [], ◌∷◌, ◌++◌, length, set, get_or, Contains}
-use Rattle.std.proofs.Common.{IsTrue, not, refl, sym, ap, ap₂, ◌∙◌, subst, inl, inr, ⊎_elim, arith, eqb, eq-eqb}
-use Rattle.std.proofs.lemmas.Bool.{cases_lt, cases_eq, false≢true}
-use Rattle.std.proofs.lemmas.List.{length_push, length-set, get_or-set_same, get_or-set_other, get_or_push, get_or_append_left}
-use Rattle.std.proofs.lemmas.List.Elements.{Contains-push, Contains-append_left}
-use Rattle.graph_history.specs.declared.marks.TheConstants.{CLEAR}
-use Rattle.graph_history.specs.Marks.{Marking, marked_at, Marked, IsMarked, number_in, with_marks, AreMarks}
+-- A table of bits for numbers that are marked, as numbers are marked and cleared in it.
+use Rattle.std.proofs.Common.{◌≡◌, ◌≢◌, ◌↔◌, ℕ, suc, zero, ◌*◌, ◌/◌, ◌%◌, ◌^◌, ◌<◌, ◌≤◌, List, [], ◌∷◌, ◌++◌, length, set}
+use Rattle.std.proofs.Common.{get_or, bit_or, w64, refl, sym, ap, ◌∙◌, subst, ⊎_elim, arith}
+use Rattle.std.specs.Int.{bit_at}
+use Rattle.std.proofs.lemmas.Bool.{cases_lt, cases_eq}
+use Rattle.std.proofs.lemmas.List.{length-set, get_or-set_same, get_or-set_other}
+use Rattle.std.proofs.lemmas.Nat.Bits.{bit_at_set_same, bit_at_set_other, bit_at-zero}
+use Rattle.graph_history.specs.Marks.{Marking, Marked, IsMarked, bit_of, AreMarks, marked_at}
+use Rattle.graph_history.proofs.QueueLemmas.{marked_new, marked_old, marked_cases}
 
-pub number_in-with_marks : (marks numbers : List ℕ) (i : ℕ) → i < length numbers
-    → number_in (with_marks marks numbers) i ≡ get_or numbers i 0
-number_in-with_marks marks [] i lt = absurd (omega arith)
-number_in-with_marks marks (x ∷ xs) zero lt = refl
-number_in-with_marks marks (x ∷ xs) (suc i) lt = number_in-with_marks marks xs i (omega arith)
+module _ (bits : List ℕ) (n : ℕ) (inside : n < 64 * length bits) (word : ℕ) where
+  bit_same_word : (m : ℕ) → m / 64 ≡ n / 64 → bit_of (set bits (n / 64) word) m ≡ bit_at word (m % 64)
+  bit_same_word m same =
+      ap (λ k. bit_at (get_or (set bits (n / 64) word) k 0) (m % 64)) same
+      ∙ ap (λ w. bit_at w (m % 64)) (get_or-set_same bits (n / 64) word 0 (omega arith))
 
-length-with_marks : (marks numbers : List ℕ) → length (with_marks marks numbers) ≡ length numbers
-length-with_marks marks [] = refl
-length-with_marks marks (x ∷ xs) = ap suc (length-with_marks marks xs)
+  bit_other_word : (m : ℕ) → m / 64 ≢ n / 64 → bit_of (set bits (n / 64) word) m ≡ bit_of bits m
+  bit_other_word m apart = ap (λ w. bit_at w (m % 64)) (get_or-set_other bits (n / 64) (m / 64) word 0 apart)
 
--- where each number keeps its mark
-pub same_marks : (marks after numbers : List ℕ)
-    → ((i : ℕ) → i < length numbers → get_or after (get_or numbers i 0) 0 ≡ get_or marks (get_or numbers i 0) 0)
-    → with_marks after numbers ≡ with_marks marks numbers
-same_marks marks after [] same = refl
-same_marks marks after (n ∷ numbers) same =
-    ap₂ (λ (m : ℕ) (rest : List Marked). record { number = n; mark = m } ∷ rest)
-    (same 0 (omega arith))
-    (same_marks marks after numbers (λ i lt. same (suc i) (omega arith)))
+past_end : (bits : List ℕ) (k : ℕ) → length bits ≤ k → get_or bits k 0 ≡ 0
+past_end [] k le = refl
+past_end (x ∷ xs) zero le = absurd (omega arith)
+past_end (x ∷ xs) (suc k) le = past_end xs k (omega arith)
 
-with_marks-push : (marks numbers : List ℕ) (n : ℕ)
-    → with_marks marks (numbers ++ n ∷ []) ≡ with_marks marks numbers ++ record { number = n; mark = get_or marks n 0 } ∷ []
-with_marks-push marks [] n = refl
-with_marks-push marks (x ∷ numbers) n =
-    ap (λ (rest : List Marked). record { number = x; mark = get_or marks x 0 } ∷ rest) (with_marks-push marks numbers n)
+-- there are words more, with no bit set
+pub are_marks-grown : (bits after : List ℕ) (n : ℕ) (marked : List Marked) → length bits ≤ n → length after ≡ n
+    → ((k : ℕ) → k < length bits → get_or after k 0 ≡ get_or bits k 0)
+    → ((k : ℕ) → length bits ≤ k → k < n → get_or after k 0 ≡ 0) → AreMarks bits marked → AreMarks after marked
+are_marks-grown bits after n marked more len old new are = record {
+  within = λ m is. omega (arith, are.within m is);
+  those = λ m. subst (λ (w : ℕ). (bit_at w (m % 64) ≡ 1) ↔ IsMarked marked m) (sym (same (m / 64))) (are.those m);
+} where
+  same : (k : ℕ) → get_or after k 0 ≡ get_or bits k 0
+  same k =
+      ⊎_elim
+      (λ (lo : k < length bits). old k lo)
+      (λ (hi : length bits ≤ k).
+      ⊎_elim
+      (λ (lt : k < n). new k hi lt ∙ sym (past_end bits k hi))
+      (λ (le : n ≤ k). past_end after k (omega arith) ∙ sym (past_end bits k hi))
+      (cases_lt k n))
+      (cases_lt k (length bits))
 
-contains_at : (numbers : List ℕ) (n : ℕ) → Contains numbers n → (i : ℕ) × (i < length numbers) × (get_or numbers i 0 ≡ n)
-contains_at [] n (i, lt, at) = absurd (omega arith)
-contains_at (x ∷ numbers) n (zero, lt, at) = (0, lt, at)
-contains_at (x ∷ numbers) n (suc i, lt, at) =
-    let rest = contains_at numbers n (i, omega arith, at) in
-    (suc rest.0, (let below = rest.1 in omega arith), rest.2)
+-- the word of a number, with its bit set
+abbrev pub with_bit : ℕ → ℕ → ℕ
+with_bit word n = bit_or word (1 * 2 ^ (n % 64) % 2 ^ 64)
 
-at_contained : (numbers : List ℕ) (n i : ℕ) → i < length numbers → get_or numbers i 0 ≡ n → Contains numbers n
-at_contained [] n i lt at = absurd (omega arith)
-at_contained (x ∷ numbers) n zero lt at = (0, lt, at)
-at_contained (x ∷ numbers) n (suc i) lt at =
-    let rest = at_contained numbers n i (omega arith) at in
-    (suc rest.0, (let below = rest.1 in omega arith), rest.2)
+module _ (bits : List ℕ) (n : ℕ) (inside : n < 64 * length bits) (word : ℕ) (read : word ≡ get_or bits (n / 64) 0) where
+  bit_here : bit_of (set bits (n / 64) (with_bit word n)) n ≡ 1
+  bit_here = bit_same_word bits n inside (with_bit word n) n refl ∙ bit_at_set_same w64 word (n % 64) (omega arith)
 
-module _ (marks numbers : List ℕ) (are : AreMarks marks numbers) (n : ℕ) (inside : n < length marks) where
-  pub marked_from_mark : get_or marks n 0 ≢ CLEAR → IsMarked (with_marks marks numbers) n
-  marked_from_mark some =
-      let at = contains_at numbers n (are.others n inside some) in
-      let within : at.0 < length (with_marks marks numbers) = omega (arith, at.1, length-with_marks marks numbers) in
-      (at.0, within, number_in-with_marks marks numbers at.0 at.1 ∙ at.2)
+  bit_there : (m : ℕ) → m ≢ n → bit_of (set bits (n / 64) (with_bit word n)) m ≡ bit_of bits m
+  bit_there m other =
+      ⊎_elim
+      (λ (same : m / 64 ≡ n / 64).
+      bit_same_word bits n inside (with_bit word n) m same
+      ∙ bit_at_set_other w64 word (n % 64) (omega arith) (m % 64) (λ e. other (omega arith))
+      ∙ ap (λ w. bit_at w (m % 64)) read
+      ∙ ap (λ k. bit_at (get_or bits k 0) (m % 64)) (sym same))
+      (λ (apart : m / 64 ≢ n / 64). bit_other_word bits n inside (with_bit word n) m apart)
+      (cases_eq (m / 64) (n / 64))
 
-  pub mark_from_marked : IsMarked (with_marks marks numbers) n → get_or marks n 0 ≢ CLEAR
-  mark_from_marked (i, lt, at) none =
-      let below : i < length numbers = omega (arith, length-with_marks marks numbers) in
-      are.set i below (ap (λ x. get_or marks x 0) (sym (number_in-with_marks marks numbers i below) ∙ at) ∙ none)
-
-  -- the test of a mark that was read
-  pub test_of_mark : (m : ℕ) → m ≡ get_or marks n 0
-      → IsTrue (not (eqb m CLEAR)) ↔ IsMarked (with_marks marks numbers) n
-  test_of_mark m read = (
-    (λ test. marked_from_mark (λ none. false≢true (sym (ap not (eq-eqb m CLEAR (read ∙ none))) ∙ test))),
-    (λ marked. by_cases (cases_eq m CLEAR) marked),
-  ) where
-    by_cases : (m ≡ CLEAR) ⊎ (m ≡ CLEAR → ⊥) → IsMarked (with_marks marks numbers) n → IsTrue (not (eqb m CLEAR))
-    by_cases (inl e) marked = absurd (mark_from_marked marked (sym read ∙ e))
-    by_cases (inr other) marked = grind arith
-
-  module _ (clear : IsMarked (with_marks marks numbers) n → ⊥) (m : ℕ) where
-    apart : (i : ℕ) → i < length numbers → get_or numbers i 0 ≢ n
-    apart i lt at = clear (i, omega (arith, length-with_marks marks numbers), number_in-with_marks marks numbers i lt ∙ at)
-
-    pub with_marks-set : with_marks (set marks n m) (numbers ++ n ∷ [])
-        ≡ with_marks marks numbers ++ record { number = n; mark = m } ∷ []
-    with_marks-set =
-        with_marks-push (set marks n m) numbers n
-        ∙ ap₂ (λ (front : List Marked) (x : ℕ). front ++ record { number = n; mark = x } ∷ [])
-        (same_marks marks (set marks n m) numbers (λ i lt. get_or-set_other marks n (get_or numbers i 0) m 0 (apart i lt)))
-        (get_or-set_same marks n m 0 inside)
-
-    cases_pushed : (i : ℕ) → i < length (numbers ++ n ∷ []) → (i < length numbers) ⊎ (i ≡ length numbers)
-    cases_pushed i lt = let len = length_push numbers n in
+  -- a number is marked
+  pub are_marks-set : (marked : List Marked) (e : Marked) → e.number ≡ n → AreMarks bits marked
+      → AreMarks (set bits (n / 64) (with_bit word n)) (marked ++ e ∷ [])
+  are_marks-set marked e number are = record {
+    within = λ m is.
         ⊎_elim
-        (λ (lo : i < length numbers). inl lo)
-        (λ (hi : length numbers ≤ i). inr (omega arith))
-        (cases_lt i (length numbers))
+        (λ (old : IsMarked marked m). omega (arith, are.within m old, length-set bits (n / 64) (with_bit word n)))
+        (λ (here : e.number ≡ m). omega (arith, length-set bits (n / 64) (with_bit word n)))
+        (marked_cases marked e m is);
+    those = λ m.
+        ⊎_elim
+        (λ (same : m ≡ n). (
+          (λ _. subst (IsMarked (marked ++ e ∷ [])) (number ∙ sym same) (marked_new marked e)),
+          (λ _. ap (bit_of (set bits (n / 64) (with_bit word n))) same ∙ bit_here),
+        ))
+        (λ (other : m ≢ n). (
+          (λ bit. marked_old marked e m ((are.those m).0 (sym (bit_there m other) ∙ bit))),
+          (λ is. bit_there m other ∙ (are.those m).1
+              (⊎_elim
+              (λ (old : IsMarked marked m). old)
+              (λ (here : e.number ≡ m). absurd (other (sym here ∙ number)))
+              (marked_cases marked e m is))),
+        ))
+        (cases_eq m n);
+  }
 
-    number_old : (i : ℕ) → i < length numbers → get_or (numbers ++ n ∷ []) i 0 ≡ get_or numbers i 0
-    number_old i lt = get_or_append_left numbers (n ∷ []) 0 i lt
+-- While marks are cleared: each number whose bit is set is left.
+pub record AreLeft (bits : List ℕ) (marked : List Marked) : Type 0 where
+  pub within : (n : ℕ) → IsMarked marked n → n < 64 * length bits
+  pub those : (n : ℕ) → bit_of bits n ≡ 1 → IsMarked marked n
 
-    number_new : (i : ℕ) → i ≡ length numbers → get_or (numbers ++ n ∷ []) i 0 ≡ n
-    number_new i e = get_or_push numbers n 0 i (sym e)
+pub inside_left : (bits : List ℕ) (marked : List Marked) (e : Marked) → AreLeft bits (marked ++ e ∷ [])
+    → e.number < 64 * length bits
+inside_left bits marked e left = left.within e.number (marked_new marked e)
 
-    pub marks_are-set : m ≢ CLEAR → AreMarks (set marks n m) (numbers ++ n ∷ [])
-    marks_are-set some = record {
-      within = λ i lt.
+pub are_left-clear : (bits : List ℕ) (marked : List Marked) (e : Marked) → AreLeft bits (marked ++ e ∷ [])
+    → AreLeft (set bits (e.number / 64) 0) marked
+are_left-clear bits marked e left =
+    let inside = inside_left bits marked e left in
+    record {
+      within = λ n is. omega (arith, left.within n (marked_old marked e n is), length-set bits (e.number / 64) 0);
+      those = λ n bit.
           ⊎_elim
-          (λ (lo : i < length numbers). omega (arith, number_old i lo, are.within i lo, length-set marks n m))
-          (λ (hi : i ≡ length numbers). omega (arith, number_new i hi, length-set marks n m))
-          (cases_pushed i lt);
-      set = λ i lt none.
+          (λ (same : n / 64 ≡ e.number / 64).
+          let none = sym bit ∙ bit_same_word bits e.number inside 0 n same ∙ bit_at-zero (n % 64) in
+          absurd (omega (arith, none)))
+          (λ (apart : n / 64 ≢ e.number / 64).
           ⊎_elim
-          (λ (lo : i < length numbers).
-          are.set i lo (sym (get_or-set_other marks n (get_or numbers i 0) m 0 (apart i lo))
-          ∙ ap (λ x. get_or (set marks n m) x 0) (sym (number_old i lo)) ∙ none))
-          (λ (hi : i ≡ length numbers).
-          some (sym (get_or-set_same marks n m 0 inside) ∙ ap (λ x. get_or (set marks n m) x 0) (sym (number_new i hi)) ∙ none))
-          (cases_pushed i lt);
-      others = λ p lt there.
-          ⊎_elim
-          (λ (same : p ≡ n). subst (λ (x : ℕ). Contains (numbers ++ n ∷ []) x) (sym same) (Contains-push numbers n))
-          (λ (other : p ≡ n → ⊥).
-          Contains-append_left numbers (n ∷ []) p
-          (are.others p (omega (arith, length-set marks n m)) (λ none. there (get_or-set_other marks n p m 0 other ∙ none))))
-          (cases_eq p n);
+          (λ (old : IsMarked marked n). old)
+          (λ (here : e.number ≡ n). absurd (apart (ap (λ m. m / 64) (sym here))))
+          (marked_cases marked e n (left.those n (sym (bit_other_word bits e.number inside 0 n apart) ∙ bit))))
+          (cases_eq (n / 64) (e.number / 64));
     }
 
--- While marks are cleared: the numbers that are left are those that have a mark.
-pub record AreLeft (marks numbers : List ℕ) : Type 0 where
-  pub within : (i : ℕ) → i < length numbers → get_or numbers i 0 < length marks
-  pub others : (n : ℕ) → n < length marks → get_or marks n 0 ≢ CLEAR → Contains numbers n
+-- none is left
+pub are_marks-left : (bits : List ℕ) (marked : List Marked) → marked ≡ [] → AreLeft bits marked → AreMarks bits marked
+are_marks-left bits marked none left = record {
+  within = left.within;
+  those = λ n. (left.those n, (λ is. absurd (let lt = is.1 in omega (arith, lt, ap length none))));
+}
 
 -- Marks for each layer.
 

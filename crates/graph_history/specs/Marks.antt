@@ -1,12 +1,8 @@
 -- Numbers that are marked, in the order in which they were. For private contracts alone.
-use Rattle.std.specs.Prelude.{◌≡◌, ◌≢◌, ℕ, ◌<◌, List, [], map, length, slice_get, slice_index, Contains}
+use Rattle.std.specs.Prelude.{◌≡◌, ◌↔◌, ℕ, ◌*◌, ◌/◌, ◌%◌, ◌<◌, List, [], length, slice_get, slice_index_or}
+use Rattle.std.specs.Int.{bit_at}
 use Rattle.std.specs.Option.{option_map_or}
-use Rattle.graph_history.specs.declared.marks.TheConstants.{CLEAR}
-
--- A number that is marked.
-pub record Marked : Type 0 where
-  pub number : ℕ
-  pub mark : ℕ
+pub use Rattle.graph_history.specs.declared.marks.Marked.{Marked}
 
 -- Marks of numbers below a bound.
 pub record Marking : Type 0 where
@@ -25,19 +21,18 @@ mark_in marked i = option_map_or (λ e. e.mark) (slice_get marked i) 0
 abbrev pub IsMarked : List Marked → ℕ → Type 0
 IsMarked marked n = (i : ℕ) × (i < length marked) × (number_in marked i ≡ n)
 
--- numbers with the marks that a table has of them
-abbrev pub with_marks : List ℕ → List ℕ → List Marked
-with_marks marks numbers = map (λ n. record { number = n; mark = slice_index marks n }) numbers
+-- the bit of a number in a table that has 64 in a word, 0 past the last one
+abbrev pub bit_of : List ℕ → ℕ → ℕ
+bit_of bits n = bit_at (slice_index_or bits (n / 64) 0) (n % 64)
 
--- what a table of marks, and the numbers that are marked there, stand for
-abbrev pub marking_of : List ℕ → List ℕ → Marking
-marking_of marks numbers = record { bound = length marks; marked = with_marks marks numbers }
+-- what a table of bits, and the numbers that are marked there, stand for
+abbrev pub marking_of : List ℕ → List Marked → Marking
+marking_of bits marked = record { bound = 64 * length bits; marked = marked }
 
--- The numbers are those that have a mark in the table.
-pub record AreMarks (marks numbers : List ℕ) : Type 0 where
-  pub within : (i : ℕ) → i < length numbers → slice_index numbers i < length marks
-  pub set : (i : ℕ) → i < length numbers → slice_index marks (slice_index numbers i) ≢ CLEAR
-  pub others : (n : ℕ) → n < length marks → slice_index marks n ≢ CLEAR → Contains numbers n
+-- The numbers are those whose bit is set in the table.
+pub record AreMarks (bits : List ℕ) (marked : List Marked) : Type 0 where
+  pub within : (n : ℕ) → IsMarked marked n → n < 64 * length bits
+  pub those : (n : ℕ) → (bit_of bits n ≡ 1) ↔ IsMarked marked n
 
 -- Marks for each layer: which numbers are marked there, and the bound of those that may be; none past the last ones.
 abbrev pub marked_at : List Marking → ℕ → List Marked

@@ -1,22 +1,25 @@
 //! Marks of numbers, which are kept from one search to the next.
 
-ghost use Rattle.std.specs.Prelude.{◌≡◌, ◌≢◌, ◌↔◌, ◌<◌, ◌≤◌, ◌++◌, ◌∷◌, [], length, IsTrue, OnOk};
+ghost use Rattle.std.specs.Prelude.{◌≡◌, ◌↔◌, ◌<◌, ◌≤◌, ◌++◌, ◌∷◌, [], length, IsTrue, OnOk};
 ghost use Rattle.graph_history.specs.Marks.{IsMarked, number_in, mark_in};
 
 use std::alloc::{AllocError, Global};
 use std::marker::Model;
 
-/// Stands where a number has no mark.
-pub(crate) const CLEAR: u32 = u32::MAX;
+/// A number that is marked, and its mark.
+#[derive(Clone, Copy)]
+pub(crate) struct Marked {
+    pub(crate) number: u32,
+    pub(crate) mark: u32,
+}
 
 /// Marks of the numbers below a bound. A contract sees the bound, and the numbers that are marked
 /// in the order in which they were, each with its mark.
 #[derive(Drop)]
 pub(crate) struct Marks {
-    /// The mark of each number, `CLEAR` where it has none.
-    marks: Vec<u32>,
-    /// The numbers that have one, in the order in which they were marked.
-    numbers: Vec<u32>,
+    /// A bit for each number, 64 in a word, which is set where the number is marked.
+    bits: Vec<u64>,
+    marked: Vec<Marked>,
 }
 
 impl Model for Marks {
@@ -24,9 +27,9 @@ impl Model for Marks {
 
     ghost Value = { Marking };
 
-    ghost view = { λ a. marking_of a.marks.items a.numbers.items };
+    ghost view = { λ a. marking_of a.bits.items a.marked.items };
 
-    ghost invariant = { λ a. AreMarks a.marks.items a.numbers.items };
+    ghost invariant = { λ a. AreMarks a.bits.items a.marked.items };
 }
 
 impl Marks {
@@ -35,8 +38,8 @@ impl Marks {
         ensures { result ≡ record { bound = 0; marked = [] } }
     {
         Marks {
-            marks: Vec::new(alloc),
-            numbers: Vec::new(alloc),
+            bits: Vec::new(alloc),
+            marked: Vec::new(alloc),
         }
     }
 
@@ -45,8 +48,9 @@ impl Marks {
         ensures bound { OnOk result (bound ≤ self.new.bound) }
         ensures marked { self.new.marked ≡ self.old.marked }
     {
-        if self.marks.len() < bound {
-            self.marks.resize(bound, CLEAR)?;
+        let words = bound / 64 + 1;
+        if self.bits.len() < words {
+            self.bits.resize(words, 0)?;
         }
         Ok(())
     }
@@ -56,20 +60,20 @@ impl Marks {
         requires { number < self.now.bound }
         ensures { IsTrue result ↔ IsMarked self.now.marked number }
     {
-        self.marks[number as usize] != CLEAR
+        let word = self.bits[number as usize / 64];
+        (word >> (number % 64)) & 1 == 1
     }
 
     /// Marks a number that has no mark.
     pub(crate) fn set(&mut self, number: u32, mark: u32) -> Result<(), AllocError>
         requires bound { number < self.old.bound }
         requires clear { ¬ IsMarked self.old.marked number }
-        requires mark { mark ≢ CLEAR }
         ensures bound { self.new.bound ≡ self.old.bound }
         ensures marked { OnOk result (self.new.marked
             ≡ self.old.marked ++ record { number = number; mark = mark } ∷ []) }
     {
-        self.numbers.push(number)?;
-        self.marks[number as usize] = mark;
+        self.marked.push(Marked { number, mark })?;
+        self.bits[number as usize / 64] |= 1 << (number % 64);
         Ok(())
     }
 
@@ -77,7 +81,7 @@ impl Marks {
     pub(crate) fn len(&self) -> usize
         ensures { result ≡ length self.now.marked }
     {
-        self.numbers.len()
+        self.marked.len()
     }
 
     /// The number that was marked after so many others.
@@ -85,7 +89,7 @@ impl Marks {
         requires { place < length self.now.marked }
         ensures { result ≡ number_in self.now.marked place }
     {
-        self.numbers[place]
+        self.marked[place].number
     }
 
     /// Its mark.
@@ -93,7 +97,7 @@ impl Marks {
         requires { place < length self.now.marked }
         ensures { result ≡ mark_in self.now.marked place }
     {
-        self.marks[self.numbers[place] as usize]
+        self.marked[place].mark
     }
 
     /// Clears each mark, and leaves the room. Only the numbers that are marked are gone over.
@@ -101,8 +105,8 @@ impl Marks {
         ensures bound { self.new.bound ≡ self.old.bound }
         ensures marked { self.new.marked ≡ [] }
     {
-        while let Some(number) = self.numbers.pop() {
-            self.marks[number as usize] = CLEAR;
+        while let Some(marked) = self.marked.pop() {
+            self.bits[marked.number as usize / 64] = 0;
         }
     }
 }

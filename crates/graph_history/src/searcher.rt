@@ -20,9 +20,9 @@ use gix_commitgraph::{GENERATION_NUMBER_MAX, Graph, Position};
 use std::alloc::{AllocError, Global};
 use std::marker::Model;
 
-/// Answers queries over a graph that is right, and keeps its memory from one to the next: four
-/// bytes for each commit of the graph, asked for at the first query that needs them. What a query
-/// marks there is cleared after it, and no more than that.
+/// Answers queries over a graph that is right, and keeps its memory from one to the next: a bit for
+/// each commit of the graph, asked for at the first query that needs them, and eight bytes for each
+/// commit that a query reaches. What a query marks there is cleared after it, and no more than that.
 ///
 /// A contract sees it as the list of the graph's layers.
 #[derive(Drop)]

@@ -1,12 +1,12 @@
-use Rattle.std.proofs.Common.{◌≡◌, length}
+use Rattle.std.proofs.Common.{◌≡◌, ◌*◌, length}
 use Rattle.graph_history.proofs.MarkLemmas.{AreLeft}
 use Rattle.graph_history.proofs.marks.Marks.clear.Given as goal
 
-abbrev pub invariant-loop-number : goal.invariant-loop-number
-invariant-loop-number l = record {
-  bound : length l.self-inside.marks.items ≡ l.fn.self.bound;
-  left : AreLeft l.self-inside.marks.items l.self-inside.numbers.items;
+abbrev pub invariant-loop-marked : goal.invariant-loop-marked
+invariant-loop-marked l = record {
+  bound : 64 * length l.self-inside.bits.items ≡ l.fn.self.bound;
+  left : AreLeft l.self-inside.bits.items l.self-inside.marked.items;
 }
 
-abbrev pub decreases-loop-number : goal.decreases-loop-number
-decreases-loop-number l = length l.self-inside.numbers.items
+abbrev pub decreases-loop-marked : goal.decreases-loop-marked
+decreases-loop-marked l = length l.self-inside.marked.items

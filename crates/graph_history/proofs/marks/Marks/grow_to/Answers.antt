@@ -1,12 +1,14 @@
-use Rattle.std.proofs.Common.{ap, ◌∙◌, arith}
-use Rattle.graph_history.specs.Marks.{Marking}
-use Rattle.graph_history.proofs.MarkLemmas.{same_marks}
+use Rattle.std.proofs.Common.{◌+◌, ◌/◌, rules, arith}
+use Rattle.graph_history.proofs.MarkLemmas.{are_marks-grown}
 use Rattle.graph_history.proofs.marks.Marks.grow_to.Goals as goal
 
-pub returns-in_ok-resize-clause-marked : goal.returns-in_ok-resize-clause-marked
-returns-in_ok-resize-clause-marked c =
+pub invariant_of-self : goal.invariant_of-self
+invariant_of-self c =
     let a = c.self.inside in
-    same_marks a.marks.items c.resize.new.self.items a.numbers.items
-    (λ i lt. c.resize.ensures.by_index.0 _ 0 (omega (arith, c.self.invariant.within i lt, c.if-len-bound.true, c.len.ensures))
-    (omega (arith, c.self.invariant.within i lt)))
-    ∙ ap (λ (m : Marking). m.marked) c.self.view_is
+    let by_index = c.resize.ensures.by_index in
+    are_marks-grown a.bits.items c.resize.new.self.items (c.args.bound / 64 + 1) a.marked.items
+    (omega (arith, c.if-len-words.true, c.len.ensures))
+    (omega (arith, c.in_ok-resize.ensures.len))
+    (λ k lt. by_index.0 k 0 (omega (arith, lt, c.if-len-words.true, c.len.ensures)) (omega (arith, lt)))
+    (λ k le lt. by_index.1 k 0 (search rules) (omega (arith, le)) lt)
+    c.self.invariant
