@@ -5,6 +5,7 @@ pub mod QueueLemmas
 pub mod ListLemmas
 pub mod FieldLemmas
 pub mod SearchLemmas
+pub mod AheadLemmas
 pub mod StepLemmas
 pub mod ShortestWalkLemmas
 pub mod VisitLemmas

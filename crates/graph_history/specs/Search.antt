@@ -1,17 +1,19 @@
 -- The state of a search along parents: which commits it has reached, and over which words of the extra edge lists it has gone.
 -- For private contracts alone.
-use Rattle.std.specs.Prelude.{◌≡◌, ◌⊎◌, ℕ, ◌+◌, ◌≤◌, List, [], length, slice_index, Option, Some, None}
+use Rattle.std.specs.Prelude.{◌≡◌, ◌⊎◌, ℕ, ◌+◌, ◌<◌, ◌≤◌, List, [], length, slice_get, slice_index, Option, Some, None}
 use Rattle.graph_walks.specs.History.{Node, generation_at}
 use Rattle.graph_format.specs.StoredHistory.{history_of}
 use Rattle.graph_format.specs.Parents.{extra_edge_of}
 use Rattle.graph_format.specs.declared.Position.{Position}
 use Rattle.graph_format.specs.declared.parents.ExtraEdge.TheVariants as extra
+use Rattle.graph_format.specs.declared.parents.ParentEdge.{ParentEdge}
 use Rattle.graph_format.specs.declared.TheConstants.{MAX_COMMITS}
 use Rattle.gix_commitgraph.specs.Graph.{IsGraph}
 use Rattle.gix_commitgraph.specs.Sound.{Sound}
 use Rattle.graph_history.specs.Marks.{Marked, IsMarked, marked_at}
-use Rattle.graph_history.specs.Queue.{IsQueue, IsQueued, Extends}
-use Rattle.graph_history.specs.Commits.{named_by, list_in}
+use Rattle.graph_history.specs.Queue.{IsQueue, IsQueued, Extends, commit_in}
+use Rattle.graph_history.specs.Commits.{named_by, list_in, AreParentFields}
+use Rattle.graph_history.specs.declared.ahead.Ahead.{Ahead}
 use Rattle.graph_history.specs.declared.search.Search.{Search}
 
 -- the commits that a search has reached
@@ -52,3 +54,9 @@ pub record GoesOn (old new : Search) (c : ℕ) : Type 0 where
   pub least : new.least ≡ old.least
   pub stack : new.stack.items ≡ old.stack.items
   pub extends : Extends (queued_by old) (queued_by new) c
+
+-- What was read ahead are the parent fields of commits that stand one after another in the queue.
+abbrev pub AreAhead : Search → Ahead → Type 0
+AreAhead s ahead = (i : ℕ) (fields : ParentEdge × ParentEdge) → slice_get ahead.fields.items i ≡ Some fields
+    → (ahead.first + i < length (queued_by s))
+    × AreParentFields s.graph.now (commit_in (queued_by s) (ahead.first + i)) fields

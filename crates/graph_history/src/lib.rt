@@ -11,6 +11,7 @@
 #![tactic(auto)]
 
 mod access;
+mod ahead;
 mod ancestor;
 mod bases;
 mod checked;

@@ -10,6 +10,7 @@ ghost use Rattle.graph_history.specs.Queue.{commit_in, Depth};
 ghost use Rattle.graph_history.specs.Search.{queued_by, IsIdle, IsSearching};
 
 use crate::Reached;
+use crate::ahead::Ahead;
 use crate::search::Search;
 use gix_commitgraph::Position;
 use gix_commitgraph::law::walk::generations_never_rise_along_walks;
@@ -34,6 +35,7 @@ impl<'g> Search<'g> {
     {
         generations_never_rise_along_walks();
         self.begin(from, least)?;
+        let mut ahead = Ahead::new(self.alloc);
         let mut visits: u32 = 0;
         while (visits as usize) < self.len() {
             let place = visits;
@@ -45,7 +47,8 @@ impl<'g> Search<'g> {
                     visits,
                 });
             }
-            self.visit(place)?;
+            let fields = self.fields_at(place, &mut ahead)?;
+            self.visit_fields(fields, place)?;
         }
         Ok(Reached { walk: None, visits })
     }

@@ -6,6 +6,7 @@ use Rattle.graph_format.specs.declared.Position.{Position}
 use Rattle.graph_history.specs.WalkAnswer.{numbers_of}
 use Rattle.graph_history.specs.Queue.{commit_in}
 use Rattle.graph_history.specs.Search.{queued_by}
+use Rattle.graph_history.proofs.AheadLemmas.{nothing_ahead, ahead_extends}
 use Rattle.graph_history.proofs.ShortestWalkLemmas.{depth_within}
 use Rattle.graph_history.proofs.QueryLemmas.{queued_within, query_begins, query_goes_on, walk_is_shortest, all_at_or_above}
 use Rattle.graph_history.proofs.QueryLemmas.{not_reached, all_were_visited}
@@ -14,6 +15,7 @@ use Rattle.graph_history.proofs.search.Search.shortest_walk.Goals as goal
 pub loop-visits-init : goal.loop-visits-init
 loop-visits-init c = record {
   graph = c.begin.ensures.graph;
+  ahead = nothing_ahead c.begin.new.self c.new-ahead.result c.new-ahead.ensures;
   query =
       query_begins (history_of c.args.self.now.graph.now) c.args.from.0 c.args.to.0 c.begin.new.self
       (ap history_of c.begin.ensures.graph) c.in_ok-begin.ensures.search c.in_ok-begin.ensures.read c.in_ok-begin.ensures.first
@@ -44,16 +46,18 @@ loop-visits-smaller c =
 pub loop-visits-preserved : goal.loop-visits-preserved
 loop-visits-preserved c =
     let l = c.loop-visits in
-    let visit = c.in_ok-visit.ensures in
+    let visit = c.in_ok-visit_fields.ensures in
     let here : l.visits < length (queued_by l.self) = omega (arith, c.loop-visits-test.true, c.len.ensures) in
     let other =
     λ (at : commit_in (queued_by l.self) l.visits ≡ c.args.to.0). false≢true (c.if-eq.ensures
     ∙ eq-eqb _ _ (c.commit_at.ensures ∙ at)) in
     record {
-      graph = c.visit.ensures.graph ∙ l.invariant.graph;
+      graph = c.visit_fields.ensures.graph ∙ l.invariant.graph;
+      ahead = ahead_extends l.self c.visit_fields.new.self l.visits c.fields_at.new.ahead visit.goes_on
+          c.in_ok-fields.ensures.ahead;
       query =
           query_goes_on (history_of c.args.self.now.graph.now) c.args.from.0 c.args.to.0 l.self l.visits l.invariant.query
-          c.visit.new.self here other visit.goes_on visit.search visit.read visit.parents;
+          c.visit_fields.new.self here other visit.goes_on visit.search visit.read visit.parents;
     }
 
 pub returns-then-eq-clause-answer : goal.returns-then-eq-clause-answer
