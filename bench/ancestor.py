@@ -6,9 +6,9 @@ usage: python3 bench/ancestor.py [FOLDER]
 FOLDER keeps the files and both programs for further runs. The commits are those of bench/lookup.py, almost a line, in one
 layer and in a chain of ten; and those of bench/bases.py, of topic branches. Both programs answer the same queries over a
 million commits, in turn: 1,000 pairs at random, and 1,000 of the newest 2,000, each for a shortest walk and for whether
-there is one. They have to give the same number of walks, of commits on them and of visits, and the same number of yes. A line a figure: ours
-and the baseline's, in microseconds a query, each the best of all runs, their ratio, and the visits a walk. The check of the
-graph is not counted.
+there is one. They have to give the same number of walks, of commits on them and of visits, and the same number of yes. A
+line a figure: ours and the baseline's, in microseconds a query, each the best of all runs, their ratio, and the visits a
+walk. The check of the graph is not counted.
 
 Then the time of `git merge-base --is-ancestor` for the first pairs of each kind among the topic branches, one process each,
 less that of a process of Git that does nothing. Git has to say yes as often.
@@ -132,10 +132,6 @@ def our_program(folder, sources=SOURCES, libraries=PROGRAM_LIBRARIES):
     for library in needed:
         lookup.copy_crate(library, repository)
     shutil.copyfile(os.path.join(sources, "main.rt.txt"), os.path.join(crate, "src", "main.rt"))
-    invariants = os.path.join(sources, "Invariants.antt.txt")
-    if os.path.exists(invariants):
-        os.makedirs(os.path.join(crate, "proofs", "run"), exist_ok=True)
-        shutil.copyfile(invariants, os.path.join(crate, "proofs", "run", "Invariants.antt"))
     built = os.path.join(crate, "out", program)
     if os.path.exists(built):
         os.remove(built)

@@ -13,8 +13,8 @@ their ratio, and the visits a pair. The check of the graph is not counted.
 Then the time of `git merge-base --all` for the first pairs of each kind with the layer, one process each, and
 that of a process of Git that does nothing; and the numbers of bases, which have to be ours.
 
-Ours is bench/bases/main.rt.txt, which is proved with bench/bases/Invariants.antt.txt and built by LLVM, over
-the repository's crates. The baseline is bench/bases/baseline.rs, by `rustc -O` for the same processor. The status is 1 where two disagree.
+Ours is bench/bases/main.rt.txt, which is proved and built by LLVM, over the repository's crates. The baseline
+is bench/bases/baseline.rs, by `rustc -O` for the same processor. The status is 1 where two disagree.
 """
 
 import os

@@ -22,7 +22,7 @@ use std::marker::Model;
 
 /// Answers queries over a graph that is right, and keeps its memory from one to the next: a bit for
 /// each commit of the graph, asked for at the first query that needs them, and eight bytes for each
-/// commit that a query reaches. What a query marks there is cleared after it, and no more than that.
+/// commit that a query reaches. What a query marks there is cleared after it, and no more.
 ///
 /// A contract sees it as the list of the graph's layers.
 #[derive(Drop)]
