@@ -15,7 +15,8 @@ usage: python3 scripts/real_data GRAPHTOOL HISTORYTOOL [every-value]
   Also of long histories, in a file and in a chain, and of small ones with cycles, beside all walks.
 - `check`: the lines of `verify`, and those of the corrected dates and changed-path filters that Git writes; damaged
   ones by a plain reading, and beside what Git then answers of ancestors and of paths. Each filter has the bits of
-  the paths that `git diff-tree` names and of the folders that lead there, and no others.
+  the paths that `git diff-tree` names and of the folders that lead there, and no others. Also of five commits in every
+  order, by hand, and of thousands of graphs at random, most of them damaged, by the plain reading.
 - `distinct`: the words of `verify`, and an id that was put into two layers or more, next to one another
   and far apart.
 - each byte of three small files, changed to some other values, or with `every-value` to all of them, beside
@@ -41,12 +42,14 @@ from checks import (
     base_checks,
     cgraph_checks,
     cycle_checks,
+    date_checks,
     disk_checks,
     distinct_checks,
     further_checks,
     list_checks,
     path_checks,
     question_checks,
+    random_checks,
     row_checks,
     surroundings_checks,
     sweep_checks,
@@ -81,6 +84,8 @@ def main(path, history_path, every_value=False):
             disk_checks.check_all(programs, tally, new, differences)
             further_checks.check_all(histories, tally, new)
         further_checks.check_shared_list(histories, tally, folder)
+        date_checks.check_all(histories, tally, folder)
+    random_checks.check_all(histories, tally)
     differences.check(tally)
     row_checks.check_all(tally)
     return tally.finish()

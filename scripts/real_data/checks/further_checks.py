@@ -17,7 +17,7 @@ from damage.layer import big_endian, contents, with_chunks
 from expected import filters as path_filters
 from expected import judge
 from expected.facts import verified
-from expected.further import told
+from expected.further import checked, told
 from histories import shapes
 from histories.repository import PERSON, read_bytes, write_bytes
 from histories.shapes import Commit
@@ -184,17 +184,34 @@ def check_damage(histories, tally, repository):
         write_bytes(path, edited)
         title, expected = "%s, check, %s" % (kind, name), told([edited], kind)
         tally.check(title + ", by the rules", complaint_of(True, expected.startswith(refusal)))
-        text = expected if expected.startswith("refused") else verified(words) + expected
-        tally.check(title, judge.verdict(text, histories.check(path)))
-        if not expected.startswith("refused"):
-            tally.check(title + ", Git agrees", complaint_of(plain, answers(repository, words, "true")))
+        tally.check(title, judge.verdict(checked(verified(words), [edited], kind), histories.check(path)))
+        check_git(tally, title, expected.startswith("refused"), plain, answers(repository, words, "true"))
+
+
+def check_git(tally, title, refused, plain, seen):
+    """What Git answers over a graph, beside what it answers without: the same, but where the graph is refused."""
+    said = ["%s %s" % (name, "as without" if seen[name] == plain[name] else "otherwise") for name in plain]
+    said = ["%s, some not at all" % text if None in seen[name] else text for text, name in zip(said, plain)]
+    tally.check("%s; over it Git answers: %s" % (title, "; ".join(said)), None if refused else complaint_of(plain, seen))
 
 
 def answers(repository, words, graph):
-    """What Git answers of each pair of commits and of each path, with the commit-graph or without."""
-    pairs = [repository.reaches(*pair, graph) for pair in itertools.permutations(words, 2)]
+    """What Git answers of each pair of commits, of the history and of each path, with the commit-graph or without; None where
+    it ends with an error or dies."""
     log = ("-c", "core.commitGraph=" + graph, "log", "--format=%H", "refs/heads/tip")
-    return pairs, [repository.git(*log, *path) for path in [(), *[("--", path) for path in PATHS]]]
+    return {
+        "ancestors": [answer(repository.reaches, *pair, graph) for pair in itertools.permutations(words, 2)],
+        "log": [answer(repository.git, *log)],
+        "log of paths": [answer(repository.git, *log, "--", os.fsdecode(path)) for path in PATHS],
+    }
+
+
+def answer(ask, *words):
+    """What Git answers, or None."""
+    try:
+        return ask(*words)
+    except RuntimeError:
+        return None
 
 
 def damages(layer, kind):
@@ -254,14 +271,18 @@ def check_settings(histories, tally, repository):
         repository.write_graph("--split=no-merge", "--changed-paths", tips=[tip])
     lower, upper = [trees.Layer(*layer) for layer in repository.chain()]
     words = repository.words()
-    for name, place, number in (("3 hashes", 4, 3), ("version 2", 0, 2), ("another number of bits", 8, 11)):
+    plain = answers(repository, words, "false")
+    others = ("3 hashes", 4, 3), ("14 hashes", 4, 14), ("version 2", 0, 2), ("another number of bits", 8, 11)
+    for name, place, number in others:
         chunks = dict(contents(upper.content, kind))
         data = chunks[b"BDAT"]
         chunks[b"BDAT"] = data[:place] + big_endian(number, 4) + data[place + 4 :]
         other = trees.Layer("", with_chunks(upper.content, kind, list(chunks.items()))).renamed(kind)
         trees.lay_out(info, trees.chain([lower, other]))
         expected = "refused filters 9 layer 1\n" if place < 8 else verified(words) + "dates commits 5\nfilters commits 5\n"
-        tally.check("%s, check, %s above 7 hashes" % (kind, name), judge.verdict(expected, histories.check(info)))
+        title = "%s, check, %s above 7 hashes" % (kind, name)
+        tally.check(title, judge.verdict(expected, histories.check(info)))
+        check_git(tally, title, place < 8, plain, answers(repository, words, "true"))
 
 
 def check_shared_list(histories, tally, folder):

@@ -11,7 +11,7 @@ import signal
 import tempfile
 from typing import NamedTuple
 
-from expected import reading
+from expected import further, reading
 
 SECONDS = 60
 """A run that takes longer hangs."""
@@ -33,10 +33,13 @@ class Hung(Exception):
 
 
 class Bench:
-    """Runs of the program at a path, on one file in a folder of its own, that of a single commit-graph."""
+    """Runs of the program at a path, on one file in a folder of its own, that of a single commit-graph. A second program
+    may be there for `check`.
+    """
 
-    def __init__(self, program, folder):
+    def __init__(self, program, folder, histories=None):
         self.program = program
+        self.histories = histories or program
         self.path = os.path.join(folder, "commit-graph")
         self.file = os.open(self.path, os.O_RDWR | os.O_CREAT | os.O_TRUNC)
         self.out = os.open(os.path.join(folder, "out"), os.O_RDWR | os.O_CREAT | os.O_TRUNC)
@@ -59,7 +62,8 @@ class Bench:
         os.lseek(self.file, 0, os.SEEK_SET)
         os.ftruncate(self.out, 0)
         os.lseek(self.out, 0, os.SEEK_SET)
-        child = os.posix_spawn(self.program, (self.program, *words), {}, file_actions=self.actions)
+        program = self.histories if words[0] == "check" else self.program
+        child = os.posix_spawn(program, (program, *words), {}, file_actions=self.actions)
         signal.setitimer(signal.ITIMER_REAL, SECONDS)
         try:
             ended = os.waitpid(child, 0)[1]
@@ -85,6 +89,7 @@ class Bench:
             words, wanted = {
                 "list": lambda: ((), {reading.listed(content)}),
                 "verify": lambda: ((self.path,), {reading.verified(content)}),
+                "check": lambda: ((self.path,), {further.checked_file(content)}),
                 "find": lambda: ((self.path, commit.hex()), reading.found(content, commit)),
             }[command]()
             complaint = self.complaint(wanted, command, *words)
@@ -106,11 +111,11 @@ def in_processes(task, parts):
         return pool.starmap(task, parts)
 
 
-def first_odd(program, cases):
+def first_odd(program, cases, histories=None):
     """The number of cases, and the first run that is odd, or None. A case is a file, some commands, and an
     id to be found."""
     with tempfile.TemporaryDirectory() as folder:
-        bench, count = Bench(program, folder), 0
+        bench, count = Bench(program, folder, histories), 0
         for case in cases:
             count += 1
             odd = bench.odd_run(*case)

@@ -4,7 +4,7 @@ The rules are those of Git's commit-graph format, "Generation Data", "Generation
 Index" and "Bloom Filter Data", and the order of refusals is that of docs/REFUSALS.md.
 """
 
-from damage.layer import contents
+from expected import reading
 from histories.repository import ID_LENGTH
 
 TIME_BITS = 34
@@ -16,9 +16,20 @@ class Refused(Exception):
     """What stands in the line of a refusal after `refused`."""
 
 
+def checked(verified, layers, kind):
+    """The text of `check` for the bytes of some layers, the lowest first, of which `verify` says this."""
+    said = verified if verified.startswith("refused") else told(layers, kind)
+    return said if said.startswith("refused") else verified + said
+
+
+def checked_file(content):
+    """The text of `check` for a file of any bytes whose name is that of no layer of a chain."""
+    return checked(reading.verified(content), [content], "sha256" if content[5:6] == b"\x02" else "sha1")
+
+
 def told(layers, kind):
-    """The lines of `check` on dates and filters for the bytes of some layers, the lowest first, or its refusal."""
-    layers = [Layer(dict(contents(layer, kind)), kind) for layer in layers]
+    """The lines of `check` on dates and filters for the bytes of some layers, or its refusal."""
+    layers = [Layer(reading.read_table(layer, layer[6])[0], kind) for layer in layers]
     try:
         return "dates %s\nfilters %s\n" % (dates_told(layers), filters_told(layers))
     except Refused as refused:
