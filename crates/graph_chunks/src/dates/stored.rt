@@ -84,8 +84,10 @@ pub(super) fn read_dates(alloc: Global, graph: &Graph) -> Result<Vec<u64>, Dates
     ensures fault { IfErr result (λ fault. fault ≢ error.OutOfMemory
         → first_below (reading_fault graph.now) (length graph.now) ≡ Some fault) }
 {
-    let mut dates = Vec::new(alloc);
-    let _commits = graph.num_commits();
+    let commits = graph.num_commits();
+    let Ok(mut dates) = Vec::with_capacity(alloc, commits as usize) else {
+        return Err(DatesError::OutOfMemory);
+    };
     let layers = graph.layers();
     let mut before = 0;
     for layer in 0..layers.len() {

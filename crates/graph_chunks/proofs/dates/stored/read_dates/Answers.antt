@@ -7,8 +7,8 @@ use Rattle.graph_chunks.proofs.dates.stored.read_dates.Goals as goal
 
 pub loop-layer-init : goal.loop-layer-init
 loop-layer-init c = record {
-  dates = c.new-dates.ensures.items;
-  small = λ k d lt. absurd (omega (arith, lt, ap (λ (ds : List ℕ). length ds) c.new-dates.ensures.items));
+  dates = c.in-Ok.ensures.items;
+  small = λ k d lt. absurd (omega (arith, lt, ap (λ (ds : List ℕ). length ds) c.in-Ok.ensures.items));
   read = reading-none c.layers-layers.result.now;
   counted = sym (start-none c.layers-layers.result.now);
 }
@@ -40,12 +40,12 @@ loop-layer-preserved c =
     let next =
     layer-next layers c.loop-layer.layer c.loop-layer.before c.index-layers-layer.result within c.loop-layer.invariant.counted in
     record {
-      dates = c.in_default.ensures.dates
+      dates = c.in_default-read_layer.ensures.dates
           ∙ ap (λ (l : Layer). c.loop-layer.dates.items ++ dates_in l) is
           ∙ read-more layers c.loop-layer.layer read c.loop-layer.dates.items within c.loop-layer.invariant.dates;
-      small = c.in_default.ensures.small c.loop-layer.invariant.small;
+      small = c.in_default-read_layer.ensures.small c.loop-layer.invariant.small;
       read = reading-fine layers c.loop-layer.layer read c.loop-layer.invariant.read within
-          (ap layer_refusal (sym is) ∙ c.in_default.ensures.none);
+          (ap layer_refusal (sym is) ∙ c.in_default-read_layer.ensures.none);
       counted = omega (
         arith,
         next,
