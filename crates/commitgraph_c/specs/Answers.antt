@@ -1,6 +1,6 @@
 -- what the calls answer
 use Rattle.std.specs.Prelude.{◌≡◌, ◌==◌, ℕ, List, Bool, [], Option, Some, None, IsSomeAnd, ◌++◌, length, take, drop, slice_get}
-use Rattle.std.specs.Prelude.{◌-◌, ◌^◌, min, if◌then◌else◌, option_map, unwrap_or}
+use Rattle.std.specs.Prelude.{◌-◌, ◌^◌, min, if◌then◌else◌, option_map, true, unwrap_or}
 use Rattle.graph_format.specs.Format.{Record}
 use Rattle.graph_format.specs.Parents.{DecodedParents, parents_of}
 use Rattle.graph_format.specs.Layer.{Layer, record_at}
@@ -48,6 +48,10 @@ HasCommit layers pos P = IsSomeAnd layers (λ l. IsSomeAnd (slice_get (graph_com
 abbrev pub told_commit : Layer × ℕ → CgCommit
 told_commit commit = let r = record_at commit.0 commit.1 in record { time = r.time; generation = r.generation }
 
+-- A graph that was checked is open, and has a property.
+abbrev pub IsChecked : Option (List Layer × Bool) → (List Layer → Type 0) → Type 0
+IsChecked held P = IsSomeAnd held (λ h. (h.1 ≡ true) × P h.0)
+
 -- What is told of an answer to a query for a walk: how many commits were visited, and how many the walk has, 0 where there is
 -- none; and its positions are written.
 pub record TellsWalk (reached : Reached) (told : CgReached) (old new : List ℕ) : Type 0 where
@@ -85,3 +89,10 @@ pub record TellsBases (layers : List Layer) (first : ℕ) (others : List ℕ) (t
   pub comparison : Comparison
   pub exact : IsComparisonOf layers first others comparison
   pub tells : TellsComparison comparison told old new
+
+-- No merge base is told, and no number.
+pub record TellsNoBases (told : CgBases) : Type 0 where
+  pub ahead : told.ahead ≡ 0
+  pub behind : told.behind ≡ 0
+  pub visits : told.visits ≡ 0
+  pub length_of : told.length ≡ 0

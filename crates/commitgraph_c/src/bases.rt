@@ -1,10 +1,11 @@
 //! Merge bases, and how far commits have come apart, in a graph that was checked.
 
-ghost use Rattle.std.specs.Prelude.{◌≡◌, ◌≢◌, ◌<◌, ◌≤◌, ◌⊎◌, false, All, Any, IfErr, IfOk};
+ghost use Rattle.std.specs.Prelude.{◌≡◌, ◌≢◌, ◌↔◌, ◌<◌, ◌≤◌, ◌⊎◌, false, All, Any, IfErr, IfOk};
 ghost use Rattle.std.specs.Prelude.{IsSomeAnd, None};
 ghost use Rattle.gix_commitgraph.specs.Graph.{total};
 ghost use Rattle.graph_history.specs.WalkAnswer.{numbers_of};
-ghost use Rattle.commitgraph_c.specs.Answers.{TellsBases, TellsComparison};
+ghost use Rattle.commitgraph_c.specs.Answers.{IsChecked, TellsBases, TellsComparison};
+ghost use Rattle.commitgraph_c.specs.Answers.{TellsNoBases};
 
 use crate::handle::CgGraph;
 use crate::query::write_positions;
@@ -37,12 +38,15 @@ pub extern "C" fn cg_merge_bases(
 ) -> CgBases
     ensures answer { result.code ≡ 0 → IsSomeAnd graph.address.held (λ held.
         TellsBases held.0 first others.now result out.old out.new) }
-    ensures nowhere { result.code ≡ 1 → IsSomeAnd graph.address.held (λ held.
-        (total held.0 ≤ first) ⊎ Any (λ other. total held.0 ≤ other) others.now) }
-    ensures unchecked { result.code ≡ 2 → IsSomeAnd graph.address.held (λ held. held.1 ≡ false) }
-    ensures closed { result.code ≡ 4 → graph.address.held ≡ None }
+    ensures nowhere { result.code ≡ 1 → IsChecked graph.address.held (λ layers.
+        (total layers ≤ first) ⊎ Any (λ other. total layers ≤ other) others.now) }
+    ensures within { result.code ≡ 0 → IsChecked graph.address.held (λ layers.
+        (first < total layers) × All (λ other. other < total layers) others.now) }
+    ensures unchecked { result.code ≡ 2 ↔ IsSomeAnd graph.address.held (λ held. held.1 ≡ false) }
+    ensures closed { result.code ≡ 4 ↔ graph.address.held ≡ None }
     ensures codes { result.code ≤ 4 }
     ensures kept { result.code ≢ 0 → out.new ≡ out.old }
+    ensures nothing { result.code ≢ 0 → TellsNoBases result }
 {
     let Some(opened) = graph.opened() else {
         return refused(4);
@@ -101,7 +105,8 @@ fn tell(comparison: &Comparison, out: &mut [u32]) -> CgBases
 
 /// An answer that tells of no merge base.
 fn refused(code: u32) -> CgBases
-    ensures { result.code ≡ code }
+    ensures code { result.code ≡ code }
+    ensures nothing { TellsNoBases result }
 {
     CgBases {
         code,

@@ -59,12 +59,19 @@ fn error(code: u32, detail: u32, layer: u64) -> CgError
 #[unsafe(no_mangle)]
 pub extern "C" fn cg_open(alloc: Global, files: &[CgFile<'_>], out: &mut CgOwner) -> CgError
     ensures opened { result.code ≡ 0 → IsSomeAnd out.new.address.held (λ held.
-        IsOpenedFrom files.now held.0) }
+        (held.1 ≡ false) × IsOpenedFrom files.now held.0) }
     ensures kept { result.code ≢ 0 → out.new ≡ out.old }
     ensures refused { result.code ≢ 0 → RefusesFiles files.now result }
 {
-    match open(alloc, files) {
-        Ok(graph) => hand_out(alloc, Opened::unchecked(graph), out),
+    let opened = match open(alloc, files) {
+        Ok(graph) => boxed(alloc, Opened::unchecked(graph)),
+        Err(error) => return error,
+    };
+    match opened {
+        Ok(opened) => {
+            *out = CgOwner::of(opened);
+            error(0, 0, 0)
+        }
         Err(error) => error,
     }
 }
@@ -86,8 +93,9 @@ pub extern "C" fn cg_open_checked(
         (held.1 ≡ true) × IsSoundWith (options_of distinct_ids) held.0) }
     ensures verdict { result.code ≡ 0 → IsSomeAnd out.new.address.held (λ held.
         TellsStats held.0 verdict.new × TellsCounts held.0 verdict.new counts.old counts.new) }
-    ensures kept { result.code ≢ 0 → out.new ≡ out.old }
+    ensures kept { result.code ≢ 0 → (out.new ≡ out.old) × (counts.new ≡ counts.old) }
     ensures refused { result.code ≢ 0 → result.code ≢ 4 → RefusesFiles files.now result }
+    ensures unwritten { result.code ≢ 0 → result.code ≢ 4 → verdict.new ≡ verdict.old }
     ensures fails { result.code ≡ 4 → FailsCheck (options_of distinct_ids) files.now verdict.new
         result }
 {
@@ -96,10 +104,7 @@ pub extern "C" fn cg_open_checked(
         Err(error) => return error,
     };
     match CheckedGraph::new_with(alloc, VerifyOptions { distinct_ids }, graph) {
-        Ok(graph) => {
-            *verdict = right(graph.as_checked().outcome(), counts);
-            hand_out(alloc, Opened::checked(graph), out)
-        }
+        Ok(graph) => hand_out(alloc, graph, verdict, counts, out),
         Err(refusal) => {
             let found = wrong(refusal);
             *verdict = found;
@@ -108,18 +113,49 @@ pub extern "C" fn cg_open_checked(
     }
 }
 
-/// Writes the graph, unless there is no memory for its block.
-fn hand_out(alloc: Global, opened: Opened, out: &mut CgOwner) -> CgError
-    ensures opened { result.code ≡ 0 → out.new.address.held ≡ Some opened }
+/// Writes a graph that was checked, and its statistics, unless there is no memory for its block.
+fn hand_out(
+    alloc: Global,
+    graph: CheckedGraph,
+    verdict: &mut CgVerdict,
+    counts: &mut [CgCount],
+    out: &mut CgOwner,
+) -> CgError
+    ensures opened { result.code ≡ 0 → out.new.address.held ≡ Some (graph, true) }
+    ensures stats { result.code ≡ 0 → TellsStats graph verdict.new }
+    ensures counts { result.code ≡ 0 → TellsCounts graph verdict.new counts.old counts.new }
     ensures refused { result.code ≢ 0 → result ≡ told_graph GraphError.OutOfMemory }
-    ensures kept { result.code ≢ 0 → out.new ≡ out.old }
+    ensures kept { result.code ≢ 0 → (out.new ≡ out.old) × ((verdict.new ≡ verdict.old)
+        × (counts.new ≡ counts.old)) }
+{
+    let opened = match boxed(alloc, Opened::checked(graph)) {
+        Ok(opened) => opened,
+        Err(error) => return error,
+    };
+    write_stats(&opened, verdict, counts);
+    *out = CgOwner::of(opened);
+    error(0, 0, 0)
+}
+
+/// Writes the statistics of a graph that was checked.
+fn write_stats(opened: &Opened, verdict: &mut CgVerdict, counts: &mut [CgCount])
+    requires { opened.now.1 ≡ true }
+    ensures stats { TellsStats opened.now.0 verdict.new }
+    ensures counts { TellsCounts opened.now.0 verdict.new counts.old counts.new }
+{
+    if let Some(checked) = opened.as_checked() {
+        *verdict = right(checked.outcome(), counts);
+    }
+}
+
+/// A graph in a block of its own, if there is memory for one.
+fn boxed(alloc: Global, opened: Opened) -> Result<Box<Opened>, CgError>
+    ensures same { IfOk result (λ graph. graph.value ≡ opened) }
+    ensures refused { IfErr result (λ error. error ≡ told_graph GraphError.OutOfMemory) }
 {
     match Box::new(alloc, opened) {
-        Ok(opened) => {
-            *out = CgOwner::of(opened);
-            error(0, 0, 0)
-        }
-        Err(_) => graph_error(&GraphError::OutOfMemory),
+        Ok(opened) => Ok(opened),
+        Err(_) => Err(graph_error(&GraphError::OutOfMemory)),
     }
 }
 

@@ -5,7 +5,7 @@ ghost use Rattle.graph_walks.specs.Walks.{Reaches};
 ghost use Rattle.graph_format.specs.StoredHistory.{history_of};
 ghost use Rattle.gix_commitgraph.specs.Graph.{total};
 ghost use Rattle.graph_history.specs.WalkAnswer.{numbers_of};
-ghost use Rattle.commitgraph_c.specs.Answers.{TellsAnswer, TellsWalk, written};
+ghost use Rattle.commitgraph_c.specs.Answers.{IsChecked, TellsAnswer, TellsWalk, written};
 
 use crate::handle::CgGraph;
 use gix_commitgraph::Position;
@@ -16,8 +16,8 @@ use std::alloc::Global;
 #[repr(C)]
 #[derive(Clone, Copy)]
 pub struct CgReached {
-    /// 0 where the question was answered, 1 where a position is none of the graph's, 2 where the
-    /// graph was not checked, 3 where memory ran out, 4 where none is open.
+    /// 4 where no graph is open, else 2 where it was not checked, else 1 where a position is none
+    /// of its, else 3 where memory ran out, and 0 where the question was answered.
     pub code: u32,
     pub visits: u32,
     pub length: u64,
@@ -35,23 +35,24 @@ pub extern "C" fn cg_ancestor_walk(
 ) -> CgReached
     ensures answer { result.code ≡ 0 → IsSomeAnd graph.address.held (λ held.
         TellsAnswer held.0 from to result out.old out.new) }
-    ensures nowhere { result.code ≡ 1 → IsSomeAnd graph.address.held (λ held.
-        (total held.0 ≤ from) ⊎ (total held.0 ≤ to)) }
-    ensures unchecked { result.code ≡ 2 → IsSomeAnd graph.address.held (λ held. held.1 ≡ false) }
-    ensures closed { result.code ≡ 4 → graph.address.held ≡ None }
+    ensures nowhere { result.code ≡ 1 ↔ IsChecked graph.address.held (λ layers.
+        (total layers ≤ from) ⊎ (total layers ≤ to)) }
+    ensures unchecked { result.code ≡ 2 ↔ IsSomeAnd graph.address.held (λ held. held.1 ≡ false) }
+    ensures closed { result.code ≡ 4 ↔ graph.address.held ≡ None }
     ensures codes { result.code ≤ 4 }
     ensures kept { result.code ≢ 0 → out.new ≡ out.old }
+    ensures nothing { result.code ≢ 0 → (result.visits ≡ 0) × (result.length ≡ 0) }
 {
     let Some(opened) = graph.opened() else {
         return refused(4);
     };
-    let commits = opened.graph().num_commits();
-    if from >= commits || to >= commits {
-        return refused(1);
-    }
     let Some(checked) = opened.as_checked() else {
         return refused(2);
     };
+    let commits = checked.graph().num_commits();
+    if from >= commits || to >= commits {
+        return refused(1);
+    }
     match checked.ancestor_walk(alloc, Position(from), Position(to)) {
         Ok(reached) => tell(&reached, out),
         Err(_) => refused(3),
@@ -73,22 +74,23 @@ pub struct CgLeads {
 pub extern "C" fn cg_is_ancestor(alloc: Global, graph: CgGraph, from: u32, to: u32) -> CgLeads
     ensures answer { result.code ≡ 0 → IsSomeAnd graph.address.held (λ held.
         IsTrue result.found ↔ Reaches (history_of held.0) from to) }
-    ensures nowhere { result.code ≡ 1 → IsSomeAnd graph.address.held (λ held.
-        (total held.0 ≤ from) ⊎ (total held.0 ≤ to)) }
-    ensures unchecked { result.code ≡ 2 → IsSomeAnd graph.address.held (λ held. held.1 ≡ false) }
-    ensures closed { result.code ≡ 4 → graph.address.held ≡ None }
+    ensures nowhere { result.code ≡ 1 ↔ IsChecked graph.address.held (λ layers.
+        (total layers ≤ from) ⊎ (total layers ≤ to)) }
+    ensures unchecked { result.code ≡ 2 ↔ IsSomeAnd graph.address.held (λ held. held.1 ≡ false) }
+    ensures closed { result.code ≡ 4 ↔ graph.address.held ≡ None }
     ensures codes { result.code ≤ 4 }
+    ensures nothing { result.code ≢ 0 → result.found ≡ false }
 {
     let Some(opened) = graph.opened() else {
         return untold(4);
     };
-    let commits = opened.graph().num_commits();
-    if from >= commits || to >= commits {
-        return untold(1);
-    }
     let Some(checked) = opened.as_checked() else {
         return untold(2);
     };
+    let commits = checked.graph().num_commits();
+    if from >= commits || to >= commits {
+        return untold(1);
+    }
     match checked.is_ancestor(alloc, Position(from), Position(to)) {
         Ok(found) => CgLeads { code: 0, found },
         Err(_) => untold(3),
@@ -128,7 +130,8 @@ pub(crate) fn write_positions(positions: &[Position], out: &mut [u32])
 
 /// An answer that tells of no walk.
 fn refused(code: u32) -> CgReached
-    ensures { result.code ≡ code }
+    ensures code { result.code ≡ code }
+    ensures nothing { (result.visits ≡ 0) × (result.length ≡ 0) }
 {
     CgReached {
         code,
@@ -139,7 +142,8 @@ fn refused(code: u32) -> CgReached
 
 /// An answer that tells nothing.
 fn untold(code: u32) -> CgLeads
-    ensures { result.code ≡ code }
+    ensures code { result.code ≡ code }
+    ensures nothing { result.found ≡ false }
 {
     CgLeads { code, found: false }
 }
