@@ -59,8 +59,9 @@ typedef struct cg_error { uint32_t code, detail, chunk; uint64_t layer; } cg_err
 cg_error cg_open(const cg_file *files, size_t count, cg_graph *out);
 
 /* Opens the graph and checks it, as cg_verify does: code 4, and no graph, where the check refuses it for the reason that
- * *verdict then has, whose number is `detail` (10: memory ran out). Where code is 4 or 0 the verdict was written.
- * Only such a graph answers cg_ancestor_walk, cg_is_ancestor and cg_merge_bases. The rest is as in cg_open. */
+ * *verdict then has, whose number is `detail` (10: memory ran out). *verdict is written where the code is 0 or 4, and `counts`
+ * as by cg_verify where it is 0; nothing else is. Only such a graph answers cg_ancestor_walk, cg_is_ancestor and cg_merge_bases.
+ * The rest is as in cg_open. */
 struct cg_verdict;
 struct cg_count;
 cg_error cg_open_checked(const cg_file *files, size_t count, bool distinct_ids, struct cg_verdict *verdict,
@@ -133,15 +134,16 @@ typedef struct cg_count { uint32_t parents, commits; } cg_count;
 uint32_t cg_verify(cg_graph graph, bool distinct_ids, cg_verdict *out, cg_count *counts, size_t counts_len);
 
 /* A search for a walk. code 0: it was made, `length` is the number of commits on a shortest walk, both ends included, or 0
- * where there is none, and `visits` commits were visited. 1: a position is none. 2: the graph was not checked by
- * cg_open_checked. 3: memory ran out. 4: CG_CLOSED. */
+ * where there is none, and `visits` commits were visited. Else all other fields are 0, and nothing is written: 4: CG_CLOSED. Else
+ * 2: the graph was not checked by cg_open_checked. Else 1: a position is none. Else 3: memory ran out. */
 typedef struct cg_reached { uint32_t code, visits; uint64_t length; } cg_reached;
 
 /* Looks for a shortest walk along parents, and writes its positions, as many as there is room for. The graph is
  * one that cg_open_checked opened. */
 cg_reached cg_ancestor_walk(cg_graph graph, uint32_t from, uint32_t to, uint32_t *out, size_t len);
 
-/* Whether a commit leads to another, along parents: `found` says so where the code is 0. The codes are those of cg_reached. */
+/* Whether a commit leads to another, along parents: `found` says so where the code is 0, and is false elsewhere. The codes are
+ * those of cg_reached. */
 typedef struct cg_leads { uint32_t code; bool found; } cg_leads;
 
 /* Looks whether the commit at `from` leads to the one at `to`, which is then its ancestor. A commit leads to itself. The
@@ -150,7 +152,7 @@ cg_leads cg_is_ancestor(cg_graph graph, uint32_t from, uint32_t to);
 
 /* The merge bases of a commit and some others. code 0: there are `length`; `ahead` commits are those that the first leads to
  * and none of the others does, and `behind` those that some of the others leads to and the first does not; `visits` commits
- * were visited. The other codes are those of cg_reached. */
+ * were visited. The other codes are those of cg_reached, of which 3 may come before 1. */
 typedef struct cg_bases { uint32_t code, ahead, behind; uint64_t visits, length; } cg_bases;
 
 /* Looks for the merge bases that `git merge-base --all FIRST OTHERS..` names, and writes their positions, the least first, as
