@@ -1,4 +1,5 @@
-/* example PATH ID: maps the commit-graph file at the path, checks it, finds the commit of the id, and prints its record. */
+/* example PATH ID: maps the commit-graph file at the path, checks it, finds the commit of the id, and prints its record and the
+ * ids of its parents. */
 #include "commitgraph.h"
 #include <fcntl.h>
 #include <inttypes.h>
@@ -29,6 +30,19 @@ static size_t bytes_of(const char *hex, uint8_t id[32]) {
     return len <= 32 ? len : 0;
 }
 
+/* The ids of the parents of a commit, as many as there is room for. */
+static void print_parents(cg_graph graph, uint32_t position) {
+    uint8_t id[32];
+    uint32_t parents[16];
+    cg_parent_count found = cg_parents(graph, position, parents, 16);
+    for (uint64_t i = 0; i < found.count && i < 16; i++) {
+        size_t len = cg_id_at(graph, parents[i], id, cg_id_len(graph));
+        printf("parent ");
+        for (size_t j = 0; j < len; j++) printf("%02" PRIx8, id[j]);
+        putchar('\n');
+    }
+}
+
 static int print_commit(cg_graph graph, const char *hex) {
     uint8_t id[32];
     cg_commit commit;
@@ -38,6 +52,7 @@ static int print_commit(cg_graph graph, const char *hex) {
         return 1;
     }
     printf("position %" PRIu32 " generation %" PRIu32 " time %" PRIu64 "\n", position, commit.generation, commit.time);
+    print_parents(graph, position);
     return 0;
 }
 
