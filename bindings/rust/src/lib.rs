@@ -3,35 +3,27 @@
 //! What is proved stands behind `extern "C"`; this crate is not proved. It keeps the rules of `commitgraph.h` by Rust's
 //! types: a [`Graph`] owns its handle and closes it once, what is read borrows it, and each slice is passed whole.
 
+mod blocks;
+mod commit;
 mod error;
 mod id;
 mod open;
 mod sys;
 mod verify;
 
+pub use blocks::{ParentBlock, Record};
+pub use commit::{Commit, Parents};
 use error::fault_of;
 pub use error::{CommitFault, Fault, LayerFault, OpenError, ParentError, QueryError, VerifyError};
 pub use id::ObjectId;
 use open::{chain_at, file_at, lent, open_at, open_info};
-use std::convert::Infallible;
 use std::path::Path;
 pub use verify::{Outcome, VerifyOptions};
 
 /// A position in a graph, over all its layers.
 #[derive(Clone, Copy, Debug, PartialEq, Eq, PartialOrd, Ord, Hash)]
+#[repr(transparent)]
 pub struct Position(pub u32);
-
-/// Of so many commits one call tells, where many are gone over.
-const BLOCK: usize = 512;
-
-/// What the record of a commit says, but for its ids and its parents.
-#[derive(Clone, Copy, Debug, PartialEq, Eq)]
-pub struct Record {
-    /// When it was made: seconds since 1970-01-01 00:00:00 UTC.
-    pub committer_timestamp: u64,
-    /// Its generation number.
-    pub generation: u32,
-}
 
 /// A commit-graph.
 pub struct Graph {
@@ -140,55 +132,6 @@ impl Graph {
         (0..self.num_commits()).map(|pos| Commit { graph: self, pos: Position(pos) })
     }
 
-    /// What the records of the commits say, in the order of their positions, read many at a time.
-    pub fn iter_records(&self) -> impl Iterator<Item = Record> + '_ {
-        (0..self.num_commits()).step_by(BLOCK).flat_map(|first| self.records_from(first))
-    }
-
-    /// The records of some commits from a position on.
-    fn records_from(&self, first: u32) -> impl Iterator<Item = Record> {
-        let mut records = vec![sys::Commit::default(); BLOCK];
-        // SAFETY: the pointer and the length are those of a vector.
-        let left = unsafe { sys::cg_commits(self.raw, first, records.as_mut_ptr(), records.len()) };
-        let record = |told: sys::Commit| Record { committer_timestamp: told.time, generation: told.generation };
-        records.into_iter().take(left as usize).map(record)
-    }
-
-    /// The parents of each commit, in the order of their positions, as [`Commit::parents`] has them, read many at a time.
-    pub fn iter_parents(&self) -> impl Iterator<Item = Result<Vec<Position>, ParentError>> + '_ {
-        let mut next = 0;
-        let block = move || {
-            let block = self.parents_from(next);
-            next += block.len() as u32;
-            (!block.is_empty()).then_some(block)
-        };
-        std::iter::from_fn(block).flatten()
-    }
-
-    /// The parents of some commits from a position on; of none where no commit is left.
-    fn parents_from(&self, first: u32) -> Vec<Result<Vec<Position>, ParentError>> {
-        let mut answers = vec![sys::ParentCount::default(); BLOCK];
-        let mut out = vec![0; 2 * BLOCK];
-        loop {
-            let (told, room) = (answers.as_mut_ptr(), out.as_mut_ptr());
-            // SAFETY: each pointer and length are those of a vector.
-            let block = unsafe { sys::cg_parents_from(self.raw, first, told, answers.len(), room, out.len()) };
-            let fits = block.length <= out.len() as u64;
-            let whole = block.commits as usize - usize::from(!fits);
-            if fits || whole > 0 {
-                let mut rest = &out[..];
-                let parents = |answer: &sys::ParentCount| {
-                    let (parents, later) = rest.split_at(answer.count as usize);
-                    rest = later;
-                    let parents = parents.iter().copied().map(Position).collect();
-                    ParentError::of(answer.code).map_or(Ok(parents), Err)
-                };
-                return answers[..whole].iter().map(parents).collect();
-            }
-            out.resize(block.length as usize, 0);
-        }
-    }
-
     /// The ids, in order.
     pub fn iter_ids(&self) -> impl ExactSizeIterator<Item = ObjectId> + '_ {
         self.iter_commits().map(|commit| commit.id())
@@ -228,8 +171,9 @@ impl Checked {
     pub fn ancestor_walk(&self, from: Position, to: Position) -> Result<Reached, QueryError> {
         let mut visits = 0;
         let walk = positions_of(|out| {
-            // SAFETY: the pointer and the length are those of a vector.
-            let reached = unsafe { sys::cg_ancestor_walk(self.graph.raw, from.0, to.0, out.as_mut_ptr(), out.len()) };
+            let (room, len) = (out.as_mut_ptr().cast(), out.len());
+            // SAFETY: `raw` is open, the pointer and the length are those of a slice, and a position is one number.
+            let reached = unsafe { sys::cg_ancestor_walk(self.graph.raw, from.0, to.0, room, len) };
             refusal_of(reached.code)?;
             visits = reached.visits;
             Ok(reached.length)
@@ -248,13 +192,12 @@ impl Checked {
     /// The merge bases of a commit and some others, which `git merge-base --all FIRST OTHERS..` names, the least position
     /// first; and how far the commits have come apart.
     pub fn compare(&self, first: Position, others: &[Position]) -> Result<Comparison, QueryError> {
-        let others: Vec<u32> = others.iter().map(|other| other.0).collect();
         let (mut ahead, mut behind) = (0, 0);
         let bases = positions_of(|out| {
-            let (places, count) = (others.as_ptr(), others.len());
-            // SAFETY: each pointer and length are those of a vector.
-            let bases =
-                unsafe { sys::cg_merge_bases(self.graph.raw, first.0, places, count, out.as_mut_ptr(), out.len()) };
+            let (places, count) = (others.as_ptr().cast(), others.len());
+            let (room, len) = (out.as_mut_ptr().cast(), out.len());
+            // SAFETY: `raw` is open, each pointer and length are those of a slice, and a position is one number.
+            let bases = unsafe { sys::cg_merge_bases(self.graph.raw, first.0, places, count, room, len) };
             refusal_of(bases.code)?;
             (ahead, behind) = (bases.ahead, bases.behind);
             Ok(bases.length)
@@ -284,15 +227,15 @@ pub struct Comparison {
 }
 
 /// The positions that a call writes, which answers how many there are: it is made again where there was too little room.
-fn positions_of<E>(mut write: impl FnMut(&mut Vec<u32>) -> Result<u64, E>) -> Result<Vec<Position>, E> {
-    let mut out = vec![0; 64];
+fn positions_of<E>(mut write: impl FnMut(&mut [Position]) -> Result<u64, E>) -> Result<Vec<Position>, E> {
+    let mut out = vec![Position(0); 64];
     loop {
         let length = write(&mut out)? as usize;
         if length <= out.len() {
             out.truncate(length);
-            return Ok(out.into_iter().map(Position).collect());
+            return Ok(out);
         }
-        out.resize(length, 0);
+        out.resize(length, Position(0));
     }
 }
 
@@ -302,86 +245,6 @@ fn refusal_of(code: u32) -> Result<(), QueryError> {
         0 => Ok(()),
         1 => Err(QueryError::NoSuchPosition),
         _ => Err(QueryError::OutOfMemory),
-    }
-}
-
-/// A commit of a graph.
-#[derive(Clone, Copy)]
-pub struct Commit<'g> {
-    graph: &'g Graph,
-    pos: Position,
-}
-
-impl<'g> Commit<'g> {
-    /// Its position in the graph.
-    pub fn position(&self) -> Position {
-        self.pos
-    }
-
-    /// Its id.
-    pub fn id(&self) -> ObjectId {
-        let mut id = ObjectId { bytes: [0; 32], len: self.graph.id_len as u8 };
-        // SAFETY: the array has room for an id of either length.
-        unsafe { sys::cg_id_at(self.graph.raw, self.pos.0, id.bytes.as_mut_ptr(), self.graph.id_len) };
-        id
-    }
-
-    /// The id of its root tree.
-    pub fn root_tree_id(&self) -> ObjectId {
-        let mut id = ObjectId { bytes: [0; 32], len: self.graph.id_len as u8 };
-        // SAFETY: the array has room for an id of either length.
-        unsafe { sys::cg_tree_at(self.graph.raw, self.pos.0, id.bytes.as_mut_ptr(), self.graph.id_len) };
-        id
-    }
-
-    fn record(&self) -> sys::Commit {
-        let mut record = sys::Commit::default();
-        // SAFETY: the pointer is that of a record.
-        unsafe { sys::cg_commit_at(self.graph.raw, self.pos.0, &mut record) };
-        record
-    }
-
-    /// The positions of its parents, the first parent first.
-    ///
-    /// # Errors
-    ///
-    /// They cannot be decoded, or not all of them. Of a [`Checked`] graph they can.
-    pub fn parents(&self) -> Result<Vec<Position>, ParentError> {
-        self.iter_parents().collect()
-    }
-
-    /// The position of its first parent, if it has one.
-    pub fn parent1(&self) -> Result<Option<Position>, ParentError> {
-        let mut first = [0];
-        // SAFETY: there is room for one position.
-        let parents = unsafe { sys::cg_parents(self.graph.raw, self.pos.0, first.as_mut_ptr(), first.len()) };
-        match (parents.count, ParentError::of(parents.code)) {
-            (0, Some(error)) => Err(error),
-            (0, None) => Ok(None),
-            _ => Ok(Some(Position(first[0]))),
-        }
-    }
-
-    /// The positions of its parents in order, and after them the error that ends their decoding, if there is one.
-    pub fn iter_parents(&self) -> impl Iterator<Item = Result<Position, ParentError>> {
-        let mut fault = None;
-        let parents: Result<_, Infallible> = positions_of(|out| {
-            // SAFETY: the pointer and the length are those of a vector.
-            let parents = unsafe { sys::cg_parents(self.graph.raw, self.pos.0, out.as_mut_ptr(), out.len()) };
-            fault = ParentError::of(parents.code);
-            Ok(parents.count)
-        });
-        parents.into_iter().flatten().map(Ok).chain(fault.map(Err))
-    }
-
-    /// Its generation number.
-    pub fn generation(&self) -> u32 {
-        self.record().generation
-    }
-
-    /// When it was made: seconds since 1970-01-01 00:00:00 UTC.
-    pub fn committer_timestamp(&self) -> u64 {
-        self.record().time
     }
 }
 

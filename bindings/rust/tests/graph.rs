@@ -75,6 +75,20 @@ fn each_opener_opens_what_stands_at_its_path() {
 }
 
 #[test]
+fn blocks_tell_of_each_commit_once() {
+    let graph = Graph::at(named("COMMIT_GRAPHS_FOLDER")).unwrap();
+    let mut next = Position(0);
+    for block in graph.parent_blocks() {
+        assert_eq!((block.first(), block.len()), (next, block.iter().count()));
+        for parents in block.iter() {
+            assert_eq!(parents.map(<[_]>::to_vec), graph.commit_at(next).parents());
+            next.0 += 1;
+        }
+    }
+    assert_eq!(next.0, graph.num_commits());
+}
+
+#[test]
 fn what_is_refused_is_told() {
     let bytes = std::fs::read(named("COMMIT_GRAPH")).unwrap();
     let refused = |layers: &[(&[u8], &str)]| Graph::of_bytes(layers).err().unwrap();
