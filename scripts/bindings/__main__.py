@@ -8,6 +8,7 @@ import functools
 import layout
 import os
 import pathlib
+import real
 import shutil
 import subprocess
 import sys
@@ -22,6 +23,7 @@ LISTED = (line.partition(":") for line in (TOP / "crates.txt").read_text().split
 USES = {crate.split()[0]: used.split() for crate, _, used in LISTED}
 """For each crate, those that crates.txt lists for it."""
 GRAPHTOOL = sys.argv[1] if len(sys.argv) > 1 else None
+KINDS = ("sha1", "sha256")
 REFUSING = [f"-Wl,--wrap={name}" for name in ("malloc", "realloc", "free")]
 LINES = [b"", b"\n", b"a", b"a\n", b"a\r\n\nb\r", b"\r\n\r\r\nc", b"\n\n", b"ab\ncd\n\r"]
 """Texts that are cut into lines."""
@@ -149,8 +151,24 @@ def same_as_program(name, program, graph, ids):
 
 def same_answer(name, program, graph, opened, command, *words):
     """One answer beside that of `graphtool`, which opens the same graph by another path where it is a chain."""
-    answer, expected = run(program, graph, command, *words), run(GRAPHTOOL, command, opened, *words)
+    answer, expected = run(program, graph, command, *words), told_by_program(command, opened, *words)
     expect(f"{name}: {command} {' '.join(words)}", answers_alike(answer, expected), (answer, expected))
+
+
+@functools.lru_cache(maxsize=None)
+def told_by_program(*words):
+    """The answer of `graphtool`. No file is changed once it was asked about."""
+    return run(GRAPHTOOL, *words)
+
+
+@functools.lru_cache(maxsize=None)
+def listed_by_program(file):
+    """The lines of the commits of a file that `graphtool` lists, and its status."""
+    with open(file, "rb") as given:
+        answer = run(GRAPHTOOL, "list", stdin=given)
+    lines = answer.stdout.splitlines(keepends=True)
+    answer.stdout = "".join(line for line in lines if not line.startswith(("layer ", "base ")))
+    return answer
 
 
 def questions(ids):
@@ -162,12 +180,7 @@ def questions(ids):
 
 def same_list(name, program, file):
     """The lines of the commits of a file, or of its refusal: the library tells no base ids."""
-    with open(file, "rb") as given:
-        expected = run(GRAPHTOOL, "list", stdin=given)
-    answer = run(program, file, "list")
-    expected.stdout = "".join(
-        line for line in expected.stdout.splitlines(keepends=True) if not line.startswith(("layer ", "base "))
-    )
+    answer, expected = run(program, file, "list"), listed_by_program(file)
     expect(f"{name}: list", answers_alike(answer, expected), (answer, expected))
 
 
@@ -212,15 +225,19 @@ def lines_of(text):
     return [line.removesuffix(b"\r") for line in lines] + ([last] if last else [])
 
 
-def refused_and_shared(name, compiler, archives, scratch, graph, ids):
-    """Each allocation of each call refused in turn; and four threads that read one graph."""
+def refused_and_shared(name, compiler, archives, scratch, graphs):
+    """Each allocation of each call refused in turn, over a file and over a chain; and four threads that read one graph."""
     program = scratch / "memory"
     done = run(compiler, "-std=c11", "-O1", *STRICT, f"-I{HEADER}", HERE / "memory.c", *REFUSING, *archives, "-o", program)
     expect(f"{name}: memory.c", done.returncode == 0, done.stderr)
-    done = run(program, graph, ids[-1], ids[0])
-    calls = dict(line.split() for line in done.stdout.splitlines()) if done.returncode == 0 else {}
-    expect(f"{name}: each allocation is refused in turn", calls.pop("reading", None) == "0", done)
-    expect(f"{name}: each call that allocates is refused", calls and all(int(n) > 0 for n in calls.values()), done)
+    for kind, (graph, ids) in graphs.items():
+        for layers, tip in (([graph], ids[-1]), (layers_of(chain(scratch, kind)), git(chain(scratch, kind), "rev-parse", "main"))):
+            done = run(program, tip, ids[0], *layers)
+            calls = dict(line.split() for line in done.stdout.splitlines()) if done.returncode == 0 else {}
+            title = f"{name}, {kind}, {len(layers)} layers"
+            expect(f"{title}: each allocation is refused in turn", calls.pop("reading", None) == "0", done)
+            expect(f"{title}: each call that allocates is refused", calls and all(int(n) > 0 for n in calls.values()), done)
+    graph, _ = graphs["sha1"]
     for tool, flags, words in (("", ["-fsanitize=thread"], []), ("valgrind", [], HELGRIND)):
         program = scratch / "threads"
         done = run(compiler, "-std=c11", "-O1", *flags, *STRICT, "-pthread", f"-I{HEADER}", HERE / "threads.c",
@@ -231,6 +248,12 @@ def refused_and_shared(name, compiler, archives, scratch, graph, ids):
             expect(f"{name}: threads.c", done.returncode == 0, done.stderr)
             done = run(*words, program, graph)
             expect(f"{name}: four threads {' '.join(flags) or tool}", done.returncode == 0, done)
+
+
+def layers_of(where):
+    """The files of the layers of a chain, the lowest first."""
+    folder = where / ".git/objects/info/commit-graphs"
+    return [folder / f"graph-{name}.graph" for name in (folder / "commit-graph-chain").read_text().split()]
 
 
 def fields(name, compiler, archives, scratch):
@@ -249,9 +272,8 @@ def fields(name, compiler, archives, scratch):
         told = [row for row in rows if row[0] == "commit"][verdict[4]]
         expect(f"{name}: each field, {fault}", ["verdict", *verdict] in rows and told[3:] == parents + parents, rows)
         expect(f"{name}: refused, {fault}", ["checked", 4, verdict[0], 0, 0, 0, 0] in rows, rows)
-    folder = chain(scratch, "sha1") / ".git/objects/info/commit-graphs"
-    names = (folder / "commit-graph-chain").read_text().split()
-    for fault, layers, error, verdict in layout.layered([(folder / f"graph-{it}.graph").read_bytes() for it in names]):
+    whole = [layer.read_bytes() for layer in layers_of(chain(scratch, "sha1"))]
+    for fault, layers, error, verdict in layout.layered(whole):
         files = [scratch / f"changed-{number}" for number in range(len(layers))]
         for path, data in zip(files, layers):
             path.write_bytes(data)
@@ -278,30 +300,26 @@ def asked(where, first, others):
     return sorted(bases), f"ahead {ahead} behind {behind}"
 
 
-def damages(good):
-    """Bytes of a file that are each damaged at one place, or cut there."""
-    for at in range(0, len(good), max(1, len(good) // 60)):
-        yield good[:at] + bytes([good[at] ^ 0x41]) + good[at + 1:]
-        yield good[:at]
+def same_as_real(name, program, scratch, folders=False):
+    """Each answer of the library beside that of `graphtool`, of the graphs of scripts/real_data and of its damaged files.
 
-
-def damaged(name, program, graph, ids, scratch):
-    """What is answered of damaged files is what `graphtool` answers, and nothing is written on standard error."""
-    file, asked = scratch / "damaged", questions(ids[-3:])
-    for number, bad in enumerate(damages(graph.read_bytes())):
-        file.write_bytes(bad)
-        done = run(program, file, "verify")
-        expect(f"{name}: damage {number}", done.returncode == 1 and not done.stderr, done)
-        if GRAPHTOOL:
-            same_list(f"{name}: damage {number}", program, file)
-        for words in asked[number % 3::3] if GRAPHTOOL else ():
-            same_answer(f"{name}: damage {number}", program, file, file, *words)
+    A program that opens no chain by its lines is given the folder.
+    """
+    for kind in KINDS if GRAPHTOOL else ():
+        for title, graph, ids in real.graphs(scratch / "real", kind):
+            opened = graph.parent if folders and graph.name == "commit-graph-chain" else graph
+            same_as_program(f"{name}, {title}", program, opened, ids)
+        for number, (title, file, ids) in enumerate(real.damaged(scratch / "real", kind)):
+            same_list(f"{name}, {title}", program, file)
+            same_answer(f"{name}, {title}", program, file, file, "verify")
+            for words in questions(ids)[1 + number % 2 :: 2]:
+                same_answer(f"{name}, {title}", program, file, file, *words)
 
 
 def rust_tests(crate, environment):
     """The tests of the Rust crate, and that of its threads under ThreadSanitizer, where a toolchain can."""
     done = run("cargo", "test", "--quiet", "--offline", cwd=crate, env=environment)
-    expect("Rust: tests", done.returncode == 0 and "5 passed" in done.stdout and "4 threads read" in done.stdout, done)
+    expect("Rust: tests", done.returncode == 0 and "6 passed" in done.stdout and "4 threads read" in done.stdout, done)
     command = ["cargo", "+nightly", "test", "--quiet", "--offline", "--test", "threads", "--target", "x86_64-unknown-linux-gnu"]
     at = {**environment, "RUSTFLAGS": SANITIZED}
     if run(*command, "--no-run", cwd=crate, env=at).returncode:
@@ -331,7 +349,58 @@ def rust(environment, scratch, graphs):
         where = chain(scratch, kind)
         commits = git(where, "rev-list", "main").split()
         same_as_program(f"Rust, {kind}, chain", built / "ask", where / ".git/objects/info/commit-graphs", commits)
-        damaged(f"Rust, {kind}", built / "ask", graph, ids, scratch)
+    same_as_real("Rust", built / "ask", scratch, folders=True)
+
+
+def c(compiler, archives, scratch, graphs):
+    """The C programs by a compiler: the answers, the fields, refused allocations, threads, and the example."""
+    program = scratch / "ask"
+    for flags in ([], ["-g", "-fsanitize=address,undefined", "-fno-sanitize-recover=undefined"]):
+        name = " ".join([compiler, *flags[1:2]])
+        done = run(compiler, "-std=c11", "-O1", *flags, *STRICT, f"-I{HEADER}", HERE / "ask.c", *archives, "-o", program)
+        expect(f"{name}: ask.c", done.returncode == 0, done.stderr)
+        for kind, (graph, ids) in graphs.items():
+            compare(f"{name}, {kind}", program, graph, ids)
+            chained(f"{name}, {kind}", program, scratch, kind)
+        if flags:
+            same_as_real(name, program, scratch)
+        elif present("valgrind", "valgrind"):
+            nothing_left(name, program, scratch, graphs)
+    fields(compiler, compiler, archives, scratch)
+    refused_and_shared(compiler, compiler, archives, scratch, graphs)
+    example(compiler, archives, scratch, graphs)
+    headers = [("C11", compiler, "-std=c11", "c"), ("C++17", {"gcc": "g++", "clang": "clang++"}[compiler], "-std=c++17", "c++")]
+    for language, command, standard, kind in headers:
+        if present(command, f"the header as {language}"):
+            done = run(command, standard, *STRICT, "-fsyntax-only", "-x", kind, HEADER / "commitgraph.h")
+            expect(f"{command}: the header alone as {language}", done.returncode == 0, done.stderr)
+
+
+def nothing_left(name, program, scratch, graphs):
+    """Each command under valgrind: no error, and no block that is left."""
+    words = ["valgrind", "-q", "--error-exitcode=99", "--leak-check=full", "--show-leak-kinds=all", "--errors-for-leak-kinds=all"]
+    for kind, (graph, ids) in graphs.items():
+        file = chain(scratch, kind) / ".git/objects/info/commit-graphs/commit-graph-chain"
+        asked = [("list",), ("parents", ids[-1]), ("bases", *ids[-3:]), *questions([ids[0], ids[-1]])]
+        for opened, command in [(opened, command) for opened in (graph, file) for command in asked]:
+            done = run(*words, program, opened, *command)
+            expect(f"{name}: valgrind {kind} {command}", done.returncode in (0, 1) and not done.stderr, done)
+        (scratch / "cut").write_bytes(graph.read_bytes()[:-1])
+        done = run(*words, program, scratch / "cut", "verify")
+        expect(f"{name}: valgrind {kind}, a refused file", done.returncode == 1 and not done.stderr, done)
+
+
+def example(compiler, archives, scratch, graphs):
+    """The example: what it prints of a merge of three parents."""
+    program = scratch / "example"
+    done = run(compiler, "-std=c11", *STRICT, f"-I{HEADER}", HEADER / "example.c", *archives, "-o", program)
+    expect(f"{compiler}: example.c", done.returncode == 0, done.stderr)
+    for kind, (graph, ids) in graphs.items():
+        done = run(program, graph, ids[-1])
+        parents = [f"parent {commit}" for commit in parents_of(scratch / kind, ids[-1])]
+        commits, record, *rest = done.stdout.splitlines() or ["", ""]
+        expect(f"{compiler}: example, {kind}", (done.returncode, commits, rest) == (0, "11 commits", parents), done)
+        expect(f"{compiler}: example, time", record.endswith(" time 1000000000"), done)
 
 
 def main():
@@ -340,40 +409,14 @@ def main():
         print("what graphtool lists and counts: left out, since no GRAPHTOOL is given")
     with tempfile.TemporaryDirectory() as folder:
         scratch = pathlib.Path(folder)
+        (scratch / "real").mkdir()
         graphs = {}
-        for kind in ("sha1", "sha256"):
+        for kind in KINDS:
             ids = repository(scratch / kind, kind)
             graphs[kind] = (scratch / kind / ".git/objects/info/commit-graph", ids)
         for compiler in ("gcc", "clang"):
-            if not present(compiler, f"C with {compiler}"):
-                continue
-            for flags in ([], ["-g", "-fsanitize=address,undefined"]):
-                name = " ".join([compiler, *flags])
-                program = scratch / "ask"
-                done = run(compiler, "-std=c11", "-O1", *flags, *STRICT, f"-I{HEADER}", HERE / "ask.c",
-                           *archives, "-o", program)
-                expect(f"{name}: ask.c", done.returncode == 0, done.stderr)
-                for kind, (graph, ids) in graphs.items():
-                    compare(f"{name}, {kind}", program, graph, ids)
-                    chained(f"{name}, {kind}", program, scratch, kind)
-                if flags:
-                    damaged(name, program, *graphs["sha1"], scratch)
-                elif present("valgrind", "valgrind"):
-                    done = run("valgrind", "-q", "--error-exitcode=99", "--leak-check=full",
-                               "--show-leak-kinds=all", "--errors-for-leak-kinds=all", program,
-                               graphs["sha1"][0], "verify")
-                    expect(f"{name}: valgrind", done.returncode == 0, done.stderr)
-            fields(compiler, compiler, archives, scratch)
-            refused_and_shared(compiler, compiler, archives, scratch, *graphs["sha1"])
-            done = run(compiler, "-std=c11", *STRICT, f"-I{HEADER}", HEADER / "example.c", *archives, "-o",
-                       scratch / "example")
-            expect(f"{compiler}: example.c", done.returncode == 0, done.stderr)
-            graph, ids = graphs["sha256"]
-            done = run(scratch / "example", graph, ids[-1])
-            expect(f"{compiler}: example", "generation" in done.stdout and done.returncode == 0, done)
-        if present("g++", "the header as C++"):
-            done = run("g++", "-std=c++17", *STRICT, "-fsyntax-only", "-x", "c++", HEADER / "commitgraph.h")
-            expect("the header as C++17", done.returncode == 0, done.stderr)
+            if present(compiler, f"C with {compiler}"):
+                c(compiler, archives, scratch, graphs)
         if present("cargo", "Rust"):
             folders = ":".join(str(archive.parent) for archive in archives)
             at = {**os.environ, "COMMITGRAPH_LIB": folders, "CARGO_TARGET_DIR": str(scratch / "target")}

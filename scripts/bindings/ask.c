@@ -180,19 +180,33 @@ static int bases(cg_graph graph, int count, char **hex) {
     return 0;
 }
 
-/* What is answered of no graph. */
+/* What each call answers of no graph, and that none but cg_verify writes anything. */
 static bool closed_answers(void) {
     uint32_t out[1] = { 7 };
-    cg_commit none = { .time = 7 };
+    uint8_t id[32] = { 7 };
+    cg_commit commit = { .time = 7 };
     cg_parent_count answer = { .code = 7 };
-    return cg_num_commits(CG_CLOSED) == 0 && cg_lookup(CG_CLOSED, (const uint8_t *)"", 0) == CG_NOWHERE
-        && cg_parents(CG_CLOSED, 0, out, 1).code == 6 && cg_is_ancestor(CG_CLOSED, 0, 0).code == 4
-        && cg_merge_bases(CG_CLOSED, 0, out, 1, out, 0).code == 4 && out[0] == 7
-        && cg_commits(CG_CLOSED, 0, &none, 1) == 0 && none.time == 7
-        && cg_parents_from(CG_CLOSED, 0, &answer, 1, out, 1).commits == 0 && answer.code == 7;
+    cg_count count = { .parents = 7 };
+    cg_verdict verdict = { .called = 7 };
+    cg_close(CG_CLOSED);
+    bool good = cg_num_commits(CG_CLOSED) == 0 && cg_id_len(CG_CLOSED) == 0 && cg_lookup(CG_CLOSED, id, 20) == CG_NOWHERE
+        && cg_id_at(CG_CLOSED, 0, id, 20) == 0 && cg_tree_at(CG_CLOSED, 0, id, 20) == 0 && !cg_commit_at(CG_CLOSED, 0, &commit)
+        && cg_commits(CG_CLOSED, 0, &commit, 1) == 0 && cg_parents(CG_CLOSED, 0, out, 1).code == 6
+        && cg_parents_from(CG_CLOSED, 0, &answer, 1, out, 1).commits == 0
+        && cg_verify(CG_CLOSED, true, &verdict, &count, 1) == 12 && verdict.code == 12 && verdict.called == 0
+        && cg_ancestor_walk(CG_CLOSED, 0, 0, out, 1).code == 4 && cg_is_ancestor(CG_CLOSED, 0, 0).code == 4
+        && cg_merge_bases(CG_CLOSED, 0, out, 1, out, 0).code == 4;
+    return good && out[0] == 7 && id[0] == 7 && commit.time == 7 && answer.code == 7 && count.parents == 7;
 }
 
-enum { LAYERS = 16, PATH = 4096 };
+/* What the queries answer of a graph that was not checked. */
+static bool unchecked_answers(cg_graph graph) {
+    uint32_t out[1] = { 7 };
+    return cg_ancestor_walk(graph, 0, 0, out, 1).code == 2 && cg_is_ancestor(graph, 0, 0).code == 2
+        && cg_merge_bases(graph, 0, out, 0, out, 1).code == 2 && out[0] == 7;
+}
+
+enum { LAYERS = 32, PATH = 4096 };
 static char paths[LAYERS][PATH];
 
 static bool add(cg_file *files, size_t *count, const char *path) {
@@ -269,7 +283,7 @@ int main(int argc, char **argv) {
     while (count) free((void *)files[--count].bytes);
     if (error.code == 4) return error.detail == verdict.code ? not_right(verdict) : 9;
     if (error.code) return not_opened(error, !strcmp(argv[2], "list"));
-    int status = answer(graph, argc - 2, argv + 2);
+    int status = asks || unchecked_answers(graph) ? answer(graph, argc - 2, argv + 2) : 9;
     cg_close(graph);
     return closed_answers() ? status : 9;
 }

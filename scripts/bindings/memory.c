@@ -1,5 +1,6 @@
-/* memory FILE ID ID: makes each call that allocates again and again, and refuses one later allocation of it each time. It has to
- * answer the code for memory, to leave no block and to write no graph. It is linked with --wrap for malloc, realloc and free. */
+/* memory ID ID FILE..: over the layers of these files, makes each call that allocates again and again, and refuses one later
+ * allocation of it each time. It has to answer the code for memory, to leave no block and to write nothing, but the verdict on code
+ * 4. It is linked with --wrap for malloc, realloc and free. */
 #include "commitgraph.h"
 #include <stdio.h>
 #include <stdlib.h>
@@ -41,9 +42,11 @@ void __wrap_free(void *block) {
 }
 
 typedef enum { DONE, NO_MEMORY, WRONG } outcome;
-static cg_file file;
+enum { LAYERS = 8, BYTES = 1 << 16, ROOM = 1024, OTHER = 1 };
+static cg_file files[LAYERS];
+static size_t layers;
 static cg_graph graph;
-static uint32_t from, to, out[1024];
+static uint32_t from, to, out[ROOM];
 static cg_verdict verdict;
 static cg_count counts[8];
 
@@ -56,40 +59,51 @@ static outcome opening(cg_error error, cg_graph opened) {
     if (error.code == 0) { cg_close(opened); return DONE; }
     bool memory = (error.code == 2 && error.detail == 20) || (error.code == 3 && error.detail == 4)
         || (error.code == 4 && error.detail == 10);
-    return memory && opened.address == (void *)&file && !opened.opened ? NO_MEMORY : WRONG;
+    return memory && opened.address == (void *)files && !opened.opened ? NO_MEMORY : WRONG;
+}
+
+/* Whether no byte of some was written. */
+static bool unwritten(const void *bytes, size_t len) {
+    for (size_t i = 0; i < len; i++)
+        if (((const uint8_t *)bytes)[i] != OTHER) return false;
+    return true;
 }
 
 static outcome open_graph(void) {
-    cg_graph opened = { &file, false };
-    cg_error error = cg_open(&file, 1, &opened);
+    cg_graph opened = { files, false };
+    cg_error error = cg_open(files, layers, &opened);
     return opening(error, opened);
 }
 
 static outcome open_checked(void) {
-    cg_graph opened = { &file, false };
-    cg_error error = cg_open_checked(&file, 1, true, &verdict, counts, 8, &opened);
+    cg_graph opened = { files, false };
+    memset(&verdict, OTHER, sizeof verdict);
+    memset(counts, OTHER, sizeof counts);
+    cg_error error = cg_open_checked(files, layers, true, &verdict, counts, 8, &opened);
+    bool told = error.code == 0 || error.code == 4;
+    if (told == unwritten(&verdict, sizeof verdict) || (error.code != 0) != unwritten(counts, sizeof counts)) return WRONG;
     return opening(error, opened);
 }
 
 static outcome verify(void) {
-    counts[0].parents = 77;
+    memset(counts, OTHER, sizeof counts);
     outcome found = outcome_of(cg_verify(graph, true, &verdict, counts, 8), 10);
-    return found == NO_MEMORY && counts[0].parents != 77 ? WRONG : found;
+    return found == NO_MEMORY && !unwritten(counts, sizeof counts) ? WRONG : found;
 }
 
 static outcome walk(void) {
-    out[0] = 0x77777777;
-    outcome found = outcome_of(cg_ancestor_walk(graph, from, to, out, 1024).code, 3);
-    return found == NO_MEMORY && out[0] != 0x77777777 ? WRONG : found;
+    memset(out, OTHER, sizeof out);
+    outcome found = outcome_of(cg_ancestor_walk(graph, from, to, out, ROOM).code, 3);
+    return found == NO_MEMORY && !unwritten(out, sizeof out) ? WRONG : found;
 }
 
 static outcome ancestor(void) { return outcome_of(cg_is_ancestor(graph, from, to).code, 3); }
 
 static outcome bases(void) {
     uint32_t others[2] = { to, from };
-    out[0] = 0x77777777;
-    outcome found = outcome_of(cg_merge_bases(graph, from, others, 2, out, 1024).code, 3);
-    return found == NO_MEMORY && out[0] != 0x77777777 ? WRONG : found;
+    memset(out, OTHER, sizeof out);
+    outcome found = outcome_of(cg_merge_bases(graph, from, others, 2, out, ROOM).code, 3);
+    return found == NO_MEMORY && !unwritten(out, sizeof out) ? WRONG : found;
 }
 
 /* The calls that only read: they ask for no memory. */
@@ -127,14 +141,17 @@ static uint32_t position_of(const char *hex) {
 }
 
 int main(int argc, char **argv) {
-    static uint8_t bytes[1 << 20];
-    FILE *input = argc == 4 ? fopen(argv[1], "rb") : NULL;
-    if (!input) return 2;
-    file = (cg_file){ bytes, fread(bytes, 1, sizeof bytes, input), (const uint8_t *)argv[1], strlen(argv[1]) };
-    fclose(input);
-    if (cg_open_checked(&file, 1, false, &verdict, counts, 8, &graph).code) return 3;
-    from = position_of(argv[2]);
-    to = position_of(argv[3]);
+    static uint8_t bytes[LAYERS][BYTES];
+    for (; argc > 3 && layers < (size_t)argc - 3 && layers < LAYERS; layers++) {
+        const char *path = argv[layers + 3];
+        FILE *input = fopen(path, "rb");
+        if (!input) return 2;
+        files[layers] = (cg_file){ bytes[layers], fread(bytes[layers], 1, BYTES, input), (const uint8_t *)path, strlen(path) };
+        fclose(input);
+    }
+    if (cg_open_checked(files, layers, false, &verdict, counts, 8, &graph).code) return 3;
+    from = position_of(argv[1]);
+    to = position_of(argv[2]);
     printf("open %ld\n", refusals("open", open_graph));
     printf("open_checked %ld\n", refusals("open_checked", open_checked));
     printf("verify %ld\n", refusals("verify", verify));
@@ -143,5 +160,5 @@ int main(int argc, char **argv) {
     printf("bases %ld\n", refusals("bases", bases));
     printf("reading %ld\n", refusals("reading", reading));
     cg_close(graph);
-    return 0;
+    return blocks;
 }
