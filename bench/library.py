@@ -1,15 +1,18 @@
 #!/usr/bin/env python3
-"""Measures the library for C beside the same crates called from Rattle.
+"""Measures the library through C and through the Rust crate, beside the same crates called from Rattle.
 
 usage: python3 bench/library.py [FOLDER]
 
-FOLDER keeps the files and both programs for further runs. The files and our program are those of bench/lookup.py;
-the other program is bench/library/measure.c, by `cc -O2`, over the library that `rt lib` left in crates/commitgraph_c.
-Both read the same files, in turn, and have to give the same sums. A line a figure: the library's time and ours, in
-nanoseconds an item, each the best of all runs, and their ratio. The items are the commits that are opened, with a copy
-of their bytes; lookups of ids; commits with their parents, by a call each; commits at random positions, by two calls
-each; and the commits of the graphs that are checked. The last lines have the time of one call that only answers a
-number. The status is 1 where the two disagree.
+FOLDER keeps the files and the programs for further runs. The files and our programs are those of bench/lookup.py, and for
+queries those of bench/ancestor.py. The others are bench/library/measure.c, by `cc -O2`, and bench/library/measure.rs over
+bindings/rust, by `rustc -O`; both link the library that `rt lib` left in crates/commitgraph_c. All read the same files, in
+turn, and have to give the same sums.
+
+A line a figure: the times through C and through Rust and ours, in nanoseconds an item, each the best of all runs; both
+ratios; and the bound that is wanted of them, or of the times where it begins with a sign. The items are the commits that
+are opened, with a copy of their bytes; lookups of ids; commits with their parents, by a call each (`iterate`) and many in a
+call (`blocks`); commits at random positions; the commits of the graphs that are checked; 1,000 queries for a walk or for
+whether there is one; and calls that only answer a number. The status is 1 where the sums differ.
 """
 
 import os
@@ -17,12 +20,20 @@ import subprocess
 import sys
 import tempfile
 
+import ancestor
 import lookup
+from topics import PAIRS
 
-SOURCE = os.path.join(lookup.TOP, "bench", "library", "measure.c")
-LIBRARY = os.path.join(lookup.TOP, "crates", "commitgraph_c", "out", "libcommitgraph_c.a")
+SOURCES = os.path.join(lookup.TOP, "bench", "library")
+LIBRARY = os.path.join(lookup.TOP, "crates", "commitgraph_c", "out")
 CALLS = 100_000_000
-"""How many calls the program makes that only answer a number."""
+"""How many calls each program makes that only answer a number."""
+OURS = {"blocks": "iterate"}
+"""The figure of our program that another is compared with, where it has another name."""
+OPENING = 45
+"""Opening may take so many nanoseconds a commit more than ours, as it copies the bytes."""
+BOUNDS = {"iterate": "2.5", "blocks": "1.5", "calls": "=3", "open": "+%d" % OPENING}
+"""The bounds that are not 1.1: of the ratio; of the time; and of how much longer it may be."""
 
 
 def main(folder=None):
@@ -30,37 +41,73 @@ def main(folder=None):
     with tempfile.TemporaryDirectory() as scratch:
         folder = os.path.abspath(folder or scratch)
         os.makedirs(folder, exist_ok=True)
-        files = lookup.written_files(folder)
-        ours, library = lookup.our_program(folder), library_program(folder)
-        chosen = files[: lookup.NAMES.index("once")] + files[lookup.NAMES.index("layer") :]
+        present, absent, positions, once, twice, *layers = lookup.written_files(folder)
+        pairs = ancestor.pairs_files(folder, present)
+        inputs = [present, absent, positions, *pairs, *layers]
+        ours, queries = lookup.our_program(folder), ancestor.our_program(folder)
+        programs = [c_program(folder), rust_program(folder)]
         print("load     %.2f" % os.getloadavg()[0])
-        rounds = [(lookup.figures(ours, files), lookup.figures(library, chosen)) for _ in range(lookup.ROUNDS)]
-        return report([first for first, _ in rounds], [second for _, second in rounds])
+        rounds = []
+        for _ in range(lookup.ROUNDS):
+            own = figures(ours, [present, absent, positions, once, twice, *layers])
+            own.update(figures(queries, [*pairs, layers[0]], "layer-"))
+            own.update(figures(queries, [*pairs, *layers[1:]], "chain-"))
+            rounds.append([*(figures(program, inputs) for program in programs), own])
+        return report(rounds)
 
 
-def report(ours, library):
+def figures(program, words, prefix=""):
+    """What one run of a program prints: for each figure its time, and the numbers that came out."""
+    lines = subprocess.check_output([program] + words, text=True).splitlines()
+    return {prefix + name: (int(time), tuple(numbers)) for name, time, *numbers in map(str.split, lines)}
+
+
+def report(rounds):
     """Prints a line a figure, and answers the exit status."""
     agreed = True
-    print("%-16s %10s %10s %7s" % ("figure", "C ns", "ours ns", "ratio"))
-    for name in library[0]:
-        best, sums = lookup.best_and_sums(name, library)
-        if name.endswith("-calls"):
-            print("%-16s %10.2f" % (name, best / CALLS))
-        elif name in ours[0]:
-            other, other_sums = lookup.best_and_sums(name, ours)
-            print("%-16s %10.2f %10.2f %7.3f" % (name, best / lookup.COMMITS, other / lookup.COMMITS, best / other))
-            agreed = agreed and len(sums | other_sums) == 1
-    if not agreed:
-        print("the sums differ")
+    print("%-18s %10s %10s %10s %7s %7s %7s" % ("figure", "C ns", "Rust ns", "ours ns", "C", "Rust", "bound"))
+    for name in rounds[0][0]:
+        layers, figure = name.split("-", 1)
+        columns = [name, name, "%s-%s" % (layers, OURS.get(figure, figure))]
+        found = [[run[at][column] for run in rounds] for at, column in enumerate(columns) if column in rounds[0][at]]
+        items = CALLS if figure == "calls" else PAIRS if figure.startswith(("any", "newest")) else lookup.COMMITS
+        times = [min(time for time, _ in runs) / items for runs in found]
+        ratios = [time / times[2] for time in times[:2]] if len(times) == 3 else []
+        cells = ["%10.2f" % time for time in times] + [" " * 10] * (3 - len(times))
+        cells += ["%7.3f" % ratio for ratio in ratios] + [" " * 7] * (2 - len(ratios))
+        print("%-18s %s %7s" % (name, " ".join(cells), BOUNDS.get(figure, "1.1" if ratios else "")), flush=True)
+        if len({numbers for runs in found for _, numbers in runs}) != 1:
+            print("%-18s the sums differ" % name)
+            agreed = False
     return 0 if agreed else 1
 
 
-def library_program(folder):
-    """The path of the program over the library, built."""
-    program = os.path.join(folder, "library")
+def archives():
+    """The folders of the library, and of the kit's own heap."""
     kit = os.path.dirname(subprocess.check_output(["rt", "doc"], text=True).strip())
+    return LIBRARY, os.path.join(kit, "c")
+
+
+def c_program(folder):
+    """The path of the program in C, built."""
+    program = os.path.join(folder, "library_c")
+    library, heap = archives()
     flags = ["-std=c11", "-D_GNU_SOURCE", "-O2", "-I" + os.path.join(lookup.TOP, "bindings", "c")]
-    subprocess.check_call(["cc", *flags, SOURCE, LIBRARY, os.path.join(kit, "c", "liblibc_c.a"), "-o", program])
+    linked = [os.path.join(library, "libcommitgraph_c.a"), os.path.join(heap, "liblibc_c.a")]
+    subprocess.check_call(["cc", *flags, os.path.join(SOURCES, "measure.c"), *linked, "-o", program])
+    return program
+
+
+def rust_program(folder):
+    """The path of the program in Rust, built over the crate."""
+    program, crate = os.path.join(folder, "library_rust"), os.path.join(folder, "libcommitgraph.rlib")
+    source = os.path.join(lookup.TOP, "bindings", "rust", "src", "lib.rs")
+    found = [word for path in archives() for word in ("-L", "native=" + path)]
+    rustc = ["rustc", "--edition", "2021", "-O", "-C", "codegen-units=1", *found]
+    linked = ["-l", "static=commitgraph_c", "-l", "static=libc_c"]
+    subprocess.check_call([*rustc, "--crate-type", "rlib", "--crate-name", "commitgraph", *linked, source, "-o", crate])
+    measured = os.path.join(SOURCES, "measure.rs")
+    subprocess.check_call([*rustc, "--extern", "commitgraph=" + crate, measured, "-o", program])
     return program
 
 

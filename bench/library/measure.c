@@ -1,5 +1,6 @@
-/* measure PRESENT ABSENT POSITIONS LAYER CHAIN-LAYER..: times reads and checks of commit-graphs through the library for C.
- * A line a figure: its name, its nanoseconds, how many numbers came out, and their sum. */
+/* measure PRESENT ABSENT POSITIONS ANY NEWEST LAYER CHAIN-LAYER..: times reads, checks and queries of commit-graphs through the
+ * library for C. A line a figure: its name, its nanoseconds, how many numbers came out, and their sum; of queries, the numbers
+ * that bench/ancestor prints. */
 #include "commitgraph.h"
 #include <inttypes.h>
 #include <stdio.h>
@@ -7,11 +8,11 @@
 #include <string.h>
 #include <time.h>
 
-enum { ID_LEN = 20, MOST_LAYERS = 256, ROOM = 64, CALLS = 100000000 };
+enum { ID_LEN = 20, MOST_LAYERS = 256, ROOM = 64, PLACES = 4096, CALLS = 100000000 };
 
 typedef struct { uint64_t count, sum; } seen;
 typedef struct { uint8_t *bytes; size_t len; } bytes;
-typedef struct { bytes present, absent, positions; } inputs;
+typedef struct { bytes present, absent, positions, pairs[2]; } inputs;
 
 static void add(seen *to, uint64_t number) {
     to->count++;
@@ -62,6 +63,37 @@ static seen iterate(cg_graph graph) {
     return found;
 }
 
+/* The same in blocks. */
+static seen blocks(cg_graph graph) {
+    static cg_parent_count answers[PLACES];
+    static uint32_t parents[2 * PLACES];
+    seen found = { 0, 0 };
+    for (uint32_t first = 0, end = cg_num_commits(graph); first < end;) {
+        cg_block block = cg_parents_from(graph, first, answers, PLACES, parents, 2 * PLACES);
+        bool fits = block.length <= 2 * PLACES;
+        uint32_t whole = block.commits - !fits;
+        const uint32_t *next = parents;
+        for (uint32_t i = 0; i < whole; i++)
+            for (uint64_t j = 0; j < answers[i].count; j++) add(&found, *next++);
+        if (!whole) add_parents(&found, graph, first);
+        first += whole ? whole : 1;
+    }
+    return found;
+}
+
+static seen records(cg_graph graph) {
+    static cg_commit commits[PLACES];
+    seen found = { 0, 0 };
+    for (uint32_t first = 0, end = cg_num_commits(graph); first < end; first += PLACES) {
+        uint32_t left = cg_commits(graph, first, commits, PLACES);
+        for (uint32_t i = 0; i < left && i < PLACES; i++) {
+            add(&found, commits[i].generation);
+            add(&found, commits[i].time);
+        }
+    }
+    return found;
+}
+
 static seen jumps(cg_graph graph, bytes positions) {
     seen found = { 0, 0 };
     for (size_t at = 0; at + 4 <= positions.len; at += 4) {
@@ -85,6 +117,30 @@ static seen integrity(cg_graph graph) {
     add(&found, told.has_longest ? (uint64_t)told.longest + 1 : 0);
     for (uint64_t i = 0; i < told.kinds && i < ROOM; i++) add(&found, (uint64_t)counts[i].parents * counts[i].commits);
     return found;
+}
+
+static uint32_t position(cg_graph graph, const uint8_t *id) {
+    uint32_t pos = cg_lookup(graph, id, ID_LEN);
+    if (pos == CG_NOWHERE) exit(1);
+    return pos;
+}
+
+/* Walks between pairs of commits, and then whether there is one. */
+static void queries(const char *layers, const char *kind, cg_graph graph, bytes pairs) {
+    static uint32_t walk[1 << 20];
+    uint64_t walks = 0, commits = 0, visits = 0, yes = 0, start = now();
+    for (size_t at = 0; at + 2 * ID_LEN <= pairs.len; at += 2 * ID_LEN) {
+        uint32_t from = position(graph, pairs.bytes + at), to = position(graph, pairs.bytes + at + ID_LEN);
+        cg_reached reached = cg_ancestor_walk(graph, from, to, walk, 1 << 20);
+        visits += reached.visits;
+        walks += reached.length > 0;
+        commits += reached.length;
+    }
+    printf("%s-%s-walk %" PRIu64 " %" PRIu64 " %" PRIu64 " %" PRIu64 "\n", layers, kind, now() - start, walks, commits, visits);
+    start = now();
+    for (size_t at = 0; at + 2 * ID_LEN <= pairs.len; at += 2 * ID_LEN)
+        yes += cg_is_ancestor(graph, position(graph, pairs.bytes + at), position(graph, pairs.bytes + at + ID_LEN)).found;
+    printf("%s-%s-yes %" PRIu64 " %" PRIu64 " 0\n", layers, kind, now() - start, yes);
 }
 
 static seen calls(cg_graph graph) {
@@ -111,19 +167,31 @@ static void measure(const char *name, const inputs *in, char **paths, size_t cou
     start = now();
     report(name, "iterate", start, iterate(graph));
     start = now();
+    report(name, "blocks", start, blocks(graph));
+    start = now();
+    report(name, "records", start, records(graph));
+    start = now();
     report(name, "commit_at", start, jumps(graph, in->positions));
     start = now();
     report(name, "integrity", start, integrity(graph));
     start = now();
     report(name, "calls", start, calls(graph));
     cg_close(graph);
+    cg_verdict verdict;
+    cg_count counts[1];
+    start = now();
+    if (cg_open_checked(files, count, false, &verdict, counts, 1, &graph).code) exit(1);
+    report(name, "open_checked", start, (seen){ 1, cg_num_commits(graph) });
+    queries(name, "any", graph, in->pairs[0]);
+    queries(name, "newest", graph, in->pairs[1]);
+    cg_close(graph);
     for (size_t i = 0; i < count; i++) free((void *)files[i].bytes);
 }
 
 int main(int argc, char **argv) {
-    if (argc < 6) return 2;
-    inputs in = { read_all(argv[1]), read_all(argv[2]), read_all(argv[3]) };
-    measure("layer", &in, argv + 4, 1);
-    measure("chain", &in, argv + 5, (size_t)argc - 5);
+    if (argc < 8) return 2;
+    inputs in = { read_all(argv[1]), read_all(argv[2]), read_all(argv[3]), { read_all(argv[4]), read_all(argv[5]) } };
+    measure("layer", &in, argv + 6, 1);
+    measure("chain", &in, argv + 7, (size_t)argc - 7);
     return 0;
 }

@@ -1,0 +1,165 @@
+//! `measure PRESENT ABSENT POSITIONS ANY NEWEST LAYER CHAIN-LAYER..`: times reads, checks and queries of commit-graphs through
+//! the Rust crate, in the lines of measure.c.
+
+use commitgraph::{Checked, Commit, Graph, Position};
+use std::convert::Infallible;
+use std::time::Instant;
+
+const ID_LEN: usize = 20;
+const CALLS: u32 = 100_000_000;
+
+/// How many numbers came out, and their sum.
+#[derive(Default)]
+struct Seen {
+    count: u64,
+    sum: u64,
+}
+
+impl Seen {
+    fn add(&mut self, number: impl Into<u64>) {
+        self.count += 1;
+        self.sum = self.sum.wrapping_add(number.into());
+    }
+
+    fn add_parents(&mut self, commit: Commit<'_>) {
+        for parent in commit.iter_parents().flatten() {
+            self.add(parent.0);
+        }
+    }
+}
+
+struct Inputs {
+    present: Vec<u8>,
+    absent: Vec<u8>,
+    positions: Vec<u8>,
+    pairs: [Vec<u8>; 2],
+}
+
+fn lookups(graph: &Graph, ids: &[u8]) -> Seen {
+    let mut seen = Seen::default();
+    for id in ids.chunks_exact(ID_LEN) {
+        if let Some(pos) = graph.lookup(id) {
+            seen.add(pos.0);
+        }
+    }
+    seen
+}
+
+fn iterate(graph: &Graph) -> Seen {
+    let mut seen = Seen::default();
+    for commit in graph.iter_commits() {
+        seen.add_parents(commit);
+    }
+    seen
+}
+
+fn blocks(graph: &Graph) -> Seen {
+    let mut seen = Seen::default();
+    for block in graph.parent_blocks() {
+        for parent in block.iter().flatten().flatten() {
+            seen.add(parent.0);
+        }
+    }
+    seen
+}
+
+fn records(graph: &Graph) -> Seen {
+    let mut seen = Seen::default();
+    for record in graph.iter_records() {
+        seen.add(record.generation);
+        seen.add(record.committer_timestamp);
+    }
+    seen
+}
+
+fn jumps(graph: &Graph, positions: &[u8]) -> Seen {
+    let mut seen = Seen::default();
+    for place in positions.chunks_exact(4) {
+        let commit = graph.commit_at(Position(u32::from_be_bytes(place.try_into().unwrap())));
+        seen.add(commit.generation());
+        seen.add(commit.committer_timestamp());
+        seen.add_parents(commit);
+    }
+    seen
+}
+
+fn integrity(graph: &Graph) -> Seen {
+    let mut seen = Seen::default();
+    let outcome = graph.verify_integrity(|_| Ok::<_, Infallible>(())).unwrap();
+    seen.add(outcome.num_commits);
+    seen.add(outcome.longest_path_length.map_or(0, |longest| u64::from(longest) + 1));
+    for (parents, commits) in outcome.parent_counts {
+        seen.add(u64::from(parents) * u64::from(commits));
+    }
+    seen
+}
+
+fn calls(graph: &Graph) -> Seen {
+    let mut seen = Seen::default();
+    for _ in 0..CALLS {
+        seen.add(graph.num_commits());
+    }
+    seen
+}
+
+/// Walks between pairs of commits, and then whether there is one.
+fn queries(layers: &str, kind: &str, graph: &Checked, pairs: &[u8]) {
+    let position = |id: &[u8]| graph.lookup(id).unwrap();
+    let (mut walks, mut commits, mut visits, mut yes) = (0, 0, 0, 0);
+    let start = Instant::now();
+    for pair in pairs.chunks_exact(2 * ID_LEN) {
+        let reached = graph.ancestor_walk(position(&pair[..ID_LEN]), position(&pair[ID_LEN..])).unwrap();
+        visits += u64::from(reached.visits);
+        walks += u64::from(reached.walk.is_some());
+        commits += reached.walk.map_or(0, |walk| walk.len() as u64);
+    }
+    println!("{layers}-{kind}-walk {} {walks} {commits} {visits}", start.elapsed().as_nanos());
+    let start = Instant::now();
+    for pair in pairs.chunks_exact(2 * ID_LEN) {
+        yes += u64::from(graph.is_ancestor(position(&pair[..ID_LEN]), position(&pair[ID_LEN..])).unwrap());
+    }
+    println!("{layers}-{kind}-yes {} {yes} 0", start.elapsed().as_nanos());
+}
+
+fn timed<T>(layers: &str, name: &str, call: impl FnOnce() -> T, seen: impl FnOnce(&T) -> Seen) -> T {
+    let start = Instant::now();
+    let answer = call();
+    let taken = start.elapsed().as_nanos();
+    let Seen { count, sum } = seen(&answer);
+    println!("{layers}-{name} {taken} {count} {sum}");
+    answer
+}
+
+fn measure(layers: &str, inputs: &Inputs, paths: &[String]) {
+    let files: Vec<Vec<u8>> = paths.iter().map(|path| std::fs::read(path).unwrap()).collect();
+    let files: Vec<(&[u8], &str)> = files.iter().map(|bytes| (&bytes[..], "-")).collect();
+    let commits = |graph: &Graph| Seen { count: 1, sum: graph.num_commits().into() };
+    let graph = timed(layers, "open", || Graph::of_bytes(&files).unwrap(), commits);
+    let pass = |name, pass: &dyn Fn() -> Seen| {
+        timed(layers, name, pass, |seen| Seen { count: seen.count, sum: seen.sum });
+    };
+    pass("present", &|| lookups(&graph, &inputs.present));
+    pass("absent", &|| lookups(&graph, &inputs.absent));
+    pass("iterate", &|| iterate(&graph));
+    pass("blocks", &|| blocks(&graph));
+    pass("records", &|| records(&graph));
+    pass("commit_at", &|| jumps(&graph, &inputs.positions));
+    pass("integrity", &|| integrity(&graph));
+    pass("calls", &|| calls(&graph));
+    drop(graph);
+    let checked = timed(layers, "open_checked", || Checked::of_bytes(&files).unwrap(), |graph| commits(graph));
+    queries(layers, "any", &checked, &inputs.pairs[0]);
+    queries(layers, "newest", &checked, &inputs.pairs[1]);
+}
+
+fn main() {
+    let words: Vec<String> = std::env::args().collect();
+    let [_, present, absent, positions, any, newest, layers @ ..] = &words[..] else {
+        panic!("usage: measure PRESENT ABSENT POSITIONS ANY NEWEST LAYER CHAIN-LAYER..")
+    };
+    let read = |path: &String| std::fs::read(path).unwrap();
+    let pairs = [read(any), read(newest)];
+    let inputs = Inputs { present: read(present), absent: read(absent), positions: read(positions), pairs };
+    measure("layer", &inputs, &layers[..1]);
+    measure("chain", &inputs, &layers[1..]);
+}
