@@ -11,8 +11,9 @@ turn, and have to give the same sums.
 A line a figure: the times through C and through Rust and ours, in nanoseconds an item, each the best of all runs; both
 ratios; and the bound that is wanted of them, or of the times where it begins with a sign. The items are the commits that
 are opened, with a copy of their bytes; lookups of ids; commits with their parents, by a call each (`iterate`) and many in a
-call (`blocks`); commits at random positions; the commits of the graphs that are checked; 1,000 queries for a walk or for
-whether there is one; and calls that only answer a number. The status is 1 where the sums differ.
+call (`blocks`); commits at random positions; the commits of the graphs that are checked; queries for a walk, or for whether
+there is one, of 30 random pairs and of 1,000 near ones; and calls that only answer a number. The status is 1 where the sums
+differ.
 """
 
 import os
@@ -26,8 +27,12 @@ from topics import PAIRS
 
 SOURCES = os.path.join(lookup.TOP, "bench", "library")
 LIBRARY = os.path.join(lookup.TOP, "crates", "commitgraph_c", "out")
+FEW = 30
+"""Of the pairs at random so many are asked about."""
 CALLS = 100_000_000
 """How many calls each program makes that only answer a number."""
+ITEMS = {"calls": CALLS, "any": FEW, "newest": PAIRS}
+"""How many items the figures have that are not of each commit."""
 OURS = {"blocks": "iterate"}
 """The figure of our program that another is compared with, where it has another name."""
 OPENING = 45
@@ -42,7 +47,7 @@ def main(folder=None):
         folder = os.path.abspath(folder or scratch)
         os.makedirs(folder, exist_ok=True)
         present, absent, positions, once, twice, *layers = lookup.written_files(folder)
-        pairs = ancestor.pairs_files(folder, present)
+        pairs = few_pairs(folder, *ancestor.pairs_files(folder, present))
         inputs = [present, absent, positions, *pairs, *layers]
         ours, queries = lookup.our_program(folder), ancestor.our_program(folder)
         programs = [c_program(folder), rust_program(folder)]
@@ -54,6 +59,14 @@ def main(folder=None):
             own.update(figures(queries, [*pairs, *layers[1:]], "chain-"))
             rounds.append([*(figures(program, inputs) for program in programs), own])
         return report(rounds)
+
+
+def few_pairs(folder, pairs, near):
+    """The paths of the first of the pairs at random, whose queries take long, and of all near ones."""
+    few = os.path.join(folder, "few")
+    with open(pairs, "rb") as source, open(few, "wb") as target:
+        target.write(source.read(2 * 20 * FEW))
+    return [few, near]
 
 
 def figures(program, words, prefix=""):
@@ -70,7 +83,7 @@ def report(rounds):
         layers, figure = name.split("-", 1)
         columns = [name, name, "%s-%s" % (layers, OURS.get(figure, figure))]
         found = [[run[at][column] for run in rounds] for at, column in enumerate(columns) if column in rounds[0][at]]
-        items = CALLS if figure == "calls" else PAIRS if figure.startswith(("any", "newest")) else lookup.COMMITS
+        items = ITEMS.get(figure.split("-")[0], lookup.COMMITS)
         times = [min(time for time, _ in runs) / items for runs in found]
         ratios = [time / times[2] for time in times[:2]] if len(times) == 3 else []
         cells = ["%10.2f" % time for time in times] + [" " * 10] * (3 - len(times))

@@ -42,20 +42,24 @@ typedef struct cg_graph { const void *address; bool opened; } cg_graph;
  * the path's last part is that of a layer of a chain, graph-X.graph, cg_verify checks that X is the file's checksum. */
 typedef struct cg_file { const uint8_t *bytes; size_t len; const uint8_t *path; size_t path_len; } cg_file;
 
-/* Why no graph was opened. code 0: one was. 2: the bytes of `layer`, which counts from 0, are refused for the reason of
- * number `detail`; where that is 5, `chunk` is the number of what is wrong with the table of chunks, and else 0. 3: the
- * layers make no graph, for the reason of number `detail`; where that is 3, `layer` is the first of another kind of hash
- * than the one below it. 4: cg_open_checked alone. 5: the path of `layer` is not UTF-8. The numbers are those of graphtool
- * (docs/REFUSALS.md); detail 20 under code 2 and 4 under code 3 mean that memory ran out. What is told is the first
- * refusal, in the order of the layers. */
+/* Why no graph was opened. `code` is
+ *   0  where one was;
+ *   2  where the bytes of `layer`, which counts from 0, are no layer: `detail` is the N of "file N" in docs/REFUSALS.md, and where
+ *      it is 5, `chunk` the K of "file 5 chunk K"; 20: memory ran out;
+ *   3  where the layers make no graph: `detail` is the N of "graph N" there, and where it is 3, `layer` the first of another kind
+ *      of hash than the one below it; 4: memory ran out;
+ *   4  from cg_open_checked alone, where the check refuses the graph: `detail` is the code of the verdict; 10: memory ran out;
+ *   5  where the path of `layer` is not UTF-8.
+ * What is not named is 0. The first refusal is told, in the order of the layers. */
 typedef struct cg_error { uint32_t code, detail, chunk; uint64_t layer; } cg_error;
 
-/* Opens the graph of these layers, the lowest first. The bytes are copied, so that they may go once the call has returned;
- * with them a graph takes 20 bytes a commit and 4 a word of the extra edge list more. On code 0 *out is the graph, which
- * is the caller's to close. Else *out is left as it was. *out was CG_CLOSED before, or a graph that is closed by another
- * copy of it: what it was is not freed. The bytes are read once, by the copy, and no
- * proof rests on a mapping that changes meanwhile: the graph is then one of the bytes that were read. A mapped file that
- * gets shorter meanwhile ends the program by SIGBUS, as any read of it does; who fears that reads the file instead. */
+/* Opens the graph of these layers, the lowest first: one file, or the files of a chain (see cg_chain_line). On code 0 *out is the
+ * graph, which is the caller's to close; else *out is left as it was. What *out was before is not freed: let it be CG_CLOSED.
+ *
+ * The bytes and the paths are copied, so that they may go once the call has returned; a graph takes 20 bytes a commit, and 4 a
+ * word of the extra edge list, besides the bytes. They are read once, by the copy: where a mapped file changes meanwhile, the
+ * graph is one of the bytes that were read, but no proof says so. A mapped file that gets shorter meanwhile ends the program by
+ * SIGBUS, as any read of it does; who fears that reads the file instead. */
 cg_error cg_open(const cg_file *files, size_t count, cg_graph *out);
 
 /* Opens the graph and checks it, as cg_verify does: code 4, and no graph, where the check refuses it for the reason that
@@ -95,9 +99,11 @@ bool cg_commit_at(cg_graph graph, uint32_t pos, cg_commit *out);
  * 0 where `first` is none and for CG_CLOSED: min(answer, len) of them were written. */
 uint32_t cg_commits(cg_graph graph, uint32_t first, cg_commit *out, size_t len);
 
-/* The parents of a commit. code 0: there are `count`. 1 to 4: the extra edge list or a parent field is wrong after `count`
- * parents, for the reason of that number, as graphtool has it (docs/REFUSALS.md, "parent"). 5: the position is none.
- * 6: CG_CLOSED. Of a graph that was found right the code is 0 for each position. */
+/* The parents of a commit: so many as `count` can be decoded. `code` is
+ *   0       where these are all: always so in a graph that was found right;
+ *   1 to 4  where the next one cannot be decoded, for the reason of that number, the N of "!N" in docs/REFUSALS.md;
+ *   5       where the position is none;
+ *   6       of CG_CLOSED. */
 typedef struct cg_parent_count { uint32_t code; uint64_t count; } cg_parent_count;
 
 /* Writes the positions of a commit's parents, the first parent first, as many as there is room for. */
@@ -113,13 +119,23 @@ typedef struct cg_block { uint32_t commits; uint64_t length; } cg_block;
 cg_block cg_parents_from(cg_graph graph, uint32_t first, cg_parent_count *answers, size_t answers_len,
                          uint32_t *out, size_t len);
 
-/* What a check found. code 0: the graph is right, there are `num_commits`, the longest walk has `longest` edges (unknown
- * where not has_longest), and `kinds` different numbers of parents. Else the number of the first fault, as graphtool has it:
- * 1 too many layers; 2, 3, 4 base ids, and the layer as a whole, of `layer`; 5 to 8 and 11 the commit at `position`; 10 memory
- * ran out; 12 CG_CLOSED. `fault` is the number of the fault of 4 and 5 and of the error of 6, `index` the base id of 3, and
- * `other` the byte of the fan of 4, the parent of 7, the expected number of 8 and the earlier position of 11. All others are 0.
- * `called` is the number of commits that the check passed before that fault, all on code 0: whoever has something to say of each
- * commit goes over so many, and what is refused among them comes first. It is 0 for 10, 12 and where cg_open_checked refuses. */
+/* What a check found. `code` is 0 where the graph is right: `num_commits` is the number of commits, `longest` that of the edges of
+ * the longest walk (unknown where not has_longest), and `kinds` that of the different numbers of parents. Else it tells of the
+ * first fault, and is the N of "verify N" in docs/REFUSALS.md:
+ *   1   too many layers;
+ *   2   `layer` has not one base id for each layer below it;
+ *   3   its base id of number `index`, which counts from 0, is not the checksum of that layer;
+ *   4   `layer` has the fault of number `fault`, where that is 3 at the byte `other` of the fan;
+ *   5   the commit at `position` has the fault of number `fault`;
+ *   6   its parents cannot be decoded, for the reason of number `fault`, as the code of cg_parents;
+ *   7   its parent at position `other` is none of its layer or of those below;
+ *   8   its generation number is not `other`;
+ *   10  memory ran out;
+ *   11  its id stands at the earlier position `other` too: only where distinct ids are asked for;
+ *   12  CG_CLOSED.
+ * What is not named is 0, but for `called`: the number of commits that the check passed before the fault, or of all on code 0.
+ * Whoever has something to say of each commit goes over so many, and what is refused among them comes first. It is 0 for 10 and
+ * 12, and where cg_open_checked refuses. */
 typedef struct cg_verdict {
     uint32_t code, num_commits, longest;
     bool has_longest;
@@ -133,21 +149,24 @@ typedef struct cg_count { uint32_t parents, commits; } cg_count;
  * is 0, and else nothing. */
 uint32_t cg_verify(cg_graph graph, bool distinct_ids, cg_verdict *out, cg_count *counts, size_t counts_len);
 
-/* A search for a walk. code 0: it was made, `length` is the number of commits on a shortest walk, both ends included, or 0
- * where there is none, and `visits` commits were visited. Else all other fields are 0, and nothing is written: 4: CG_CLOSED. Else
- * 2: the graph was not checked by cg_open_checked. Else 1: a position is none. Else 3: memory ran out. */
+/* A search for a walk. `code` is
+ *   4  of CG_CLOSED; else
+ *   2  where the graph was not opened by cg_open_checked; else
+ *   1  where a position is none; else
+ *   3  where memory ran out; else
+ *   0: `length` is the number of commits on a shortest walk, both ends included, or 0 where there is none, and `visits` that of
+ *      the commits that were visited.
+ * Where the code is not 0, all else is 0, and nothing is written. */
 typedef struct cg_reached { uint32_t code, visits; uint64_t length; } cg_reached;
 
-/* Looks for a shortest walk along parents, and writes its positions, as many as there is room for. The graph is
- * one that cg_open_checked opened. */
+/* Looks for a shortest walk along parents, and writes its positions, as many as there is room for. */
 cg_reached cg_ancestor_walk(cg_graph graph, uint32_t from, uint32_t to, uint32_t *out, size_t len);
 
 /* Whether a commit leads to another, along parents: `found` says so where the code is 0, and is false elsewhere. The codes are
  * those of cg_reached. */
 typedef struct cg_leads { uint32_t code; bool found; } cg_leads;
 
-/* Looks whether the commit at `from` leads to the one at `to`, which is then its ancestor. A commit leads to itself. The
- * graph is one that cg_open_checked opened. */
+/* Looks whether the commit at `from` leads to the one at `to`, which is then its ancestor. A commit leads to itself. */
 cg_leads cg_is_ancestor(cg_graph graph, uint32_t from, uint32_t to);
 
 /* The merge bases of a commit and some others. code 0: there are `length`; `ahead` commits are those that the first leads to
@@ -156,7 +175,7 @@ cg_leads cg_is_ancestor(cg_graph graph, uint32_t from, uint32_t to);
 typedef struct cg_bases { uint32_t code, ahead, behind; uint64_t visits, length; } cg_bases;
 
 /* Looks for the merge bases that `git merge-base --all FIRST OTHERS..` names, and writes their positions, the least first, as
- * many as there is room for. The graph is one that cg_open_checked opened. */
+ * many as there is room for. */
 cg_bases cg_merge_bases(cg_graph graph, uint32_t first, const uint32_t *others, size_t count, uint32_t *out, size_t len);
 
 /* A line of a chain file, commit-graph-chain, each of which names a layer, from the lowest on: the line L is the layer of the
