@@ -156,7 +156,7 @@ uint32_t cg_verify(cg_graph graph, bool distinct_ids, cg_verdict *out, cg_count 
  *   3  where memory ran out; else
  *   0: `length` is the number of commits on a shortest walk, both ends included, or 0 where there is none, and `visits` that of
  *      the commits that were visited.
- * Where the code is not 0, all else is 0, and nothing is written. */
+ * Where the code is not 0, all else is 0, and nothing is written. Each search fills some memory for each commit of the graph. */
 typedef struct cg_reached { uint32_t code, visits; uint64_t length; } cg_reached;
 
 /* Looks for a shortest walk along parents, and writes its positions, as many as there is room for. */

@@ -1,6 +1,7 @@
 //! A commit of a graph, and its parents.
 
 use crate::{sys, Graph, ObjectId, ParentError, Position};
+use std::fmt;
 
 /// Of a commit with at most so many parents they stand in no memory of their own.
 const FEW: usize = 4;
@@ -10,6 +11,12 @@ const FEW: usize = 4;
 pub struct Commit<'g> {
     pub(crate) graph: &'g Graph,
     pub(crate) pos: Position,
+}
+
+impl fmt::Debug for Commit<'_> {
+    fn fmt(&self, f: &mut fmt::Formatter<'_>) -> fmt::Result {
+        f.debug_struct("Commit").field("position", &self.pos.0).field("id", &self.id()).finish_non_exhaustive()
+    }
 }
 
 impl<'g> Commit<'g> {

@@ -2,6 +2,14 @@
 //!
 //! What is proved stands behind `extern "C"`; this crate is not proved. It keeps the rules of `commitgraph.h` by Rust's
 //! types: a [`Graph`] owns its handle and closes it once, what is read borrows it, and each slice is passed whole.
+//!
+//! ```no_run
+//! let graph = commitgraph::Checked::at(".git/objects/info")?;
+//! for commit in graph.iter_commits() {
+//!     println!("{} {:?}", commit.id(), commit.parents()?);
+//! }
+//! # Ok::<(), Box<dyn std::error::Error>>(())
+//! ```
 
 mod blocks;
 mod commit;
@@ -17,6 +25,7 @@ use error::fault_of;
 pub use error::{CommitFault, Fault, LayerFault, OpenError, ParentError, QueryError, VerifyError};
 pub use id::ObjectId;
 use open::{chain_at, file_at, lent, open_at, open_info};
+use std::fmt;
 use std::path::Path;
 pub use verify::{Outcome, VerifyOptions};
 
@@ -40,6 +49,13 @@ impl Drop for Graph {
     fn drop(&mut self) {
         // SAFETY: `raw` is what `cg_open` wrote, and no copy of it is used from here on.
         unsafe { sys::cg_close(self.raw) }
+    }
+}
+
+/// The number of commits stands for the graph.
+impl fmt::Debug for Graph {
+    fn fmt(&self, f: &mut fmt::Formatter<'_>) -> fmt::Result {
+        f.debug_struct("Graph").field("num_commits", &self.num_commits()).finish_non_exhaustive()
     }
 }
 
@@ -139,6 +155,7 @@ impl Graph {
 }
 
 /// A graph that its check has found right.
+#[derive(Debug)]
 pub struct Checked {
     graph: Graph,
 }

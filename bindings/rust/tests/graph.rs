@@ -91,9 +91,9 @@ fn blocks_tell_of_each_commit_once() {
 #[test]
 fn what_is_refused_is_told() {
     let bytes = std::fs::read(named("COMMIT_GRAPH")).unwrap();
-    let refused = |layers: &[(&[u8], &str)]| Graph::of_bytes(layers).err().unwrap();
+    let refused = |layers: &[(&[u8], &str)]| Graph::of_bytes(layers).unwrap_err();
     assert!(matches!(refused(&[]), OpenError::Graph { number: 1, layer: 0 }));
     assert!(matches!(refused(&[(&bytes, ""), (b"CGPH", ""), (b"", "")]), OpenError::Layer { layer: 1, number: 1, chunk: 0 }));
-    assert!(matches!(Graph::from_file("no/such/file").err().unwrap(), OpenError::Io { .. }));
+    assert!(matches!(Graph::from_file("no/such/file").unwrap_err(), OpenError::Io { .. }));
     assert!(refused(&[]).source().is_none() && !refused(&[]).to_string().is_empty());
 }
