@@ -1,6 +1,6 @@
 //! A commit of a graph, and its parents.
 
-use crate::{sys, Graph, ObjectId, ParentError, Position};
+use crate::{sys, Graph, ObjectId, ParentError, Position, Record};
 use std::fmt;
 
 /// Of a commit with at most so many parents they stand in no memory of their own.
@@ -41,11 +41,12 @@ impl<'g> Commit<'g> {
         id
     }
 
-    fn record(&self) -> sys::Commit {
-        let mut record = sys::Commit::default();
-        // SAFETY: the pointer is that of a record.
-        unsafe { sys::cg_commit_at(self.graph.raw, self.pos.0, &mut record) };
-        record
+    /// What its record says, but for its ids and its parents, by one call.
+    pub fn record(&self) -> Record {
+        let mut told = sys::Commit::default();
+        // SAFETY: `raw` is open, and the pointer is that of a record.
+        unsafe { sys::cg_commit_at(self.graph.raw, self.pos.0, &mut told) };
+        Record { committer_timestamp: told.time, generation: told.generation }
     }
 
     /// The positions of its parents, the first parent first.
@@ -93,7 +94,7 @@ impl<'g> Commit<'g> {
 
     /// When it was made: seconds since 1970-01-01 00:00:00 UTC.
     pub fn committer_timestamp(&self) -> u64 {
-        self.record().time
+        self.record().committer_timestamp
     }
 }
 

@@ -187,15 +187,21 @@ impl Checked {
     /// Looks for a shortest walk along parents from one commit to another, both included.
     pub fn ancestor_walk(&self, from: Position, to: Position) -> Result<Reached, QueryError> {
         let mut visits = 0;
-        let walk = positions_of(|out| {
-            let (room, len) = (out.as_mut_ptr().cast(), out.len());
-            // SAFETY: `raw` is open, the pointer and the length are those of a slice, and a position is one number.
-            let reached = unsafe { sys::cg_ancestor_walk(self.graph.raw, from.0, to.0, room, len) };
+        let walk = positions_of(self.longest_walk(from, to), |out| {
+            // SAFETY: `raw` is open, and the pointer and the length are those of a slice.
+            let reached = unsafe { sys::cg_ancestor_walk(self.graph.raw, from.0, to.0, out.as_mut_ptr(), out.len()) };
             refusal_of(reached.code)?;
             visits = reached.visits;
             Ok(reached.length)
         })?;
         Ok(Reached { walk: (!walk.is_empty()).then_some(walk), visits })
+    }
+
+    /// Room for a walk from one commit to another, which has no more commits where their generation numbers are below the
+    /// greatest, since these fall along walks. Where there is more, the walk is sought twice.
+    fn longest_walk(&self, from: Position, to: Position) -> usize {
+        let number = |pos| if pos < Position(self.num_commits()) { self.commit_at(pos).generation() } else { 0 };
+        (number(from).saturating_sub(number(to)) as usize + 1).clamp(64, 64.max(self.num_commits() as usize))
     }
 
     /// Whether a commit leads along parents to another, which is then its ancestor. A commit leads to itself.
@@ -210,11 +216,11 @@ impl Checked {
     /// first; and how far the commits have come apart.
     pub fn compare(&self, first: Position, others: &[Position]) -> Result<Comparison, QueryError> {
         let (mut ahead, mut behind) = (0, 0);
-        let bases = positions_of(|out| {
+        let bases = positions_of(64, |out| {
             let (places, count) = (others.as_ptr().cast(), others.len());
-            let (room, len) = (out.as_mut_ptr().cast(), out.len());
             // SAFETY: `raw` is open, each pointer and length are those of a slice, and a position is one number.
-            let bases = unsafe { sys::cg_merge_bases(self.graph.raw, first.0, places, count, room, len) };
+            let bases =
+                unsafe { sys::cg_merge_bases(self.graph.raw, first.0, places, count, out.as_mut_ptr(), out.len()) };
             refusal_of(bases.code)?;
             (ahead, behind) = (bases.ahead, bases.behind);
             Ok(bases.length)
@@ -244,15 +250,15 @@ pub struct Comparison {
 }
 
 /// The positions that a call writes, which answers how many there are: it is made again where there was too little room.
-fn positions_of<E>(mut write: impl FnMut(&mut [Position]) -> Result<u64, E>) -> Result<Vec<Position>, E> {
-    let mut out = vec![Position(0); 64];
+fn positions_of<E>(room: usize, mut write: impl FnMut(&mut [u32]) -> Result<u64, E>) -> Result<Vec<Position>, E> {
+    let mut out = vec![0; room];
     loop {
         let length = write(&mut out)? as usize;
         if length <= out.len() {
             out.truncate(length);
-            return Ok(out);
+            return Ok(out.into_iter().map(Position).collect());
         }
-        out.resize(length, Position(0));
+        out.resize(length, 0);
     }
 }
 
