@@ -22,8 +22,8 @@ impl Seen {
     }
 
     fn add_parents(&mut self, commit: Commit<'_>) {
-        for parent in commit.iter_parents().flatten() {
-            self.add(parent.0);
+        for parent in commit.iter_parents() {
+            self.add(parent.map_or(u64::MAX, |pos| pos.0.into()));
         }
     }
 }
@@ -56,8 +56,10 @@ fn iterate(graph: &Graph) -> Seen {
 fn blocks(graph: &Graph) -> Seen {
     let mut seen = Seen::default();
     for block in graph.parent_blocks() {
-        for parent in block.iter().flatten().flatten() {
-            seen.add(parent.0);
+        for parents in block.iter() {
+            for parent in parents.unwrap() {
+                seen.add(parent.0);
+            }
         }
     }
     seen
@@ -76,8 +78,9 @@ fn jumps(graph: &Graph, positions: &[u8]) -> Seen {
     let mut seen = Seen::default();
     for place in positions.chunks_exact(4) {
         let commit = graph.commit_at(Position(u32::from_be_bytes(place.try_into().unwrap())));
-        seen.add(commit.generation());
-        seen.add(commit.committer_timestamp());
+        let record = commit.record();
+        seen.add(record.generation);
+        seen.add(record.committer_timestamp);
         seen.add_parents(commit);
     }
     seen
