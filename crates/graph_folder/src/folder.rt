@@ -1,10 +1,12 @@
 //! Files and folders by their paths, on a device that may fail a read.
 
-ghost use Rattle.std.specs.Prelude.{◌≡◌, ℕ, Option, Some, None, IfOk, IsErrOf};
+ghost use Rattle.std.specs.Prelude.{◌≡◌, ◌-◌, ℕ, Option, Some, None, IfOk, IsErrOf, min, length};
 ghost use Rattle.std.specs.Option.{ForSome};
 ghost use Rattle.graph_folder.specs.Tree.{Tree, is_file, is_folder, file_at};
 ghost use Rattle.graph_folder.specs.Failures.{failures_after};
+ghost use Rattle.graph_folder.specs.Parts.{IfPart, IsPartAt};
 
+mod exact;
 mod in_memory;
 mod on_disk;
 mod whole;
@@ -29,6 +31,15 @@ pub enum ReadError {
     /// There is no memory for the bytes.
     #[error("OutOfMemory")]
     OutOfMemory,
+}
+
+/// A part of a file, and how long the file is.
+#[derive(Drop)]
+pub struct Part {
+    /// The bytes of the part.
+    pub bytes: Vec<u8>,
+    /// How many bytes the whole file has.
+    pub file_len: u64,
 }
 
 /// Files and folders by their paths, which are texts. Where it is known what stands at each path,
@@ -70,4 +81,27 @@ pub trait Folder {
         ensures tree { tree self.new ≡ tree self.old }
         ensures failures { failure_count self.new
             ≡ failures_after result (failure_count self.old) };
+
+    /// The bytes of the file at the path from `start` on, at most `len` of them and none past the
+    /// file's end, and the file's length. It is `None` where this file is not read by parts, and
+    /// nothing is read then. The errors are those of [`Folder::read`], and counted as there.
+    fn read_part(
+        &mut self,
+        _alloc: Global,
+        path: &str,
+        start: u64,
+        len: usize,
+    ) -> Result<Option<Part>, ReadError>
+        ensures part { ForSome (tree self.old) (λ t.
+            IfPart result (IsPartAt t path.now start len)) }
+        ensures size { IfPart result (λ part.
+            length part.bytes.items ≡ min len (part.file_len - start)) }
+        ensures not_opened { ForSome (tree self.old) (λ t.
+            IsErrOf result ReadError.NotOpened → file_at t path.now ≡ None) }
+        ensures tree { tree self.new ≡ tree self.old }
+        ensures failures { failure_count self.new
+            ≡ failures_after result (failure_count self.old) }
+    {
+        Ok(None)
+    }
 }

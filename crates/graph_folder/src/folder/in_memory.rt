@@ -1,13 +1,14 @@
 //! A folder in memory.
 
-ghost use Rattle.std.specs.Prelude.{◌≡◌, Some, OnOk, OnErr, IsOkAnd, string_bytes};
+ghost use Rattle.std.specs.Prelude.{◌≡◌, Some, OnOk, OnErr, IfOk, IfErr, IsOkAnd, string_bytes};
 ghost use Rattle.std.specs.FinMap as map;
 ghost use Rattle.std.specs.Option.{option_map, option_copied};
 ghost use Rattle.graph_folder.specs.Tree.{RegularFile, Directory, is_file, is_folder};
 ghost use Rattle.graph_folder.specs.Memory.{nothing, put, will_fail, read_of, after_read};
-ghost use Rattle.graph_folder.specs.Memory.{AnswersRead};
+ghost use Rattle.graph_folder.specs.Memory.{AnswersRead, AnswersPart};
+ghost use Rattle.graph_folder.specs.Parts.{IsPartOf};
 
-use super::{Folder, ReadError};
+use super::{Folder, Part, ReadError};
 use std::alloc::{AllocError, Global};
 use std::collections::BTreeMap;
 use std::marker::Model;
@@ -153,4 +154,47 @@ impl Folder for Memory {
             _ => Err(ReadError::NotOpened),
         }
     }
+
+    /// A copy of these bytes of the file at the path, with its length: as [`Memory::read`] answers,
+    /// and never `None`.
+    fn read_part(
+        &mut self,
+        alloc: Global,
+        path: &str,
+        start: u64,
+        len: usize,
+    ) -> Result<Option<Part>, ReadError>
+        ensures answer { AnswersPart result (read_of self.old path.now) start len }
+        ensures after { self.new ≡ after_read self.old }
+    {
+        if self.count_read() {
+            return Err(ReadError::Device);
+        }
+        match self.node(path) {
+            Some(Node::File(bytes)) => part_of(alloc, bytes, start, len).map(Some),
+            _ => Err(ReadError::NotOpened),
+        }
+    }
+}
+
+/// The bytes from `start` on, at most `len` of them, and the length of them all.
+fn part_of(alloc: Global, bytes: &[u8], start: u64, len: usize) -> Result<Part, ReadError>
+    ensures part { IfOk result (IsPartOf bytes.now start len) }
+    ensures memory { IfErr result (λ error. error ≡ ReadError.OutOfMemory) }
+{
+    let first = if start < bytes.len() as u64 {
+        start as usize
+    } else {
+        bytes.len()
+    };
+    let end = if len < bytes.len() - first {
+        first + len
+    } else {
+        bytes.len()
+    };
+    let copy = Vec::from_slice(alloc, &bytes[first..end]).map_err(|_| ReadError::OutOfMemory)?;
+    Ok(Part {
+        bytes: copy,
+        file_len: bytes.len() as u64,
+    })
 }

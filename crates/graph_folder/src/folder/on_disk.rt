@@ -1,12 +1,15 @@
 //! The file system as a folder.
 
-ghost use Rattle.std.specs.Prelude.{◌≡◌, None, IsOk};
+ghost use Rattle.std.specs.Prelude.{◌≡◌, ◌-◌, None, IsOk, min, length};
+ghost use Rattle.graph_folder.specs.Parts.{IfPart};
 
+use super::exact::read_exactly;
 use super::whole::read_expected;
-use super::{Folder, ReadError};
+use super::{Folder, Part, ReadError};
 use std::alloc::{AllocError, Global};
 use std::fs;
 use std::fs::OpenFile;
+use std::io::{Seek, SeekFrom};
 use std::rt::Files;
 
 /// The file system of a host. What stands in it is not known.
@@ -33,6 +36,46 @@ impl<'r, R: Files> Disk<'r, R> {
             Err(_) => 0,
         };
         read_expected(alloc, &mut file, expected)
+    }
+
+    /// A part of the file at the path, if the host says how long it is.
+    fn read_part_of(
+        &self,
+        alloc: Global,
+        path: &str,
+        start: u64,
+        len: usize,
+    ) -> Result<Option<Part>, ReadError>
+        ensures { IfPart result (λ part.
+            length part.bytes.items ≡ min len (part.file_len - start)) }
+    {
+        let file_len = match fs::metadata(self.rt, path) {
+            Ok(metadata) if metadata.is_file() => metadata.len(),
+            _ => 0,
+        };
+        if file_len == 0 {
+            return Ok(None);
+        }
+        let mut file = fs::open(self.rt, path).map_err(|_| ReadError::NotOpened)?;
+        if file.seek(SeekFrom::Start(start)).is_err() {
+            return Ok(None);
+        }
+        let count = min_len(len, file_len.saturating_sub(start));
+        match read_exactly(alloc, &mut file, count)? {
+            Some(bytes) => Ok(Some(Part { bytes, file_len })),
+            None => Ok(None),
+        }
+    }
+}
+
+/// The lesser of the two.
+fn min_len(len: usize, left: u64) -> usize
+    ensures { result ≡ min len left }
+{
+    if left < len as u64 {
+        left as usize
+    } else {
+        len
     }
 }
 
@@ -69,6 +112,22 @@ impl<R: Files> Folder for Disk<'_, R> {
     /// memory for the bytes.
     fn read(&mut self, alloc: Global, path: &str) -> Result<Vec<u8>, ReadError> {
         let answer = self.read_file(alloc, path);
+        if let Err(ReadError::Device) = answer {
+            self.failures = self.failures.saturating_add(1);
+        }
+        answer
+    }
+
+    /// These bytes of the file at the path, and its length as the host says it. `None` where the
+    /// host calls it no regular file, or empty, or where the file ends before that length.
+    fn read_part(
+        &mut self,
+        alloc: Global,
+        path: &str,
+        start: u64,
+        len: usize,
+    ) -> Result<Option<Part>, ReadError> {
+        let answer = self.read_part_of(alloc, path, start, len);
         if let Err(ReadError::Device) = answer {
             self.failures = self.failures.saturating_add(1);
         }
