@@ -1,3 +1,4 @@
 pub mod FaultLemmas
+pub mod HeadLemmas
 pub mod RangeLemmas
 pub mod TableLemmas

@@ -1,10 +1,11 @@
 //! Reading the table of chunks.
 
 ghost use Rattle.std.specs.Prelude.{◌≡◌, ◌+◌, ◌*◌, ◌^◌, ◌≤◌, ◌<◌, length, Some, None, IsNone};
-ghost use Rattle.std.specs.Prelude.{IfSome, IfOk, OnOk, OnErr, IfErr, option_map};
+ghost use Rattle.std.specs.Prelude.{min, IfSome, IfOk, OnOk, OnErr, IfErr, option_map};
 ghost use Rattle.gix_chunk_core.specs.Entry.{entry_at, end_id};
 ghost use Rattle.gix_chunk_core.specs.Fault.{has_earlier, offset_fault, entry_fault, end_fault};
 ghost use Rattle.gix_chunk_core.specs.Fault.{table_fault};
+ghost use Rattle.gix_chunk_core.specs.Head.{filled};
 ghost use Rattle.gix_chunk_core.specs.Table.{Table, Chunks, range_of};
 
 use crate::ChunkError;
@@ -25,14 +26,15 @@ struct Entry {
 }
 
 /// Entry `i` of the table that begins at `at`.
-#[tactic(auto, unfolding(crate::specs::Entry::entry_at))]
-fn entry_at(bytes: &[u8], at: usize, i: usize) -> Entry
-    requires { at + 12 * i + 12 ≤ length bytes.now }
-    ensures id { result.id ≡ (entry_at bytes.now at i).id }
-    ensures offset { result.offset ≡ (entry_at bytes.now at i).offset }
+#[tactic(auto, using(crate::proofs::HeadLemmas::entry_laws), unfolding(crate::specs::Entry::entry_at))]
+fn entry_at(front: &[u8], len: usize, at: usize, i: usize) -> Entry
+    requires within { at + 12 * i + 12 ≤ length front.now }
+    requires len { length front.now ≤ len }
+    ensures id { result.id ≡ (entry_at (filled front.now len) at i).id }
+    ensures offset { result.offset ≡ (entry_at (filled front.now len) at i).offset }
 {
     let start = at + ENTRY_LEN * i;
-    let entry = &bytes[start..start + ENTRY_LEN];
+    let entry = &front[start..start + ENTRY_LEN];
     let mut id = [0; 4];
     id.copy_from_slice(&entry[..4]);
     let offset = u64::from_be_bytes([
@@ -46,25 +48,27 @@ fn entry_at(bytes: &[u8], at: usize, i: usize) -> Entry
 
 /// Whether an entry before entry `i` has this id, which is its own.
 #[tactic(auto, unfolding(crate::specs::Fault::has_earlier))]
-fn has_earlier(bytes: &[u8], at: usize, i: usize, id: [u8; 4]) -> bool
-    requires within { at + 12 * i + 12 ≤ length bytes.now }
-    requires same { id ≡ (entry_at bytes.now at i).id }
-    ensures { result ≡ has_earlier bytes.now at i }
+fn has_earlier(front: &[u8], len: usize, at: usize, i: usize, id: [u8; 4]) -> bool
+    requires within { at + 12 * i + 12 ≤ length front.now }
+    requires len { length front.now ≤ len }
+    requires same { id ≡ (entry_at (filled front.now len) at i).id }
+    ensures { result ≡ has_earlier (filled front.now len) at i }
 {
-    (0..i).any(|j| entry_at(bytes, at, j).id == id)
+    (0..i).any(|j| entry_at(front, len, at, j).id == id)
 }
 
 /// Why the offset of entry `i` is refused, if it is.
-#[tactic(auto, unfolding(crate::specs::Fault::offset_fault))]
-fn offset_fault(bytes: &[u8], at: usize, i: usize, offset: usize) -> Option<ChunkError>
-    requires within { at + 12 * i + 12 ≤ length bytes.now }
-    requires same { offset ≡ (entry_at bytes.now at i).offset }
-    ensures { result ≡ offset_fault bytes.now at i }
+#[tactic(auto, using(crate::proofs::HeadLemmas::len_laws), unfolding(crate::specs::Fault::offset_fault))]
+fn offset_fault(front: &[u8], len: usize, at: usize, i: usize, offset: usize) -> Option<ChunkError>
+    requires within { at + 12 * i + 12 ≤ length front.now }
+    requires len { length front.now ≤ len }
+    requires same { offset ≡ (entry_at (filled front.now len) at i).offset }
+    ensures { result ≡ offset_fault (filled front.now len) at i }
 {
-    if offset > bytes.len() {
+    if offset > len {
         return Some(ChunkError::OutOfFile { entry: i });
     }
-    if i > 0 && offset < entry_at(bytes, at, i - 1).offset {
+    if i > 0 && offset < entry_at(front, len, at, i - 1).offset {
         return Some(ChunkError::Falling { entry: i });
     }
     None
@@ -72,28 +76,30 @@ fn offset_fault(bytes: &[u8], at: usize, i: usize, offset: usize) -> Option<Chun
 
 /// Why entry `i` is refused as that of a chunk, if it is.
 #[tactic(auto, unfolding(crate::specs::Fault::entry_fault))]
-fn entry_fault(bytes: &[u8], at: usize, i: usize) -> Option<ChunkError>
-    requires { at + 12 * i + 12 ≤ length bytes.now }
-    ensures { result ≡ entry_fault bytes.now at i }
+fn entry_fault(front: &[u8], len: usize, at: usize, i: usize) -> Option<ChunkError>
+    requires within { at + 12 * i + 12 ≤ length front.now }
+    requires len { length front.now ≤ len }
+    ensures { result ≡ entry_fault (filled front.now len) at i }
 {
-    let Entry { id, offset } = entry_at(bytes, at, i);
+    let Entry { id, offset } = entry_at(front, len, at, i);
     if id == END_ID {
         return Some(ChunkError::EarlyEnd { entry: i });
     }
-    if has_earlier(bytes, at, i, id) {
+    if has_earlier(front, len, at, i, id) {
         return Some(ChunkError::Duplicate { id });
     }
-    offset_fault(bytes, at, i, offset)
+    offset_fault(front, len, at, i, offset)
 }
 
 /// Why entry `i` is refused as the last one, if it is.
 #[tactic(auto, unfolding(crate::specs::Fault::end_fault))]
-fn end_fault(bytes: &[u8], at: usize, i: usize) -> Option<ChunkError>
-    requires { at + 12 * i + 12 ≤ length bytes.now }
-    ensures { result ≡ end_fault bytes.now at i }
+fn end_fault(front: &[u8], len: usize, at: usize, i: usize) -> Option<ChunkError>
+    requires within { at + 12 * i + 12 ≤ length front.now }
+    requires len { length front.now ≤ len }
+    ensures { result ≡ end_fault (filled front.now len) at i }
 {
-    let Entry { id, offset } = entry_at(bytes, at, i);
-    if let Some(fault) = offset_fault(bytes, at, i, offset) {
+    let Entry { id, offset } = entry_at(front, len, at, i);
+    if let Some(fault) = offset_fault(front, len, at, i, offset) {
         return Some(fault);
     }
     if id != END_ID {
@@ -103,23 +109,25 @@ fn end_fault(bytes: &[u8], at: usize, i: usize) -> Option<ChunkError>
 }
 
 /// Why the table of `count` chunks is refused, if it is.
-#[tactic(auto, using(first_faults::proofs::FirstLemmas::first_laws), unfolding(crate::specs::Fault::table_fault))]
-fn table_fault(bytes: &[u8], at: usize, count: usize) -> Option<ChunkError>
-    requires { count < 2 ^ 32 }
-    ensures { result ≡ table_fault bytes.now at count }
+#[tactic(auto, using(first_faults::proofs::FirstLemmas::first_laws, crate::proofs::HeadLemmas::len_laws), unfolding(crate::specs::Fault::table_fault))]
+fn table_fault(front: &[u8], len: usize, at: usize, count: usize) -> Option<ChunkError>
+    requires count { count < 2 ^ 32 }
+    requires len { length front.now ≤ len }
+    requires table { min len (at + 12 * (count + 1)) ≤ length front.now }
+    ensures { result ≡ table_fault (filled front.now len) at count }
 {
     if count == 0 {
         return Some(ChunkError::NoChunks);
     }
-    if bytes.len().saturating_sub(at) < ENTRY_LEN * (count + 1) {
+    if len.saturating_sub(at) < ENTRY_LEN * (count + 1) {
         return Some(ChunkError::TableTooSmall);
     }
     for i in 0..count {
-        if let Some(fault) = entry_fault(bytes, at, i) {
+        if let Some(fault) = entry_fault(front, len, at, i) {
             return Some(fault);
         }
     }
-    end_fault(bytes, at, count)
+    end_fault(front, len, at, count)
 }
 
 /// The table of chunks that stands in a file's bytes (gitformat-commit-graph, "CHUNK LOOKUP").
@@ -127,19 +135,21 @@ fn table_fault(bytes: &[u8], at: usize, count: usize) -> Option<ChunkError>
 /// It holds the bytes and reads an entry when it is asked for it.
 #[derive(Drop)]
 pub struct Index<'a> {
-    bytes: &'a [u8],
+    front: &'a [u8],
+    len: usize,
     at: usize,
     count: usize,
 }
 
 impl<'a> Model for Index<'a> {
-    ghost use Rattle.gix_chunk_core.specs.Table.{Table, Chunks, table_at};
+    ghost use Rattle.gix_chunk_core.specs.Table.{Table, table_at};
+    ghost use Rattle.gix_chunk_core.specs.Head.{filled, IsTableIn};
 
     ghost Value = { Table };
 
-    ghost view = { λ a. table_at a.bytes.now a.at a.count };
+    ghost view = { λ a. table_at (filled a.front.now a.len) a.at a.count };
 
-    ghost invariant = { λ a. Chunks a.bytes.now a.at a.count (table_at a.bytes.now a.at a.count) };
+    ghost invariant = { λ a. IsTableIn a.front.now a.len a.at a.count };
 }
 
 impl<'a> Index<'a> {
@@ -157,18 +167,41 @@ impl<'a> Index<'a> {
     ///    it has its id; `OutOfFile`: the offset is greater than the number of bytes; `Falling`:
     ///    the offset is less than that of the entry before it.
     /// 4. Of the last entry, `OutOfFile` or `Falling` likewise; `NoEnd`: the id is not 0.
-    #[tactic(auto, using(crate::proofs::TableLemmas::fault_laws))]
+    #[tactic(auto, using(crate::proofs::HeadLemmas::whole_laws))]
     pub fn from_bytes(data: &'a [u8], at: usize, count: u32) -> Result<Index<'a>, ChunkError>
         ensures table { IfOk result (Chunks «data».now at count) }
         ensures none { OnOk result (table_fault «data».now at count ≡ None) }
         ensures fault { IfErr result (λ fault. table_fault «data».now at count ≡ Some fault) }
         ensures refused { OnErr result ((table : Table) → ¬ Chunks «data».now at count table) }
     {
+        Index::from_head(data, data.len(), at, count)
+    }
+
+    /// Reads the table of chunks of a file that has `len` bytes, of which only the first ones are
+    /// given, at least to the end of the table if the file has so many. The table is read and
+    /// refused as [`Index::from_bytes`] does with all bytes, whatever the others are.
+    #[tactic(auto, using(crate::proofs::TableLemmas::fault_laws))]
+    pub fn from_head(
+        front: &'a [u8],
+        len: usize,
+        at: usize,
+        count: u32,
+    ) -> Result<Index<'a>, ChunkError>
+        requires len { length front.now ≤ len }
+        requires table { min len (at + 12 * (count + 1)) ≤ length front.now }
+        ensures table { IfOk result (Chunks (filled front.now len) at count) }
+        ensures none { OnOk result (table_fault (filled front.now len) at count ≡ None) }
+        ensures fault { IfErr result (λ fault.
+            table_fault (filled front.now len) at count ≡ Some fault) }
+        ensures refused { OnErr result
+            ((table : Table) → ¬ Chunks (filled front.now len) at count table) }
+    {
         let count = count as usize;
-        match table_fault(data, at, count) {
+        match table_fault(front, len, at, count) {
             Some(fault) => Err(fault),
             None => Ok(Index {
-                bytes: data,
+                front,
+                len,
                 at,
                 count,
             }),
@@ -186,9 +219,9 @@ impl<'a> Index<'a> {
             (range.start ≤ range.end) × (range.end ≤ self.now.end)) }
     {
         for i in 0..self.count {
-            let entry = entry_at(self.bytes, self.at, i);
+            let entry = entry_at(self.front, self.len, self.at, i);
             if entry.id == id {
-                let next = entry_at(self.bytes, self.at, i + 1);
+                let next = entry_at(self.front, self.len, self.at, i + 1);
                 return Some(entry.offset..next.offset);
             }
         }
@@ -200,6 +233,6 @@ impl<'a> Index<'a> {
     pub fn highest_offset(&self) -> usize
         ensures { result ≡ self.now.end }
     {
-        entry_at(self.bytes, self.at, self.count).offset
+        entry_at(self.front, self.len, self.at, self.count).offset
     }
 }

@@ -1,7 +1,8 @@
 //! Where the chunks of a file lie, and whether their sizes are right.
 
-ghost use Rattle.std.specs.Prelude.{◌≡◌, ◌+◌, ◌≤◌, slice_index, Some, IfOk, IfSome, option_map};
+ghost use Rattle.std.specs.Prelude.{◌≡◌, ◌+◌, ◌≤◌, length, slice_index, Some, IfOk, IfSome, option_map};
 ghost use Rattle.gix_hash_core.specs.Kind.{id_len};
+ghost use Rattle.gix_chunk_core.specs.Head.{filled};
 ghost use Rattle.gix_chunk_core.specs.Table.{Chunks};
 ghost use Rattle.graph_format.specs.Reports.{Reports};
 ghost use Rattle.graph_format.specs.Refusal.{bases_refusal, records_refusal, fan_refusal};
@@ -161,9 +162,14 @@ fn check_edges(place: Option<ChunkRange>) -> Result<(), FileError>
 
 /// Where the chunk with an id lies, by a table that was read.
 #[tactic(auto, using(crate::proofs::ChunkLemmas::chunk_laws))]
-pub(crate) fn chunk_range(bytes: &[u8], index: &Index<'_>, id: [u8; 4]) -> Option<ChunkRange>
-    requires { Chunks bytes.now 8 (slice_index bytes.now 6) index.now }
-    ensures { IsChunkRange bytes.now id result }
+pub(crate) fn chunk_range(
+    front: &[u8],
+    len: usize,
+    index: &Index<'_>,
+    id: [u8; 4],
+) -> Option<ChunkRange>
+    requires { Chunks (filled front.now len) 8 (slice_index (filled front.now len) 6) index.now }
+    ensures { IsChunkRange (filled front.now len) id result }
 {
     match index.range_by_id(id) {
         Some(range) => Some(ChunkRange {
@@ -175,23 +181,26 @@ pub(crate) fn chunk_range(bytes: &[u8], index: &Index<'_>, id: [u8; 4]) -> Optio
 }
 
 /// Where the chunks lie, if those that have to be there are there, and each has a right size.
-#[tactic(auto, using(crate::proofs::ChunkLemmas::size_laws), unfolding(crate::specs::Refusal::sizes_refusal))]
+#[tactic(auto, using(crate::proofs::ChunkLemmas::size_laws, gix_chunk_core::proofs::HeadLemmas::head_laws), unfolding(crate::specs::Refusal::sizes_refusal))]
 pub(crate) fn chunk_ranges(
-    bytes: &[u8],
+    front: &[u8],
+    len: usize,
     index: &Index<'_>,
     kind: Kind,
 ) -> Result<ChunkRanges, FileError>
-    requires { Chunks bytes.now 8 (slice_index bytes.now 6) index.now }
-    ensures chunks { IfOk result (AreChunkRanges bytes.now) }
+    requires header { 8 ≤ length front.now }
+    requires table { Chunks (filled front.now len) 8 (slice_index (filled front.now len) 6)
+        index.now }
+    ensures chunks { IfOk result (AreChunkRanges (filled front.now len)) }
     ensures fan { IfOk result (λ chunks. chunks.fan.end ≡ chunks.fan.start + 1024) }
-    ensures refusal { Reports result (sizes_refusal kind bytes.now) }
+    ensures refusal { Reports result (sizes_refusal kind (filled front.now len)) }
 {
-    let bases = chunk_range(bytes, index, BASE_GRAPHS_LIST_CHUNK_ID);
-    check_bases(kind, bytes[7], bases)?;
-    let records = check_records(kind, chunk_range(bytes, index, COMMIT_DATA_CHUNK_ID))?;
-    let fan = check_fan(chunk_range(bytes, index, OID_FAN_CHUNK_ID))?;
-    let ids = check_ids(kind, chunk_range(bytes, index, OID_LOOKUP_CHUNK_ID))?;
-    let edges = chunk_range(bytes, index, EXTENDED_EDGES_LIST_CHUNK_ID);
+    let bases = chunk_range(front, len, index, BASE_GRAPHS_LIST_CHUNK_ID);
+    check_bases(kind, front[7], bases)?;
+    let records = check_records(kind, chunk_range(front, len, index, COMMIT_DATA_CHUNK_ID))?;
+    let fan = check_fan(chunk_range(front, len, index, OID_FAN_CHUNK_ID))?;
+    let ids = check_ids(kind, chunk_range(front, len, index, OID_LOOKUP_CHUNK_ID))?;
+    let edges = chunk_range(front, len, index, EXTENDED_EDGES_LIST_CHUNK_ID);
     check_edges(edges)?;
     Ok(ChunkRanges {
         fan,

@@ -1,6 +1,7 @@
 //! The header of a file.
 
-ghost use Rattle.std.specs.Prelude.{◌≡◌, ◌≤◌, length, slice_index, Some, OnOk, IfOk};
+ghost use Rattle.std.specs.Prelude.{◌≡◌, ◌≤◌, length, min, slice_index, Some, OnOk, IfOk};
+ghost use Rattle.gix_chunk_core.specs.Head.{filled};
 ghost use Rattle.gix_hash_core.specs.Kind.{kind_of};
 ghost use Rattle.graph_format.specs.Reports.{Reports};
 ghost use Rattle.graph_format.specs.Format.{least_size, kind_in};
@@ -19,24 +20,28 @@ const SIGNATURE: [u8; 4] = *b"CGPH";
 /// checksum.
 const MIN_FILE_SIZE: usize = HEADER_LEN + 4 * 12 + 256 * 4 + 20;
 
-/// The kind of a file's ids, where its header is right.
-#[tactic(auto, unfolding(crate::specs::Refusal::header_refusal, crate::specs::Format::kind_in))]
-pub(crate) fn kind_of_file(bytes: &[u8]) -> Result<Kind, FileError>
-    ensures refusal { Reports result (header_refusal bytes.now) }
-    ensures size { OnOk result (least_size ≤ length bytes.now) }
-    ensures known { IfOk result (λ kind. kind_of (slice_index bytes.now 5) ≡ Some kind) }
-    ensures kind { IfOk result (λ kind. kind_in bytes.now ≡ kind) }
+/// The kind of a file's ids, where its header is right. The file has `len` bytes, and begins with
+/// these.
+#[tactic(auto, using(gix_chunk_core::proofs::HeadLemmas::head_laws), unfolding(crate::specs::Refusal::header_refusal, crate::specs::Format::kind_in))]
+pub(crate) fn kind_of_file(front: &[u8], len: usize) -> Result<Kind, FileError>
+    requires len { length front.now ≤ len }
+    requires header { min len 8 ≤ length front.now }
+    ensures refusal { Reports result (header_refusal (filled front.now len)) }
+    ensures size { OnOk result (least_size ≤ len) }
+    ensures known { IfOk result (λ kind.
+        kind_of (slice_index (filled front.now len) 5) ≡ Some kind) }
+    ensures kind { IfOk result (λ kind. kind_in (filled front.now len) ≡ kind) }
 {
-    if bytes.len() < MIN_FILE_SIZE {
+    if len < MIN_FILE_SIZE {
         return Err(FileError::TooSmall);
     }
-    if &bytes[..4] != SIGNATURE.as_slice() {
+    if &front[..4] != SIGNATURE.as_slice() {
         return Err(FileError::Signature);
     }
-    if bytes[4] != 1 {
-        return Err(FileError::Version(bytes[4]));
+    if front[4] != 1 {
+        return Err(FileError::Version(front[4]));
     }
-    match Kind::try_from(bytes[5]) {
+    match Kind::try_from(front[5]) {
         Ok(kind) => Ok(kind),
         Err(byte) => Err(FileError::Hash(byte)),
     }

@@ -1,16 +1,19 @@
 //! The layout of a file: what its header says, and where its parts lie.
 
-ghost use Rattle.std.specs.Prelude.{◌≡◌, ◌≤◌, length, None, IfOk};
+ghost use Rattle.std.specs.Prelude.{◌≡◌, ◌≤◌, length, None, Some, IfOk, IfErr, IfSome, IsSome};
+ghost use Rattle.std.specs.Prelude.{IsTrue, min};
+ghost use Rattle.gix_chunk_core.specs.Head.{filled};
 ghost use Rattle.graph_format.specs.Reports.{Reports};
 ghost use Rattle.graph_format.specs.Format.{table_of, fan_of, commits_of};
 ghost use Rattle.graph_format.specs.Refusal.{refusal};
 ghost use Rattle.graph_format.specs.Refusal.{counts_refusal, trailer_refusal};
 ghost use Rattle.graph_format.specs.ChunkRanges.{AreChunkRanges, IsChunkRange};
 ghost use Rattle.graph_format.specs.Layout.{IsLayout};
+ghost use Rattle.graph_format.specs.Head.{table_end};
 
 use crate::chunks::{ChunkRange, ChunkRanges, chunk_range, chunk_ranges, record_len};
 use crate::error::FileError;
-use crate::fan::{check_rising, fan_at};
+use crate::fan::{check_rising, fan_at_head};
 use crate::header::{HEADER_LEN, kind_of_file};
 use gix_chunk_core::Index;
 use gix_hash_core::Kind;
@@ -27,22 +30,25 @@ pub struct Layout {
 }
 
 /// Refuses bytes that end with no checksum, or lack the base ids.
-#[tactic(auto, using(crate::proofs::ChunkSizeLemmas::count_laws), unfolding(crate::specs::Refusal::trailer_refusal))]
+#[tactic(auto, using(crate::proofs::ChunkSizeLemmas::count_laws, gix_chunk_core::proofs::HeadLemmas::head_laws), unfolding(crate::specs::Refusal::trailer_refusal))]
 fn check_trailer(
-    bytes: &[u8],
+    front: &[u8],
+    len: usize,
     end: usize,
     kind: Kind,
     chunks: &ChunkRanges,
 ) -> Result<(), FileError>
-    requires ends { end ≡ (table_of bytes.now).end }
-    requires in_file { end ≤ length bytes.now }
-    requires chunks { AreChunkRanges bytes.now chunks.now }
-    ensures { Reports result (trailer_refusal kind bytes.now) }
+    requires len { length front.now ≤ len }
+    requires header { 8 ≤ length front.now }
+    requires ends { end ≡ (table_of (filled front.now len)).end }
+    requires in_file { end ≤ len }
+    requires chunks { AreChunkRanges (filled front.now len) chunks.now }
+    ensures { Reports result (trailer_refusal kind (filled front.now len)) }
 {
-    if bytes.len() - end != kind.len_in_bytes() {
+    if len - end != kind.len_in_bytes() {
         return Err(FileError::Trailer);
     }
-    if bytes[7] > 0 && chunks.bases.is_none() {
+    if front[7] > 0 && chunks.bases.is_none() {
         return Err(FileError::BaseMissing);
     }
     Ok(())
@@ -51,14 +57,15 @@ fn check_trailer(
 /// Refuses bytes that have another number of ids or records than the fan counts.
 #[tactic(auto, using(crate::proofs::ChunkSizeLemmas::count_laws), unfolding(crate::specs::Refusal::counts_refusal))]
 fn check_counts(
-    bytes: &[u8],
+    front: &[u8],
+    len: usize,
     commits: u32,
     kind: Kind,
     chunks: &ChunkRanges,
 ) -> Result<(), FileError>
-    requires commits { commits ≡ commits_of (fan_of bytes.now) }
-    requires chunks { AreChunkRanges bytes.now chunks.now }
-    ensures { Reports result (counts_refusal kind bytes.now) }
+    requires commits { commits ≡ commits_of (fan_of (filled front.now len)) }
+    requires chunks { AreChunkRanges (filled front.now len) chunks.now }
+    ensures { Reports result (counts_refusal kind (filled front.now len)) }
 {
     if chunks.ids.size() / kind.len_in_bytes() != commits as usize {
         return Err(FileError::IdCount);
@@ -71,39 +78,71 @@ fn check_counts(
 
 /// Where the chunk with an id lies in bytes that are not refused. Their table of chunks is read
 /// again.
-#[tactic(auto, using(crate::proofs::LayoutLemmas::table_laws))]
+#[tactic(auto, using(crate::proofs::LayoutLemmas::table_laws, gix_chunk_core::proofs::HeadLemmas::whole_laws))]
 pub fn find_chunk(bytes: &[u8], id: [u8; 4]) -> Option<ChunkRange>
     requires { refusal bytes.now ≡ None }
     ensures { IsChunkRange bytes.now id result }
 {
     match Index::from_bytes(bytes, HEADER_LEN, bytes[6] as u32) {
-        Ok(index) => chunk_range(bytes, &index, id),
+        Ok(index) => chunk_range(bytes, bytes.len(), &index, id),
         Err(_) => unreachable!(),
     }
 }
 
 /// The layout of the bytes, or why they are refused.
-#[tactic(auto, using(crate::proofs::ChunkSizeLemmas::layout_laws), unfolding(crate::specs::Refusal::refusal))]
+#[tactic(auto, using(gix_chunk_core::proofs::HeadLemmas::whole_laws))]
 pub fn layout_of(bytes: &[u8]) -> Result<Layout, FileError>
     ensures refusal { Reports result (refusal bytes.now) }
     ensures layout { IfOk result (IsLayout bytes.now) }
 {
-    let kind = kind_of_file(bytes)?;
-    let index = match Index::from_bytes(bytes, HEADER_LEN, bytes[6] as u32) {
+    match layout_of_head(bytes, bytes.len())? {
+        Some(layout) => Ok(layout),
+        None => unreachable!(),
+    }
+}
+
+/// The layout of a file that has `len` bytes and begins with these, or why it is refused. `None`
+/// where these are not all bytes, and the table of chunks or the fan does not lie within them.
+#[tactic(auto, using(crate::proofs::ChunkSizeLemmas::layout_laws, gix_chunk_core::proofs::HeadLemmas::head_laws), unfolding(crate::specs::Refusal::refusal))]
+pub fn layout_of_head(front: &[u8], len: usize) -> Result<Option<Layout>, FileError>
+    requires { length front.now ≤ len }
+    ensures refused { IfErr result (λ error. refusal (filled front.now len) ≡ Some error) }
+    ensures layout { IfOk result (λ answer. IfSome answer (IsLayout (filled front.now len))) }
+    ensures front { IfOk result (λ answer. IfSome answer (λ layout.
+        layout.chunks.fan.end ≤ length front.now)) }
+    ensures whole { length front.now ≡ len → IfOk result (λ answer. IsSome answer) }
+{
+    if !holds_table(front, len) {
+        return Ok(None);
+    }
+    let kind = kind_of_file(front, len)?;
+    let index = match Index::from_head(front, len, HEADER_LEN, front[6] as u32) {
         Ok(index) => index,
         Err(fault) => return Err(FileError::Chunks(fault)),
     };
-    let chunks = chunk_ranges(bytes, &index, kind)?;
+    let chunks = chunk_ranges(front, len, &index, kind)?;
     let end = index.highest_offset();
-    check_trailer(bytes, end, kind, &chunks)?;
-    check_rising(bytes, chunks.fan)?;
-    let commits = fan_at(bytes, chunks.fan, 255);
-    check_counts(bytes, commits, kind, &chunks)?;
-    Ok(Layout {
+    check_trailer(front, len, end, kind, &chunks)?;
+    if chunks.fan.end > front.len() {
+        return Ok(None);
+    }
+    check_rising(front, len, chunks.fan)?;
+    let commits = fan_at_head(front, len, chunks.fan, 255);
+    check_counts(front, len, commits, kind, &chunks)?;
+    Ok(Some(Layout {
         kind,
         commits,
-        base_count: bytes[7],
+        base_count: front[7],
         chunks,
         trailer_start: end,
-    })
+    }))
+}
+
+/// Whether these are all bytes of a file that has so many, or have its table of chunks.
+fn holds_table(front: &[u8], len: usize) -> bool
+    requires { length front.now ≤ len }
+    ensures table { IsTrue result → min len (table_end front.now) ≤ length front.now }
+    ensures whole { length front.now ≡ len → IsTrue result }
+{
+    front.len() == len || front.len() >= 20 && front.len() >= 20 + 12 * front[6] as usize
 }

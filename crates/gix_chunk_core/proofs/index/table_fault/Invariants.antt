@@ -1,8 +1,9 @@
 use Rattle.std.proofs.Common.{◌≡◌, None}
 use Rattle.first_faults.specs.First.{first_below}
+use Rattle.gix_chunk_core.specs.Head.{filled}
 use Rattle.gix_chunk_core.specs.Fault.{entry_fault}
 use Rattle.gix_chunk_core.proofs.index.table_fault.Given as goal
 
 -- no entry so far has a fault
 abbrev pub invariant-loop-i : goal.invariant-loop-i
-invariant-loop-i l = first_below (entry_fault l.bytes l.at) l.i ≡ None
+invariant-loop-i l = first_below (entry_fault (filled l.front l.len) l.at) l.i ≡ None

@@ -1,0 +1,14 @@
+-- Files of which only the first bytes are known, and the length.
+use Rattle.std.specs.Prelude.{ℕ, ◌+◌, ◌-◌, ◌*◌, ◌≤◌, List, ◌++◌, length}
+use Rattle.std.proofs.Math.ListN.{replicate}
+use Rattle.gix_chunk_core.specs.Table.{Chunks, table_at}
+
+-- such a file, whose other bytes are 0
+unfoldable pub filled : List ℕ → ℕ → List ℕ
+filled front len = front ++ replicate (len - length front) 0
+
+-- The table lies in the first bytes.
+pub record IsTableIn (front : List ℕ) (len at count : ℕ) : Type 0 where
+  pub chunks : Chunks (filled front len) at count (table_at (filled front len) at count)
+  pub within : at + 12 * (count + 1) ≤ length front
+  pub fits : length front ≤ len
