@@ -20,6 +20,7 @@ unfolding chunk_of
 chunk_of-found bytes table id start end right found =
     let bounds = range_of-in_file bytes 8 (slice_index bytes 6) table id (start, end) right found in
     record {
+      range = chunk_range_of-from bytes table id right ∙ found;
       chunk = ap (option_map (λ (place : ℕ × ℕ). slice_range bytes place.0 place.1)) (chunk_range_of-from bytes table id right
           ∙ found);
       order = bounds.0;

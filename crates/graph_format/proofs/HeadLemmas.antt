@@ -1,18 +1,26 @@
 -- files that have the same head
 use Rattle.std.proofs.Common.{◌≡◌, ℕ, zero, suc, ◌+◌, ◌-◌, ◌*◌, ◌<◌, ◌≤◌, Bool, List, ◌∷◌, map, length, take, drop}
-use Rattle.std.proofs.Common.{Option, Some, None, option_map, slice_index, slice_range, refl, sym, ap, ◌∙◌, arith}
+use Rattle.std.proofs.Common.{[], unwrap_or, Option, Some, None, option_map, slice_index, slice_range, refl, sym, ap, ◌∙◌, arith}
 use Rattle.std.proofs.Common.{length-take, length-drop}
 use Rattle.std.specs.Int.{w64, from_be_bytes}
 use Rattle.std.specs.List.{list_any, range_with_len}
 use Rattle.std.proofs.lemmas.List.{take-take, get_or-take}
+use Rattle.std.proofs.Math.Seq.{take-length}
 use Rattle.std.proofs.lemmas.Slice.{between_is}
 use Rattle.first_faults.specs.First.{first_below, ◌otherwise◌}
 use Rattle.gix_chunk_core.specs.Entry.{entry_at}
 use Rattle.gix_chunk_core.specs.Fault.{has_earlier, offset_fault, entry_fault, end_fault, table_fault}
-use Rattle.gix_chunk_core.specs.Table.{table_at, chunk_at, range_of}
+use Rattle.gix_chunk_core.specs.Table.{Table, table_at, chunk_at, range_of}
+use Rattle.gix_chunk_core.specs.Head.{filled}
+use Rattle.gix_chunk_core.proofs.HeadLemmas.{filled-len, filled-take, filled-range}
+use Rattle.gix_hash_core.specs.Kind.{kind_of}
 use Rattle.graph_format.specs.Format.{bases_id, chunk_of, chunk_range_of, edges_id, fan_id, ids_id, kind_in, records_id}
-use Rattle.graph_format.specs.Format.{table_of}
-use Rattle.graph_format.specs.Head.{HaveSameHead, table_end}
+use Rattle.graph_format.specs.Format.{table_of, fan_of, words, commits_of}
+use Rattle.graph_format.specs.ChunkRanges.{IsChunkAt, IsChunkRange}
+use Rattle.graph_format.specs.Head.{HaveSameHead, BeginsWith, IsLayoutOfHead, table_end}
+use Rattle.graph_format.specs.Layout.{IsLayout}
+use Rattle.graph_format.specs.declared.layout.Layout.{Layout}
+use Rattle.graph_format.specs.declared.chunks.ChunkRange.{ChunkRange}
 use Rattle.graph_format.specs.Refusal.{header_refusal, sizes_refusal, trailer_refusal, counts_refusal, refusal, size_of}
 
 -- functions that agree below a number
@@ -38,6 +46,10 @@ any-same f g at (suc n) same =
     let first = same at (omega arith) (omega arith) in
     let others = any-same f g (at + 1) n (λ i from below. same i (omega (arith, from)) (omega (arith, below))) in
     rw (first, others) refl
+
+none-from : {X Y : Type 0} (f : X → Y) (o : Option X) → option_map f o ≡ None → o ≡ None
+none-from f None h = refl
+none-from f (Some x) h = cc
 
 -- a part of the front is a part of the whole
 slice-front : (n s e : ℕ) (xs : List ℕ) → e ≤ n → slice_range (take n xs) s e ≡ slice_range xs s e
@@ -176,4 +188,82 @@ module _ (a b : List ℕ) (same : HaveSameHead a b) where
         head_counts,
       ) refl
 
+  -- their chunks, and what is said of them
+  at-same : (id : List ℕ) (place : ChunkRange) → IsChunkAt a id place → IsChunkAt b id place
+  unfolding chunk_of
+  at-same id place at = record {
+    range = sym (head_range id) ∙ at.range;
+    chunk = ap (option_map (λ (p : ℕ × ℕ). slice_range b p.0 p.1)) (sym (head_range id) ∙ at.range);
+    order = at.order;
+    in_file = omega (arith, at.in_file, same.size);
+  }
+
+  place-same : (id : List ℕ) (place : Option ChunkRange) → IsChunkRange a id place → IsChunkRange b id place
+  unfolding chunk_of
+  place-same id None missing =
+      ap (option_map (λ (p : ℕ × ℕ). slice_range b p.0 p.1))
+      (sym (head_range id) ∙ none-from (λ (p : ℕ × ℕ). slice_range a p.0 p.1) (chunk_range_of a id) missing)
+  place-same id (Some place) at = at-same id place at
+
+  pub head_layout : (layout : Layout) → IsLayout a layout → IsLayout b layout
+  head_layout layout kept = record {
+    none = sym head_refusal ∙ kept.none;
+    kind = ap kind_of (sym (head_byte 5 (omega arith))) ∙ kept.kind;
+    commits = kept.commits ∙ ap commits_of same.fan;
+    base_count = kept.base_count ∙ head_byte 7 (omega arith);
+    chunks = record {
+      fan = at-same fan_id layout.chunks.fan kept.chunks.fan;
+      ids = at-same ids_id layout.chunks.ids kept.chunks.ids;
+      records = at-same records_id layout.chunks.records kept.chunks.records;
+      edges = place-same edges_id layout.chunks.edges kept.chunks.edges;
+      bases = place-same bases_id layout.chunks.bases kept.chunks.bases;
+    };
+    trailer_start = kept.trailer_start ∙ ap (λ (t : Table). t.end) head_table;
+  }
+
+-- a file has the head of the one that begins alike, if the table of chunks and the fan are in what is alike
+same_head-front : (file front : List ℕ) (len : ℕ) (layout : Layout) → BeginsWith file front len → length front ≤ len
+    → table_end (filled front len) ≤ length front → layout.chunks.fan.end ≤ length front → IsLayout (filled front len) layout
+    → HaveSameHead (filled front len) file
+unfolding fan_of chunk_of chunk_range_of table_of
+same_head-front file front len layout begins fits table fan kept =
+    let whole = filled front len in
+    let place = layout.chunks.fan in
+    let size : length whole ≡ length file = filled-len front len fits ∙ sym begins.size in
+    let starts : take (table_end whole) whole ≡ take (table_end whole) file =
+    filled-take front len (table_end whole) table
+    ∙ ap (take (table_end whole)) (sym begins.starts)
+    ∙ take-take (table_end whole) (length front) file table in
+    let tables : table_of whole ≡ table_of file =
+    table-same whole file (table_end whole) size starts 8 (slice_index whole 6) (omega arith)
+    ∙ ap (table_at file 8) (byte-same whole file (table_end whole) size starts 6 (omega arith)) in
+    let range : range_of (table_of file) fan_id ≡ Some (place.start, place.end) =
+    ap (λ (t : Table). range_of t fan_id) (sym tables) ∙ kept.chunks.fan.range in
+    let part : slice_range whole place.start place.end ≡ slice_range file place.start place.end =
+    filled-range front len place.start place.end fan
+    ∙ ap (λ (xs : List ℕ). slice_range xs place.start place.end) (sym begins.starts)
+    ∙ slice-front (length front) place.start place.end file fan in
+    let chunks : chunk_of whole fan_id ≡ chunk_of file fan_id =
+    kept.chunks.fan.chunk
+    ∙ ap (λ (bs : List ℕ). Some bs) part
+    ∙ sym (ap (option_map (λ (p : ℕ × ℕ). slice_range file p.0 p.1)) range) in
+    record { size = size; front = starts; fan = ap (λ (o : Option (List ℕ)). words (unwrap_or o [])) chunks }
+
+pub layout_of_head-each : (front : List ℕ) (len : ℕ) (layout : Layout) → length front ≤ len
+    → table_end (filled front len) ≤ length front → layout.chunks.fan.end ≤ length front → IsLayout (filled front len) layout
+    → IsLayoutOfHead front len layout
+layout_of_head-each front len layout fits table fan kept = record {
+  each = λ file begins.
+      head_layout (filled front len) file (same_head-front file front len layout begins fits table fan kept) layout kept;
+  fan_lies = fan;
+}
+
+-- all bytes begin with themselves
+pub begins-whole : (bytes : List ℕ) → BeginsWith bytes bytes (length bytes)
+begins-whole bytes = record { size = refl; starts = take-length bytes }
+
 pub ruleset head_laws = (head_refusal, head_range)
+
+pub ruleset front_laws = (layout_of_head-each)
+
+pub ruleset begin_laws = (begins-whole)

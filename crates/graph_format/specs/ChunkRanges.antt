@@ -1,11 +1,12 @@
 -- where the chunks of a file lie
 use Rattle.std.specs.Prelude.{◌≡◌, ℕ, ◌+◌, ◌-◌, ◌*◌, ◌<◌, ◌≤◌, List, length, slice_range, slice_get, Option, Some, None}
-use Rattle.graph_format.specs.Format.{chunk_of, fan_id, ids_id, records_id, edges_id, bases_id}
+use Rattle.graph_format.specs.Format.{chunk_of, chunk_range_of, fan_id, ids_id, records_id, edges_id, bases_id}
 use Rattle.graph_format.specs.declared.chunks.ChunkRange.{ChunkRange}
 use Rattle.graph_format.specs.declared.chunks.ChunkRanges.{ChunkRanges}
 
 -- The chunk of this name lies here.
 pub record IsChunkAt (bytes id : List ℕ) (place : ChunkRange) : Type 0 where
+  pub range : chunk_range_of bytes id ≡ Some (place.start, place.end)
   pub chunk : chunk_of bytes id ≡ Some (slice_range bytes place.start place.end)
   pub order : place.start ≤ place.end
   pub in_file : place.end ≤ length bytes

@@ -9,7 +9,7 @@ ghost use Rattle.graph_format.specs.Refusal.{refusal};
 ghost use Rattle.graph_format.specs.Refusal.{counts_refusal, trailer_refusal};
 ghost use Rattle.graph_format.specs.ChunkRanges.{AreChunkRanges, IsChunkRange};
 ghost use Rattle.graph_format.specs.Layout.{IsLayout};
-ghost use Rattle.graph_format.specs.Head.{table_end};
+ghost use Rattle.graph_format.specs.Head.{IsLayoutOfHead, table_end};
 
 use crate::chunks::{ChunkRange, ChunkRanges, chunk_range, chunk_ranges, record_len};
 use crate::error::FileError;
@@ -90,7 +90,7 @@ pub fn find_chunk(bytes: &[u8], id: [u8; 4]) -> Option<ChunkRange>
 }
 
 /// The layout of the bytes, or why they are refused.
-#[tactic(auto, using(gix_chunk_core::proofs::HeadLemmas::whole_laws))]
+#[tactic(auto, using(gix_chunk_core::proofs::HeadLemmas::whole_laws, crate::proofs::HeadLemmas::begin_laws))]
 pub fn layout_of(bytes: &[u8]) -> Result<Layout, FileError>
     ensures refusal { Reports result (refusal bytes.now) }
     ensures layout { IfOk result (IsLayout bytes.now) }
@@ -103,12 +103,25 @@ pub fn layout_of(bytes: &[u8]) -> Result<Layout, FileError>
 
 /// The layout of a file that has `len` bytes and begins with these, or why it is refused. `None`
 /// where these are not all bytes, and the table of chunks or the fan does not lie within them.
-#[tactic(auto, using(crate::proofs::ChunkSizeLemmas::layout_laws, gix_chunk_core::proofs::HeadLemmas::head_laws), unfolding(crate::specs::Refusal::refusal))]
+#[tactic(auto, using(crate::proofs::HeadLemmas::front_laws))]
 pub fn layout_of_head(front: &[u8], len: usize) -> Result<Option<Layout>, FileError>
     requires { length front.now ≤ len }
     ensures refused { IfErr result (λ error. refusal (filled front.now len) ≡ Some error) }
+    ensures layout { IfOk result (λ answer. IfSome answer (IsLayoutOfHead front.now len)) }
+    ensures whole { length front.now ≡ len → IfOk result (λ answer. IsSome answer) }
+{
+    layout_of_filled(front, len)
+}
+
+/// The layout of the file that has `len` bytes, begins with these, and has 0 for each other byte.
+#[tactic(auto, using(crate::proofs::ChunkSizeLemmas::layout_laws, gix_chunk_core::proofs::HeadLemmas::head_laws), unfolding(crate::specs::Refusal::refusal))]
+fn layout_of_filled(front: &[u8], len: usize) -> Result<Option<Layout>, FileError>
+    requires { length front.now ≤ len }
+    ensures refused { IfErr result (λ error. refusal (filled front.now len) ≡ Some error) }
     ensures layout { IfOk result (λ answer. IfSome answer (IsLayout (filled front.now len))) }
-    ensures front { IfOk result (λ answer. IfSome answer (λ layout.
+    ensures table { IfOk result (λ answer.
+        IsSome answer → table_end (filled front.now len) ≤ length front.now) }
+    ensures fan { IfOk result (λ answer. IfSome answer (λ layout.
         layout.chunks.fan.end ≤ length front.now)) }
     ensures whole { length front.now ≡ len → IfOk result (λ answer. IsSome answer) }
 {
