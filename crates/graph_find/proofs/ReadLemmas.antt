@@ -1,0 +1,35 @@
+-- what the parts of a file that were read say of it
+use Rattle.std.proofs.Common.{◌≡◌, ℕ, ◌+◌, ◌-◌, List, length, take, drop, slice_range, Option, Some, None, IfSome, sym, ap, ◌∙◌, arith}
+use Rattle.std.specs.Option.{IsSomeAnd}
+use Rattle.std.proofs.Math.Seq.{take-append_seam}
+use Rattle.std.proofs.lemmas.List.{take-append-drop}
+use Rattle.graph_folder.specs.Parts.{IsPartOf}
+use Rattle.graph_folder.specs.declared.folder.Part.{Part}
+use Rattle.graph_format.specs.Head.{BeginsWith}
+use Rattle.graph_find.proofs.SeenLemmas.{as-some}
+use Rattle.graph_find.specs.declared.head.Head.{Head}
+
+taken : (n : ℕ) (xs : List ℕ) → take (length (take n xs)) xs ≡ take n xs
+taken n xs = ap (take (length (take n xs))) (sym (take-append-drop n xs)) ∙ take-append_seam (take n xs) (drop n xs)
+
+begins-part : (file : List ℕ) (n : ℕ) (part : Part) → IsPartOf file 0 n part → BeginsWith file part.bytes.items part.file_len
+begins-part file n part is = record {
+  size = sym is.1;
+  starts = ap (λ (bytes : List ℕ). take (length bytes) file) is.0 ∙ taken n file ∙ sym is.0;
+}
+
+-- the head that is made of the first bytes
+pub begins-head : (o : Option (List ℕ)) (n : ℕ) (part : Part) (answer : Option Head)
+    → IfSome answer (λ head. (file : List ℕ) → BeginsWith file part.bytes.items part.file_len → BeginsWith file head.front.items head.len)
+    → IsSomeAnd o (λ file. IsPartOf file 0 n part)
+    → IfSome answer (λ head. IsSomeAnd o (λ file. BeginsWith file head.front.items head.len))
+begins-head o n part None begins h = tt
+begins-head o n part (Some head) begins h = as-some _ _ o (λ file is. begins file (begins-part file n part is)) h
+
+pub range-part : (o : Option (List ℕ)) (start len : ℕ) (part : Part) → IsSomeAnd o (λ file. IsPartOf file start len part)
+    → IsSomeAnd o (λ file. slice_range file start (start + len) ≡ part.bytes.items)
+range-part o start len part h = as-some _ _ o (λ (file : List ℕ) is.
+    ap (λ (n : ℕ). take n (drop start file)) (back start len) ∙ sym is.0) h
+  where
+    back : (n m : ℕ) → n + m - n ≡ m
+    back n m = omega arith
