@@ -25,6 +25,10 @@ abbrev pub MayBeFound : List Layer → List ℕ → Option Found → Type 0
 MayBeFound layers id (Some found) = FoundIn layers id (Some found.pos.0) × Describes layers found
 MayBeFound layers id None = FoundIn layers id None
 
+-- the same in the layers of some graph that may be opened
+abbrev pub MayFindIn : (Result (List Layer) OpenError → Type 0) → List ℕ → Option Found → Type 0
+MayFindIn MayOpen id found = (layers : List Layer) × MayOpen (Ok layers) × MayBeFound layers id found
+
 -- what `find` may answer for the text of an id, given what the opener may answer. For a text that is no id the folder is left
 -- as it was: nothing is opened
 abbrev pub MayFind : List ℕ → Type 0 → (Result (List Layer) OpenError → Type 0) → Result (Option Found) Refusal → Type 0
