@@ -4,7 +4,7 @@ use Rattle.std.proofs.Common.{sym, ap, ◌∙◌, arith, length-append}
 use Rattle.std.proofs.Math.ListN.{replicate}
 use Rattle.std.proofs.lemmas.List.{append-nil, length-replicate, get_or_append_left, take-append-le}
 use Rattle.std.proofs.lemmas.Slice.{between_is}
-use Rattle.gix_chunk_core.specs.Head.{filled}
+use Rattle.gix_chunk_core.specs.FirstBytes.{filled}
 
 pub filled-len : (front : List ℕ) (len : ℕ) → length front ≤ len → length (filled front len) ≡ len
 unfolding filled

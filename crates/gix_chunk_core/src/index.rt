@@ -5,7 +5,7 @@ ghost use Rattle.std.specs.Prelude.{min, IfSome, IfOk, OnOk, OnErr, IfErr, optio
 ghost use Rattle.gix_chunk_core.specs.Entry.{entry_at, end_id};
 ghost use Rattle.gix_chunk_core.specs.Fault.{has_earlier, offset_fault, entry_fault, end_fault};
 ghost use Rattle.gix_chunk_core.specs.Fault.{table_fault};
-ghost use Rattle.gix_chunk_core.specs.Head.{filled};
+ghost use Rattle.gix_chunk_core.specs.FirstBytes.{filled};
 ghost use Rattle.gix_chunk_core.specs.Table.{Table, Chunks, range_of};
 
 use crate::ChunkError;
@@ -143,7 +143,7 @@ pub struct Index<'a> {
 
 impl<'a> Model for Index<'a> {
     ghost use Rattle.gix_chunk_core.specs.Table.{Table, table_at};
-    ghost use Rattle.gix_chunk_core.specs.Head.{filled, IsTableIn};
+    ghost use Rattle.gix_chunk_core.specs.FirstBytes.{filled, IsTableIn};
 
     ghost Value = { Table };
 

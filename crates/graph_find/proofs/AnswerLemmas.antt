@@ -10,8 +10,8 @@ use Rattle.graph_format.specs.Head.{BeginsWith}
 use Rattle.graph_format.specs.Layer.{Layer, decoded_layer}
 use Rattle.graph_format.specs.Lookup.{Found}
 use Rattle.graph_find.specs.Bucket.{IsBucket}
-use Rattle.graph_find.specs.Head.{IsHead, IsSpan}
-use Rattle.graph_find.specs.Search.{Answers, AnswersIn}
+use Rattle.graph_find.specs.ReadHead.{IsHead, IsBucketSpan}
+use Rattle.graph_find.specs.Finding.{Answers, AnswersIn}
 use Rattle.graph_find.specs.declared.head.Head.{Head}
 use Rattle.graph_find.specs.declared.head.Span.{Span}
 use Rattle.graph_find.specs.declared.search.Place.{Place}
@@ -56,10 +56,11 @@ module _ (known : Option Tree) (path id : List ℕ) (head : Head) (is : IsHead h
 
     module _ (size : ℕ) (long : length id ≡ size) (kind : size ≡ id_len head.layout.kind) (byte : slice_index id 0 < 256)
         (span : Span) (order : span.first ≤ span.end) (within : span.end ≤ head.layout.commits)
-        (fan : (file : List ℕ) → BeginsWith file head.front.items head.len → IsSpan (fan_of file) (slice_index id 0) span)
+        (fan : (file : List ℕ) → BeginsWith file head.front.items head.len → IsBucketSpan (fan_of file) (slice_index id 0) span)
         (start len : ℕ) (starts : start ≡ head.layout.chunks.ids.start + size * span.first)
         (lasts : len ≡ size * (span.end - span.first)) (bytes : List ℕ) (sized : length bytes ≡ len)
-        (part_seen : ForSome known (λ (tree : Tree). IsSomeAnd (file_at tree path) (λ file. slice_range file start (start + len) ≡ bytes)))
+        (part_seen : ForSome known (λ (tree : Tree). IsSomeAnd (file_at tree path)
+        (λ file. slice_range file start (start + len) ≡ bytes)))
       where
         part-seen : ForSome known (λ (tree : Tree). IsSomeAnd (file_at tree path) (λ file.
             slice_range file start (start + length bytes) ≡ bytes))
@@ -84,7 +85,8 @@ module _ (known : Option Tree) (path id : List ℕ) (head : Head) (is : IsHead h
             let Q : ℕ → ℕ → Type 0 = λ n m. slice_range file n m ≡ bytes in
             let stop : start + length bytes ≡ head.layout.chunks.ids.start + size * span.first + size * (span.end - span.first) =
             omega (arith, sized, starts, lasts) in
-            let moved : Q (head.layout.chunks.ids.start + size * span.first) (head.layout.chunks.ids.start + size * span.first + size * (span.end - span.first)) =
+            let moved : Q (head.layout.chunks.ids.start + size * span.first)
+            (head.layout.chunks.ids.start + size * span.first + size * (span.end - span.first)) =
             subst (λ (n : ℕ). Q n (head.layout.chunks.ids.start + size * span.first + size * (span.end - span.first))) starts
             (subst (Q start) stop same) in
             is-bucket file path head.layout (is.layout.each file begins) id bytes span (long ∙ kind) byte (fan file begins) order
@@ -107,14 +109,16 @@ module _ (known : Option Tree) (path id : List ℕ) (head : Head) (is : IsHead h
             → (later more_len : ℕ) → more_len ≡ id_len head.layout.kind + 16
             → later ≡ head.layout.chunks.records.start + more_len * pos
             → (more : List ℕ) → length more ≡ more_len
-            → ForSome known (λ (tree : Tree). IsSomeAnd (file_at tree path) (λ file. slice_range file later (later + more_len) ≡ more))
+            → ForSome known (λ (tree : Tree). IsSomeAnd (file_at tree path)
+            (λ file. slice_range file later (later + more_len) ≡ more))
             → (place : Place) → place.pos ≡ pos
             → place.generation ≡ (record_of head.layout.kind more).generation
             → place.time ≡ (record_of head.layout.kind more).time → AnswersIn known path id (found_at place)
         found-place pos below there later more_len is_len is_later more more_sized more_seen place at generation time =
             let R : ℕ → Type 0 = λ n. ForSome known (λ (tree : Tree). IsSomeAnd (file_at tree path) (λ file.
             slice_range file later (later + n) ≡ more)) in
-            let rows : more_len * pos + more_len ≤ more_len * head.layout.commits = row more_len pos head.layout.commits (omega arith) in
+            let rows : more_len * pos + more_len ≤ more_len * head.layout.commits =
+            row more_len pos head.layout.commits (omega arith) in
             let all : more_len * head.layout.commits ≡ (id_len head.layout.kind + 16) * head.layout.commits =
             ap (λ (n : ℕ). n * head.layout.commits) is_len in
             let seen =
@@ -134,8 +138,11 @@ module _ (known : Option Tree) (path id : List ℕ) (head : Head) (is : IsHead h
             let from : later ≡ head.layout.chunks.records.start + wide * place.pos = omega (arith, is_later, shift) in
             let stop : later + length more ≡ head.layout.chunks.records.start + wide * place.pos + wide =
             omega (arith, from, more_sized, is_len) in
-            let moved : Q (head.layout.chunks.records.start + wide * place.pos) (head.layout.chunks.records.start + wide * place.pos + wide) =
+            let moved : Q (head.layout.chunks.records.start + wide * place.pos)
+            (head.layout.chunks.records.start + wide * place.pos + wide) =
             subst (λ (n : ℕ). Q n (head.layout.chunks.records.start + wide * place.pos + wide)) from
             (subst (Q later) stop seen.2.has) in
-            answers-in (found_at place) file seen.1 begins
-            (found-one (decoded_layer file path) id place.pos here, tells-record file path head.layout kept id more place here moved generation time)
+            answers-in (found_at place) file seen.1 begins (
+              found-one (decoded_layer file path) id place.pos here,
+              tells-record file path head.layout kept id more place here moved generation time,
+            )

@@ -1,10 +1,11 @@
 -- what a head says of the files that begin with it
-use Rattle.std.proofs.Common.{◌≡◌, ℕ, ◌+◌, ◌*◌, ◌<◌, ◌≤◌, List, length, take, slice_index, slice_range, refl, sym, ap, ◌∙◌, arith, drop}
+use Rattle.std.proofs.Common.{◌≡◌, ℕ, ◌+◌, ◌*◌, ◌<◌, ◌≤◌, List, length, take, slice_index, slice_range}
+use Rattle.std.proofs.Common.{refl, sym, ap, ◌∙◌, arith, drop}
 use Rattle.std.specs.Int.{w32, from_be_bytes}
 use Rattle.std.proofs.Math.Seq.{take-length}
 use Rattle.std.proofs.lemmas.List.{take-take, length-take-le}
 use Rattle.std.proofs.lemmas.Slice.{between_is}
-use Rattle.gix_chunk_core.specs.Head.{filled}
+use Rattle.gix_chunk_core.specs.FirstBytes.{filled}
 use Rattle.gix_chunk_core.proofs.HeadLemmas.{filled-len, filled-take}
 use Rattle.graph_format.specs.Format.{fan_of}
 use Rattle.graph_format.specs.Head.{BeginsWith}
@@ -12,7 +13,7 @@ use Rattle.graph_format.specs.Layer.{decoded_layer}
 use Rattle.graph_format.specs.Layout.{IsLayout}
 use Rattle.graph_format.proofs.FanLemmas.{fan_of-at}
 use Rattle.graph_layer.proofs.BucketLemmas.{view-fan-size}
-use Rattle.graph_find.specs.Head.{IsHead}
+use Rattle.graph_find.specs.ReadHead.{IsHead}
 use Rattle.graph_find.specs.declared.head.Head.{Head}
 
 -- the file that is 0 past the first bytes begins with them
@@ -49,7 +50,8 @@ fan-size head is =
     view-fan-size file file head.layout (decoded_layer file file) kept refl
 
 pub fan-number : (head : Head) (file : List ℕ) (i : ℕ) → IsHead head → BeginsWith file head.front.items head.len → i < 256
-    → from_be_bytes w32 (slice_range head.front.items (head.layout.chunks.fan.start + 4 * i) (head.layout.chunks.fan.start + 4 * i + 4))
+    → from_be_bytes w32 (slice_range head.front.items (head.layout.chunks.fan.start + 4 * i)
+    (head.layout.chunks.fan.start + 4 * i + 4))
     ≡ slice_index (fan_of file) i
 fan-number head file i is begins h =
     let start = head.layout.chunks.fan.start + 4 * i in

@@ -1,5 +1,6 @@
 -- the layer of a file of which the head and some parts are known
-use Rattle.std.proofs.Common.{◌≡◌, ℕ, ◌+◌, ◌-◌, ◌*◌, ◌<◌, ◌≤◌, List, [], ◌∷◌, length, Option, Some, None, Result, Ok, Err, slice_get}
+use Rattle.std.proofs.Common.{◌≡◌, ℕ, ◌+◌, ◌-◌, ◌*◌, ◌<◌, ◌≤◌, List, [], ◌∷◌, length, Option}
+use Rattle.std.proofs.Common.{Some, None, Result, Ok, Err, slice_get}
 use Rattle.std.proofs.Common.{slice_range, slice_index, nat_lt, refl, sym, ap, subst, ◌∙◌, arith, lit<, lit≤, map}
 use Rattle.std.specs.List.{range_with_len}
 use Rattle.std.specs.Option.{ForSome, ok_or}
@@ -36,8 +37,8 @@ use Rattle.gix_commitgraph.specs.GraphRefusal.{graph_refusal, mismatch_refusal}
 use Rattle.gix_commitgraph.specs.Opening.{file_opened, graph_of_layers, graph_unless_refused}
 use Rattle.gix_commitgraph.proofs.lookup.GraphLookupLemmas.{missed-none, missed-more, found_in-counted, found_in-none}
 use Rattle.graph_find.specs.Bucket.{IsBucket}
-use Rattle.graph_find.specs.Head.{IsSpan}
-use Rattle.graph_find.specs.Search.{Tells}
+use Rattle.graph_find.specs.ReadHead.{IsBucketSpan}
+use Rattle.graph_find.specs.Finding.{Tells}
 use Rattle.graph_find.specs.declared.head.Span.{Span}
 use Rattle.graph_find.specs.declared.search.Place.{Place}
 
@@ -91,7 +92,7 @@ module _ (file path : List ℕ) (layout : Layout) (kept : IsLayout file layout) 
 
   -- the ids of a bucket
   pub is-bucket : (id bytes : List ℕ) (span : Span) → length id ≡ id_len layout.kind → slice_index id 0 < 256
-      → IsSpan (fan_of file) (slice_index id 0) span → span.first ≤ span.end → span.end ≤ layout.commits
+      → IsBucketSpan (fan_of file) (slice_index id 0) span → span.first ≤ span.end → span.end ≤ layout.commits
       → slice_range file (layout.chunks.ids.start + length id * span.first)
       (layout.chunks.ids.start + length id * span.first + length id * (span.end - span.first)) ≡ bytes
       → IsBucket (decoded_layer file path) id span.first span.end bytes
@@ -106,8 +107,10 @@ module _ (file path : List ℕ) (layout : Layout) (kept : IsLayout file layout) 
             let inside : i < length one.ids = omega (arith, below, within, commits-ids file path layout one kept refl) in
             let shift : size * i ≡ size * span.first + size * (i - span.first) =
             ap (λ (n : ℕ). size * n) (again i span.first from) ∙ mul-add size span.first (i - span.first) in
-            let up : size * (i - span.first) + size ≤ size * (span.end - span.first) = one_more size (i - span.first) (span.end - span.first) (omega arith) in
-            view-sized_id file path layout one i size kept refl inside (long ∙ ap id_len (view-kind file path layout one kept refl))
+            let up : size * (i - span.first) + size ≤ size * (span.end - span.first) =
+            one_more size (i - span.first) (span.end - span.first) (omega arith) in
+            view-sized_id file path layout one i size kept refl inside
+            (long ∙ ap id_len (view-kind file path layout one kept refl))
             ∙ ap (λ (n : ℕ). Some (slice_range file n (n + size))) (omega (arith, shift))
             ∙ ap (λ (n : ℕ). Some (slice_range file (begin + size * (i - span.first)) n)) (omega arith)
             ∙ ap (λ (b : List ℕ). Some b)
@@ -133,8 +136,10 @@ module _ (file path : List ℕ) (layout : Layout) (kept : IsLayout file layout) 
       let inside : place.pos < length one.ids = slice_get_within one.ids place.pos id found.holds in
       let kind = view-kind file path layout one kept refl in
       let says : record_at one place.pos ≡ record_of layout.kind bytes =
-      view-record_at file path layout one place.pos (id_len layout.kind + 16) kept refl inside (ap (λ (k : Kind). id_len k + 16) kind)
-      ∙ ap (λ (k : Kind). record_of k (part file (layout.chunks.records.start + (id_len layout.kind + 16) * place.pos) (id_len layout.kind + 16))) (sym kind)
+      view-record_at file path layout one place.pos (id_len layout.kind + 16) kept refl inside
+      (ap (λ (k : Kind). id_len k + 16) kind)
+      ∙ ap (λ (k : Kind). record_of k (part file (layout.chunks.records.start + (id_len layout.kind + 16) * place.pos)
+      (id_len layout.kind + 16))) (sym kind)
       ∙ ap (record_of layout.kind) same in
       record {
         stands =

@@ -1,5 +1,6 @@
 -- what the parts of a file that were read say of it
-use Rattle.std.proofs.Common.{◌≡◌, ℕ, ◌+◌, ◌-◌, List, length, take, drop, slice_range, Option, Some, None, IfSome, sym, ap, ◌∙◌, arith}
+use Rattle.std.proofs.Common.{◌≡◌, ℕ, ◌+◌, ◌-◌, List, length, take, drop, slice_range, Option, Some}
+use Rattle.std.proofs.Common.{None, IfSome, sym, ap, ◌∙◌, arith}
 use Rattle.std.specs.Option.{IsSomeAnd}
 use Rattle.std.proofs.Math.Seq.{take-append_seam}
 use Rattle.std.proofs.lemmas.List.{take-append-drop}
@@ -20,7 +21,8 @@ begins-part file n part is = record {
 
 -- the head that is made of the first bytes
 pub begins-head : (o : Option (List ℕ)) (n : ℕ) (part : Part) (answer : Option Head)
-    → IfSome answer (λ head. (file : List ℕ) → BeginsWith file part.bytes.items part.file_len → BeginsWith file head.front.items head.len)
+    → IfSome answer (λ head. (file : List ℕ) → BeginsWith file part.bytes.items part.file_len
+    → BeginsWith file head.front.items head.len)
     → IsSomeAnd o (λ file. IsPartOf file 0 n part)
     → IfSome answer (λ head. IsSomeAnd o (λ file. BeginsWith file head.front.items head.len))
 begins-head o n part None begins h = tt

@@ -1,7 +1,8 @@
 -- a file that has the parts that were read, and is that of the tree where the tree is known
-use Rattle.std.proofs.Common.{◌≡◌, ℕ, ◌+◌, ◌≤◌, List, length, take, slice_range, Option, Some, None, refl, sym, ap, ◌∙◌, arith, subst}
+use Rattle.std.proofs.Common.{◌≡◌, ℕ, ◌+◌, ◌≤◌, List, length, take, slice_range, Option, Some, None}
+use Rattle.std.proofs.Common.{refl, sym, ap, ◌∙◌, arith, subst}
 use Rattle.std.specs.Option.{ForSome, IsSomeAnd}
-use Rattle.gix_chunk_core.specs.Head.{filled}
+use Rattle.gix_chunk_core.specs.FirstBytes.{filled}
 use Rattle.graph_folder.specs.Tree.{Tree, file_at}
 use Rattle.graph_format.specs.Head.{BeginsWith}
 use Rattle.graph_find.proofs.PatchLemmas.{patched, patched-len, patched-take, patched-before, patched-part}
@@ -96,7 +97,8 @@ as-some P Q (Some x) f h = f x h
 pub seen-part : (known : Option Tree) (path front : List ℕ) (len start : ℕ) (bytes : List ℕ) → length front ≤ start
     → start + length bytes ≤ len
     → ForSome known (λ (tree : Tree). IsSomeAnd (file_at tree path) (λ file. BeginsWith file front len))
-    → ForSome known (λ (tree : Tree). IsSomeAnd (file_at tree path) (λ file. slice_range file start (start + length bytes) ≡ bytes))
+    → ForSome known (λ (tree : Tree). IsSomeAnd (file_at tree path)
+    (λ file. slice_range file start (start + length bytes) ≡ bytes))
     → (file : List ℕ) × StandsAs known path file × HasPart front len start bytes file
 seen-part known path front len start bytes after fits front_seen part_seen =
     some-file known path (HasPart front len start bytes) (patched (filled front len) start bytes)
@@ -108,7 +110,8 @@ seen-part known path front len start bytes after fits front_seen part_seen =
 pub seen-parts : (known : Option Tree) (path front : List ℕ) (len start : ℕ) (bytes : List ℕ) (later : ℕ) (more : List ℕ)
     → length front ≤ start → start + length bytes ≤ later → later + length more ≤ len
     → ForSome known (λ (tree : Tree). IsSomeAnd (file_at tree path) (λ file. BeginsWith file front len))
-    → ForSome known (λ (tree : Tree). IsSomeAnd (file_at tree path) (λ file. slice_range file start (start + length bytes) ≡ bytes))
+    → ForSome known (λ (tree : Tree). IsSomeAnd (file_at tree path)
+    (λ file. slice_range file start (start + length bytes) ≡ bytes))
     → ForSome known (λ (tree : Tree). IsSomeAnd (file_at tree path) (λ file. slice_range file later (later + length more) ≡ more))
     → (file : List ℕ) × StandsAs known path file × HasParts front len start bytes later more file
 seen-parts known path front len start bytes later more after order fits front_seen part_seen more_seen =

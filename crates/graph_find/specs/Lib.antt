@@ -1,3 +1,3 @@
-pub mod Head
+pub mod ReadHead
 pub mod Bucket
-pub mod Search
+pub mod Finding

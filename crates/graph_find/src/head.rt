@@ -3,7 +3,7 @@
 ghost use Rattle.std.specs.Prelude.{◌≡◌, ◌<◌, ◌≤◌, ℕ, List, length, slice_index, IfSome, IsTrue};
 ghost use Rattle.graph_format.specs.Format.{fan_of};
 ghost use Rattle.graph_format.specs.Head.{BeginsWith};
-ghost use Rattle.graph_find.specs.Head.{IsHead, LieInOrder, IsSpan};
+ghost use Rattle.graph_find.specs.ReadHead.{IsHead, LieInOrder, IsBucketSpan};
 
 use gix_commitgraph::MAX_COMMITS;
 use graph_format::chunks::record_len;
@@ -81,7 +81,7 @@ impl Head {
     pub(crate) fn span(&self, byte: u8) -> Span
         requires { IsHead self.now }
         ensures fan { (file : List ℕ) → BeginsWith file self.now.front.items self.now.len
-            → IsSpan (fan_of file) byte result }
+            → IsBucketSpan (fan_of file) byte result }
     {
         let end = self.fan_number(byte as usize);
         let first = if byte == 0 {

@@ -6,7 +6,7 @@ ghost use Rattle.std.specs.Option.{ForSome};
 ghost use Rattle.graph_folder.specs.Tree.{file_at};
 ghost use Rattle.graph_folder.specs.Failures.{failures_after};
 ghost use Rattle.graph_format.specs.Head.{BeginsWith};
-ghost use Rattle.graph_find.specs.Head.{IsHead};
+ghost use Rattle.graph_find.specs.ReadHead.{IsHead};
 
 use crate::head::{Head, head_of};
 use graph_folder::folder::{Folder, ReadError};

@@ -7,7 +7,7 @@ ghost use Rattle.gix_hash_core.specs.Oid.{oid_bytes};
 ghost use Rattle.graph_folder.specs.Tree.{file_at};
 ghost use Rattle.graph_folder.specs.Failures.{failures_after};
 ghost use Rattle.graph_format.specs.Format.{record_of};
-ghost use Rattle.graph_find.specs.Search.{Finds};
+ghost use Rattle.graph_find.specs.Finding.{Finds};
 
 use crate::bucket::search;
 use crate::reading::{read_head, read_range};

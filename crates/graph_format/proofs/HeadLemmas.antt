@@ -11,7 +11,7 @@ use Rattle.first_faults.specs.First.{first_below, ◌otherwise◌}
 use Rattle.gix_chunk_core.specs.Entry.{entry_at}
 use Rattle.gix_chunk_core.specs.Fault.{has_earlier, offset_fault, entry_fault, end_fault, table_fault}
 use Rattle.gix_chunk_core.specs.Table.{Table, table_at, chunk_at, range_of}
-use Rattle.gix_chunk_core.specs.Head.{filled}
+use Rattle.gix_chunk_core.specs.FirstBytes.{filled}
 use Rattle.gix_chunk_core.proofs.HeadLemmas.{filled-len, filled-take, filled-range}
 use Rattle.gix_hash_core.specs.Kind.{kind_of}
 use Rattle.graph_format.specs.Format.{bases_id, chunk_of, chunk_range_of, edges_id, fan_id, ids_id, kind_in, records_id}

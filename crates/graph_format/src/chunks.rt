@@ -1,8 +1,9 @@
 //! Where the chunks of a file lie, and whether their sizes are right.
 
-ghost use Rattle.std.specs.Prelude.{◌≡◌, ◌+◌, ◌≤◌, length, slice_index, Some, IfOk, IfSome, option_map};
+ghost use Rattle.std.specs.Prelude.{◌≡◌, ◌+◌, ◌≤◌, length, slice_index, Some};
+ghost use Rattle.std.specs.Prelude.{IfOk, IfSome, option_map};
 ghost use Rattle.gix_hash_core.specs.Kind.{id_len};
-ghost use Rattle.gix_chunk_core.specs.Head.{filled};
+ghost use Rattle.gix_chunk_core.specs.FirstBytes.{filled};
 ghost use Rattle.gix_chunk_core.specs.Table.{Chunks};
 ghost use Rattle.graph_format.specs.Reports.{Reports};
 ghost use Rattle.graph_format.specs.Refusal.{bases_refusal, records_refusal, fan_refusal};

@@ -1,7 +1,7 @@
 //! The fan of a file: for each first byte how many ids begin with it or a lesser one.
 
 ghost use Rattle.std.specs.Prelude.{◌≡◌, ◌+◌, ◌<◌, ◌≤◌, length, slice_index};
-ghost use Rattle.gix_chunk_core.specs.Head.{filled};
+ghost use Rattle.gix_chunk_core.specs.FirstBytes.{filled};
 ghost use Rattle.graph_format.specs.Reports.{Reports};
 ghost use Rattle.graph_format.specs.Format.{fan_of, fan_id};
 ghost use Rattle.graph_format.specs.Refusal.{falling_refusal};

@@ -1,7 +1,7 @@
 //! The header of a file.
 
 ghost use Rattle.std.specs.Prelude.{◌≡◌, ◌≤◌, length, min, slice_index, Some, OnOk, IfOk};
-ghost use Rattle.gix_chunk_core.specs.Head.{filled};
+ghost use Rattle.gix_chunk_core.specs.FirstBytes.{filled};
 ghost use Rattle.gix_hash_core.specs.Kind.{kind_of};
 ghost use Rattle.graph_format.specs.Reports.{Reports};
 ghost use Rattle.graph_format.specs.Format.{least_size, kind_in};

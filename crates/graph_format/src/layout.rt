@@ -2,7 +2,7 @@
 
 ghost use Rattle.std.specs.Prelude.{◌≡◌, ◌≤◌, length, None, Some, IfOk, IfErr, IfSome, IsSome};
 ghost use Rattle.std.specs.Prelude.{IsTrue, min};
-ghost use Rattle.gix_chunk_core.specs.Head.{filled};
+ghost use Rattle.gix_chunk_core.specs.FirstBytes.{filled};
 ghost use Rattle.graph_format.specs.Reports.{Reports};
 ghost use Rattle.graph_format.specs.Format.{table_of, fan_of, commits_of};
 ghost use Rattle.graph_format.specs.Refusal.{refusal};

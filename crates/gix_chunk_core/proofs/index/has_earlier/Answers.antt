@@ -3,7 +3,7 @@ use Rattle.std.proofs.Common.{bytes_eq, refl, arith, rules, tests}
 use Rattle.std.proofs.lemmas.Iterator.Search.{any_from_yields_List}
 use Rattle.std.proofs.lemmas.Iterator.{YieldsList-from_range}
 use Rattle.gix_chunk_core.specs.Entry.{entry_at}
-use Rattle.gix_chunk_core.specs.Head.{filled}
+use Rattle.gix_chunk_core.specs.FirstBytes.{filled}
 use Rattle.gix_chunk_core.specs.Fault.{has_earlier}
 use Rattle.gix_chunk_core.proofs.index.has_earlier.Goals as goal
 

@@ -1,6 +1,6 @@
 use Rattle.std.proofs.Common.{◌≡◌, None}
 use Rattle.first_faults.specs.First.{first_below}
-use Rattle.gix_chunk_core.specs.Head.{filled}
+use Rattle.gix_chunk_core.specs.FirstBytes.{filled}
 use Rattle.graph_format.specs.Format.{fan_of}
 use Rattle.graph_format.specs.Refusal.{fall_after}
 use Rattle.graph_format.proofs.fan.check_rising.Given as goal

@@ -1,7 +1,7 @@
 -- The fan lies in the first bytes.
 use Rattle.std.proofs.Common.{◌+◌, ◌*◌, sym, ap, ◌∙◌, arith}
 use Rattle.std.specs.Int.{w32, from_be_bytes}
-use Rattle.gix_chunk_core.specs.Head.{filled}
+use Rattle.gix_chunk_core.specs.FirstBytes.{filled}
 use Rattle.gix_chunk_core.proofs.HeadLemmas.{filled-range}
 use Rattle.graph_format.proofs.FanLemmas.{fan_of-at}
 use Rattle.graph_format.proofs.fan.fan_at_head.Goals as goal

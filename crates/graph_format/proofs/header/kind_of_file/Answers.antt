@@ -1,8 +1,9 @@
 -- The conditions of the header read its first bytes and the length.
-use Rattle.std.proofs.Common.{◌≡◌, ℕ, ◌≤◌, List, length, min, take, slice_index, not, is_none, nat_lt, bytes_eq, refl, rules, arith}
+use Rattle.std.proofs.Common.{◌≡◌, ℕ, ◌≤◌, List, length, min, take, slice_index, not, is_none}
+use Rattle.std.proofs.Common.{nat_lt, bytes_eq, refl, rules, arith}
 use Rattle.std.specs.Prelude.{◌==◌}
 use Rattle.first_faults.specs.First.{◌when◌, ◌otherwise◌}
-use Rattle.gix_chunk_core.specs.Head.{filled}
+use Rattle.gix_chunk_core.specs.FirstBytes.{filled}
 use Rattle.gix_chunk_core.proofs.HeadLemmas.{filled-len, filled-take, filled-index}
 use Rattle.gix_hash_core.specs.Kind.{kind_of}
 use Rattle.graph_format.specs.Format.{signature, least_size}

@@ -23,6 +23,6 @@ pub record IsHead (head : Head) : Type 0 where
   pub order : LieInOrder head.layout (length head.front.items) head.len
 
 -- The positions of a byte's bucket.
-pub record IsSpan (fan : List ℕ) (byte : ℕ) (span : Span) : Type 0 where
+pub record IsBucketSpan (fan : List ℕ) (byte : ℕ) (span : Span) : Type 0 where
   pub first : span.first ≡ bucket_start fan byte
   pub end : span.end ≡ slice_index fan byte
