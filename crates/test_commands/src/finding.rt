@@ -53,6 +53,34 @@ fn finds_a_commit(rt: HostRuntime) {
     }
 }
 
+/// The first read is that of the file's head, the second that of the ids that begin alike, and the
+/// third that of the record.
+#[test]
+fn each_read_of_a_search_by_parts_may_fail(rt: HostRuntime) {
+    let alloc = rt.alloc();
+    for read in 0..3 {
+        let mut folder = with_commits(&rt, alloc, "g", DIAMOND);
+        folder.fail_read(read);
+        expect_find(
+            &rt,
+            alloc,
+            &mut folder,
+            ("g", FOURS),
+            (1, "refused open 3\n"),
+        );
+        assert_eq!(rt; folder.failures(), 1, "read {read}");
+    }
+    let mut folder = with_commits(&rt, alloc, "g", DIAMOND);
+    folder.fail_read(3);
+    expect_find(
+        &rt,
+        alloc,
+        &mut folder,
+        ("g", FOURS),
+        (0, "position 3 generation 3 time 7\n"),
+    );
+}
+
 /// The texts that are no ids, each with the line that refuses it.
 const NO_IDS: &[(&str, &str)] = &[(ZS, "refused id 2\n"), ("", "refused id 1\n")];
 

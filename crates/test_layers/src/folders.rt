@@ -129,6 +129,40 @@ fn keeps_files_in_memory(rt: HostRuntime) {
     expect_read(&rt, alloc, &mut memory, "a/b", (Ok(b"new"), 1));
 }
 
+/// Asserts which bytes of a file a part has, and the length of the file.
+fn expect_part<T: Folder>(
+    rt: &impl Abort,
+    alloc: Global,
+    folder: &mut T,
+    (path, start, len): (&str, u64, usize),
+    (bytes, file_len): (&[u8], u64),
+) {
+    let part = folder.read_part(alloc, path, start, len);
+    let part = part.expect(rt, "a read").expect(rt, "a part");
+    assert!(rt; part.bytes.as_slice() == bytes, "{path} from {start}");
+    assert_eq!(rt; part.file_len, file_len);
+}
+
+#[test]
+fn reads_parts_of_files(rt: HostRuntime) {
+    let alloc = rt.alloc();
+    let mut memory = old_and_new(alloc).expect(&rt, "memory for a folder");
+    expect_part(&rt, alloc, &mut memory, ("a/b", 0, 2), (b"ne", 3));
+    expect_part(&rt, alloc, &mut memory, ("a/b", 1, 9), (b"ew", 3));
+    expect_part(&rt, alloc, &mut memory, ("a/b", u64::MAX, 1), (b"", 3));
+    memory.fail_read(0);
+    for error in [ReadError::Device, ReadError::NotOpened] {
+        let path = if error == ReadError::Device {
+            "a/b"
+        } else {
+            "c"
+        };
+        let answer = memory.read_part(alloc, path, 0, 1);
+        assert!(rt; answer.is_err_and(|e| e == error), "{path}");
+    }
+    assert_eq!(rt; memory.failures(), 1);
+}
+
 const FOLDER: &str = "graph_folder_test";
 
 const FILE: &str = "graph_folder_test/file";
@@ -156,6 +190,11 @@ fn reads_from_disk(rt: HostRuntime) {
         fs::write(&rt, FILE, bytes.as_slice()).expect(&rt, "a file");
         let read = disk.read(alloc, FILE).expect(&rt, "a file");
         assert!(rt; read.as_slice() == bytes.as_slice(), "{len} bytes");
+    }
+    expect_part(&rt, alloc, &mut disk, (FILE, 1, 5), (&[1], 2));
+    for path in [FOLDER, MISSING] {
+        let answer = disk.read_part(alloc, path, 0, 1);
+        assert!(rt; matches!(answer, Ok(None)), "{path}");
     }
     expect_kind(&rt, alloc, &mut disk, FOLDER, (false, true));
     expect_kind(&rt, alloc, &mut disk, FILE, (true, false));
