@@ -227,11 +227,16 @@ def check_ends(tally, clone, repository):
 
 
 def interrupted(clone, repository, number):
-    """A complaint where something runs on after a signal to all processes of `git cgraph`, as a terminal sends it."""
+    """A complaint where something runs on after a signal to all processes of `git cgraph`, as a terminal sends it.
+
+    A shell starts a job in the background so that it ignores SIGINT, and so would all that it starts.
+    """
+    handler = signal.signal(number, signal.SIG_DFL)
     with start(clone, repository, "exec sleep 30") as running:
         since = time.monotonic()
         os.killpg(running.pid, number)
         out, err = running.communicate()
+    signal.signal(number, handler)
     seconds = time.monotonic() - since
     right = running.returncode == -number and not out and not err and seconds < 25
     return None if right else "status %d, %r and %r after %.1f s" % (running.returncode, out, err, seconds)
