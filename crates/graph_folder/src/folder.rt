@@ -83,8 +83,8 @@ pub trait Folder {
             ≡ failures_after result (failure_count self.old) };
 
     /// The bytes of the file at the path from `start` on, at most `len` of them and none past the
-    /// file's end, and the file's length. It is `None` where this file is not read by parts, and
-    /// nothing is read then. The errors are those of [`Folder::read`], and counted as there.
+    /// file's end, and the file's length. It is `None` where this file is to be read whole. The
+    /// errors are those of [`Folder::read`], and counted as there.
     fn read_part(
         &mut self,
         _alloc: Global,

@@ -1,9 +1,9 @@
 //! A folder in memory.
 
-ghost use Rattle.std.specs.Prelude.{◌≡◌, Some, OnOk, OnErr, IfOk, IfErr, IsOkAnd, string_bytes};
+ghost use Rattle.std.specs.Prelude.{◌≡◌, true, false, Some, None, OnOk, OnErr, IfOk, IfErr, IsErrOf, IsOkAnd, string_bytes};
 ghost use Rattle.std.specs.FinMap as map;
 ghost use Rattle.std.specs.Option.{option_map, option_copied};
-ghost use Rattle.graph_folder.specs.Tree.{RegularFile, Directory, is_file, is_folder};
+ghost use Rattle.graph_folder.specs.Tree.{RegularFile, Directory, file_at, is_file, is_folder};
 ghost use Rattle.graph_folder.specs.Memory.{nothing, put, will_fail, read_of, after_read};
 ghost use Rattle.graph_folder.specs.Memory.{AnswersRead, AnswersPart};
 ghost use Rattle.graph_folder.specs.Parts.{IsPartOf};
@@ -92,22 +92,37 @@ impl Memory {
         self.nodes.get(path)
     }
 
-    /// Counts a read, and answers whether it is the one that is to fail.
-    fn count_read(&mut self) -> bool
-        ensures answer { result ≡ will_fail self.old }
+    /// The bytes of the file at the path.
+    fn file(&self, path: &str) -> Result<&[u8], ReadError>
+        ensures bytes { IfOk result (λ bytes. file_at self.now.tree path.now ≡ Some bytes.now) }
+        ensures missing { IsErrOf result ReadError.NotOpened
+            → file_at self.now.tree path.now ≡ None }
+        ensures error { IfErr result (λ error. error ≡ ReadError.NotOpened) }
+    {
+        match self.node(path) {
+            Some(Node::File(bytes)) => Ok(bytes),
+            _ => Err(ReadError::NotOpened),
+        }
+    }
+
+    /// Counts a read, which answers `Device` where it is the one that is to fail.
+    fn count_read(&mut self) -> Result<(), ReadError>
+        ensures passed { OnOk result (will_fail self.old ≡ false) }
+        ensures failed { OnErr result (will_fail self.old ≡ true) }
+        ensures error { IfErr result (λ error. error ≡ ReadError.Device) }
         ensures after { self.new ≡ after_read self.old }
     {
         match self.reads_before_failure {
             Some(0) => {
                 self.reads_before_failure = None;
                 self.failures = self.failures.saturating_add(1);
-                true
+                Err(ReadError::Device)
             }
             Some(n) => {
                 self.reads_before_failure = Some(n - 1);
-                false
+                Ok(())
             }
-            None => false,
+            None => Ok(()),
         }
     }
 }
@@ -144,15 +159,9 @@ impl Folder for Memory {
         ensures answer { AnswersRead result (read_of self.old path.now) }
         ensures after { self.new ≡ after_read self.old }
     {
-        if self.count_read() {
-            return Err(ReadError::Device);
-        }
-        match self.node(path) {
-            Some(Node::File(bytes)) => {
-                Vec::from_slice(alloc, bytes).map_err(|_| ReadError::OutOfMemory)
-            }
-            _ => Err(ReadError::NotOpened),
-        }
+        self.count_read()?;
+        let bytes = self.file(path)?;
+        Vec::from_slice(alloc, bytes).map_err(|_| ReadError::OutOfMemory)
     }
 
     /// A copy of these bytes of the file at the path, with its length: as [`Memory::read`] answers,
@@ -167,13 +176,9 @@ impl Folder for Memory {
         ensures answer { AnswersPart result (read_of self.old path.now) start len }
         ensures after { self.new ≡ after_read self.old }
     {
-        if self.count_read() {
-            return Err(ReadError::Device);
-        }
-        match self.node(path) {
-            Some(Node::File(bytes)) => part_of(alloc, bytes, start, len).map(Some),
-            _ => Err(ReadError::NotOpened),
-        }
+        self.count_read()?;
+        let bytes = self.file(path)?;
+        part_of(alloc, bytes, start, len).map(Some)
     }
 }
 

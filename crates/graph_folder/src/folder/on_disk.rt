@@ -1,6 +1,7 @@
 //! The file system as a folder.
 
 ghost use Rattle.std.specs.Prelude.{◌≡◌, ◌-◌, None, IsOk, min, length};
+ghost use Rattle.graph_folder.specs.Failures.{failures_after};
 ghost use Rattle.graph_folder.specs.Parts.{IfPart};
 
 use super::exact::read_exactly;
@@ -66,6 +67,17 @@ impl<'r, R: Files> Disk<'r, R> {
             None => Ok(None),
         }
     }
+
+    /// Counts a read with this answer, if it is one that the device failed.
+    fn count_failure<T>(&mut self, answer: &Result<T, ReadError>)
+        ensures { self.new ≡ record self.old {
+          failures = failures_after answer.now self.old.failures;
+        } }
+    {
+        if let Err(ReadError::Device) = answer {
+            self.failures = self.failures.saturating_add(1);
+        }
+    }
 }
 
 /// The lesser of the two.
@@ -112,9 +124,7 @@ impl<R: Files> Folder for Disk<'_, R> {
     /// memory for the bytes.
     fn read(&mut self, alloc: Global, path: &str) -> Result<Vec<u8>, ReadError> {
         let answer = self.read_file(alloc, path);
-        if let Err(ReadError::Device) = answer {
-            self.failures = self.failures.saturating_add(1);
-        }
+        self.count_failure(&answer);
         answer
     }
 
@@ -128,9 +138,7 @@ impl<R: Files> Folder for Disk<'_, R> {
         len: usize,
     ) -> Result<Option<Part>, ReadError> {
         let answer = self.read_part_of(alloc, path, start, len);
-        if let Err(ReadError::Device) = answer {
-            self.failures = self.failures.saturating_add(1);
-        }
+        self.count_failure(&answer);
         answer
     }
 }
