@@ -43,11 +43,11 @@ pub struct ChunkRanges {
 }
 
 /// Where a chunk begins, 0 where it is missing.
-pub fn start_of(place: Option<ChunkRange>) -> usize
-    ensures { result ≡ chunk_start place }
+pub fn start_of(range: Option<ChunkRange>) -> usize
+    ensures { result ≡ chunk_start range }
 {
-    match place {
-        Some(place) => place.start,
+    match range {
+        Some(range) => range.start,
         None => 0,
     }
 }
@@ -91,15 +91,15 @@ pub fn record_len(kind: Kind) -> usize
 /// Refuses a list of base ids that ends within an id, or has another number of ids than the header
 /// says.
 #[tactic(auto, unfolding(crate::specs::Refusal::bases_refusal))]
-fn check_bases(kind: Kind, count: u8, place: Option<ChunkRange>) -> Result<(), FileError>
-    requires { IfSome place (λ p. p.start ≤ p.end) }
-    ensures { Reports result (bases_refusal kind count (option_map size_at place)) }
+fn check_bases(kind: Kind, count: u8, range: Option<ChunkRange>) -> Result<(), FileError>
+    requires { IfSome range (λ p. p.start ≤ p.end) }
+    ensures { Reports result (bases_refusal kind count (option_map size_at range)) }
 {
-    if let Some(place) = place {
-        if place.size() % kind.len_in_bytes() != 0 {
+    if let Some(range) = range {
+        if range.size() % kind.len_in_bytes() != 0 {
             return Err(FileError::BaseSize);
         }
-        if place.size() / kind.len_in_bytes() != count as usize {
+        if range.size() / kind.len_in_bytes() != count as usize {
             return Err(FileError::BaseCount);
         }
     }
@@ -108,55 +108,55 @@ fn check_bases(kind: Kind, count: u8, place: Option<ChunkRange>) -> Result<(), F
 
 /// Refuses records that are missing, or that end within a record.
 #[tactic(auto, unfolding(crate::specs::Refusal::records_refusal))]
-fn check_records(kind: Kind, place: Option<ChunkRange>) -> Result<ChunkRange, FileError>
-    requires { IfSome place (λ p. p.start ≤ p.end) }
-    ensures refusal { Reports result (records_refusal kind (option_map size_at place)) }
-    ensures same { IfOk result (λ p. place ≡ Some p) }
+fn check_records(kind: Kind, range: Option<ChunkRange>) -> Result<ChunkRange, FileError>
+    requires { IfSome range (λ p. p.start ≤ p.end) }
+    ensures refusal { Reports result (records_refusal kind (option_map size_at range)) }
+    ensures same { IfOk result (λ p. range ≡ Some p) }
 {
-    match place {
+    match range {
         None => Err(FileError::NoCommitData),
-        Some(place) if place.size() % record_len(kind) != 0 => Err(FileError::CommitDataSize),
-        Some(place) => Ok(place),
+        Some(range) if range.size() % record_len(kind) != 0 => Err(FileError::CommitDataSize),
+        Some(range) => Ok(range),
     }
 }
 
 /// Refuses a fan that is missing, or that does not have 256 numbers.
 #[tactic(auto, unfolding(crate::specs::Refusal::fan_refusal))]
-fn check_fan(place: Option<ChunkRange>) -> Result<ChunkRange, FileError>
-    requires { IfSome place (λ p. p.start ≤ p.end) }
-    ensures refusal { Reports result (fan_refusal (option_map size_at place)) }
-    ensures same { IfOk result (λ p. place ≡ Some p) }
+fn check_fan(range: Option<ChunkRange>) -> Result<ChunkRange, FileError>
+    requires { IfSome range (λ p. p.start ≤ p.end) }
+    ensures refusal { Reports result (fan_refusal (option_map size_at range)) }
+    ensures same { IfOk result (λ p. range ≡ Some p) }
     ensures size { IfOk result (λ p. p.end ≡ p.start + 1024) }
 {
-    match place {
+    match range {
         None => Err(FileError::NoFan),
-        Some(place) if place.size() != FAN_LEN * WORD_LEN => Err(FileError::FanSize),
-        Some(place) => Ok(place),
+        Some(range) if range.size() != FAN_LEN * WORD_LEN => Err(FileError::FanSize),
+        Some(range) => Ok(range),
     }
 }
 
 /// Refuses ids that are missing, or that end within an id.
 #[tactic(auto, unfolding(crate::specs::Refusal::ids_refusal))]
-fn check_ids(kind: Kind, place: Option<ChunkRange>) -> Result<ChunkRange, FileError>
-    requires { IfSome place (λ p. p.start ≤ p.end) }
-    ensures refusal { Reports result (ids_refusal kind (option_map size_at place)) }
-    ensures same { IfOk result (λ p. place ≡ Some p) }
+fn check_ids(kind: Kind, range: Option<ChunkRange>) -> Result<ChunkRange, FileError>
+    requires { IfSome range (λ p. p.start ≤ p.end) }
+    ensures refusal { Reports result (ids_refusal kind (option_map size_at range)) }
+    ensures same { IfOk result (λ p. range ≡ Some p) }
 {
-    match place {
+    match range {
         None => Err(FileError::NoIds),
-        Some(place) if place.size() % kind.len_in_bytes() != 0 => Err(FileError::IdsSize),
-        Some(place) => Ok(place),
+        Some(range) if range.size() % kind.len_in_bytes() != 0 => Err(FileError::IdsSize),
+        Some(range) => Ok(range),
     }
 }
 
 /// Refuses an extra edge list that has too many words.
 #[tactic(auto, unfolding(crate::specs::Refusal::edges_refusal))]
-fn check_edges(place: Option<ChunkRange>) -> Result<(), FileError>
-    requires { IfSome place (λ p. p.start ≤ p.end) }
-    ensures { Reports result (edges_refusal (option_map size_at place)) }
+fn check_edges(range: Option<ChunkRange>) -> Result<(), FileError>
+    requires { IfSome range (λ p. p.start ≤ p.end) }
+    ensures { Reports result (edges_refusal (option_map size_at range)) }
 {
-    match place {
-        Some(place) if place.size() / WORD_LEN > MAX_EDGES => Err(FileError::TooManyEdges),
+    match range {
+        Some(range) if range.size() / WORD_LEN > MAX_EDGES => Err(FileError::TooManyEdges),
         _ => Ok(()),
     }
 }
