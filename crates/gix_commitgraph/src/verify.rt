@@ -82,7 +82,7 @@ impl<E> From<AllocError> for VerifyError<E> {
 
     ghost from_gives = { λ _ error. error ≡ OutOfMemory };
 
-    fn from(_error: AllocError) -> VerifyError<E> {
+    fn from(_: AllocError) -> VerifyError<E> {
         VerifyError::OutOfMemory
     }
 }

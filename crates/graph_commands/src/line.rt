@@ -14,7 +14,7 @@ use std::{fmt, io};
 pub struct WriteFailed;
 
 impl From<io::Error> for WriteFailed {
-    fn from(_error: io::Error) -> WriteFailed {
+    fn from(_: io::Error) -> WriteFailed {
         WriteFailed
     }
 }

@@ -2,6 +2,7 @@
 
 mod access;
 pub mod commit;
+mod compare;
 mod faults;
 mod init;
 mod lookup;

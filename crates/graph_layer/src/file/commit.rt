@@ -5,7 +5,7 @@ ghost use Rattle.std.specs.Prelude.{Some, None};
 
 use crate::file;
 use crate::file::File;
-use crate::file::lookup::order;
+use crate::file::compare::compare_ids;
 pub use crate::file::parents::Parents;
 use gix_hash_core::oid;
 use graph_format::Position;
@@ -147,7 +147,7 @@ impl<'a> Commit<'a> {
         let size = self.file.object_hash().len_in_bytes();
         let before = self.file.id_bytes_at(self.pos.0 - 1, size);
         let id = self.file.id_bytes_at(self.pos.0, size);
-        order(before, id).is_ge()
+        compare_ids(before, id).is_ge()
     }
 
     /// The number of the commit's parents, repeats counted, or the error that ends their decoding.

@@ -2,38 +2,16 @@
 
 ghost use Rattle.std.specs.Prelude.{◌≡◌, ℕ, ◌-◌, ◌<◌, ◌≤◌, length, slice_index, slice_get, Some};
 ghost use Rattle.std.specs.Prelude.{OnSome};
-ghost use Rattle.std.specs.Ordering.{nat_cmp};
-ghost use Rattle.std.specs.Cmp.Lexicographic.{slice_cmp};
 ghost use Rattle.gix_hash_core.specs.Kind.{id_len};
 ghost use Rattle.gix_hash_core.specs.Oid.{oid_bytes};
 ghost use Rattle.graph_format.specs.Lookup.{Found, file_position_number, bucket_start, bucket_size};
 ghost use Rattle.graph_format.specs.Lookup.{digits};
 
+use crate::file::compare::compare_ids;
 use crate::file::{File, Position};
 use gix_hash_core::oid;
 use graph_format::fan::fan_at;
-use graph_format::numbers::long_at;
 use std::cmp::Ordering;
-
-/// How two ids compare. Their first eight bytes, which hardly ever agree, are compared as numbers.
-#[inline(always)]
-pub fn order(one: &[u8], other: &[u8]) -> Ordering
-    requires one { 8 ≤ length one.now }
-    requires same { length one.now ≡ length other.now }
-    requires one_bytes { (i : ℕ) → slice_index one.now i < 256 }
-    requires other_bytes { (i : ℕ) → slice_index other.now i < 256 }
-    ensures { result ≡ slice_cmp nat_cmp one.now other.now }
-{
-    let first = long_at(one, 0);
-    let second = long_at(other, 0);
-    if first < second {
-        Ordering::Less
-    } else if second < first {
-        Ordering::Greater
-    } else {
-        one.cmp(&other)
-    }
-}
 
 #[tactic(auto, using(crate::proofs::BucketLemmas::bucket_laws))]
 impl File {
@@ -74,7 +52,7 @@ impl File {
             let middle = low + (high - low) / 2;
             comparisons += 1;
             let other = self.id_bytes_at(middle, size);
-            match order(wanted, other) {
+            match compare_ids(wanted, other) {
                 Ordering::Less => high = middle,
                 Ordering::Equal => return (Some(Position(middle)), comparisons),
                 Ordering::Greater => low = middle + 1,

@@ -135,7 +135,7 @@ impl<E> From<AllocError> for TraverseError<E> {
 
     ghost from_gives = { λ _ error. error ≡ OutOfMemory };
 
-    fn from(_error: AllocError) -> TraverseError<E> {
+    fn from(_: AllocError) -> TraverseError<E> {
         TraverseError::OutOfMemory
     }
 }

@@ -41,7 +41,7 @@ impl From<AllocError> for OpenError {
 
     ghost from_gives = { λ _ error. error ≡ OutOfMemory };
 
-    fn from(_error: AllocError) -> OpenError {
+    fn from(_: AllocError) -> OpenError {
         OpenError::OutOfMemory
     }
 }
@@ -51,7 +51,7 @@ impl<T: Drop> From<AllocFailed<T>> for OpenError {
 
     ghost from_gives = { λ _ error. error ≡ OutOfMemory };
 
-    fn from(_error: AllocFailed<T>) -> OpenError {
+    fn from(_: AllocFailed<T>) -> OpenError {
         OpenError::OutOfMemory
     }
 }

@@ -1,6 +1,6 @@
 use Rattle.std.proofs.Common.{sym, arith}
 use Rattle.graph_layer.proofs.IdOrderLemmas.{fronts-less, fronts-greater}
-use Rattle.graph_layer.proofs.file.lookup.order.Goals as goal
+use Rattle.graph_layer.proofs.file.compare.compare_ids.Goals as goal
 
 pub returns-then-first-second : goal.returns-then-first-second
 returns-then-first-second c =
