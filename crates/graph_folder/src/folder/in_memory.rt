@@ -1,6 +1,7 @@
 //! A folder in memory.
 
-ghost use Rattle.std.specs.Prelude.{◌≡◌, true, false, Some, None, OnOk, OnErr, IfOk, IfErr, IsErrOf, IsOkAnd, string_bytes};
+ghost use Rattle.std.specs.Prelude.{◌≡◌, true, false, Some, None, string_bytes};
+ghost use Rattle.std.specs.Prelude.{OnOk, OnErr, IfOk, IfErr, IsErrOf, IsOkAnd};
 ghost use Rattle.std.specs.FinMap as map;
 ghost use Rattle.std.specs.Option.{option_map, option_copied};
 ghost use Rattle.graph_folder.specs.Tree.{RegularFile, Directory, file_at, is_file, is_folder};
