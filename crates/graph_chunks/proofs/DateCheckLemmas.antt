@@ -4,7 +4,7 @@ use Rattle.std.proofs.Common.{option_map, get_or, slice_get, refl, sym, ap, subs
 use Rattle.std.specs.Bool.{then_some}
 use Rattle.std.specs.Option.{option_or}
 use Rattle.std.proofs.lemmas.Bool.{eqb-true, eq-eqb, ne_eqb}
-use Rattle.std.proofs.lemmas.Option.{slice_get-map, slice_get_read, get_or_from_slice_get}
+use Rattle.std.proofs.lemmas.Option.{slice_get-map, get_or_from_slice_get}
 use Rattle.first_faults.specs.First.{first_below}
 use Rattle.first_faults.proofs.FirstLemmas.{first_below-none_more, first_below-found, first_below-none_at, then_some-none}
 use Rattle.first_faults.proofs.FirstLemmas.{then_some-false}
@@ -14,8 +14,9 @@ use Rattle.graph_format.specs.Layer.{Layer, IsOpened, record_at}
 use Rattle.graph_format.specs.Parents.{parents_of, position_of}
 use Rattle.graph_format.specs.StoredHistory.{history_of}
 use Rattle.gix_commitgraph.specs.Graph.{graph_commits, start, stop, total}
-use Rattle.gix_commitgraph.proofs.history.GraphHistoryLemmas.{parents-at, length-history}
+use Rattle.gix_commitgraph.proofs.history.HistoryLemmas.{parents-at, length-history}
 use Rattle.gix_commitgraph.proofs.layers.LayerListLemmas.{graph_commits-counted, start-all, start-more, start-fits}
+use Rattle.gix_commitgraph.proofs.layers.LayerStartLemmas.{layer-kept}
 use Rattle.graph_layer.specs.Commit.{commit_layer, commit_pos, commit_record, commit_parents}
 use Rattle.graph_layer.specs.declared.file.commit.Commit.{Commit}
 use Rattle.graph_chunks.specs.GraphStoredDates.{times_of, dates_of}
@@ -89,9 +90,7 @@ pub record IsPlace (layers : List Layer) (before place : ℕ) (layer : Layer) : 
 pub is_place : (layers files : List Layer) (i before place : ℕ) (layer : Layer) → files ≡ layers → i < length layers
     → before ≡ start layers i → layer ≡ get_or files i layer → place < length layer.ids → IsPlace layers before place layer
 is_place layers files i before place layer same within counted is inside =
-    let here : slice_get layers i ≡ Some layer =
-    slice_get_read layers (length layers) i layer refl within
-    (is ∙ ap (λ (ls : List Layer). get_or ls i layer) same) in
+    let here = layer-kept layers files i layer same within is in
     record {
       commit = graph_commits-counted layers i before place layer counted here inside;
       below = omega (arith, counted, inside, start-more layers i layer here, start-fits layers (i + 1));
@@ -109,10 +108,7 @@ none_found layers dates n all =
 pub stop-is : (layers files : List Layer) (i before : ℕ) (layer : Layer) → files ≡ layers → i < length layers
     → before ≡ start layers i → layer ≡ get_or files i layer → before + length layer.ids ≡ stop layers i
 stop-is layers files i before layer same within counted is =
-    let here : slice_get layers i ≡ Some layer =
-    slice_get_read layers (length layers) i layer refl within
-    (is ∙ ap (λ (ls : List Layer). get_or ls i layer) same) in
-    omega (arith, counted, start-more layers i layer here)
+    omega (arith, counted, start-more layers i layer (layer-kept layers files i layer same within is))
 
 -- the date that is expected of a commit that was read
 pub expected-of : (layers : List Layer) (dates : List ℕ) (p place expected : ℕ) (layer : Layer) (commit : Commit)

@@ -11,7 +11,7 @@ use Rattle.graph_format.specs.declared.Position.{Position}
 use Rattle.graph_format.specs.declared.parents.ParentEdge.{ParentEdge}
 use Rattle.graph_format.specs.declared.parents.ParentEdge.TheVariants as edge
 use Rattle.gix_commitgraph.specs.GraphLaw.{LiesIn}
-use Rattle.graph_history.specs.Commits.{list_of, list_in, named_from, IsReading, NamesParents, Names}
+use Rattle.graph_history.specs.Commits.{list_of, list_in, named_from, IsReading, NamesParents, Names, AreParentFields}
 use Rattle.graph_history.proofs.ListLemmas.{head_contained, tail_contained, contained_cases}
 
 -- the fields of the commit at p, in the layer in which it lies
@@ -21,7 +21,7 @@ module _ (layers : List Layer) (p l : ℕ) (layer : Layer) (lies : LiesIn layers
   list_is i other at =
       ap (list_in layers) (only i other at) ∙ ap (λ o. option_map_or list_of o []) lies.there
 
-  pub first_names : (first second : ParentEdge) → (both_parents first second layer.edges).fault ≡ None
+  first_names : (first second : ParentEdge) → (both_parents first second layer.edges).fault ≡ None
       → ((q : ℕ) → Contains (map (λ (pos : Position). pos.0) (both_parents first second layer.edges).positions) q
       → IsParent (history_of layers) p q) → NamesParents layers p first
   first_names edge.None second decoded parents = tt
@@ -43,7 +43,7 @@ module _ (layers : List Layer) (p l : ℕ) (layer : Layer) (lies : LiesIn layers
             parents q (tail_contained first.0 q (named_from (words bytes) index) contained);
       })
 
-  pub second_names : (first second : ParentEdge) → (both_parents first second layer.edges).fault ≡ None
+  second_names : (first second : ParentEdge) → (both_parents first second layer.edges).fault ≡ None
       → ((q : ℕ) → Contains (map (λ (pos : Position). pos.0) (both_parents first second layer.edges).positions) q
       → IsParent (history_of layers) p q) → NamesParents layers p second
   second_names first edge.None decoded parents = tt
@@ -72,7 +72,7 @@ module _ (layers : List Layer) (p l : ℕ) (layer : Layer) (lies : LiesIn layers
       inr (l, layer, lies, subst (λ (xs : List ℕ). Contains (named_from xs index) q) (is ∙ sym (list_is l layer lies)) later))
       (contained_cases first.0 q (named_from (words bytes) index) contained)
 
-  pub all_named : (first second : ParentEdge) (q : ℕ)
+  all_named : (first second : ParentEdge) (q : ℕ)
       → Contains (map (λ (pos : Position). pos.0) (both_parents first second layer.edges).positions) q
       → Names layers p first q ⊎ Names layers p second q
   all_named edge.None edge.None q contained = absurd (omega (arith, contained.1))
@@ -95,3 +95,17 @@ module _ (layers : List Layer) (p l : ℕ) (layer : Layer) (lies : LiesIn layers
       (contained_cases first.0 q (pos.0 ∷ []) contained)
   all_named (edge.GraphPosition first) (edge.ExtraEdgeIndex index) q contained =
       listed_named layer.edges first index q refl contained
+
+  -- what both fields say, where together they name the parents of the commit
+  pub fields_told : (fields : ParentEdge × ParentEdge) (first second : ParentEdge) → fields.0 ≡ first → fields.1 ≡ second
+      → (both_parents first second layer.edges).fault ≡ None
+      → ((q : ℕ) → Contains (map (λ (pos : Position). pos.0) (both_parents first second layer.edges).positions) q
+      → IsParent (history_of layers) p q)
+      × ((q : ℕ) → IsParent (history_of layers) p q
+      → Contains (map (λ (pos : Position). pos.0) (both_parents first second layer.edges).positions) q)
+      → AreParentFields layers p fields
+  fields_told fields first second is_first is_second decoded parents = rw (is_first, is_second) (record {
+    first = first_names first second decoded parents.0;
+    second = second_names first second decoded parents.0;
+    all = λ q parent. all_named first second q (parents.1 q parent);
+  })

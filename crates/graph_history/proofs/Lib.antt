@@ -1,4 +1,3 @@
-pub mod PlaceLemmas
 pub mod RightGraphLemmas
 pub mod MarkLemmas
 pub mod QueueLemmas

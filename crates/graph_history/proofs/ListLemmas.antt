@@ -1,6 +1,8 @@
 -- The words of an extra edge list, as a search goes over them.
-use Rattle.std.proofs.Common.{◌≡◌, ◌⊎◌, ℕ, suc, zero, ◌+◌, ◌<◌, ◌≤◌, List, [], ◌∷◌, ◌++◌, length, map, drop, get_or, Contains}
+use Rattle.std.proofs.Common.{◌≡◌, ◌⊎◌, ℕ, suc, zero, ◌+◌, ◌/◌, ◌<◌, ◌≤◌, List, [], ◌∷◌, ◌++◌, length, map, drop, get_or}
+use Rattle.std.proofs.Common.{Contains, All, IfSome, slice_get}
 use Rattle.std.proofs.Common.{Option, Some, None, refl, sym, ap, ◌∙◌, subst, inl, inr, ⊎_elim, arith, add-one, drop-cons}
+use Rattle.std.specs.Option.{option_map_or}
 use Rattle.std.proofs.lemmas.Bool.{cases_lt}
 use Rattle.std.proofs.lemmas.List.{drop_all}
 use Rattle.graph_walks.specs.History.{Node, IsParent, generation_at}
@@ -10,8 +12,11 @@ use Rattle.graph_format.specs.declared.parents.ExtraEdge.{ExtraEdge}
 use Rattle.graph_format.specs.declared.parents.ExtraEdge.TheVariants as extra
 use Rattle.graph_format.specs.declared.parents.ParentError.TheVariants.{EdgeOverflow}
 use Rattle.graph_history.specs.Marks.{Marked, IsMarked}
-use Rattle.graph_format.specs.Layer.{Layer}
-use Rattle.graph_history.specs.Commits.{named_by, named_from, list_in, IsReading}
+use Rattle.graph_format.specs.Format.{words}
+use Rattle.graph_format.specs.Layer.{Layer, IsOpened}
+use Rattle.graph_layer.proofs.ListedParentLemmas.{length-words}
+use Rattle.gix_commitgraph.proofs.lookup.ElementLemmas.{all-at}
+use Rattle.graph_history.specs.Commits.{named_by, named_from, list_of, list_in, IsReading}
 use Rattle.graph_history.specs.Queue.{IsQueued, Extends}
 use Rattle.graph_history.specs.Search.{IsRead}
 use Rattle.graph_history.proofs.QueueLemmas.{marked_new, marked_old, marked_cases, queued_extends}
@@ -248,3 +253,22 @@ next_is_parent h list p next reading (extra.Last pos) is = last_is_parent h list
 pub contained_in : (layers : List Layer) (l m index q : ℕ) → l ≡ m → Contains (named_from (list_in layers l) index) q
     → Contains (named_from (list_in layers m) index) q
 contained_in layers l m index q same = subst (λ (k : ℕ). Contains (named_from (list_in layers k) index) q) same
+
+-- the words of a layer's list have places of 32 bits
+few_words_of : (edges : Option (List ℕ)) → IfSome edges (λ chunk. length chunk / 4 ≤ 4294967294)
+    → length (option_map_or words edges []) ≤ 4294967294
+few_words_of None few = omega arith
+few_words_of (Some bytes) few = omega (arith, length-words bytes, few)
+
+few_words_in : (layers : List Layer) (l : ℕ) (o : Option Layer) → All IsOpened layers → slice_get layers l ≡ o
+    → length (list_in layers l) ≤ 4294967294
+few_words_in layers l None opened here = omega (arith, ap (λ o. length (option_map_or list_of o [])) here)
+few_words_in layers l (Some layer) opened here =
+    omega (
+      arith,
+      ap (λ o. length (option_map_or list_of o [])) here,
+      few_words_of layer.edges (all-at IsOpened layers l layer opened here).few_edges,
+    )
+
+pub few_words : (layers : List Layer) (l : ℕ) → All IsOpened layers → length (list_in layers l) ≤ 4294967294
+few_words layers l opened = few_words_in layers l (slice_get layers l) opened refl

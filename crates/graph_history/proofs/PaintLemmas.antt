@@ -61,30 +61,15 @@ is_others _ e = absurd (false≢true e)
 
 joined_first : (x y : Paint) → first_leads (joined x y) ≡ (first_leads x || first_leads y)
 joined_first Bare Bare = refl
-joined_first Bare First = refl
-joined_first Bare Others = refl
-joined_first Bare Both = refl
-joined_first Bare Stale = refl
+joined_first Bare _ = refl
 joined_first First Bare = refl
-joined_first First First = refl
-joined_first First Others = refl
-joined_first First Both = refl
-joined_first First Stale = refl
+joined_first First _ = refl
 joined_first Others Bare = refl
-joined_first Others First = refl
-joined_first Others Others = refl
-joined_first Others Both = refl
-joined_first Others Stale = refl
+joined_first Others _ = refl
 joined_first Both Bare = refl
-joined_first Both First = refl
-joined_first Both Others = refl
-joined_first Both Both = refl
-joined_first Both Stale = refl
+joined_first Both _ = refl
 joined_first Stale Bare = refl
-joined_first Stale First = refl
-joined_first Stale Others = refl
-joined_first Stale Both = refl
-joined_first Stale Stale = refl
+joined_first Stale _ = refl
 
 joined_others : (x y : Paint) → others_lead (joined x y) ≡ (others_lead x || others_lead y)
 joined_others Bare Bare = refl

@@ -13,7 +13,7 @@ use Rattle.graph_format.specs.StoredHistory.{history_of}
 use Rattle.graph_format.specs.Lookup.{scan}
 use Rattle.graph_format.specs.declared.Position.{Position}
 use Rattle.gix_commitgraph.specs.Graph.{graph_ids}
-use Rattle.gix_commitgraph.proofs.history.HistoryLemmas.{history-counted}
+use Rattle.gix_commitgraph.proofs.history.HistoryLemmas.{length-history}
 use Rattle.graph_history.specs.WalkAnswer.{IsAnswer, IsShortestWalk, numbers_of}
 use Rattle.graph_history.specs.declared.Reached.{Reached}
 use Rattle.graph_history.proofs.RightGraphLemmas.{all_within}
@@ -41,7 +41,7 @@ module _ (layers : List Layer) (p q : ℕ) where
       → IfSome walk (λ w. IsShortestWalk (history_of layers) p q (numbers_of w.items)) → AreInGraph layers (Known walk)
   are_within None opened shortest = tt
   are_within (Some walk) opened shortest =
-      subst (λ (bound : ℕ). All (λ (pos : Position). pos.0 < bound) walk.items) (history-counted layers opened)
+      subst (λ (bound : ℕ). All (λ (pos : Position). pos.0 < bound) walk.items) (length-history layers opened)
       (all_within (length (history_of layers)) walk.items
       (walk_within (history_of layers) (numbers_of walk.items) shortest.between.is_walk))
 

@@ -14,8 +14,9 @@ use gix_commitgraph::law::distinct::{
 };
 use gix_commitgraph::law::edges::each_edge_list_ends_or_runs_out;
 use gix_commitgraph::law::graph::{
-    a_lookup_in_ordered_layers_is_a_scan, a_position_is_a_place_in_its_layer,
-    a_position_lies_in_one_layer, layers_are_refused_or_make_a_graph, the_commits_of_layers_add_up,
+    a_commit_lies_in_its_layer, a_lookup_in_ordered_layers_is_a_scan,
+    a_position_is_a_place_in_its_layer, a_position_lies_in_one_layer,
+    layers_are_refused_or_make_a_graph, the_commits_of_layers_add_up,
     the_history_of_a_graph_is_that_of_its_layers, the_history_of_a_graph_says_what_its_records_say,
 };
 use gix_commitgraph::law::layer::{a_layer_without_fault_is_right, the_test_of_a_name_is_the_rule};

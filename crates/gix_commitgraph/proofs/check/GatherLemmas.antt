@@ -1,5 +1,5 @@
 -- laws of the parents that are gathered before the check of their commits
-use Rattle.std.proofs.Common.{◌≡◌, ℕ, ◌+◌, ◌<◌, ◌≤◌, List, map, length, All, Some, None, get_or}
+use Rattle.std.proofs.Common.{◌≡◌, ℕ, ◌+◌, ◌<◌, ◌≤◌, List, map, length, Some, None, get_or}
 use Rattle.std.proofs.Common.{sym, ap, subst, ◌∙◌, arith, ⊎_elim}
 use Rattle.std.proofs.Math.ListN.{set}
 use Rattle.std.proofs.lemmas.Bool.{cases_lt}
@@ -21,17 +21,17 @@ use Rattle.gix_commitgraph.specs.ListedTallies.{AreWithin}
 use Rattle.gix_commitgraph.specs.Tallies.{ParentsTally, IsGathered, decoded_at}
 use Rattle.gix_commitgraph.specs.declared.verify.parents.ParentTally.{ParentTally}
 use Rattle.gix_commitgraph.specs.declared.verify.span.LayerSpan.{LayerSpan}
-use Rattle.gix_commitgraph.proofs.history.GraphHistoryLemmas.{parents-at}
+use Rattle.gix_commitgraph.proofs.history.HistoryLemmas.{parents-at}
 use Rattle.gix_commitgraph.proofs.layers.LayerSpanLemmas.{span-commit}
-use Rattle.gix_commitgraph.proofs.sound.ParentFaultFreeLemmas.{unrefused, known-unrefused}
+use Rattle.gix_commitgraph.proofs.sound.ParentFaultFreeLemmas.{unrefused-iff}
 
 -- none of these parents is refused
 pub gathered-refusal : {E : Type 0} (layers : List Layer) (span : LayerSpan) (place : ℕ) (tally : ParentTally)
     → IsSpan layers span → IsGathered layers span place (Some tally)
     → None ≡ parents_refusal {E = E} layers span.layer span.file.now place
-gathered-refusal layers span place tally is known =
-    sym (unrefused layers span.layer span.file.now place known.0.decoded
-    (subst (λ (end : ℕ). All (λ q. q.0 < end) (decoded_at span.file.now place).positions) is.stop known.0.below))
+gathered-refusal {E} layers span place tally is known =
+    sym ((unrefused-iff {E = E} layers span.layer span.file.now place).1
+    (subst (λ (end : ℕ). AreWithin end (decoded_at span.file.now place)) is.stop known.0))
 
 -- what the check looks for at the parents of a commit, by the items that its parents give
 pub refusal-told : {E : Type 0} (layers : List Layer) (span : LayerSpan) (commit : Commit) (p : ℕ) → IsSpan layers span
@@ -48,12 +48,9 @@ refusal-told {E} layers span commit p is at =
 -- parents that are not refused are decoded, and stand before the layer's end
 pub within-unrefused : {E : Type 0} (layers : List Layer) (span : LayerSpan) (place : ℕ) → IsSpan layers span
     → parents_refusal {E = E} layers span.layer span.file.now place ≡ None → AreWithin span.stop (decoded_at span.file.now place)
-within-unrefused layers span place is none =
-    let known = known-unrefused layers span.layer span.file.now place none in
-    record {
-      decoded = known.0;
-      below = subst (λ (end : ℕ). All (λ q. q.0 < end) (decoded_at span.file.now place).positions) (sym is.stop) known.1;
-    }
+within-unrefused {E} layers span place is none =
+    subst (λ (end : ℕ). AreWithin end (decoded_at span.file.now place)) (sym is.stop)
+    ((unrefused-iff {E = E} layers span.layer span.file.now place).0 none)
 
 -- and the tally is that of the commit at this position of the graph
 pub gathered-tally : (layers : List Layer) (span : LayerSpan) (commit : Commit) (p : ℕ) (tally : ParentTally)

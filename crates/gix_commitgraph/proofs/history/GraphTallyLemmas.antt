@@ -12,7 +12,7 @@ use Rattle.graph_walks.specs.History.{parent_numbers}
 use Rattle.graph_walks.proofs.TallyLemmas.{tallied}
 use Rattle.gix_commitgraph.specs.Headline.{Stats}
 use Rattle.gix_commitgraph.specs.declared.verify.Outcome as verify
-use Rattle.gix_commitgraph.proofs.history.HistoryLemmas.{history-counted}
+use Rattle.gix_commitgraph.proofs.history.HistoryLemmas.{length-history}
 
 -- the numbers of parents of a graph's commits, counted in a map whose keys ascend
 pub graph_tallied : (layers : List Layer) (outcome : verify.Outcome) → tree.IsOrdered nat_cmp outcome.parent_counts
@@ -22,5 +22,5 @@ graph_tallied layers outcome ordered opened stats =
     tallied (eq_by_cmp nat_cmp) unsigned_tied outcome.parent_counts.entries (parent_numbers history)
     (IsDistinct-from_sorted nat_cmp (tree.keys outcome.parent_counts) ordered) stats.parent_counts
     ∙ length-map history (λ node. length node.parents)
-    ∙ history-counted layers opened
+    ∙ length-history layers opened
     ∙ sym stats.num_commits

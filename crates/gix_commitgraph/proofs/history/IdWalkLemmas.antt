@@ -11,7 +11,7 @@ use Rattle.gix_commitgraph.specs.Distinct.{AreDistinct}
 use Rattle.gix_commitgraph.specs.Graph.{graph_ids}
 use Rattle.gix_commitgraph.specs.IdWalks.{IsParentId, IsIdWalk, ids_at}
 use Rattle.gix_commitgraph.proofs.layers.GraphLemmas.{counted}
-use Rattle.gix_commitgraph.proofs.history.HistoryLemmas.{history-counted}
+use Rattle.gix_commitgraph.proofs.history.HistoryLemmas.{length-history}
 
 -- a walk begins with a commit of the history
 first-within : (h : List Node) (p : ℕ) (rest : List ℕ) → IsWalk h (p ∷ rest) → p < length h
@@ -23,14 +23,14 @@ module _ (layers : List Layer) (opened : All IsOpened layers) where
   id-at : (p : ℕ) → p < length (history_of layers)
       → slice_get (graph_ids layers) p ≡ Some (slice_index_or (graph_ids layers) p [])
   id-at p within =
-      slice_get-get_or (graph_ids layers) p [] (omega (arith, history-counted layers opened, (counted layers).ids))
+      slice_get-get_or (graph_ids layers) p [] (omega (arith, length-history layers opened, (counted layers).ids))
 
   within-history : (p : ℕ) (id : List ℕ) → slice_get (graph_ids layers) p ≡ Some id → p < length (history_of layers)
   within-history p id here =
       omega (
         arith,
         slice_get_within (graph_ids layers) p id here,
-        history-counted layers opened,
+        length-history layers opened,
         (counted layers).ids,
       )
 

@@ -8,7 +8,7 @@ use Rattle.std.proofs.lemmas.List.{take-take}
 use Rattle.std.proofs.lemmas.List.Concat.{length-flat_map}
 use Rattle.std.proofs.lemmas.List.Quantifiers.{position-Some}
 use Rattle.std.proofs.lemmas.List.Sums.{sum_by-cons, sum_by-take-le, fails_before_first}
-use Rattle.std.proofs.lemmas.Option.{slice_get_within, get_or_from_slice_get, slice_get-get_or, same_Some}
+use Rattle.std.proofs.lemmas.Option.{slice_get_within, slice_get-get_or, same_Some}
 use Rattle.first_faults.specs.First.{first_below}
 use Rattle.first_faults.proofs.FirstLemmas.{first_below-none_at, when-none}
 use Rattle.first_faults.specs.First.{◌when◌, ◌otherwise◌}
@@ -29,6 +29,7 @@ use Rattle.gix_commitgraph.proofs.layers.LayerListLemmas.{size, same_kind-alike,
 use Rattle.gix_commitgraph.proofs.layers.LayerListLemmas.{graph_ids-at, graph_commits-at}
 use Rattle.gix_commitgraph.proofs.layers.PositionLemmas.{length-graph_commits}
 use Rattle.graph_format.proofs.ScanLemmas.{scan-first, scan-found, scan-none}
+use Rattle.gix_commitgraph.proofs.lookup.ElementLemmas.{all-at}
 use Rattle.gix_commitgraph.proofs.lookup.GraphLookupLemmas.{answer_at-get_or, first_answer-at, first_answer-none}
 
 -- what stands past the last layer
@@ -105,6 +106,20 @@ place-in layers pos i layer lies =
           ∙ graph_commits-at layers i (pos - start layers i) layer lies.there (lies-within layers pos i layer lies);
     }
 
+-- each commit lies in the layer that it is given with
+pub commit-lies : (layers : List Layer) (p pos : ℕ) (layer : Layer) → slice_get (graph_commits layers) p ≡ Some (layer, pos)
+    → (i : ℕ) × LiesIn layers p i layer × (pos ≡ p - start layers i)
+commit-lies layers p pos layer here =
+    let within : p < total layers =
+    omega (arith, slice_get_within (graph_commits layers) p (layer, pos) here, length-graph_commits layers) in
+    let place = lies-in layers p within in
+    let same : (place.1, p - start layers place.0) ≡ (layer, pos) =
+    same_Some _ _ (sym (place-in layers p place.0 place.1 place.2).commit ∙ here) in (
+      place.0,
+      subst (LiesIn layers p place.0) (ap (λ (at : Layer × ℕ). at.0) same) place.2,
+      sym (ap (λ (at : Layer × ℕ). at.1) same),
+    )
+
 pub counted : (layers : List Layer) → AreCounted layers
 counted layers = record {
   ids = length-flat_map (λ layer. layer.ids) layers;
@@ -127,11 +142,6 @@ none-before layer id pos ordered found i h here =
     let P : Option ℕ → Type 0 = λ o. IsFirst layer.ids id o in
     let first : P (Some pos) = subst P (sym (found.scanned ordered.0 ordered.1)) (scan-first layer.ids id) in
     first.1 i h here
-
-ordered-at : (layers : List Layer) (i : ℕ) (layer : Layer) → All IsOrdered layers → slice_get layers i ≡ Some layer
-    → IsOrdered layer
-ordered-at layers i layer ordered there =
-    subst IsOrdered (get_or_from_slice_get layers i layer layer there) (ordered i layer (slice_get_within layers i layer there))
 
 unanswered : (o : Option ℕ) → is_some o ≡ false → o ≡ None
 unanswered None h = refl
@@ -160,7 +170,7 @@ scanned-none layers id answers ordered one_each each nowhere =
     let place = layer-of_id layers id pos here in
     let inside : place.0 < length layers = slice_get_within layers place.0 place.1 place.2.there in
     let P : Option ℕ → Type 0 = λ o. Found place.1 id o in
-    nowhere-from place.1 id (ordered-at layers place.0 place.1 ordered place.2.there)
+    nowhere-from place.1 id (all-at IsOrdered layers place.0 place.1 ordered place.2.there)
     (subst P (nowhere place.0 (omega (arith, one_each))) (each place.0 place.1 place.2.there)) (pos - start layers place.0)
     place.3))
 
@@ -184,7 +194,7 @@ scanned-some layers id answers at pos ordered one_each each within here before =
     ⊎_elim
     (λ (lower : k < at).
     let Q : Option ℕ → Type 0 = λ o. Found place.1 id o in
-    nowhere-from place.1 id (ordered-at layers k place.1 ordered place.2.there)
+    nowhere-from place.1 id (all-at IsOrdered layers k place.1 ordered place.2.there)
     (subst Q (before k lower) (each k place.1 place.2.there)) (i - start layers k) place.3)
     (λ (not_lower : at ≤ k). ⊎_elim
     (λ (higher : at < k).
@@ -193,7 +203,7 @@ scanned-some layers id answers at pos ordered one_each each within here before =
     let same : k ≡ at = omega arith in
     let one : place.1 ≡ layer = same_Some place.1 layer (sym place.2.there ∙ ap (slice_get layers) same ∙ there) in
     let at_start : start layers k ≡ start layers at = ap (start layers) same in
-    none-before layer id pos (ordered-at layers at layer ordered there) found (i - start layers k)
+    none-before layer id pos (all-at IsOrdered layers at layer ordered there) found (i - start layers k)
     (omega (arith, earlier, place.2.from, at_start))
     (ap (λ (l : Layer). slice_get l.ids (i - start layers k)) (sym one) ∙ place.3))
     (cases_lt at k))

@@ -2,7 +2,6 @@
 use Rattle.std.proofs.Common.{◌≡◌, ℕ, ◌+◌, ◌^◌, ◌<◌, ◌≤◌, List, [], ◌∷◌, ◌++◌, Some, length, take, slice_get, sym, ap, subst, ◌∙◌}
 use Rattle.std.proofs.Common.{arith, length-take}
 use Rattle.std.proofs.lemmas.List.{length-map}
-use Rattle.std.proofs.lemmas.Option.{get_or_from_slice_get, slice_get_within}
 use Rattle.graph_format.specs.Layer.{Layer}
 use Rattle.graph_layer.specs.Commit.{commit_layer, commit_pos, layer_and_position, commit_record, commit_parents}
 use Rattle.graph_format.specs.Parents.{edge_of, items_of}
@@ -15,8 +14,8 @@ use Rattle.gix_commitgraph.specs.LayerSpans.{IsSpan, IsInSpan}
 use Rattle.graph_layer.specs.declared.file.commit.Commit.{Commit}
 use Rattle.gix_commitgraph.specs.declared.verify.span.LayerSpan.{LayerSpan}
 use Rattle.gix_commitgraph.proofs.layers.LayerListLemmas.{size, start-more, start-fits, graph_commits-counted}
-use Rattle.gix_commitgraph.proofs.history.GraphHistoryLemmas.{generation-at, parents-at, take-history}
-use Rattle.gix_commitgraph.proofs.history.HistoryLemmas.{node_at}
+use Rattle.gix_commitgraph.proofs.history.HistoryLemmas.{node_at, generation-at, parents-at, take-history}
+use Rattle.gix_commitgraph.proofs.lookup.ElementLemmas.{all-at}
 use Rattle.graph_layer.proofs.ParentCountLemmas.{both-few}
 use Rattle.graph_layer.proofs.ParentItemLemmas.{numbers_of, numbers-parents}
 
@@ -51,9 +50,7 @@ numbers-in_graph layers span commit p is here = numbers-parents (commit_parents 
 
 -- the layer was opened
 pub span-opened : (layers : List Layer) (span : LayerSpan) → IsSpan layers span → IsOpened span.file.now
-span-opened layers span is =
-    subst IsOpened (get_or_from_slice_get layers span.layer span.file.now span.file.now is.there)
-    (is.graph.opened span.layer span.file.now (slice_get_within layers span.layer span.file.now is.there))
+span-opened layers span is = all-at IsOpened layers span.layer span.file.now is.graph.opened is.there
 
 -- their number fits 32 bits
 pub numbers-few : (layers : List Layer) (span : LayerSpan) (commit : Commit) (p : ℕ) → IsSpan layers span → IsInSpan span commit p

@@ -1,10 +1,11 @@
 -- Ids that stand at one position alone.
-use Rattle.std.proofs.Common.{◌≡◌, ℕ, ◌+◌, ◌-◌, ◌<◌, ◌≤◌, List, [], length, take, slice_get, All, Option, Some, None, refl, sym}
-use Rattle.std.proofs.Common.{ap, subst, ◌∙◌, arith, length-take, ⊎_elim}
+use Rattle.std.proofs.Common.{◌≡◌, ℕ, ◌+◌, ◌-◌, ◌<◌, ◌≤◌, List, [], ◌++◌, length, take, drop, slice_get, All, Option, Some}
+use Rattle.std.proofs.Common.{None, refl, sym, ap, subst, ◌∙◌, arith, ⊎_elim}
 use Rattle.std.specs.Prelude.{◌↔◌}
 use Rattle.std.proofs.lemmas.Bool.{cases_lt}
-use Rattle.std.proofs.lemmas.List.{get_or-take}
-use Rattle.std.proofs.lemmas.Option.{slice_get_within, slice_get-get_or, get_or_from_slice_get, unwrap_or-slice_get, same_Some}
+use Rattle.std.proofs.lemmas.Grind.{flat_map-append}
+use Rattle.std.proofs.lemmas.List.{take-append-drop}
+use Rattle.std.proofs.lemmas.Option.{slice_get_within, slice_get-get_or, unwrap_or-slice_get, same_Some}
 use Rattle.graph_format.specs.Layer.{Layer}
 use Rattle.graph_format.specs.Faults.{id_at}
 use Rattle.graph_format.specs.Lookup.{scan}
@@ -15,41 +16,24 @@ use Rattle.gix_commitgraph.specs.Graph.{graph_ids, total, start}
 use Rattle.gix_commitgraph.specs.GraphLaw.{LiesIn, IsOrdered}
 use Rattle.gix_commitgraph.specs.Distinct.{AreDistinct, AreDistinctBelow}
 use Rattle.gix_commitgraph.proofs.layers.GraphLemmas.{lies-in_one, place-in, counted}
-use Rattle.gix_commitgraph.proofs.layers.LayerListLemmas.{size, start-more, graph_ids-at}
-use Rattle.gix_commitgraph.proofs.lookup.DuplicateLemmas.{start-take}
+use Rattle.gix_commitgraph.proofs.layers.LayerListLemmas.{size, start-more, get-front, graph_ids-at}
+use Rattle.gix_commitgraph.proofs.lookup.ElementLemmas.{all-at}
 
 -- the layers before one have as many commits as stand before it
 total-take : (layers : List Layer) (n : ℕ) → total (take n layers) ≡ start layers n
 unfolding start
 total-take layers n = refl
 
--- a layer among the lowest ones
-untaken : (layers : List Layer) (n i : ℕ) (layer : Layer) → slice_get (take n layers) i ≡ Some layer
-    → (i < n) × (slice_get layers i ≡ Some layer)
-untaken layers n i layer here =
-    let inside : i < length (take n layers) = slice_get_within (take n layers) i layer here in
-    let below : i < n = omega (arith, inside, length-take n layers) in
-    let within : i < length layers = omega (arith, inside, length-take n layers) in (
-      below,
-      slice_get-get_or layers i layer within ∙ ap (λ (l : Layer). Some l)
-          (sym (get_or-take n layers i layer below) ∙ get_or_from_slice_get (take n layers) i layer layer here),
-    )
-
--- the ids of the lowest layers stand at the same positions of the graph
+-- the ids of the lowest layers come first
 pub ids-front : (layers : List Layer) (n p : ℕ) → p < start layers n
     → slice_get (graph_ids (take n layers)) p ≡ slice_get (graph_ids layers) p
 ids-front layers n p h =
-    let place = lies-in_one (take n layers) p (omega (arith, h, total-take layers n)) in
-    let there = untaken layers n place.index place.layer place.lies.there in
-    let first : start (take n layers) place.index ≡ start layers place.index =
-    start-take layers n place.index (omega (arith, there.0)) in
-    let next : start (take n layers) (place.index + 1) ≡ start layers (place.index + 1) =
-    start-take layers n (place.index + 1) (omega (arith, there.0)) in
-    let lies : LiesIn layers p place.index place.layer =
-    record { there = there.1; from = omega (arith, place.lies.from, first); below = omega (arith, place.lies.below, next) } in
-    (place-in (take n layers) p place.index place.layer place.lies).id
-    ∙ ap (λ (s : ℕ). slice_get place.layer.ids (p - s)) first
-    ∙ sym (place-in layers p place.index place.layer lies).id
+    let front = graph_ids (take n layers) in
+    let back = graph_ids (drop n layers) in
+    let split : graph_ids layers ≡ front ++ back =
+    ap graph_ids (sym (take-append-drop n layers)) ∙ flat_map-append (λ (l : Layer). l.ids) (take n layers) (drop n layers) in
+    let within : p < length front = omega (arith, h, (counted (take n layers)).ids, total-take layers n) in
+    sym (ap (λ (ids : List (List ℕ)). slice_get ids p) split ∙ get-front front back p within)
 
 id-there : (layer : Layer) (pos : ℕ) → pos < size layer → slice_get layer.ids pos ≡ Some (id_at layer pos)
 id-there layer pos within =
@@ -121,9 +105,7 @@ never layers p q id ordered new before at_p at_q =
     (λ (below : p < start layers place.index). apart layers p q place.index place.layer id new place.lies below at_p at_q)
     (λ (from : start layers place.index ≤ p).
     let there = place.lies.there in
-    let here : IsOrdered place.layer =
-    subst IsOrdered (get_or_from_slice_get layers place.index place.layer place.layer there)
-    (ordered place.index place.layer (slice_get_within layers place.index place.layer there)) in
+    let here = all-at IsOrdered layers place.index place.layer ordered there in
     let lies : LiesIn layers p place.index place.layer =
     record { there = there; from = from; below = omega (arith, before, place.lies.below) } in
     alone layers p q place.index place.layer id here lies place.lies before at_p at_q)

@@ -1,7 +1,7 @@
 -- laws of lists by their elements
 use Rattle.std.proofs.Common.{◌≡◌, ◌⊎◌, inl, inr, ℕ, zero, suc, ◌+◌, ◌<◌, List, [], ◌∷◌, ◌++◌, length, drop, slice_get, Some}
-use Rattle.std.proofs.Common.{refl, ap, ◌∙◌, add-one, arith}
-use Rattle.std.proofs.lemmas.Option.{same_Some}
+use Rattle.std.proofs.Common.{All, refl, ap, subst, ◌∙◌, add-one, arith}
+use Rattle.std.proofs.lemmas.Option.{same_Some, slice_get_within, get_or_from_slice_get}
 
 -- what stands at a place of a list with one element more
 pub pushed : {X : Type 0} (xs : List X) (y z : X) (k : ℕ) → slice_get (xs ++ y ∷ []) k ≡ Some z
@@ -33,3 +33,7 @@ pub some-place : {X : Type 0} (xs : List X) (k : ℕ) → k < length xs → (x :
 some-place [] k h = absurd (omega (arith, h))
 some-place (x ∷ xs) zero h = (x, refl)
 some-place (x ∷ xs) (suc k) h = some-place xs k (omega (arith, h))
+
+-- what holds of all elements holds of the one at a place
+pub all-at : {X : Type 0} (P : X → Type 0) (xs : List X) (k : ℕ) (x : X) → All P xs → slice_get xs k ≡ Some x → P x
+all-at P xs k x all here = subst P (get_or_from_slice_get xs k x x here) (all k x (slice_get_within xs k x here))

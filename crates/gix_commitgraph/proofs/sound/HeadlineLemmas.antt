@@ -13,7 +13,7 @@ use Rattle.gix_commitgraph.specs.declared.verify.Outcome.{Outcome}
 use Rattle.gix_commitgraph.specs.declared.verify.VerifyError.{VerifyError}
 use Rattle.gix_commitgraph.specs.declared.verify.VerifyError.TheVariants as error
 use Rattle.gix_commitgraph.specs.declared.verify.VerifyOptions.{VerifyOptions}
-use Rattle.gix_commitgraph.proofs.history.HistoryLemmas.{length-history_of, all-paired}
+use Rattle.gix_commitgraph.proofs.history.HistoryLemmas.{length-history}
 use Rattle.gix_commitgraph.proofs.sound.SoundLemmas.{sound-from_passes, sound-not_refused, sound-scanned, summarized-longest}
 use Rattle.gix_commitgraph.proofs.lookup.DistinctLemmas.{exact-scan}
 
@@ -70,7 +70,7 @@ module _ {F E : Type 0} (step : F → ℕ → Result (Unit {0}) E → F → Type
 
   counted : (outcome : Outcome) → Sound layers → Summarizes (history_of layers) outcome → Stats layers outcome
   counted outcome sound sums = record {
-    num_commits = sums.num_commits ∙ length-history_of layers (all-paired layers opened);
+    num_commits = sums.num_commits ∙ length-history layers opened;
     parent_counts = sums.parent_counts;
     longest_path_length = summarized-longest layers outcome sound sums;
   }

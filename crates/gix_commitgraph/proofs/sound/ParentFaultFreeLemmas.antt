@@ -7,7 +7,7 @@ use Rattle.std.proofs.lemmas.List.{get_or_default}
 use Rattle.std.proofs.lemmas.List.Elements.{All-nil, All-cons, All-head, All-tail}
 use Rattle.first_faults.proofs.FirstLemmas.{then_some-false, when-none}
 use Rattle.graph_format.specs.Format.{Record}
-use Rattle.graph_format.specs.Layer.{Layer, no_record, record_at}
+use Rattle.graph_format.specs.Layer.{Layer, IsOpened, no_record}
 use Rattle.graph_format.specs.Parents.{parents_of, fault_items}
 use Rattle.gix_commitgraph.specs.Graph.{total, start, stop}
 use Rattle.graph_walks.specs.History.{Node, generation_at}
@@ -15,20 +15,18 @@ use Rattle.graph_format.specs.StoredHistory.{history_of}
 use Rattle.graph_walks.specs.Generations.{expected_generation, AreLocal}
 use Rattle.graph_format.specs.Points.{first_some}
 use Rattle.gix_commitgraph.specs.Verify.{item_refusal, parents_refusal, generation_refusal}
+use Rattle.gix_commitgraph.specs.ListedTallies.{AreWithin}
 use Rattle.gix_commitgraph.specs.Sound.{AreParentsKnown}
+use Rattle.gix_commitgraph.specs.Tallies.{decoded_at}
 use Rattle.graph_format.specs.declared.Position.{Position}
 use Rattle.graph_format.specs.declared.parents.ParentError.{ParentError}
 use Rattle.gix_commitgraph.proofs.layers.LayerListLemmas.{size, start-more}
 use Rattle.gix_commitgraph.proofs.layers.GraphLemmas.{lies-in_one}
 use Rattle.graph_format.proofs.FaultFreeLemmas.{first_some-none}
-use Rattle.graph_format.proofs.LayerHistoryLemmas.{IsPaired}
-use Rattle.gix_commitgraph.proofs.history.HistoryLemmas.{length-history_of, within-history}
+use Rattle.graph_format.proofs.LayerHistoryLemmas.{opened_is_paired}
+use Rattle.gix_commitgraph.proofs.history.KnownParentLemmas.{known-at}
+use Rattle.gix_commitgraph.proofs.history.HistoryLemmas.{length-history, within-history}
 use Rattle.graph_format.proofs.CommitFaultFreeLemmas.{record_at-get_or}
-
--- what a record says of its parents
-abbrev AreKnownAt : List Layer → ℕ → Layer → Record → Type 0
-AreKnownAt layers i layer r = ((parents_of r layer.edges).fault ≡ None)
-    × All (λ q. q.0 < stop layers i) (parents_of r layer.edges).positions
 
 module _ {E : Type 0} where
   item-iff : (p end : ℕ) (parent : Position) → (item_refusal {E = E} p end (Ok parent) ≡ None) ↔ (parent.0 < end)
@@ -58,66 +56,56 @@ module _ {E : Type 0} where
         ),
       )
 
-  parents-at : (layers : List Layer) (i : ℕ) (layer : Layer) (pos : ℕ) → (parents_refusal {E = E} layers i layer pos ≡ None)
-      ↔ AreKnownAt layers i layer (record_at layer pos)
-  parents-at layers i layer pos =
-      let parents = parents_of (record_at layer pos) layer.edges in
-      items-iff (start layers i + pos) (stop layers i) parents.positions parents.fault
-
-  -- a commit whose parents are told and stand before the end of its layer
-  pub unrefused : (layers : List Layer) (i : ℕ) (layer : Layer) (pos : ℕ)
-      → (parents_of (record_at layer pos) layer.edges).fault ≡ None
-      → All (λ q. q.0 < stop layers i) (parents_of (record_at layer pos) layer.edges).positions
-      → parents_refusal {E = E} layers i layer pos ≡ None
-  unrefused layers i layer pos decoded within = (parents-at layers i layer pos).1 (decoded, within)
-
-  -- and one whose parents are not refused
-  pub known-unrefused : (layers : List Layer) (i : ℕ) (layer : Layer) (pos : ℕ)
-      → parents_refusal {E = E} layers i layer pos ≡ None
-      → ((parents_of (record_at layer pos) layer.edges).fault ≡ None)
-      × All (λ q. q.0 < stop layers i) (parents_of (record_at layer pos) layer.edges).positions
-  known-unrefused layers i layer pos none = (parents-at layers i layer pos).0 none
+  -- no parent of a commit is refused exactly where they are decoded and stand before the end of its layer
+  pub unrefused-iff : (layers : List Layer) (i : ℕ) (layer : Layer) (pos : ℕ)
+      → (parents_refusal {E = E} layers i layer pos ≡ None) ↔ AreWithin (stop layers i) (decoded_at layer pos)
+  unrefused-iff layers i layer pos =
+      let parents = decoded_at layer pos in
+      let both = items-iff (start layers i + pos) (stop layers i) parents.positions parents.fault in (
+        λ none. let known = both.0 none in record { decoded = known.0; below = known.1 },
+        λ known. both.1 (known.decoded, known.below),
+      )
 
   -- the parents of all commits of layer i can be told, and stand before its end
-  pub parents-iff : (layers : List Layer) (i : ℕ) (layer : Layer) → IsPaired layer
+  pub parents-iff : (layers : List Layer) (i : ℕ) (layer : Layer) → IsOpened layer
       → ((pos : ℕ) → pos < length layer.ids → parents_refusal {E = E} layers i layer pos ≡ None) ↔ AreParentsKnown layers i layer
-  parents-iff layers i layer paired = (
-    λ h. record { decoded = λ k d within. (at_record h k d within).0; within = λ k d within. (at_record h k d within).1 },
-    λ known pos within.
-        let inside : pos < length layer.records = omega arith in
-        (parents-at layers i layer pos).1
-        (subst (AreKnownAt layers i layer) (sym (record_at-get_or layer pos))
-        (known.decoded pos no_record inside, known.within pos no_record inside)),
+  parents-iff layers i layer opened = (
+    λ h. record {
+      decoded = λ k d within. (at_record h k d within).decoded;
+      within = λ k d within. (at_record h k d within).below;
+    },
+    λ known pos within. (unrefused-iff layers i layer pos).1 (known-at layers i pos layer opened known within),
   ) where
     at_record : ((pos : ℕ) → pos < length layer.ids → parents_refusal {E = E} layers i layer pos ≡ None) → (k : ℕ) (d : Record)
-        → k < length layer.records → AreKnownAt layers i layer (get_or layer.records k d)
+        → k < length layer.records → AreWithin (stop layers i) (parents_of (get_or layer.records k d) layer.edges)
     at_record h k d within =
-        subst (AreKnownAt layers i layer) (record_at-get_or layer k ∙ get_or_default layer.records k no_record d within)
-        ((parents-at layers i layer k).0 (h k (omega arith)))
+        subst (λ r. AreWithin (stop layers i) (parents_of r layer.edges))
+        (record_at-get_or layer k ∙ get_or_default layer.records k no_record d within)
+        ((unrefused-iff layers i layer k).0 (h k (omega (arith, opened_is_paired layer opened))))
 
-  pub generation-at : (history : List Node) (p : ℕ) → (generation_refusal {E = E} history p ≡ None)
+  pub generation-iff : (history : List Node) (p : ℕ) → (generation_refusal {E = E} history p ≡ None)
       ↔ (generation_at history p ≡ expected_generation history p)
-  generation-at history p = (
+  generation-iff history p = (
     λ h. eqb-true _ _ (not-false _ (when-none _ _ h)),
     λ same. then_some-false _ _ (ap not (eq-eqb _ _ same)),
   )
 
   -- each stored generation number is the expected one
-  pub generations-iff : (layers : List Layer) → All IsPaired layers
+  pub generations-iff : (layers : List Layer) → All IsOpened layers
       → ((i : ℕ) (layer : Layer) → slice_get layers i ≡ Some layer → (pos : ℕ) → pos < length layer.ids
       → generation_refusal {E = E} (history_of layers) (start layers i + pos) ≡ None) ↔ AreLocal (history_of layers)
-  generations-iff layers paired = (
+  generations-iff layers opened = (
     λ h p within.
-        let counted : p < total layers = omega (arith, length-history_of layers paired) in
+        let counted : p < total layers = omega (arith, length-history layers opened) in
         let place = lies-in_one layers p counted in
         let pos : ℕ = p - start layers place.index in
         let inside : pos < size place.layer =
         omega (arith, place.lies.from, place.lies.below, start-more layers place.index place.layer place.lies.there) in
         let whole : start layers place.index + pos ≡ p = omega (arith, place.lies.from) in
         subst (λ (n : ℕ). generation_at (history_of layers) n ≡ expected_generation (history_of layers) n) whole
-        ((generation-at (history_of layers) (start layers place.index + pos)).0
+        ((generation-iff (history_of layers) (start layers place.index + pos)).0
         (h place.index place.layer place.lies.there pos inside)),
     λ local i layer here pos within.
-        (generation-at (history_of layers) (start layers i + pos)).1
-        (local (start layers i + pos) (within-history layers i pos layer paired here within)),
+        (generation-iff (history_of layers) (start layers i + pos)).1
+        (local (start layers i + pos) (within-history layers i pos layer opened here within)),
   )

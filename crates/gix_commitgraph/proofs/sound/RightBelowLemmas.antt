@@ -16,17 +16,18 @@ use Rattle.graph_walks.specs.History.{Node, generation_at, parents_at}
 use Rattle.graph_walks.specs.declared.TheConstants.{GENERATION_NUMBER_MAX}
 use Rattle.graph_walks.proofs.WalkLemmas.{local_from_counts}
 use Rattle.graph_format.specs.Faults.{id_at}
-use Rattle.graph_format.specs.Layer.{Layer, IsOpened, record_at}
+use Rattle.graph_format.specs.Layer.{Layer, IsOpened}
 use Rattle.graph_format.specs.Lookup.{scan}
-use Rattle.graph_format.specs.Parents.{position_of, parents_of}
+use Rattle.graph_format.specs.Parents.{position_of}
 use Rattle.graph_format.specs.Points.{Point, check, first_fault}
 use Rattle.graph_format.specs.StoredHistory.{layer_history, history_of}
 use Rattle.graph_format.proofs.PointLemmas.{first_fault-append}
 use Rattle.gix_commitgraph.specs.Distinct.{IsSoundWith}
 use Rattle.gix_commitgraph.specs.Graph.{graph_ids, total, start, stop}
 use Rattle.gix_commitgraph.specs.Sound.{Sound}
-use Rattle.gix_commitgraph.specs.Tallies.{AreNumbered}
+use Rattle.gix_commitgraph.specs.Tallies.{AreNumbered, decoded_at}
 use Rattle.gix_commitgraph.specs.Verify.{duplicate_refusal, generation_refusal, layer_points, layers_from, points_from}
+use Rattle.gix_commitgraph.specs.ListedTallies.{AreWithin}
 use Rattle.gix_commitgraph.specs.Verify.{points_with}
 use Rattle.gix_commitgraph.specs.declared.verify.VerifyError.{VerifyError}
 use Rattle.gix_commitgraph.specs.declared.verify.VerifyError.TheVariants as error
@@ -34,10 +35,10 @@ use Rattle.gix_commitgraph.specs.declared.verify.VerifyOptions.{VerifyOptions}
 use Rattle.gix_commitgraph.proofs.sound.BaseFaultFreeLemmas.{bases-iff, checksums}
 use Rattle.gix_commitgraph.proofs.lookup.DuplicateLemmas.{take-layer, start-take}
 use Rattle.gix_commitgraph.proofs.check.GraphCheckLemmas.{layers_from-next}
-use Rattle.gix_commitgraph.proofs.history.HistoryLemmas.{all-paired, history-counted}
+use Rattle.gix_commitgraph.proofs.history.HistoryLemmas.{length-history}
 use Rattle.gix_commitgraph.proofs.history.KnownParentLemmas.{known-within}
 use Rattle.gix_commitgraph.proofs.layers.LayerListLemmas.{get-front, start-more, start-fits}
-use Rattle.gix_commitgraph.proofs.sound.ParentFaultFreeLemmas.{unrefused, known-unrefused, generation-at}
+use Rattle.gix_commitgraph.proofs.sound.ParentFaultFreeLemmas.{unrefused-iff, generation-iff}
 use Rattle.gix_commitgraph.proofs.sound.SoundLemmas.{IsPassedLayer, passed-from_sound, layer_points-iff}
 
 -- what the first commits of a history say
@@ -108,21 +109,21 @@ module _ {E : Type 0} (options : VerifyOptions) (layers : List Layer) (i : ℕ) 
   generation-below p within none =
       let a = history_of (take i layers) in
       let b = history_of (drop i layers) in
-      let counted : length a ≡ total (take i layers) = history-counted (take i layers) (opened-below layers i opened) in
+      let counted : length a ≡ total (take i layers) = length-history (take i layers) (opened-below layers i opened) in
       let here : p < length a = omega (arith, counted, within) in
       let parents : All (λ q. q < length a) (parents_at a p) =
       subst (λ (n : ℕ). All (λ q. q < n) (parents_at a p)) (sym counted)
       (known-within (take i layers) p (opened-below layers i opened) right.sound) in
       subst (λ (h : List Node). generation_refusal {E = E} h p ≡ None) (sym (history-split layers i))
-      ((generation-at {E = E} (a ++ b) p).1
-      (generation-front a b p here ∙ (generation-at {E = E} a p).0 none ∙ sym (expected-front a b p here parents)))
+      ((generation-iff {E = E} (a ++ b) p).1
+      (generation-front a b p here ∙ (generation-iff {E = E} a p).0 none ∙ sym (expected-front a b p here parents)))
 
   -- no condition fails on a layer below that is checked as one of all
   passed-below : (j : ℕ) (layer : Layer) → j < i → slice_get layers j ≡ Some layer → IsPassedLayer E options layers j layer
   passed-below j layer below here =
       let there : slice_get (take i layers) j ≡ Some layer = take-layer layers i j layer fits below here in
       let passed : IsPassedLayer E options (take i layers) j layer =
-      passed-from_sound options (take i layers) (all-paired (take i layers) (opened-below layers i opened)) right j layer there in
+      passed-from_sound options (take i layers) (opened-below layers i opened) right j layer there in
       let first : start (take i layers) j ≡ start layers j = start-take layers i j (omega arith) in
       let last : stop (take i layers) j ≡ stop layers j = start-take layers i (j + 1) (omega arith) in
       record {
@@ -132,7 +133,7 @@ module _ {E : Type 0} (options : VerifyOptions) (layers : List Layer) (i : ℕ) 
         whole = passed.whole;
         commits = λ pos within.
             let commit = passed.commits pos within in
-            let parents = known-unrefused {E = E} (take i layers) j layer pos commit.parents in
+            let parents = (unrefused-iff {E = E} (take i layers) j layer pos).0 commit.parents in
             let inside : start layers j + pos < total (take i layers) =
             omega (arith, first, start-more (take i layers) j layer there, start-fits (take i layers) (j + 1)) in
             record {
@@ -142,8 +143,8 @@ module _ {E : Type 0} (options : VerifyOptions) (layers : List Layer) (i : ℕ) 
                   (sym (duplicate-below j pos layer (omega arith)))
                   ∙ commit.asked;
               parents =
-                  unrefused layers j layer pos parents.0
-                  (subst (λ (n : ℕ). All (λ q. q.0 < n) (parents_of (record_at layer pos) layer.edges).positions) last parents.1);
+                  (unrefused-iff {E = E} layers j layer pos).1
+                  (subst (λ (n : ℕ). AreWithin n (decoded_at layer pos)) last parents);
               generation =
                   generation-below (start layers j + pos) inside
                   (subst (λ (n : ℕ). generation_refusal {E = E} (history_of (take i layers)) (n + pos) ≡ None) first
@@ -188,7 +189,7 @@ unfolding start
 history-below layers i opened =
     let a = history_of (take i layers) in
     let b = history_of (drop i layers) in
-    let counted : length a ≡ start layers i = history-counted (take i layers) (opened-below layers i opened) in
+    let counted : length a ≡ start layers i = length-history (take i layers) (opened-below layers i opened) in
     ap (λ (h : List Node). take (start layers i) h) (history-split layers i)
     ∙ ap (λ (n : ℕ). take n (a ++ b)) (sym counted)
     ∙ take-append_seam a b

@@ -1,10 +1,10 @@
 -- The check of a graph names no fault exactly where the graph is right.
 use Rattle.std.proofs.Common.{◌≡◌, ℕ, ◌+◌, ◌<◌, ◌≤◌, Bool, true, false, if◌then◌else◌, List, length, take, get_or, slice_get, All}
-use Rattle.std.proofs.Common.{Option, Some, None, Result, refl, sym, ◌∙◌, subst}
+use Rattle.std.proofs.Common.{Option, Some, None, Result, refl, sym, subst, ◌∙◌}
 use Rattle.std.specs.Prelude.{◌↔◌, IsTrue}
 use Rattle.std.proofs.lemmas.Bool.{ltb-false, le-ltb}
 use Rattle.std.proofs.lemmas.List.Elements.{All-weaker}
-use Rattle.std.proofs.lemmas.Option.{none-some, slice_get_within, slice_get-get_or, get_or_from_slice_get}
+use Rattle.std.proofs.lemmas.Option.{none-some, slice_get-get_or}
 use Rattle.first_faults.proofs.FirstLemmas.{then_some-false, when-none}
 use Rattle.graph_format.specs.Layer.{Layer}
 use Rattle.gix_commitgraph.specs.Graph.{graph_ids, start}
@@ -30,17 +30,13 @@ use Rattle.gix_commitgraph.proofs.layers.GraphLemmas.{scanned}
 use Rattle.gix_commitgraph.proofs.lookup.DuplicateLemmas.{ids-none}
 use Rattle.gix_commitgraph.proofs.lookup.DistinctLemmas.{distinct-none, distinct-from}
 use Rattle.graph_format.proofs.FaultFreeLemmas.{option_map-none, check-none, enumerate-none, range-none}
-use Rattle.graph_format.proofs.LayerHistoryLemmas.{IsPaired}
-use Rattle.gix_commitgraph.proofs.history.HistoryLemmas.{all-paired}
+use Rattle.graph_format.proofs.LayerHistoryLemmas.{opened_is_paired}
+use Rattle.gix_commitgraph.proofs.lookup.ElementLemmas.{all-at}
 use Rattle.gix_commitgraph.proofs.sound.BaseFaultFreeLemmas.{bases-iff}
 use Rattle.graph_format.proofs.RightLayerLemmas.{layer_fault-iff}
 use Rattle.graph_format.proofs.CommitFaultFreeLemmas.{commit_faults-iff}
 use Rattle.gix_commitgraph.proofs.sound.ParentFaultFreeLemmas.{parents-iff, generations-iff}
 use Rattle.graph_walks.proofs.WalkLemmas.{counts_from_local, local_from_counts, longest_is_told}
-
-paired-at : (layers : List Layer) (i : ℕ) (layer : Layer) → All IsPaired layers → slice_get layers i ≡ Some layer → IsPaired layer
-paired-at layers i layer paired here =
-    subst IsPaired (get_or_from_slice_get layers i layer layer here) (paired i layer (slice_get_within layers i layer here))
 
 -- the layers of a right graph are ordered
 ordered-right : (layer : Layer) → IsRightLayer layer → IsOrdered layer
@@ -122,11 +118,11 @@ module _ {E : Type 0} where
             ),
       )
 
-  right-from_passed : (options : VerifyOptions) (layers : List Layer) (i : ℕ) (layer : Layer) → IsPaired layer
+  right-from_passed : (options : VerifyOptions) (layers : List Layer) (i : ℕ) (layer : Layer) → IsOpened layer
       → IsPassedLayer E options layers i layer → IsRightLayer layer
-  right-from_passed options layers i layer paired passed =
+  right-from_passed options layers i layer opened passed =
       let whole = (layer_fault-iff layer).0 passed.whole in
-      let ids = (commit_faults-iff layer paired).0 (λ pos within. (passed.commits pos within).ids) in
+      let ids = (commit_faults-iff layer (opened_is_paired layer opened)).0 (λ pos within. (passed.commits pos within).ids) in
       record {
         checksum = whole.checksum;
         name = whole.name;
@@ -137,21 +133,21 @@ module _ {E : Type 0} where
             whole.fan;
       }
 
-  sound-from_passed : (options : VerifyOptions) (layers : List Layer) → All IsPaired layers → length layers ≤ 256
+  sound-from_passed : (options : VerifyOptions) (layers : List Layer) → All IsOpened layers → length layers ≤ 256
       → ArePassed E options layers → Sound layers
-  sound-from_passed options layers paired few passed = record {
+  sound-from_passed options layers opened few passed = record {
     rules = record {
       few = few;
       bases = λ i layer here. (bases-iff layers i layer here).0 (passed i layer here).bases;
       each = λ k d within.
           let layer = get_or layers k d in
           let here = slice_get-get_or layers k d within in
-          right-from_passed options layers k layer (paired k d within) (passed k layer here);
+          right-from_passed options layers k layer (opened k d within) (passed k layer here);
     };
-    parents = λ i layer here. (parents-iff {E = E} layers i layer (paired-at layers i layer paired here)).0 (λ pos within.
+    parents = λ i layer here. (parents-iff {E = E} layers i layer (all-at IsOpened layers i layer opened here)).0 (λ pos within.
         ((passed i layer here).commits pos within).parents);
     generations =
-        counts_from_local (history_of layers) ((generations-iff {E = E} layers paired).0 (λ i layer here pos within.
+        counts_from_local (history_of layers) ((generations-iff {E = E} layers opened).0 (λ i layer here pos within.
         ((passed i layer here).commits pos within).generation));
   }
 
@@ -164,17 +160,17 @@ module _ {E : Type 0} where
       (distinct-none layers i pos layer (distinct refl) here within)
   asked-none false layers i pos layer distinct here within = refl
 
-  pub passed-from_sound : (options : VerifyOptions) (layers : List Layer) → All IsPaired layers → IsSoundWith options layers
+  pub passed-from_sound : (options : VerifyOptions) (layers : List Layer) → All IsOpened layers → IsSoundWith options layers
       → ArePassed E options layers
-  passed-from_sound options layers paired right_graph i layer here =
+  passed-from_sound options layers opened right_graph i layer here =
       let sound = right_graph.sound in
-      let even = paired-at layers i layer paired here in
-      let right : IsRightLayer layer =
-      subst IsRightLayer (get_or_from_slice_get layers i layer layer here)
-      (sound.rules.each i layer (slice_get_within layers i layer here)) in
-      let ids = (commit_faults-iff layer even).1 (record { ascending = right.ascending; ids = right.ids; trees = right.trees }) in
-      let parents = (parents-iff {E = E} layers i layer even).1 (sound.parents i layer here) in
-      let generations = (generations-iff {E = E} layers paired).1 (local_from_counts (history_of layers) sound.generations) in
+      let own = all-at IsOpened layers i layer opened here in
+      let right = all-at IsRightLayer layers i layer sound.rules.each here in
+      let ids =
+      (commit_faults-iff layer (opened_is_paired layer own)).1
+      (record { ascending = right.ascending; ids = right.ids; trees = right.trees }) in
+      let parents = (parents-iff {E = E} layers i layer own).1 (sound.parents i layer here) in
+      let generations = (generations-iff {E = E} layers opened).1 (local_from_counts (history_of layers) sound.generations) in
       record {
         bases = (bases-iff layers i layer here).1 (sound.rules.bases i layer here);
         whole = (layer_fault-iff layer).1 (record { checksum = right.checksum; name = right.name; fan = right.fan });
@@ -198,7 +194,7 @@ module _ {E : Type 0} where
       → first_fault (points_with {E = E} options layers) ≡ None → IsSoundWith options layers
   sound_with-from_none options layers opened h =
       let parts = (graph_points-iff options layers).0 h in
-      let sound = sound-from_passed options layers (all-paired layers opened) parts.0 parts.1 in
+      let sound = sound-from_passed options layers opened parts.0 parts.1 in
       record {
         sound = sound;
         distinct = λ is.
@@ -215,8 +211,7 @@ module _ {E : Type 0} where
   none-from_sound_with options layers opened right =
       (graph_points-iff options layers).1 (
         right.sound.rules.few,
-        passed-from_sound options layers (all-paired layers opened)
-            right,
+        passed-from_sound options layers opened right,
       )
 
   -- the same where nothing is asked for besides
@@ -235,7 +230,7 @@ module _ {E : Type 0} where
       → slice_get layers i ≡ Some layer
       → first_fault (layer_points {E = E} options layers i layer) ≡ None → IsOrdered layer
   ordered-passed options layers i layer opened here none =
-      ordered-right layer (right-from_passed options layers i layer (paired-at layers i layer (all-paired layers opened) here)
+      ordered-right layer (right-from_passed options layers i layer (all-at IsOpened layers i layer opened here)
       ((layer_points-iff options layers i layer).0 none))
 
 -- What a check of a graph says of it, with a processor and its states before and after the check. The points that it goes over

@@ -1,11 +1,13 @@
 //! Laws of graphs: their positions, their lookups, their refusals and their histories.
 
-ghost use Rattle.std.specs.Prelude.{◌≡◌, ◌<◌, ◌-◌, ℕ, List, All, Some, length, slice_get};
+ghost use Rattle.std.specs.Prelude.{◌≡◌, ◌<◌, ◌-◌, ℕ, List, All, Some, length, map, slice_get};
 ghost use Rattle.graph_format.specs.Layer.{Layer, record_at, IsOpened};
 ghost use Rattle.gix_commitgraph.specs.Graph.{graph_commits, total, start};
+ghost use Rattle.graph_format.specs.Parents.{parents_of};
 ghost use Rattle.graph_format.specs.StoredHistory.{node_of, history_of};
 ghost use Rattle.gix_commitgraph.specs.GraphLaw.{LiesIn, LiesInOne, ComesFromLayer, AreCounted};
 ghost use Rattle.gix_commitgraph.specs.GraphLaw.{AreScanned, IsJudged};
+ghost use Rattle.graph_walks.specs.History.{generation_at, parents_at};
 
 /// Each position of a graph lies in one layer, and in no other.
 pub fn a_position_lies_in_one_layer()
@@ -17,6 +19,14 @@ pub fn a_position_lies_in_one_layer()
 pub fn a_position_is_a_place_in_its_layer()
     ensures { (layers : List Layer) (pos i : ℕ) (layer : Layer) → LiesIn layers pos i layer
         → ComesFromLayer layers pos i layer }
+{}
+
+/// Each commit of a graph lies in the layer that it is given with, at its position less the number
+/// of commits before the layer.
+pub fn a_commit_lies_in_its_layer()
+    ensures { (layers : List Layer) (p pos : ℕ) (layer : Layer)
+        → slice_get (graph_commits layers) p ≡ Some (layer, pos)
+        → (i : ℕ) × LiesIn layers p i layer × (pos ≡ p - start layers i) }
 {}
 
 /// A graph has as many ids and commits as its layers have together.
@@ -46,9 +56,17 @@ pub fn the_history_of_a_graph_is_that_of_its_layers()
         ≡ Some (node_of layer (record_at layer (pos - start layers i))) }
 {}
 
-/// The history of a graph of opened layers says of each commit what its record says.
+/// The history of a graph of opened layers says of each commit what its record says: its generation
+/// number, and the parents that can be decoded.
 pub fn the_history_of_a_graph_says_what_its_records_say()
-    ensures { (layers : List Layer) (p pos : ℕ) (layer : Layer) → All IsOpened layers
+    ensures node { (layers : List Layer) (p pos : ℕ) (layer : Layer) → All IsOpened layers
         → slice_get (graph_commits layers) p ≡ Some (layer, pos)
         → slice_get (history_of layers) p ≡ Some (node_of layer (record_at layer pos)) }
+    ensures generation { (layers : List Layer) (p pos : ℕ) (layer : Layer) → All IsOpened layers
+        → slice_get (graph_commits layers) p ≡ Some (layer, pos)
+        → generation_at (history_of layers) p ≡ (record_at layer pos).generation }
+    ensures parents { (layers : List Layer) (p pos : ℕ) (layer : Layer) → All IsOpened layers
+        → slice_get (graph_commits layers) p ≡ Some (layer, pos)
+        → parents_at (history_of layers) p
+        ≡ map (λ q. q.0) (parents_of (record_at layer pos) layer.edges).positions }
 {}

@@ -4,7 +4,7 @@ use Rattle.std.proofs.lemmas.Option.{slice_get_within, get_or_from_slice_get}
 use Rattle.std.proofs.lemmas.Result.{err_from_is_err_and}
 use Rattle.graph_format.proofs.PointLemmas.{ran_out}
 use Rattle.gix_commitgraph.specs.Graph.{IsGraph}
-use Rattle.gix_commitgraph.proofs.history.GraphHistoryLemmas.{take-all}
+use Rattle.gix_commitgraph.proofs.history.HistoryLemmas.{take-all}
 use Rattle.gix_commitgraph.specs.GraphLaw.{IsOrdered}
 use Rattle.gix_commitgraph.proofs.sound.RightBelowLemmas.{history-below}
 use Rattle.gix_commitgraph.proofs.sound.SoundLemmas.{ordered-passed}

@@ -1,11 +1,11 @@
 use Rattle.std.proofs.Common.{◌≡◌, ℕ, sym, subst, arith}
+use Rattle.std.proofs.lemmas.Option.{slice_get_within}
 use Rattle.graph_format.specs.declared.parents.ParentEdge.{ParentEdge}
 use Rattle.graph_history.specs.Commits.{NamesParents, Names}
 use Rattle.graph_history.specs.Paint.{passed, paint_at, Grows}
 use Rattle.graph_history.proofs.ListLemmas.{contained_in}
 use Rattle.graph_history.proofs.PaintLemmas.{grows_refl}
 use Rattle.graph_history.proofs.PassLemmas.{passed_kept}
-use Rattle.graph_history.proofs.PlaceLemmas.{lies_within}
 use Rattle.graph_history.proofs.painting.Painting.visit_field.Goals as goal
 
 pub returns-in-None-clause-on : goal.returns-in-None-clause-on
@@ -37,7 +37,7 @@ returns-in_ok-pass-in-GraphPosition-clause-named c = λ q names.
 pub visit_list-requires-clause-layer : goal.visit_list-requires-clause-layer
 visit_list-requires-clause-layer c =
     let lies = c.layer_of-layer.ensures.lies in
-    rw (sym c.graph.ensures.same) (lies_within c.graph.result.now _ c.layer_of-layer.result lies.0 lies.1)
+    rw (sym c.graph.ensures.same) (slice_get_within c.graph.result.now c.layer_of-layer.result lies.0 lies.1.there)
 
 pub visit_list-requires-clause-reading : goal.visit_list-requires-clause-reading
 visit_list-requires-clause-reading c =

@@ -7,11 +7,10 @@ use Rattle.graph_history.specs.Painting.{IsPassed}
 use Rattle.graph_history.specs.Trails.{trail_at, trail_in}
 use Rattle.graph_history.specs.declared.paint.Paint.{Paint}
 use Rattle.graph_history.specs.declared.trails.Trails.{Trails}
-use Rattle.graph_history.proofs.ListLemmas.{reading_within, reading_goes_on, next_is_parent}
+use Rattle.graph_history.proofs.ListLemmas.{reading_within, reading_goes_on, next_is_parent, few_words}
 use Rattle.graph_history.proofs.PaintLemmas.{grows_refl, covers_grows}
 use Rattle.graph_history.proofs.PassLemmas.{passed_kept, passed_same, named_heard, passed_begins, passed_stops, passed_next}
 use Rattle.graph_history.proofs.PassLemmas.{passed_last, begun_after, passes_with, are_passed_from, passes_on_trans}
-use Rattle.graph_history.proofs.PlaceLemmas.{few_words}
 use Rattle.graph_history.proofs.painting.Painting.visit_list.Goals as goal
 
 pub loop-words-init : goal.loop-words-init

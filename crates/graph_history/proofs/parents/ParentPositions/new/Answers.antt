@@ -1,6 +1,4 @@
-use Rattle.std.proofs.Common.{◌<◌, ℕ, List, [], All, Option, map, sym, ap, subst, ◌∙◌}
-use Rattle.std.specs.Option.{option_map_or}
-use Rattle.graph_walks.specs.History.{Node}
+use Rattle.std.proofs.Common.{◌<◌, ℕ, List, All, map, sym, ap, subst, ◌∙◌}
 use Rattle.graph_format.specs.declared.Position.{Position}
 use Rattle.graph_layer.specs.Commit.{commit_layer, commit_parents, commit_pos}
 use Rattle.graph_layer.specs.RemainingParents.{parents_left}
@@ -26,12 +24,12 @@ returns-clause-exact c =
     let decoded =
     c.the_parents_of_a_right_graph_are_there.ensures.decoded layers c.args.pos.0 (commit_pos commit) (commit_layer commit)
     opened c.requires.sound c.commit_at.ensures in
-    let node =
-    c.the_history_of_a_graph_says_what_its_records_say.ensures layers c.args.pos.0 (commit_pos commit) (commit_layer commit)
-    opened c.commit_at.ensures in
+    let told =
+    c.the_history_of_a_graph_says_what_its_records_say.ensures.parents layers c.args.pos.0 (commit_pos commit)
+    (commit_layer commit) opened c.commit_at.ensures in
     ap (map (λ (q : Position). q.0))
     (among-items (parents_left c.iter_parents.result) (commit_parents commit) decoded c.iter_parents.ensures.items)
-    ∙ sym (ap (λ (o : Option Node). option_map_or (λ (node : Node). node.parents) o []) node)
+    ∙ sym told
 
 pub returns-clause-within : goal.returns-clause-within
 returns-clause-within c =

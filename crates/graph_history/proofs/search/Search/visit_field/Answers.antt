@@ -1,4 +1,5 @@
 use Rattle.std.proofs.Common.{◌≡◌, ℕ, sym, ap, subst, arith}
+use Rattle.std.proofs.lemmas.Option.{slice_get_within}
 use Rattle.graph_format.specs.StoredHistory.{history_of}
 use Rattle.graph_format.specs.declared.parents.ParentEdge.{ParentEdge}
 use Rattle.graph_walks.specs.History.{generation_at}
@@ -7,7 +8,6 @@ use Rattle.graph_history.specs.Commits.{NamesParents, Names}
 use Rattle.graph_history.specs.Queue.{commit_in, IsQueued}
 use Rattle.graph_history.specs.Search.{queued_by}
 use Rattle.graph_history.proofs.ListLemmas.{contained_in}
-use Rattle.graph_history.proofs.PlaceLemmas.{lies_within}
 use Rattle.graph_history.proofs.SearchLemmas.{goes_on_refl, are_read_extends}
 use Rattle.graph_history.proofs.search.Search.visit_field.Goals as goal
 
@@ -46,7 +46,7 @@ layer_of-layer-requires-clause-pos c =
 pub visit_list-requires-clause-layer : goal.visit_list-requires-clause-layer
 visit_list-requires-clause-layer c =
     let lies = c.layer_of-layer.ensures.lies in
-    lies_within c.args.self.now.graph.now _ c.layer_of-layer.result lies.0 lies.1
+    slice_get_within c.args.self.now.graph.now c.layer_of-layer.result lies.0 lies.1.there
 
 pub visit_list-requires-clause-reading : goal.visit_list-requires-clause-reading
 visit_list-requires-clause-reading c =

@@ -11,8 +11,7 @@ use Rattle.graph_history.specs.Queue.{commit_in, IsQueued}
 use Rattle.graph_history.specs.Search.{queued_by}
 use Rattle.graph_history.specs.declared.words.WordMarks.{WordMarks}
 use Rattle.graph_history.proofs.ListLemmas.{read_from, read_extends, read_stops, reading_within, reading_goes_on, next_is_parent}
-use Rattle.graph_history.proofs.ListLemmas.{goes_over_internal, goes_over_last, goes_over_marked, named_are_queued}
-use Rattle.graph_history.proofs.PlaceLemmas.{few_words}
+use Rattle.graph_history.proofs.ListLemmas.{goes_over_internal, goes_over_last, goes_over_marked, named_are_queued, few_words}
 use Rattle.graph_history.proofs.QueueLemmas.{extends_refl, commit_extends}
 use Rattle.graph_history.proofs.SearchLemmas.{goes_on_trans, are_read_from}
 use Rattle.graph_history.proofs.search.Search.visit_list.Goals as goal
