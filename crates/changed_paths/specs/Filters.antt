@@ -1,7 +1,7 @@
 -- The filters of a layer ("Bloom Filter Index", "Bloom Filter Data"): where the filter of each commit lies, and why the two
 -- chunks are refused.
-use Rattle.std.specs.Prelude.{◌==◌, ℕ, zero, suc, ◌+◌, ◌-◌, ◌*◌, ◌/◌, not, ◌||◌, List, map, length, slice_range, Option, Some}
-use Rattle.std.specs.Prelude.{None, is_none, nat_lt, if◌then◌else◌}
+use Rattle.std.specs.Prelude.{◌==◌, ◌<◌, ◌≤◌, ℕ, zero, suc, ◌+◌, ◌-◌, ◌*◌, ◌/◌, not, ◌||◌, List, map, length, slice_range}
+use Rattle.std.specs.Prelude.{Option, Some, None, is_none, nat_lt, if◌then◌else◌}
 use Rattle.std.specs.List.{range_with_len}
 use Rattle.first_faults.specs.First.{◌when◌, ◌otherwise◌, first_below}
 use Rattle.graph_format.specs.declared.file.Position.{Position}
@@ -43,6 +43,10 @@ filter_of index body p = slice_range body (12 + start_of index p) (12 + end_of i
 -- the filters of all commits, for which the index has a word each
 unfoldable pub filters_of : List ℕ → List ℕ → List (List ℕ)
 filters_of index body = map (filter_of index body) (range_with_len 0 (length index / 4))
+
+-- none of so many filters ends before it begins
+abbrev pub IsRising : ℕ → List ℕ → Type 0
+IsRising commits index = (p : ℕ) → p < commits → start_of index p ≤ end_of index p
 
 -- the position in the layer
 abbrev pub filter_position : ℕ → Position

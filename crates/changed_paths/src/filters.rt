@@ -1,12 +1,12 @@
 //! The filters of a layer.
 
 ghost use Rattle.std.specs.Prelude.{◌≡◌, ◌↔◌, ◌*◌, ◌<◌, ◌≤◌, ◌^◌, List, length, slice_get, Some};
-ghost use Rattle.std.specs.Prelude.{IfOk};
+ghost use Rattle.std.specs.Prelude.{IfOk, true, false};
 ghost use Rattle.graph_format.specs.Reports.{Reports};
 ghost use Rattle.graph_format.specs.Numbers.{word_in};
 ghost use Rattle.changed_paths.specs.Filter.{IsPossible, IsAbsent};
 ghost use Rattle.changed_paths.specs.Filters.{version_of, start_of, filters_of, places_refusal};
-ghost use Rattle.changed_paths.specs.Filters.{filters_refusal};
+ghost use Rattle.changed_paths.specs.Filters.{filters_refusal, IsRising};
 ghost use Rattle.changed_paths.specs.declared.filters.Answer.TheVariants as answer;
 
 use crate::key::PathKey;
@@ -122,9 +122,28 @@ fn start_of(index: &[u8], pos: u32) -> u32
     }
 }
 
-/// Where the last filter ends, if none ends before it begins, or past so many bytes.
+/// Whether no filter ends before it begins.
+///
+/// It goes over all of them, whatever it finds, so that the compiler may compare several at once.
+#[tactic(auto, using(crate::proofs::PlaceLemmas::rising_laws))]
+fn is_rising(commits: u32, index: &[u8]) -> bool
+    requires { length index.now ≡ 4 * commits }
+    ensures rising { result ≡ true → IsRising commits index.now }
+    ensures falling { result ≡ false → ¬ IsRising commits index.now }
+{
+    let mut start = 0;
+    let mut rising = true;
+    for pos in 0..commits as usize {
+        let end = word_at(index, 4 * pos);
+        rising &= start <= end;
+        start = end;
+    }
+    rising
+}
+
+/// What [`check_places`] answers, commit by commit.
 #[tactic(auto, using(crate::proofs::PlaceLemmas::found_laws), unfolding(crate::specs::Filters::places_refusal))]
-fn check_places(commits: u32, index: &[u8], room: usize) -> Result<u32, LayerFiltersError>
+fn check_each_place(commits: u32, index: &[u8], room: usize) -> Result<u32, LayerFiltersError>
     requires { length index.now ≡ 4 * commits }
     ensures refusal { Reports result (places_refusal commits index.now room) }
     ensures end { IfOk result (λ end. end ≡ start_of index.now commits) }
@@ -141,6 +160,21 @@ fn check_places(commits: u32, index: &[u8], room: usize) -> Result<u32, LayerFil
         start = end;
     }
     Ok(start)
+}
+
+/// Where the last filter ends, if none ends before it begins, or past so many bytes. Where that is
+/// so, one comparison a commit tells it.
+#[tactic(auto, using(crate::proofs::PlaceLemmas::all_fit))]
+fn check_places(commits: u32, index: &[u8], room: usize) -> Result<u32, LayerFiltersError>
+    requires { length index.now ≡ 4 * commits }
+    ensures refusal { Reports result (places_refusal commits index.now room) }
+    ensures end { IfOk result (λ end. end ≡ start_of index.now commits) }
+{
+    let end = start_of(index, commits);
+    if end as usize <= room && is_rising(commits, index) {
+        return Ok(end);
+    }
+    check_each_place(commits, index, room)
 }
 
 impl<'a> PathFilters<'a> {
