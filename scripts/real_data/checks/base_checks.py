@@ -1,7 +1,7 @@
 """Checks `merge-base`: pairs of commits and larger sets, beside `git merge-base --all` and the parents that Git lists.
 
-Where no commit is older than its parents, also beside `git rev-list --left-right --count`. Where some are, Git may count
-commits to which an excluded one leads, since its search goes by times.
+Also beside `git rev-list --left-right --count`. Where some commits are older than their parents, Git may count too many,
+since its search goes by times: some to which an excluded commit leads.
 """
 
 import random
@@ -20,8 +20,11 @@ ANSWER = re.compile(r"((?:base \d+ [0-9a-f]+\n)+|none\n)ahead (\d+) behind (\d+)
 LAYERS, LENGTH = 10, 3000
 """So many layers has the chain of a long history, and so many commits all of them."""
 
+ROOTS = 0.1
+"""So many of its topics in one have a root of their own."""
+
 SIZES = ((2, 300), (3, 20), (4, 20), (5, 20))
-"""How many commits of a long history are asked for at once, and how often."""
+"""How many commits of a long history are asked for at once, and how often. There are four such histories."""
 
 
 def check_all(histories, tally, repository, name, walks):
@@ -40,38 +43,50 @@ def check_long(histories, tally, new):
     """What is said of long histories, each in a single file and in a chain; where times are in disorder, in the second."""
     for name, disorder in (("topics", 0), ("topics in disorder", 0.02)):
         repository, ids, layers = new(name), [], []
-        history = shapes.topics(LENGTH, seed=25, disorder=disorder)
+        seed = "%s %s" % (repository.object_format, name)
+        history = shapes.topics(LENGTH, seed, disorder, ROOTS)
         for start in range(0, LENGTH, LENGTH // LAYERS):
             ids = repository.add(history[: start + LENGTH // LAYERS], start)
             layers.append(ids[start:])
             repository.write_graph("--split=no-merge")
         chain = shutil.copytree(repository.chain_path(), repository.folder + ", chain")
         repository.write_graph()
-        pools, choice = (ids, ids[-LENGTH // 4 :], ids[-100:]), random.Random(26)
+        pools, choice = (ids, ids[-LENGTH // 4 :], ids[-100:]), random.Random(seed)
         sets = [choice.sample(pools[number % 3], size) for size, count in SIZES for number in range(count)]
         graphs = {repository.graph_path(): places([ids]), chain: places(layers)}
-        check_sets(histories, tally, repository, name, repository.words(), graphs, sets)
+        found = check_sets(histories, tally, repository, name, repository.words(), graphs, sets)
+        left_out = sorted({0, 1, 2}.difference(count for count, _ in found))
+        complaint = "none has %s bases" % left_out if left_out else None
+        tally.check("%s, merge-base, sets of %s with no base, with one, and with two" % (repository.object_format, name), complaint)
+        alike = sum(is_alike for _, is_alike in found)
+        complaint = None if alike > 0.9 * len(sets) else "in too few"
+        tally.check("%s, rev-list, counts of sets of %s, right in %d" % (repository.object_format, name, alike), complaint)
 
 
 def check_sets(histories, tally, repository, name, words, graphs, sets):
-    """What is said of sets of commits in graphs of the same commits, by their paths, each with the places of its ids."""
+    """What is said of sets of commits in graphs of the same commits, by their paths, each with the places of its ids.
+
+    Answers of each set how many bases it has, and whether Git counts what its own parents say.
+    """
+    found = []
     in_order = all(words[parent].time <= said.time for said in words.values() for parent in said.parents)
     reached = all_reached(words)
 
     def answer(ids):
-        listed = divergence(reached, *ids)
-        counted = repository.divergence(*ids) if in_order else listed
-        return repository.merge_bases(*ids), listed, counted, [histories.merge_base(path, *ids) for path in graphs]
+        told = [histories.merge_base(path, *ids) for path in graphs]
+        return repository.merge_bases(*ids), divergence(reached, *ids), repository.divergence(*ids), told
 
     def complaint(answers):
         bases, listed, counted, told = answers
-        if listed != counted:
+        found.append((len(bases), listed == counted))
+        if listed != counted if in_order else any(more > count for more, count in zip(listed, counted)):
             return "Git counts %s, and its own parents say %s" % (counted, listed)
-        complaints = [complaint_of(bases, counted, *pair) for pair in zip(told, graphs.values())]
+        complaints = [complaint_of(bases, listed, *pair) for pair in zip(told, graphs.values())]
         return next(filter(None, complaints), None)
 
     runs = [(lambda ids=ids: answer(ids), complaint) for ids in sets]
     check_runs(tally, "%s, merge-base, sets of commits of %s" % (repository.object_format, name), runs)
+    return found
 
 
 def all_reached(words):

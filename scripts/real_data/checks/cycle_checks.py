@@ -1,48 +1,91 @@
 """Checks `merge-base` on small histories at random, most with cycles of parents, beside all walks that there are.
 
 A commit of Git's is never among its own ancestors; in a file one may be, if its generation number is at the cap. So the
-files are put together here, and what is expected is found from the parents alone, as the definitions have it.
+files are put together here, in one layer or up to three, and what is expected is found from the parents alone, as the
+definitions have it.
 """
 
+import itertools
 import os
 import random
+import tempfile
+from typing import List, NamedTuple
 
+from checks import many
 from checks.base_checks import complaint_of
-from checks.runs import check_runs
-from damage.built import Commit, file_of
+from checks.program import Answer
+from damage import further, trees
+from damage.layer import contents
 from expected.listing import GREATEST_GENERATION
-from histories.repository import ID_LENGTH, write_bytes
+from histories.repository import ID_LENGTH
 
-HISTORIES = 100
-SETS = 15
+HISTORIES = 4000
+PART = 250
+"""Histories that one process makes and tries before it takes the next."""
+
+SETS = 5
 """So many questions are asked of each history."""
 
+LAYERS = (1, 1, 2, 3)
+"""A history has as many layers as one of these says."""
 
-def check_all(histories, tally, folder, kind):
-    """The checks in files of ids of a kind, which stand in a folder of their own."""
-    os.makedirs(folder)
-    chance, runs, cyclic = random.Random(5), [], 0
-    for number in range(HISTORIES):
-        parents = cyclic_history(chance)
-        below = [proper_ancestors(parents, commit) for commit in range(len(parents))]
-        cyclic += any(commit in below[commit] for commit in range(len(parents)))
-        path = os.path.join(folder, "commit-graph %d" % number)
-        ids = write_history(path, kind, parents, below)
-        sets = [chance.choices(range(len(parents)), k=chance.choice((2, 2, 3))) for _ in range(SETS)]
-        runs += [question(histories, path, ids, below, commits) for commits in sets]
-    check_runs(tally, "%s, merge-base, sets of commits of %d histories with cycles" % (kind, cyclic), runs)
+KINDS = {"nothing in common", "one base", "more bases"}
+KINDS |= {kind + ", at the cap" for kind in KINDS} | {"in common, and no base, at the cap"}
+"""All that has to come up. At the cap is the generation number of one of the commits that are asked for."""
 
 
-def cyclic_history(chance):
-    """The parents of each commit: mostly of one that is earlier in some order, now and then any."""
-    size, wild = chance.randint(1, 13), chance.choice((0.1, 0.3, 0.6))
-    order = chance.sample(range(size), size)
-    parents = [()] * size
-    for place, commit in enumerate(order):
-        chosen = chance.sample(order[:place], min(place, chance.choice((0, 1, 1, 1, 2, 2, 3))))
-        chosen += [chance.randrange(size)] if chance.random() < wild else []
-        parents[commit] = tuple(dict.fromkeys(chosen))
-    return parents
+class History(NamedTuple):
+    """The parents of each commit, the commits to which a walk of one step or more leads from it, and the ids."""
+
+    parents: List[tuple]
+    below: List[set]
+    ids: List[str]
+
+
+def check_all(histories, tally):
+    """The checks of some histories, always the same ones."""
+    parts = [(histories.path, start, min(PART, HISTORIES - start)) for start in range(0, HISTORIES, PART)]
+    answers = many.in_processes(try_part, parts)
+    complaints, cyclic = [complaint for complaint, _, _ in answers if complaint], sum(count for _, count, _ in answers)
+    title = "merge-base, %d histories at random, %d with cycles" % (HISTORIES, cyclic)
+    tally.check("%s (%d runs)" % (title, HISTORIES * SETS), complaints[0] if complaints else None)
+    odd = sorted(KINDS.symmetric_difference(set().union(*(kinds for _, _, kinds in answers))))
+    tally.check("merge-base, histories at random, each kind of answer", "none or one has %s" % odd if odd else None)
+
+
+def try_part(program, start, count):
+    """Tries some histories: a complaint or None, how many of them have cycles, and the kinds of answers that had to come."""
+    kinds, cyclic = set(), 0
+    with tempfile.TemporaryDirectory() as folder:
+        bench, info = many.Bench(program, folder), os.path.join(folder, "info")
+        for number in range(start, start + count):
+            chance = random.Random("cycles %d" % number)
+            history = written(info, chance)
+            cyclic += any(commit in below for commit, below in enumerate(history.below))
+            for _ in range(SETS):
+                commits = chance.choices(range(len(history.parents)), k=chance.choice((2, 2, 3, 4)))
+                complaint, kind = question(bench, info, history, commits)
+                kinds.add(kind)
+                if complaint:
+                    return "history %d, %s: %s" % (number, commits, complaint), cyclic, kinds
+    return None, cyclic, kinds
+
+
+def written(info, chance):
+    """Makes a history at random, and lays out the file of it or the chain."""
+    kind = chance.choice(list(ID_LENGTH))
+    sizes = [chance.randint(1, 12) for _ in range(chance.choice(LAYERS))]
+    starts = list(itertools.accumulate([0, *sizes]))
+    parents = further.history(starts, chance, chance.choice((0.1, 0.3, 0.6)))
+    below = [proper_ancestors(parents, commit) for commit in range(len(parents))]
+    levels, files = generations(parents, below), []
+    for part in [slice(*pair) for pair in zip(starts, starts[1:])]:
+        layer = further.Layer(part.start, [7] * len(parents[part]), parents[part], [])
+        files.append(further.file_of(kind, layer, levels[part], {}, files, chance))
+    trees.lay_out(info, trees.of_layers(kind, files))
+    ids = b"".join(dict(contents(file, kind))[b"OIDL"] for file in files)
+    size = ID_LENGTH[kind]
+    return History(parents, below, [ids[at : at + size].hex() for at in range(0, len(ids), size)])
 
 
 def proper_ancestors(parents, commit):
@@ -56,27 +99,24 @@ def proper_ancestors(parents, commit):
     return found
 
 
-def write_history(path, kind, parents, below):
-    """Makes the file of a history, and answers the ids of its commits."""
-    ids = [bytes([commit + 1]) * ID_LENGTH[kind] for commit in range(len(parents))]
-    generations = [generation(parents, below, commit) for commit in range(len(parents))]
-    write_bytes(path, file_of(kind, list(map(Commit, ids, parents, generations))))
-    return [commit.hex() for commit in ids]
+def generations(parents, below):
+    """How many commits the longest walk from each one has, at most the cap, which is so where a walk leads into a cycle."""
+    endless = [any(other in below[other] for other in below[commit]) for commit in range(len(parents))]
+    levels = further.settled(parents, [1] * len(parents))
+    return [GREATEST_GENERATION if is_endless else level for is_endless, level in zip(endless, levels)]
 
 
-def generation(parents, below, commit):
-    """How many commits the longest walk from one has, at most the cap, which is so where a walk leads into a cycle."""
-    if any(other in below[other] for other in below[commit] | {commit}):
-        return GREATEST_GENERATION
-    return 1 + max((generation(parents, below, parent) for parent in parents[commit]), default=0)
-
-
-def question(histories, path, ids, below, commits):
-    """The question about some commits of a history, and the judge of the answer."""
+def question(bench, info, history, commits):
+    """A complaint about the answer to a question about some commits of a history, or None; and the kind of the answer."""
+    below = history.below
     reached = [below[commit] | {commit} for commit in commits]
     first, others = reached[0], set().union(*reached[1:])
     common = first & others
-    bases = [ids[base] for base in common if not any(base in below[commit] for commit in common)]
-    counts, place = (len(first - others), len(others - first)), {commit: number for number, commit in enumerate(ids)}
-    words = [ids[commit] for commit in commits]
-    return lambda: histories.merge_base(path, *words), lambda answer: complaint_of(bases, counts, answer, place)
+    bases = [base for base in common if not any(base in below[commit] for commit in common)]
+    kind = ("one base", "more bases")[len(bases) > 1] if bases else "in common, and no base" if common else "nothing in common"
+    if any(other in below[other] for commits in reached for other in commits):
+        kind += ", at the cap"
+    place = {commit: number for number, commit in enumerate(history.ids)}
+    status, text = bench.run("merge-base", info, *[history.ids[commit] for commit in commits])
+    counts = len(first - others), len(others - first)
+    return complaint_of([history.ids[base] for base in bases], counts, Answer(status, text, b""), place), kind

@@ -42,17 +42,10 @@ def try_part(program, seed, start, count):
         bench, info = many.Bench(program, folder), os.path.join(folder, "info")
         for number in range(start, start + count):
             graph = further.graph(random.Random("%d %d" % (seed, number)))
-            trees.lay_out(info, tree(graph))
+            trees.lay_out(info, trees.of_layers(graph.kind, graph.layers))
             text = checked(graph.verified, graph.layers, graph.kind)
             kinds.update(KIND.findall(text))
             complaint = bench.complaint({text}, "check", info)
             if complaint:
                 return kinds, "graph %d of seed %d: %s" % (number, seed, complaint)
     return kinds, None
-
-
-def tree(graph):
-    """What stands in the folder `info` for a graph: its single file, or a chain."""
-    if len(graph.layers) == 1:
-        return {trees.FILE: graph.layers[0]}
-    return trees.chain([trees.Layer("", layer).renamed(graph.kind) for layer in graph.layers])

@@ -42,7 +42,8 @@ def graph(chance):
     kind = chance.choice(list(ID_LENGTH))
     sizes = [chance.choice((0, 1, 2, 3, 5, 8, 13)) for _ in range(chance.choice((1, 1, 2, 3, 4)))]
     starts = list(itertools.accumulate([0, *sizes]))
-    parents, times = history(starts, chance), [chance.choice(TIMES) for _ in range(starts[-1])]
+    wild = 0.3 if chance.random() < 0.1 else 0
+    parents, times = history(starts, chance, wild), [chance.choice(TIMES) for _ in range(starts[-1])]
     generations, dates = settled(parents, [1] * starts[-1]), settled(parents, [max(time, 1) for time in times])
     generations = [min(level, GREATEST_GENERATION) if level <= len(parents) else GREATEST_GENERATION for level in generations]
     if generations and chance.random() < 0.03:
@@ -62,9 +63,10 @@ def some_files(count, chance):
     return [found.layers[0] for found in itertools.islice((found for found in graphs if len(found.layers) == 1), count)]
 
 
-def history(starts, chance):
-    """The parents of each commit: earlier ones in some order, among them the ends of lists of others; now and then any."""
-    parents, wild = [()] * starts[-1], chance.random() < 0.1
+def history(starts, chance, wild):
+    """The parents of each commit: earlier ones in some order, among them the ends of lists of others; and of so many commits
+    in one any parent more."""
+    parents = [()] * starts[-1]
     for start, stop in zip(starts, starts[1:]):
         before, lists = list(range(start)), []
         for commit in chance.sample(range(start, stop), stop - start):
@@ -76,7 +78,7 @@ def history(starts, chance):
             if len(chosen) > 2:
                 lists.append(chosen[1:])
             before.append(commit)
-            if wild and chance.random() < 0.3:
+            if wild and chance.random() < wild:
                 chosen.append(chance.randrange(stop))
             parents[commit] = tuple(chosen)
     return parents

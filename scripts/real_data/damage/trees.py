@@ -44,6 +44,13 @@ def chain(layers):
     return {**{layer.path(): layer.content for layer in layers}, CHAIN: text(lines)}
 
 
+def of_layers(object_format, files):
+    """The tree of a graph of these files, the lowest layer first: a single file, or a chain of files that are named right."""
+    if len(files) == 1:
+        return {FILE: files[0]}
+    return chain([Layer("", file).renamed(object_format) for file in files])
+
+
 def text(lines):
     """The bytes of a chain file of these lines."""
     return b"".join(line + b"\n" for line in lines)
