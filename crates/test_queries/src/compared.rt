@@ -1,5 +1,5 @@
 //! The bases and the counts are those that Git 2.39.5 names for the same commits, but for the
-//! cycle, which no repository has.
+//! cycles, which no repository has. On a cycle a commit is its own proper ancestor, and so no base.
 
 use crate::fixtures::graph;
 use gix_commitgraph::{GENERATION_NUMBER_MAX, Position};
@@ -34,6 +34,13 @@ const IN_LAYERS: Layers = &[
         (0x33, &[3], 4),
         (0x44, &[4], 4),
     ],
+];
+
+/// A fork in the lowest of three layers, and its two lines in the layers above.
+const IN_THREE_LAYERS: Layers = &[
+    &[(0x11, &[], 1), (0x22, &[0], 2)],
+    &[(0x11, &[1], 3), (0x22, &[1], 3)],
+    &[(0x11, &[2], 4), (0x22, &[3], 4)],
 ];
 
 /// Two lines that merge each other twice. One of them merges the root once more.
@@ -80,6 +87,17 @@ const OCTOPUS: Layers = &[&[
 /// A commit that is its own parent, and two commits on it.
 const CYCLE: Layers = &[&[(0x11, &[0], MAX), (0x22, &[0], MAX), (0x33, &[0], MAX)]];
 
+/// A root, two commits above it that are each other's parents, a commit on each of these, and one
+/// more on the root.
+const CYCLE_ABOVE_A_FORK: Layers = &[&[
+    (0x11, &[], 1),
+    (0x22, &[2, 0], MAX),
+    (0x33, &[1], MAX),
+    (0x44, &[1], MAX),
+    (0x55, &[2], MAX),
+    (0x66, &[0], 2),
+]];
+
 /// A graph, a commit and some others, their merge bases, and how many commits are ahead and behind.
 type Query = (Layers, u32, &'static [u32], &'static [u32], u32, u32);
 
@@ -88,10 +106,13 @@ const QUERIES: &[Query] = &[
     (CRISS_CROSS, 5, &[5], &[5], 0, 0),
     (CRISS_CROSS, 3, &[4], &[1, 2], 1, 1),
     (CRISS_CROSS, 5, &[0], &[0], 4, 0),
+    (CRISS_CROSS, 0, &[5], &[0], 0, 4),
     (CRISS_CROSS, 1, &[5, 6], &[1], 0, 5),
     (CRISS_CROSS, 5, &[1, 6], &[1, 2], 2, 2),
     (IN_LAYERS, 6, &[5], &[1, 2], 2, 2),
     (IN_LAYERS, 0, &[5], &[0], 0, 4),
+    (IN_THREE_LAYERS, 4, &[5], &[1], 2, 2),
+    (IN_THREE_LAYERS, 5, &[0, 4], &[1], 2, 2),
     (TWICE, 7, &[8], &[3, 4], 2, 2),
     (TWICE, 7, &[1, 2], &[1, 2], 4, 0),
     (APART, 0, &[3], &[], 1, 3),
@@ -104,6 +125,12 @@ const QUERIES: &[Query] = &[
     (OCTOPUS, 6, &[5, 4, 7], &[3], 1, 5),
     (OCTOPUS, 4, &[5, 6], &[2, 3], 2, 2),
     (CYCLE, 1, &[2], &[], 1, 1),
+    (CYCLE, 0, &[0], &[], 0, 0),
+    (CYCLE_ABOVE_A_FORK, 3, &[4], &[], 1, 1),
+    (CYCLE_ABOVE_A_FORK, 1, &[2], &[], 0, 0),
+    (CYCLE_ABOVE_A_FORK, 3, &[5], &[0], 3, 1),
+    (CYCLE_ABOVE_A_FORK, 5, &[3, 4], &[0], 1, 4),
+    (CYCLE_ABOVE_A_FORK, 0, &[3], &[0], 0, 3),
 ];
 
 /// Compares an answer with the numbers of the bases and the two counts.
@@ -153,6 +180,10 @@ fn two_commits_turned_round_have_the_same_bases(rt: HostRuntime) {
         .divergence(alloc, three, &[six])
         .expect(&rt, "memory");
     assert!(rt; apart.ahead == 1 && apart.behind == 2);
+    let turned = checked
+        .divergence(alloc, six, &[three])
+        .expect(&rt, "memory");
+    assert!(rt; turned.ahead == 2 && turned.behind == 1);
 
     // Of a commit and itself nothing else is visited.
     let same = checked
