@@ -6,9 +6,10 @@ usage: python3 bench/bases.py [FOLDER]
 FOLDER keeps the files and both programs for further runs. Git makes a million commits of topic branches,
 long lines that merge each other and merges of several at once, and a commit-graph of them, in one layer and
 in a chain of ten. Both programs compare 1,000 pairs of commits at random, 1,000 of the newest 2,000, and
-1,000 commits with themselves, in turn, and have to give the same sums of bases, of commits ahead and behind,
-and of visits. A line a figure: ours and the baseline's, in microseconds a pair, each the best of all runs,
-their ratio, and the visits a pair. The check of the graph is not counted.
+1,000 commits with themselves, and these once more with memory that is asked for anew at each, in turn. They
+have to give the same sums of bases, of commits ahead and behind, and of visits. A line a figure: ours and
+the baseline's, in microseconds a pair, each the best of all runs, their ratio, and the visits a pair. The
+check of the graph is not counted.
 
 Then the time of `git merge-base --all` for the first pairs of each kind with the layer, one process each, and
 that of a process of Git that does nothing; and the numbers of bases, which have to be ours.

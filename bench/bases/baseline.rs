@@ -55,6 +55,11 @@ struct Search<'a> {
 }
 
 impl Search<'_> {
+    fn new(history: &History) -> Search<'_> {
+        let marks = vec![0; history.generations.len()];
+        Search { history, marks, queue: BinaryHeap::new(), touched: Vec::new(), fresh: 0, visits: 0 }
+    }
+
     fn add(&mut self, commit: u32, paint: u8) {
         let old = self.marks[commit as usize];
         if old & paint == paint {
@@ -110,20 +115,25 @@ impl Search<'_> {
     }
 }
 
-fn run(name: &str, chain: &Chain<'_>, history: &History, ids: &[Id]) {
+/// With `anew`, memory is asked for again at each pair.
+fn run(name: &str, chain: &Chain<'_>, history: &History, ids: &[Id], anew: bool) {
     let positions: Vec<u32> = ids.iter().map(|id| chain.lookup(id).unwrap()).collect();
     let start = Instant::now();
     let (mut count, mut sum, mut apart) = (0u64, 0u64, 0u64);
-    let marks = vec![0; history.generations.len()];
-    let mut search = Search { history, marks, queue: BinaryHeap::new(), touched: Vec::new(), fresh: 0, visits: 0 };
+    let mut search = Search::new(history);
+    let mut visits = 0;
     for &[first, other] in positions.as_chunks().0 {
         search.run(first, other);
         let (bases, alone) = search.answer();
         count += bases.len() as u64;
         sum += bases.iter().map(|base| u64::from(*base)).sum::<u64>();
         apart += alone;
+        if anew {
+            visits += search.visits;
+            search = Search::new(history);
+        }
     }
-    println!("{name} {} {count} {sum} {apart} {}", start.elapsed().as_nanos(), search.visits);
+    println!("{name} {} {count} {sum} {apart} {}", start.elapsed().as_nanos(), visits + search.visits);
 }
 
 fn main() {
@@ -134,7 +144,8 @@ fn main() {
     };
     let chain = Chain::new(layers.iter().map(|data| Layer::new(data).unwrap()).collect());
     let history = History::new(&chain);
-    run("any", &chain, &history, any.as_chunks::<ID_LEN>().0);
-    run("newest", &chain, &history, newest.as_chunks::<ID_LEN>().0);
-    run("same", &chain, &history, same.as_chunks::<ID_LEN>().0);
+    run("any", &chain, &history, any.as_chunks::<ID_LEN>().0, false);
+    run("newest", &chain, &history, newest.as_chunks::<ID_LEN>().0, false);
+    run("same", &chain, &history, same.as_chunks::<ID_LEN>().0, false);
+    run("anew", &chain, &history, same.as_chunks::<ID_LEN>().0, true);
 }
