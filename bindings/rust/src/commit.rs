@@ -21,11 +21,13 @@ impl fmt::Debug for Commit<'_> {
 
 impl<'g> Commit<'g> {
     /// Its position in the graph.
+    #[inline]
     pub fn position(&self) -> Position {
         self.pos
     }
 
     /// Its id.
+    #[inline]
     pub fn id(&self) -> ObjectId {
         let mut id = ObjectId { bytes: [0; 32], len: self.graph.id_len as u8 };
         // SAFETY: the array has room for an id of either length.
@@ -34,6 +36,7 @@ impl<'g> Commit<'g> {
     }
 
     /// The id of its root tree.
+    #[inline]
     pub fn root_tree_id(&self) -> ObjectId {
         let mut id = ObjectId { bytes: [0; 32], len: self.graph.id_len as u8 };
         // SAFETY: the array has room for an id of either length.
@@ -42,6 +45,7 @@ impl<'g> Commit<'g> {
     }
 
     /// What its record says, but for its ids and its parents, by one call.
+    #[inline]
     pub fn record(&self) -> Record {
         let mut told = sys::Commit::default();
         // SAFETY: `raw` is open, and the pointer is that of a record.
@@ -70,6 +74,7 @@ impl<'g> Commit<'g> {
     }
 
     /// The positions of its parents in order, and after them the error that ends their decoding, if there is one.
+    #[inline]
     pub fn iter_parents(&self) -> Parents {
         let mut few = [Position(0); FEW];
         let told = self.write_parents(&mut few);
@@ -82,17 +87,20 @@ impl<'g> Commit<'g> {
     }
 
     /// Writes the positions of its parents, as many as there is room for.
+    #[inline]
     fn write_parents(&self, out: &mut [Position]) -> sys::ParentCount {
         // SAFETY: `raw` is open, the pointer and the length are those of a slice, and a position is one number.
         unsafe { sys::cg_parents(self.graph.raw, self.pos.0, out.as_mut_ptr().cast(), out.len()) }
     }
 
     /// Its generation number.
+    #[inline]
     pub fn generation(&self) -> u32 {
         self.record().generation
     }
 
     /// When it was made: seconds since 1970-01-01 00:00:00 UTC.
+    #[inline]
     pub fn committer_timestamp(&self) -> u64 {
         self.record().committer_timestamp
     }
@@ -112,6 +120,7 @@ pub struct Parents {
 impl Iterator for Parents {
     type Item = Result<Position, ParentError>;
 
+    #[inline]
     fn next(&mut self) -> Option<Self::Item> {
         if self.next == self.count {
             return self.fault.take().map(Err);
@@ -121,6 +130,7 @@ impl Iterator for Parents {
         Some(Ok(pos))
     }
 
+    #[inline]
     fn size_hint(&self) -> (usize, Option<usize>) {
         let left = self.count - self.next + usize::from(self.fault.is_some());
         (left, Some(left))

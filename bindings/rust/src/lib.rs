@@ -114,6 +114,7 @@ impl Graph {
     }
 
     /// The number of commits.
+    #[inline]
     pub fn num_commits(&self) -> u32 {
         // SAFETY: here and below, `raw` is open, since only `drop` closes it.
         unsafe { sys::cg_num_commits(self.raw) }
@@ -128,27 +129,32 @@ impl Graph {
     }
 
     /// The commit with an id.
+    #[inline]
     pub fn commit_by_id(&self, id: impl AsRef<[u8]>) -> Option<Commit<'_>> {
         Some(Commit { graph: self, pos: self.lookup(id)? })
     }
 
     /// The commit at a position. Panics where the position is none, as `gix-commitgraph` does.
+    #[inline]
     pub fn commit_at(&self, pos: Position) -> Commit<'_> {
         assert!(pos.0 < self.num_commits(), "position {} of {} commits", pos.0, self.num_commits());
         Commit { graph: self, pos }
     }
 
     /// The id at a position. Panics where the position is none.
+    #[inline]
     pub fn id_at(&self, pos: Position) -> ObjectId {
         self.commit_at(pos).id()
     }
 
     /// The commits, in order.
+    #[inline]
     pub fn iter_commits(&self) -> impl ExactSizeIterator<Item = Commit<'_>> {
         (0..self.num_commits()).map(|pos| Commit { graph: self, pos: Position(pos) })
     }
 
     /// The ids, in order.
+    #[inline]
     pub fn iter_ids(&self) -> impl ExactSizeIterator<Item = ObjectId> + '_ {
         self.iter_commits().map(|commit| commit.id())
     }
@@ -163,6 +169,7 @@ pub struct Checked {
 impl std::ops::Deref for Checked {
     type Target = Graph;
 
+    #[inline]
     fn deref(&self) -> &Graph {
         &self.graph
     }
@@ -205,6 +212,7 @@ impl Checked {
     }
 
     /// Whether a commit leads along parents to another, which is then its ancestor. A commit leads to itself.
+    #[inline]
     pub fn is_ancestor(&self, from: Position, to: Position) -> Result<bool, QueryError> {
         // SAFETY: `raw` is open.
         let leads = unsafe { sys::cg_is_ancestor(self.graph.raw, from.0, to.0) };
