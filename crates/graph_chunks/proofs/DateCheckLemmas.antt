@@ -11,7 +11,7 @@ use Rattle.first_faults.proofs.FirstLemmas.{then_some-false}
 use Rattle.graph_walks.specs.Counts.{greatest}
 use Rattle.graph_walks.specs.Dates.{number_at, expected_date, AreRight}
 use Rattle.graph_format.specs.Layer.{Layer, IsOpened, record_at}
-use Rattle.graph_format.specs.Parents.{parents_of, position_of}
+use Rattle.graph_format.specs.Parents.{position_of}
 use Rattle.graph_format.specs.StoredHistory.{history_of}
 use Rattle.gix_commitgraph.specs.Graph.{graph_commits, start, stop, total}
 use Rattle.gix_commitgraph.proofs.history.HistoryLemmas.{parents-at, length-history}
@@ -34,16 +34,6 @@ time-at layers p j layer here =
     let at : slice_get (map time (graph_commits layers)) p ≡ Some (record_at layer j).time =
     slice_get-map time (graph_commits layers) p ∙ ap (option_map time) here in
     sym (get_or_from_slice_get (map time (graph_commits layers)) p (record_at layer j).time 0 at)
-
--- the date that is expected of it
-pub expected-at : (layers : List Layer) (dates : List ℕ) (p j latest : ℕ) (layer : Layer) → All IsOpened layers
-    → slice_get (graph_commits layers) p ≡ Some (layer, j) → latest ≡ latest_of dates (parents_of (record_at layer j) layer.edges)
-    → max (record_at layer j).time (1 + latest) ≡ expected_date (history_of layers) (times_of layers) dates p
-unfolding expected_date
-expected-at layers dates p j latest layer opened here is =
-    let time = time-at layers p j layer here in
-    let parents = ap (λ (ps : List ℕ). greatest (map (number_at dates) ps)) (parents-at layers p j layer opened here) in
-    omega (arith, time, parents, is)
 
 pub date-fine : (layers : List Layer) (dates : List ℕ) (p : ℕ)
     → first_below (wrong_date (history_of layers) (times_of layers) dates) p ≡ None
@@ -116,12 +106,14 @@ pub expected-of : (layers : List Layer) (dates : List ℕ) (p place expected : �
     → commit_pos commit ≡ place
     → expected ≡ max (commit_record commit).time (1 + latest_of dates (commit_parents commit))
     → expected ≡ expected_date (history_of layers) (times_of layers) dates p
-expected-of layers dates p place expected layer commit opened here in_layer at is =
-    is
-    ∙ expected-at layers dates p (commit_pos commit) (latest_of dates (commit_parents commit)) (commit_layer commit) opened
-    (here
-    ∙ ap (λ (l : Layer). Some (l, place)) (sym in_layer)
-    ∙ ap (λ (n : ℕ). Some (commit_layer commit, n)) (sym at)) refl
+unfolding expected_date
+expected-of layers dates p place expected layer commit opened there in_layer at is =
+    let here : slice_get (graph_commits layers) p ≡ Some (commit_layer commit, commit_pos commit) =
+    there ∙ ap (λ (l : Layer). Some (l, place)) (sym in_layer) ∙ ap (λ (n : ℕ). Some (commit_layer commit, n)) (sym at) in
+    let time = time-at layers p (commit_pos commit) (commit_layer commit) here in
+    let told = parents-at layers p (commit_pos commit) (commit_layer commit) opened here in
+    let latest = ap (λ (ps : List ℕ). greatest (map (number_at dates) ps)) told in
+    omega (arith, is, time, latest)
 
 pub refusal-reading : (layers : List Layer) (error : DatesError)
     → first_below (reading_fault layers) (length layers) ≡ Some error → graph_dates_refusal layers ≡ Some error

@@ -437,11 +437,6 @@ computed-all filters n all = ap (count_by is_computed) (take_all n filters all)
 
 -- the refusal of all layers, from that of one
 
-pub layer-here : (layers files : List Layer) (i : ℕ) (layer : Layer) → files ≡ layers → i < length layers
-    → layer ≡ get_or files i layer → slice_get layers i ≡ Some layer
-layer-here layers files i layer same within is =
-    slice_get_read layers (length layers) i layer refl within (is ∙ ap (λ (ls : List Layer). get_or ls i layer) same)
-
 pub settings-empty : None ≡ settings_of []
 unfolding settings_of
 settings-empty = refl

@@ -1,53 +1,52 @@
 use Rattle.std.proofs.Common.{◌≡◌, ◌+◌, ℕ, length, None, ap, ◌∙◌, subst, arith}
 use Rattle.first_faults.specs.First.{first_below}
-use Rattle.graph_walks.specs.Dates.{number_at}
+use Rattle.graph_walks.specs.Dates.{number_at, expected_date}
 use Rattle.graph_format.specs.StoredHistory.{history_of}
 use Rattle.graph_chunks.specs.GraphStoredDates.{times_of}
 use Rattle.graph_chunks.specs.GraphDates.{wrong_date}
-use Rattle.graph_chunks.proofs.DateCheckLemmas.{date-fine, date-found, is_place, stop-is, expected-of}
+use Rattle.graph_chunks.proofs.DateCheckLemmas.{IsPlace, date-fine, date-found, is_place, stop-is, expected-of}
 use Rattle.graph_chunks.proofs.dates.check.check_layer.Goals as goal
+use Rattle.graph_chunks.proofs.dates.check.check_layer.Goals.{After-expected_date-expected}
+
+-- the commit stands at this position of the graph
+place-there : (c : After-expected_date-expected)
+    → IsPlace c.args.graph.now c.args.before c.loop-place.place c.index-layers-layer.result
+place-there c =
+    is_place c.args.graph.now c.layers.result.now c.args.layer c.args.before c.loop-place.place c.index-layers-layer.result
+    c.layers.ensures.same c.requires.layer c.requires.before c.index-layers-layer.is
+    (omega (arith, c.loop-place-test.true, c.loop-place.auto.place-end, c.num_commits-place-end.ensures.ids))
+
+-- and this is the date that is expected of it
+is-expected : (c : After-expected_date-expected)
+    → c.expected_date-expected.result
+    ≡ expected_date (history_of c.args.graph.now) (times_of c.args.graph.now) c.args.dates.now
+    (c.args.before + c.loop-place.place)
+is-expected c =
+    expected-of c.args.graph.now c.args.dates.now (c.args.before + c.loop-place.place) c.loop-place.place
+    c.expected_date-expected.result c.index-layers-layer.result c.commit_at-commit.result c.requires.graph.opened
+    (place-there c).commit c.commit_at-commit.ensures.layer c.commit_at-commit.ensures.pos c.expected_date-expected.ensures
 
 pub overflow_add-pos : goal.overflow_add-pos
 overflow_add-pos c =
-    let at =
-    is_place c.args.graph.now c.layers.result.now c.args.layer c.args.before c.loop-place.place c.index-layers-layer.result
-    c.layers.ensures.same c.requires.layer c.requires.before c.index-layers-layer.is
-    (omega (arith, c.loop-place-test.true, c.loop-place.auto.place-end, c.num_commits-place-end.ensures.ids)) in
-    omega (arith, at.below, c.requires.graph.makes.few)
+    let place = place-there (goal.at.overflow_add-pos c).After-expected_date-expected in
+    omega (arith, place.below, c.requires.graph.makes.few)
 
 pub bounds-dates-pos : goal.bounds-dates-pos
 bounds-dates-pos c =
-    let at =
-    is_place c.args.graph.now c.layers.result.now c.args.layer c.args.before c.loop-place.place c.index-layers-layer.result
-    c.layers.ensures.same c.requires.layer c.requires.before c.index-layers-layer.is
-    (omega (arith, c.loop-place-test.true, c.loop-place.auto.place-end, c.num_commits-place-end.ensures.ids)) in
-    omega (arith, at.below, c.requires.dates)
+    let place = place-there (goal.at.bounds-dates-pos c).After-expected_date-expected in
+    omega (arith, place.below, c.requires.dates)
 
 pub returns-then-dates-pos-clause-fault : goal.returns-then-dates-pos-clause-fault
 returns-then-dates-pos-clause-fault c _ =
-    let at =
-    is_place c.args.graph.now c.layers.result.now c.args.layer c.args.before c.loop-place.place c.index-layers-layer.result
-    c.layers.ensures.same c.requires.layer c.requires.before c.index-layers-layer.is
-    (omega (arith, c.loop-place-test.true, c.loop-place.auto.place-end, c.num_commits-place-end.ensures.ids)) in
-    let expected =
-    expected-of c.args.graph.now c.args.dates.now (c.args.before + c.loop-place.place) c.loop-place.place
-    c.expected_date-expected.result c.index-layers-layer.result c.commit_at-commit.result c.requires.graph.opened at.commit
-    c.commit_at-commit.ensures.layer c.commit_at-commit.ensures.pos c.expected_date-expected.ensures in
+    let shared = (goal.at.returns-then-dates-pos-clause-fault c).After-expected_date-expected in
     let date = number_at c.args.dates.now (c.args.before + c.loop-place.place) in
     let apart : date ≡ c.expected_date-expected.result → ⊥ = λ same. absurd (omega (arith, same, c.if-dates-pos.true)) in
     date-found c.args.graph.now c.args.dates.now (c.args.before + c.loop-place.place) c.expected_date-expected.result
-    c.loop-place.invariant expected apart at.below
+    c.loop-place.invariant (is-expected shared) apart (place-there shared).below
 
 pub loop-place-preserved : goal.loop-place-preserved
 loop-place-preserved c =
-    let at =
-    is_place c.args.graph.now c.layers.result.now c.args.layer c.args.before c.loop-place.place c.index-layers-layer.result
-    c.layers.ensures.same c.requires.layer c.requires.before c.index-layers-layer.is
-    (omega (arith, c.loop-place-test.true, c.loop-place.auto.place-end, c.num_commits-place-end.ensures.ids)) in
-    let expected =
-    expected-of c.args.graph.now c.args.dates.now (c.args.before + c.loop-place.place) c.loop-place.place
-    c.expected_date-expected.result c.index-layers-layer.result c.commit_at-commit.result c.requires.graph.opened at.commit
-    c.commit_at-commit.ensures.layer c.commit_at-commit.ensures.pos c.expected_date-expected.ensures in
+    let expected = is-expected (goal.at.loop-place-preserved c).After-expected_date-expected in
     let next : c.args.before + c.loop-place.place + 1 ≡ c.args.before + (c.loop-place.place + 1) = omega arith in
     let fault = wrong_date (history_of c.args.graph.now) (times_of c.args.graph.now) c.args.dates.now in
     subst (λ (n : ℕ). first_below fault n ≡ None)

@@ -1,16 +1,17 @@
-use Rattle.std.proofs.Common.{◌≡◌, ◌<◌, ◌+◌, List, [], ◌∷◌, ◌++◌, Option, length, sym, ap, subst, ◌∙◌, arith}
+use Rattle.std.proofs.Common.{◌≡◌, ◌<◌, ◌+◌, List, [], ◌∷◌, ◌++◌, Option, Some, length, slice_get, sym, ap, subst, ◌∙◌, arith}
 use Rattle.std.specs.Option.{option_or}
 use Rattle.first_faults.proofs.FirstLemmas.{first_below-none, first_below-none_more}
 use Rattle.graph_format.specs.Layer.{Layer}
 use Rattle.gix_commitgraph.proofs.layers.LayerListLemmas.{start-none, start-more, counted-fits}
+use Rattle.gix_commitgraph.proofs.layers.LayerStartLemmas.{layer-kept}
 use Rattle.graph_chunks.specs.GraphFilters.{filters_fault, settings_of, settings_in}
 use Rattle.graph_chunks.specs.KeptFilters.{AreKept}
 use Rattle.graph_chunks.specs.declared.filters.FilterSettings.{FilterSettings}
 use Rattle.graph_chunks.specs.declared.filters.LayerFilters.{LayerFilters}
 use Rattle.graph_chunks.proofs.GraphFilterLemmas.{length-filters, settings-empty, kept-none, kept-more, kept-by, fault-at}
-use Rattle.graph_chunks.proofs.GraphFilterLemmas.{settings-more}
-use Rattle.graph_chunks.proofs.GraphFilterLemmas.{not-refused, refused, layer-here}
+use Rattle.graph_chunks.proofs.GraphFilterLemmas.{settings-more, not-refused, refused}
 use Rattle.graph_chunks.proofs.filters.GraphFilters.of_graph.Goals as goal
+use Rattle.graph_chunks.proofs.filters.GraphFilters.of_graph.Goals.{After-index-layers-layer}
 
 pub loop-layer-init : goal.loop-layer-init
 loop-layer-init c = record {
@@ -20,18 +21,26 @@ loop-layer-init c = record {
   kept = rw c.new-layers.ensures.items (kept-none c.args.graph.now (settings_of c.args.graph.now));
 }
 
-pub read_layer-requires : goal.read_layer-requires
-read_layer-requires c =
-    let layers = c.args.graph.now in
-    let within : c.loop-layer.layer < length layers = omega (
+-- there is a layer of this number
+within : (c : After-index-layers-layer) → c.loop-layer.layer < length c.args.graph.now
+within c =
+    omega (
       arith,
       c.loop-layer-test.true,
       c.loop-layer.auto.layer-end,
       ap (λ (ls : List Layer). length ls) c.layers-layer-end.ensures.same,
-    ) in
-    let here =
-    layer-here layers c.layers.result.now c.loop-layer.layer c.index-layers-layer.result c.layers.ensures.same within
-    c.index-layers-layer.is in
+    )
+
+layer-there : (c : After-index-layers-layer)
+    → slice_get c.args.graph.now c.loop-layer.layer ≡ Some c.index-layers-layer.result
+layer-there c =
+    layer-kept c.args.graph.now c.layers.result.now c.loop-layer.layer c.index-layers-layer.result c.layers.ensures.same
+    (within c) c.index-layers-layer.is
+
+pub read_layer-requires : goal.read_layer-requires
+read_layer-requires c =
+    let layers = c.args.graph.now in
+    let here = layer-there (goal.at.read_layer-requires c).After-index-layers-layer in
     record {
       fits = counted-fits layers c.loop-layer.layer c.loop-layer.before c.index-layers-layer.result c.layers.ensures.graph
           c.loop-layer.invariant.counted here;
@@ -40,32 +49,16 @@ read_layer-requires c =
 pub returns-in-Err-clause-refusal : goal.returns-in-Err-clause-refusal
 returns-in-Err-clause-refusal c apart =
     let layers = c.args.graph.now in
-    let within : c.loop-layer.layer < length layers = omega (
-      arith,
-      c.loop-layer-test.true,
-      c.loop-layer.auto.layer-end,
-      ap (λ (ls : List Layer). length ls) c.layers-layer-end.ensures.same,
-    ) in
-    let here =
-    layer-here layers c.layers.result.now c.loop-layer.layer c.index-layers-layer.result c.layers.ensures.same within
-    c.index-layers-layer.is in
+    let here = layer-there (goal.at.returns-in-Err-clause-refusal c).After-index-layers-layer in
     refused layers c.loop-layer.layer c.in-Err.error c.loop-layer.invariant.read
     (fault-at layers c.loop-layer.layer c.index-layers-layer.result c.loop-layer.before c.loop-layer.settings here
     c.loop-layer.invariant.counted c.loop-layer.invariant.lowest
-    ∙ c.in-Err.ensures.refusal) within
+    ∙ c.in-Err.ensures.refusal) (within (goal.at.returns-in-Err-clause-refusal c).After-index-layers-layer)
 
 pub overflow_add-before : goal.overflow_add-before
 overflow_add-before c =
     let layers = c.args.graph.now in
-    let within : c.loop-layer.layer < length layers = omega (
-      arith,
-      c.loop-layer-test.true,
-      c.loop-layer.auto.layer-end,
-      ap (λ (ls : List Layer). length ls) c.layers-layer-end.ensures.same,
-    ) in
-    let here =
-    layer-here layers c.layers.result.now c.loop-layer.layer c.index-layers-layer.result c.layers.ensures.same within
-    c.index-layers-layer.is in
+    let here = layer-there (goal.at.overflow_add-before c).After-index-layers-layer in
     omega (
       arith,
       c.num_commits-before.ensures.ids,
@@ -78,13 +71,7 @@ loop-layer-preserved c =
     let layers = c.args.graph.now in
     let i = c.loop-layer.layer in
     let layer = c.index-layers-layer.result in
-    let within : i < length layers = omega (
-      arith,
-      c.loop-layer-test.true,
-      c.loop-layer.auto.layer-end,
-      ap (λ (ls : List Layer). length ls) c.layers-layer-end.ensures.same,
-    ) in
-    let here = layer-here layers c.layers.result.now i layer c.layers.ensures.same within c.index-layers-layer.is in
+    let here = layer-there (goal.at.loop-layer-preserved c).After-index-layers-layer in
     let kept : LayerFilters = record { before = c.in-Ok.kept.before; filters = c.in-Ok.kept.filters } in
     let items : c.push.new.self.items ≡ c.loop-layer.layers.items ++ kept ∷ [] =
     rw c.if-is_err.ensures.negation at c.push.ensures.items in
