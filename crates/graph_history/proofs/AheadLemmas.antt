@@ -1,7 +1,8 @@
 -- What a search breadth first has read ahead.
-use Rattle.std.proofs.Common.{◌≡◌, ◌⊎◌, ℕ, suc, zero, ◌+◌, ◌<◌, List, [], ◌∷◌, ◌++◌, length, slice_get, get_or, Some}
-use Rattle.std.proofs.Common.{refl, sym, ap, inl, inr, ⊎_elim, subst, arith}
+use Rattle.std.proofs.Common.{◌≡◌, ℕ, ◌+◌, ◌<◌, List, [], ◌∷◌, ◌++◌, length, slice_get, get_or, Some, refl, ⊎_elim, subst, arith}
+use Rattle.std.proofs.lemmas.Option.{slice_get_read, slice_get_within}
 use Rattle.graph_format.specs.declared.parents.ParentEdge.{ParentEdge}
+use Rattle.gix_commitgraph.proofs.lookup.ElementLemmas.{pushed}
 use Rattle.graph_history.specs.Commits.{AreParentFields}
 use Rattle.graph_history.specs.Queue.{commit_in}
 use Rattle.graph_history.specs.Search.{queued_by, AreAhead, GoesOn}
@@ -12,12 +13,8 @@ use Rattle.graph_history.proofs.QueueLemmas.{commit_extends}
 abbrev Fields : Type 0
 Fields = ParentEdge × ParentEdge
 
-slice_get_none : (xs : List Fields) (i : ℕ) (x : Fields) → length xs ≡ 0 → slice_get xs i ≡ Some x → ⊥
-slice_get_none [] i x len at = (cc)
-slice_get_none (y ∷ ys) i x len at = absurd (omega arith)
-
 pub nothing_ahead : (s : Search) (ahead : Ahead) → length ahead.fields.items ≡ 0 → AreAhead s ahead
-nothing_ahead s ahead none i fields at = absurd (slice_get_none ahead.fields.items i fields none at)
+nothing_ahead s ahead none i fields at = absurd (omega (arith, none, slice_get_within ahead.fields.items i fields at))
 
 -- the queue grows
 pub ahead_extends : (a b : Search) (c : ℕ) (ahead : Ahead) → GoesOn a b c → AreAhead a ahead → AreAhead b ahead
@@ -28,17 +25,6 @@ ahead_extends a b c ahead on are i fields at =
       omega arith,
       rw (on.graph, commit_extends (queued_by a) (queued_by b) c (ahead.first + i) on.extends within) was.1,
     )
-
-pushed : (xs : List Fields) (x y : Fields) (i : ℕ) → slice_get (xs ++ x ∷ []) i ≡ Some y
-    → (slice_get xs i ≡ Some y) ⊎ ((i ≡ length xs) × (x ≡ y))
-pushed [] x y zero at = inr (refl, (cc))
-pushed [] x y (suc i) at = absurd (cc)
-pushed (z ∷ zs) x y zero at = inl at
-pushed (z ∷ zs) x y (suc i) at =
-    ⊎_elim
-    (λ old. inl old)
-    (λ new. (let len = new.0 in inr (omega arith, new.1)))
-    (pushed zs x y i at)
 
 -- the fields of one more commit are read
 pub ahead_push : (s : Search) (ahead after : Ahead) (x : Fields) (place : ℕ) → after.first ≡ ahead.first
@@ -58,15 +44,10 @@ ahead_push s ahead after x place first items end within here are i fields at =
     ))
     (pushed ahead.fields.items x fields i (subst (λ (xs : List Fields). slice_get xs i ≡ Some fields) items at)))
 
-slice_get_read : (xs : List Fields) (i : ℕ) (x : Fields) → i < length xs → x ≡ get_or xs i x → slice_get xs i ≡ Some x
-slice_get_read [] i x lt read = absurd (omega arith)
-slice_get_read (y ∷ ys) zero x lt read = ap (λ (f : Fields). Some f) (sym read)
-slice_get_read (y ∷ ys) (suc i) x lt read = slice_get_read ys i x (omega arith) read
-
 -- the fields that are read again are those of the commit at their place
 pub fields_ahead : (s : Search) (ahead : Ahead) (i place : ℕ) (x : Fields) → AreAhead s ahead → i < length ahead.fields.items
     → x ≡ get_or ahead.fields.items i x → ahead.first + i ≡ place
     → AreParentFields s.graph.now (commit_in (queued_by s) place) x
 fields_ahead s ahead i place x are lt read same =
     subst (λ (k : ℕ). AreParentFields s.graph.now (commit_in (queued_by s) k) x) same
-    (are i x (slice_get_read ahead.fields.items i x lt read)).1
+    (are i x (slice_get_read ahead.fields.items (length ahead.fields.items) i x refl lt read)).1
