@@ -1,6 +1,6 @@
 """Checks `graphtool` and `historytool` on real data: commit-graphs that the installed Git writes, and damaged ones.
 
-usage: python3 scripts/real_data GRAPHTOOL HISTORYTOOL [every-value]
+usage: python3 scripts/real_data GRAPHTOOL HISTORYTOOL TEST_FILTERS [every-value]
 
 - `list`: the listing of each layer, and the refusal of damaged ones.
 - `verify`: what it counts in each file and chain, and what it finds wrong with damaged ones, beside
@@ -17,6 +17,8 @@ usage: python3 scripts/real_data GRAPHTOOL HISTORYTOOL [every-value]
   ones by a plain reading, and beside what Git then answers of ancestors and of paths. Each filter has the bits of
   the paths that `git diff-tree` names and of the folders that lead there, and no others. Also of five commits in every
   order, by hand, and of thousands of graphs at random, most of them damaged, by the plain reading.
+- the filters of these graphs, asked by the program of `test_filters`: each path that a commit changes is possible, and
+  all other answers are those of a plain reading; also of version 2, and where bytes were read as unsigned numbers.
 - `distinct`: the words of `verify`, and an id that was put into two layers or more, next to one another
   and far apart.
 - each byte of three small files, changed to some other values, or with `every-value` to all of them, beside
@@ -42,6 +44,7 @@ from checks import (
     base_checks,
     cgraph_checks,
     cycle_checks,
+    damaged_checks,
     date_checks,
     disk_checks,
     distinct_checks,
@@ -56,15 +59,16 @@ from checks import (
     verify_checks,
     word_checks,
 )
-from checks.program import HistoryProgram, Program
+from checks.program import FilterProgram, HistoryProgram, Program
 from expected.differences import Differences
 from histories.repository import ID_LENGTH, Repository
 from tally import Tally
 
 
-def main(path, history_path, every_value=False):
-    """Runs all checks on the two programs at these paths, and answers the exit status."""
+def main(path, history_path, filter_path, every_value=False):
+    """Runs all checks on the programs at these paths, and answers the exit status."""
     program, histories = programs = Program(os.path.abspath(path)), HistoryProgram(os.path.abspath(history_path))
+    asker = FilterProgram(os.path.abspath(filter_path))
     tally, differences = Tally(), Differences()
     word_checks.check_all(program, tally)
     question_checks.check_all(histories, tally)
@@ -81,7 +85,8 @@ def main(path, history_path, every_value=False):
             base_checks.check_long(histories, tally, new)
             distinct_checks.check_all(program, tally, new, differences)
             disk_checks.check_all(programs, tally, new, differences)
-            further_checks.check_all(histories, tally, new)
+            further_checks.check_all((histories, asker), tally, new)
+            damaged_checks.check_all((histories, asker), tally, new)
         further_checks.check_shared_list(histories, tally, folder)
         date_checks.check_all(histories, tally, folder)
     cycle_checks.check_all(histories, tally)
@@ -97,6 +102,6 @@ def new_repository(folder, object_format, name):
 
 
 if __name__ == "__main__":
-    if sys.argv[3:] not in ([], ["every-value"]) or len(sys.argv) < 3:
+    if sys.argv[4:] not in ([], ["every-value"]) or len(sys.argv) < 4:
         sys.exit(__doc__)
-    sys.exit(main(sys.argv[1], sys.argv[2], every_value=len(sys.argv) == 4))
+    sys.exit(main(*sys.argv[1:4], every_value=len(sys.argv) == 5))

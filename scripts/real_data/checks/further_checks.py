@@ -1,23 +1,16 @@
-"""Checks `check`: corrected commit dates and changed-path filters that Git writes, and damaged ones beside what Git
-then answers.
-
-Where `check` passes a graph, `git merge-base --is-ancestor`, `git log` and `git log -- PATH` have to answer over it
-what they answer without.
-"""
+"""Checks `check`: corrected commit dates and changed-path filters that Git writes, and a file of shared lists."""
 
 import hashlib
 import itertools
 import os
 from collections import Counter
 
+from checks import filter_checks
 from checks.program import processor_seconds
-from damage import trees
 from damage.built import NO_PARENT, TOP_BIT
-from damage.layer import big_endian, contents, with_chunks
-from expected import filters as path_filters
+from damage.layer import big_endian, with_chunks
 from expected import judge
 from expected.facts import verified
-from expected.further import checked, told
 from histories import shapes
 from histories.repository import PERSON, read_bytes, write_bytes
 from histories.shapes import Commit
@@ -29,20 +22,14 @@ SHARED = 100_000
 SHORT = 4
 """A check of that file takes no longer than so many seconds of processor."""
 
-PATHS = (b"file", b"folder/file", b"folder/\xc3\xa9\xff")
-"""Paths that commits of the damaged graphs change, the last with bytes from 128 on."""
 
-
-def check_all(histories, tally, new):
+def check_all(programs, tally, new):
     """The checks of further chunks; a new repository comes from a function of its name."""
+    histories, _ = programs
     check_times(histories, tally, new("further, times"))
-    check_chain(histories, tally, new("further, a chain"))
-    check_filters(histories, tally, new("further, filters"))
+    check_chain(programs, tally, new("further, a chain"))
+    check_filters(programs, tally, new("further, filters"))
     check_long_time(histories, tally, new("further, a long time"))
-    repository = new("further, damaged")
-    add_changes(repository, FIVE)
-    check_damage(histories, tally, repository)
-    check_settings(histories, tally, new("further, settings"))
 
 
 def check_right(histories, tally, repository, name, dates, filters):
@@ -58,15 +45,16 @@ def check_right(histories, tally, repository, name, dates, filters):
 
 def check_times(histories, tally, repository):
     """Times that go back, times 0, offsets of more than 31 bits and times of 34 bits."""
-    times = [2000, 1000, 0, 0, FAR // 2, 5, 5, FAR - 1, FAR - 1, 0, 7]
+    times = [2000, 1000, 0, 0, FAR // 2, 5, 5, FAR - 1, FAR - 1, 0, 7, FAR - 1, 0, 0]
     repository.add([Commit((place - 1,) if place % 4 else (), time) for place, time in enumerate(times)])
     for version in (1, 2):
         repository.new_graph(generation_version=version)
         check_right(histories, tally, repository, "times of every kind, version %d" % version, version == 2, None)
 
 
-def check_chain(histories, tally, repository):
+def check_chain(programs, tally, repository):
     """Three layers with dates, then one more without, and then all of them merged."""
+    histories, asker = programs
     history, size = shapes.tangled(24, seed=9), 6
     for number, start in enumerate(range(0, len(history), size)):
         repository.add(history[: start + size], start)
@@ -75,22 +63,11 @@ def check_chain(histories, tally, repository):
         repository.write_graph("--split=no-merge", *flags, generation_version=1 if last else 2)
         filters = size * ((number + 1) // 2) or None
         check_right(histories, tally, repository, "%d layers" % (number + 1), not last, filters)
-        check_bits(tally, repository, "%d layers" % (number + 1), repository.chain())
+        layers = [layer for _, layer in repository.chain()]
+        filter_checks.check_all(asker, tally, repository, "%d layers" % len(layers), layers)
     repository.write_graph("--split=replace", "--changed-paths")
     check_right(histories, tally, repository, "layers merged", True, len(history))
-    check_bits(tally, repository, "layers merged", repository.chain())
-
-
-def check_bits(tally, repository, name, layers):
-    """Each filter that was computed has the bits of the paths that its commit changes, and no others."""
-    kind, words, differ = repository.object_format, repository.words(), []
-    for _, layer in layers:
-        stored, settings = path_filters.stored(layer, kind)
-        for commit, own in stored.items():
-            paths = repository.changed_paths(commit, words[commit].parents)
-            if own not in (b"", path_filters.made(paths, settings)):
-                differ.append("%s is %s" % (commit, own.hex()))
-    tally.check("%s, bits, %s" % (kind, name), "; ".join(differ[:3]) or None)
+    filter_checks.check_all(asker, tally, repository, "layers merged", [layer for _, layer in repository.chain()])
 
 
 class Change:
@@ -98,15 +75,6 @@ class Change:
 
     def __init__(self, when, parents, paths, removed=()):
         self.time, self.parents, self.paths, self.removed = when, parents, paths, removed
-
-
-FIVE = [
-    Change(2000, (), PATHS[:1]),
-    Change(1000, (0,), PATHS[1:2]),
-    Change(1500, (1,), PATHS[2:]),
-    Change(3000, (0,), PATHS[:1]),
-    Change(2500, (2, 3), PATHS[1:2]),
-]
 
 
 def add_changes(repository, changes):
@@ -144,19 +112,20 @@ def many_paths():
     return changes + [removal, Change(4000, (last + 1, last), [], [b"a"])]
 
 
-def check_filters(histories, tally, repository):
+def check_filters(programs, tally, repository):
     """Filters of many paths and of too many, of odd bytes and of no change, and some that are not computed."""
+    histories, asker = programs
     count = len(add_changes(repository, many_paths()))
     for most, computed in ((3, 3), (count, count)):
         repository.write_graph("--changed-paths", "--max-new-filters=%d" % most)
         name = "filters, at most %d new ones" % most
         check_right(histories, tally, repository, name, True, computed)
-        check_bits(tally, repository, name, [("", read_bytes(repository.graph_path()))])
+        filter_checks.check_all(asker, tally, repository, name, [read_bytes(repository.graph_path())])
     for version in (1, 2):
         name = "filters of version %d, where Git writes them" % version
         layer = repository.new_graph("--changed-paths", filter_version=version)
         check_right(histories, tally, repository, name, True, count)
-        check_bits(tally, repository, name, [("", layer)])
+        filter_checks.check_all(asker, tally, repository, name, [layer])
 
 
 def check_long_time(histories, tally, repository):
@@ -169,120 +138,6 @@ def check_long_time(histories, tally, repository):
     tally.check(title, judge.exactly(1, refusal, "", histories.check(repository.graph_path())))
     seen = (repository.reaches(tip, root), repository.reaches(tip, root, "true"))
     tally.check(title + ", what Git says without the graph and with it", complaint_of((True, False), seen))
-
-
-def check_damage(histories, tally, repository):
-    """A graph of five commits with something else in its further chunks."""
-    kind, path = repository.object_format, repository.graph_path()
-    repository.write_graph("--changed-paths")
-    layer, words = read_bytes(path), repository.words()
-    plain = answers(repository, words, "false")
-    check_bits(tally, repository, "five commits", [("", layer)])
-    for name, refusal, edits in damages(layer, kind):
-        chunks = {key: content for key, content in {**dict(contents(layer, kind)), **edits}.items() if content is not None}
-        edited = with_chunks(layer, kind, list(chunks.items()))
-        write_bytes(path, edited)
-        title, expected = "%s, check, %s" % (kind, name), told([edited], kind)
-        tally.check(title + ", by the rules", complaint_of(True, expected.startswith(refusal)))
-        tally.check(title, judge.verdict(checked(verified(words), [edited], kind), histories.check(path)))
-        check_git(tally, title, expected.startswith("refused"), plain, answers(repository, words, "true"))
-
-
-def check_git(tally, title, refused, plain, seen):
-    """What Git answers over a graph, beside what it answers without: the same, but where the graph is refused."""
-    said = ["%s %s" % (name, "as without" if seen[name] == plain[name] else "otherwise") for name in plain]
-    said = ["%s, some not at all" % text if None in seen[name] else text for text, name in zip(said, plain)]
-    tally.check("%s; over it Git answers: %s" % (title, "; ".join(said)), None if refused else complaint_of(plain, seen))
-
-
-def answers(repository, words, graph):
-    """What Git answers of each pair of commits, of the history and of each path, with the commit-graph or without; None where
-    it ends with an error or dies."""
-    log = ("-c", "core.commitGraph=" + graph, "log", "--format=%H", "refs/heads/tip")
-    return {
-        "ancestors": [answer(repository.reaches, *pair, graph) for pair in itertools.permutations(words, 2)],
-        "log": [answer(repository.git, *log)],
-        "log of paths": [answer(repository.git, *log, "--", os.fsdecode(path)) for path in PATHS],
-    }
-
-
-def answer(ask, *words):
-    """What Git answers, or None."""
-    try:
-        return ask(*words)
-    except RuntimeError:
-        return None
-
-
-def damages(layer, kind):
-    """Names, the beginnings of the lines that have to come, and the chunks in place of those that Git wrote."""
-    chunks = dict(contents(layer, kind))
-    dates, index, data = chunks[b"GDA2"], chunks[b"BIDX"], chunks[b"BDAT"]
-    times = [int.from_bytes(chunks[b"CDAT"][at - 8 : at], "big") % FAR for at in record_ends(chunks[b"CDAT"], 5)]
-    root = times.index(2000)
-    latest = 2**63 - 2000
-
-    def offset(word):
-        return dates[: 4 * root] + big_endian(word, 4) + dates[4 * root + 4 :]
-
-    def header(place, word):
-        return {b"BDAT": data[: 4 * place] + big_endian(word, 4) + data[4 * place + 4 :]}
-
-    def word(place, number):
-        return {b"BIDX": index[: 4 * place] + big_endian(number, 4) + index[4 * place + 4 :]}
-
-    top, here = 2**31, " position %d\n" % root
-    return [
-        ("as Git wrote it", "dates commits 5\nfilters commits 5\n", {}),
-        ("no dates", "dates none\nfilters commits 5\n", {b"GDA2": None}),
-        ("no filters", "dates commits 5\nfilters none\n", {b"BDAT": None}),
-        ("dates too few", "refused dates 1 layer 0\n", {b"GDA2": dates[:-4]}),
-        ("an overflow list cut", "refused dates 2 layer 0\n", {b"GDA2": offset(top), b"GDO2": bytes(12)}),
-        ("no overflow list", "refused dates 3" + here, {b"GDA2": offset(top)}),
-        ("past the overflow list", "refused dates 3" + here, {b"GDA2": offset(top + 1), b"GDO2": bytes(8)}),
-        ("an overflow list", "dates commits 5\n", {b"GDA2": offset(top), b"GDO2": bytes(8)}),
-        ("a date too large", "refused dates 4" + here, {b"GDA2": offset(top), b"GDO2": big_endian(latest, 8)}),
-        ("the largest date", "refused dates 5 ", {b"GDA2": offset(top), b"GDO2": big_endian(latest - 1, 8)}),
-        ("a date too late", "refused dates 5 ", {b"GDA2": offset(5000)}),
-        ("all offsets 0", "refused dates 5 ", {b"GDA2": bytes(len(dates))}),
-        ("an index too short", "refused filters 1 layer 0\n", {b"BIDX": index[:-4]}),
-        ("no header", "refused filters 2 layer 0\n", {b"BDAT": data[:11]}),
-        ("version 3", "refused filters 3 layer 0 version 3\n", header(0, 3)),
-        ("no hashes", "refused filters 4 layer 0\n", header(1, 0)),
-        ("65,536 hashes", "refused filters 4 layer 0\n", header(1, 65536)),
-        ("no bits", "refused filters 5 layer 0\n", header(2, 0)),
-        ("an index that falls", "refused filters 6 position 1\n", word(1, 0)),
-        ("an index past the end", "refused filters 7 position 2\n", word(2, len(data))),
-        ("filters left over", "refused filters 8 layer 0\n", {b"BDAT": data + b"\0"}),
-        ("filters too short", "refused filters 7 position 4\n", {b"BDAT": data[:-1]}),
-    ]
-
-
-def record_ends(records, count):
-    """Where each of so many records ends."""
-    return range(len(records) // count, len(records) + 1, len(records) // count)
-
-
-def check_settings(histories, tally, repository):
-    """Two layers whose filters are of other settings: Git then leaves out commits in silence."""
-    kind, info = repository.object_format, repository.info_path()
-    ids = add_changes(repository, FIVE)
-    for tip in (ids[2], ids[4]):
-        repository.write_graph("--split=no-merge", "--changed-paths", tips=[tip])
-    lower, upper = [trees.Layer(*layer) for layer in repository.chain()]
-    words = repository.words()
-    plain = answers(repository, words, "false")
-    others = ("3 hashes", 4, 3), ("14 hashes", 4, 14), ("version 2", 0, 2), ("another number of bits", 8, 11)
-    for name, place, number in others:
-        chunks = dict(contents(upper.content, kind))
-        data = chunks[b"BDAT"]
-        chunks[b"BDAT"] = data[:place] + big_endian(number, 4) + data[place + 4 :]
-        other = trees.Layer("", with_chunks(upper.content, kind, list(chunks.items()))).renamed(kind)
-        trees.lay_out(info, trees.chain([lower, other]))
-        expected = "refused filters 9 layer 1\n" if place < 8 else verified(words) + "dates commits 5\nfilters commits 5\n"
-        title = "%s, check, %s above 7 hashes" % (kind, name)
-        tally.check(title, judge.verdict(expected, histories.check(info)))
-        check_git(tally, title, place < 8, plain, answers(repository, words, "true"))
 
 
 def check_shared_list(histories, tally, folder):

@@ -95,3 +95,11 @@ class HistoryProgram(AnyProgram):
     def check(self, path, **streams):
         """The answer to `check` of a path."""
         return self.run("check", path, stdin=subprocess.DEVNULL, **streams)
+
+
+class FilterProgram(AnyProgram):
+    """The program of the crate `test_filters`."""
+
+    def ask(self, layers, paths):
+        """The answer about paths to files of layers, the lowest first."""
+        return self.run(*layers, input=b"".join(path.hex().encode() + b"\n" for path in paths))
