@@ -53,7 +53,7 @@ def check_times(histories, tally, repository):
 
 
 def check_chain(programs, tally, repository):
-    """Three layers with dates, then one more without, and then all of them merged."""
+    """Three layers with dates, then one more without, and then all of them merged, with some filters and with all."""
     histories, asker = programs
     history, size = shapes.tangled(24, seed=9), 6
     for number, start in enumerate(range(0, len(history), size)):
@@ -65,9 +65,11 @@ def check_chain(programs, tally, repository):
         check_right(histories, tally, repository, "%d layers" % (number + 1), not last, filters)
         layers = [layer for _, layer in repository.chain()]
         filter_checks.check_all(asker, tally, repository, "%d layers" % len(layers), layers)
-    repository.write_graph("--split=replace", "--changed-paths")
-    check_right(histories, tally, repository, "layers merged", True, len(history))
-    filter_checks.check_all(asker, tally, repository, "layers merged", [layer for _, layer in repository.chain()])
+    for more, filters in ((["--max-new-filters=2"], size * 2 + 2), ([], len(history))):
+        name = "layers merged, with filters of %d" % filters
+        repository.write_graph("--split=replace", "--changed-paths", *more)
+        check_right(histories, tally, repository, name, True, filters)
+        filter_checks.check_all(asker, tally, repository, name, [layer for _, layer in repository.chain()])
 
 
 class Change:
