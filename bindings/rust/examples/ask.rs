@@ -33,6 +33,7 @@ fn list(graph: &Graph) -> Answer {
     for ((commit, record), told) in graph.iter_commits().zip(graph.iter_records()).zip(graph.iter_parents()) {
         let parents: Vec<_> = commit.iter_parents().collect();
         assert_eq!(told, parents.iter().copied().collect());
+        assert_eq!(told, graph.commit_at(commit.position()).parents());
         assert_eq!(record.generation, commit.generation());
         assert_eq!(record.committer_timestamp, commit.committer_timestamp());
         assert_eq!(commit.parent1(), parents.first().copied().transpose());

@@ -34,6 +34,7 @@ impl ParentBlock {
     }
 
     /// The parents of each commit, in the order of the commits; or why they cannot be decoded, or not all of them.
+    #[inline]
     pub fn iter(&self) -> impl Iterator<Item = Result<&[Position], ParentError>> {
         let mut rest = &self.parents[..];
         self.answers.iter().map(move |answer| {

@@ -4,14 +4,24 @@ use crate::{sys, Graph, ObjectId, ParentError, Position, Record};
 use std::fmt;
 
 /// Of a commit with at most so many parents they stand in no memory of their own.
-const FEW: usize = 4;
+pub(crate) const FEW: usize = 2;
 
 /// A commit of a graph.
 #[derive(Clone, Copy)]
 pub struct Commit<'g> {
-    pub(crate) graph: &'g Graph,
-    pub(crate) pos: Position,
+    graph: &'g Graph,
+    pos: Position,
+    known: Option<Few>,
 }
+
+/// All parents of a commit that has few.
+#[derive(Clone, Copy, Debug)]
+pub(crate) struct Few {
+    pub(crate) count: u32,
+    pub(crate) positions: [Position; FEW],
+}
+
+const NONE: Few = Few { count: 0, positions: [Position(0); FEW] };
 
 impl fmt::Debug for Commit<'_> {
     fn fmt(&self, f: &mut fmt::Formatter<'_>) -> fmt::Result {
@@ -20,6 +30,12 @@ impl fmt::Debug for Commit<'_> {
 }
 
 impl<'g> Commit<'g> {
+    /// The commit at a position; and its parents, where they are known.
+    #[inline]
+    pub(crate) fn new(graph: &'g Graph, pos: Position, known: Option<Few>) -> Commit<'g> {
+        Commit { graph, pos, known }
+    }
+
     /// Its position in the graph.
     #[inline]
     pub fn position(&self) -> Position {
@@ -64,26 +80,31 @@ impl<'g> Commit<'g> {
 
     /// The position of its first parent, if it has one.
     pub fn parent1(&self) -> Result<Option<Position>, ParentError> {
-        let mut first = [Position(0)];
-        let parents = self.write_parents(&mut first);
-        match (parents.count, ParentError::of(parents.code)) {
-            (0, Some(error)) => Err(error),
-            (0, None) => Ok(None),
-            _ => Ok(Some(first[0])),
-        }
+        self.iter_parents().next().transpose()
     }
 
     /// The positions of its parents in order, and after them the error that ends their decoding, if there is one.
     #[inline]
     pub fn iter_parents(&self) -> Parents {
-        let mut few = [Position(0); FEW];
-        let told = self.write_parents(&mut few);
-        let mut many = Vec::new();
-        if told.count > FEW as u64 {
-            many.resize(told.count as usize, Position(0));
-            self.write_parents(&mut many);
+        match self.known {
+            Some(few) => Parents { few, rest: None },
+            None => self.read_parents(),
         }
-        Parents { few, many, next: 0, count: told.count as usize, fault: ParentError::of(told.code) }
+    }
+
+    /// Reads its parents.
+    fn read_parents(&self) -> Parents {
+        let mut positions = NONE.positions;
+        let told = self.write_parents(&mut positions);
+        let fault = ParentError::of(told.code);
+        if told.count > FEW as u64 {
+            let mut many = vec![Position(0); told.count as usize];
+            self.write_parents(&mut many);
+            let rest = Box::new(Rest { positions: many.into_iter(), fault });
+            return Parents { few: NONE, rest: Some(rest) };
+        }
+        let rest = fault.map(|fault| Box::new(Rest { positions: Vec::new().into_iter(), fault: Some(fault) }));
+        Parents { few: Few { count: told.count as u32, positions }, rest }
     }
 
     /// Writes the positions of its parents, as many as there is room for.
@@ -109,12 +130,27 @@ impl<'g> Commit<'g> {
 /// The positions of a commit's parents in order, and after them the error that ends their decoding, if there is one.
 #[derive(Clone, Debug)]
 pub struct Parents {
-    few: [Position; FEW],
-    /// The positions, where they are more than few.
-    many: Vec<Position>,
-    next: usize,
-    count: usize,
+    /// Those that are left, where the commit has few.
+    few: Few,
+    /// What comes after them, in the few commits where something does.
+    rest: Option<Box<Rest>>,
+}
+
+/// The positions that are left of a commit with more parents, and the error after them.
+#[derive(Clone, Debug)]
+struct Rest {
+    positions: std::vec::IntoIter<Position>,
     fault: Option<ParentError>,
+}
+
+impl Rest {
+    fn next(&mut self) -> Option<Result<Position, ParentError>> {
+        self.positions.next().map(Ok).or_else(|| self.fault.take().map(Err))
+    }
+
+    fn len(&self) -> usize {
+        self.positions.len() + usize::from(self.fault.is_some())
+    }
 }
 
 impl Iterator for Parents {
@@ -122,17 +158,17 @@ impl Iterator for Parents {
 
     #[inline]
     fn next(&mut self) -> Option<Self::Item> {
-        if self.next == self.count {
-            return self.fault.take().map(Err);
+        if self.few.count > 0 {
+            let [first, second] = self.few.positions;
+            self.few = Few { count: self.few.count - 1, positions: [second, second] };
+            return Some(Ok(first));
         }
-        let pos = if self.count > FEW { self.many[self.next] } else { self.few[self.next] };
-        self.next += 1;
-        Some(Ok(pos))
+        self.rest.as_mut()?.next()
     }
 
     #[inline]
     fn size_hint(&self) -> (usize, Option<usize>) {
-        let left = self.count - self.next + usize::from(self.fault.is_some());
+        let left = self.few.count as usize + self.rest.as_ref().map_or(0, |rest| rest.len());
         (left, Some(left))
     }
 }

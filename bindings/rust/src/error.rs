@@ -189,6 +189,7 @@ pub enum ParentError {
 }
 
 impl ParentError {
+    #[inline]
     pub(crate) fn of(code: u32) -> Option<ParentError> {
         match code {
             1 => Some(ParentError::SecondWithoutFirst),

@@ -13,6 +13,7 @@
 
 mod blocks;
 mod commit;
+mod commits;
 mod error;
 mod id;
 mod open;
@@ -21,6 +22,7 @@ mod verify;
 
 pub use blocks::{ParentBlock, Record};
 pub use commit::{Commit, Parents};
+use commits::Commits;
 use error::fault_of;
 pub use error::{CommitFault, Fault, LayerFault, OpenError, ParentError, QueryError, VerifyError};
 pub use id::ObjectId;
@@ -131,14 +133,14 @@ impl Graph {
     /// The commit with an id.
     #[inline]
     pub fn commit_by_id(&self, id: impl AsRef<[u8]>) -> Option<Commit<'_>> {
-        Some(Commit { graph: self, pos: self.lookup(id)? })
+        Some(Commit::new(self, self.lookup(id)?, None))
     }
 
     /// The commit at a position. Panics where the position is none, as `gix-commitgraph` does.
     #[inline]
     pub fn commit_at(&self, pos: Position) -> Commit<'_> {
         assert!(pos.0 < self.num_commits(), "position {} of {} commits", pos.0, self.num_commits());
-        Commit { graph: self, pos }
+        Commit::new(self, pos, None)
     }
 
     /// The id at a position. Panics where the position is none.
@@ -147,16 +149,16 @@ impl Graph {
         self.commit_at(pos).id()
     }
 
-    /// The commits, in order.
+    /// The commits, in order. Their parents are read ahead, those of many commits at a time.
     #[inline]
     pub fn iter_commits(&self) -> impl ExactSizeIterator<Item = Commit<'_>> {
-        (0..self.num_commits()).map(|pos| Commit { graph: self, pos: Position(pos) })
+        Commits::new(self)
     }
 
     /// The ids, in order.
     #[inline]
     pub fn iter_ids(&self) -> impl ExactSizeIterator<Item = ObjectId> + '_ {
-        self.iter_commits().map(|commit| commit.id())
+        (0..self.num_commits()).map(|pos| Commit::new(self, Position(pos), None).id())
     }
 }
 
