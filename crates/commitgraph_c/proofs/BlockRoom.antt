@@ -9,11 +9,15 @@ use Rattle.std.proofs.lemmas.List.{get_or-drop, flat_map_more, take_all, length-
 use Rattle.std.proofs.lemmas.Option.{get_or_from_slice_get, slice_get-get_or, slice_get_within}
 use Rattle.std.specs.List.{flat_map}
 use Rattle.std.specs.Bool.{nat_le}
-use Rattle.graph_format.specs.Layer.{Layer}
+use Rattle.graph_format.specs.Layer.{Layer, record_at}
+use Rattle.graph_format.specs.Parents.{edge_of}
+use Rattle.graph_format.specs.declared.Position.{Position}
+use Rattle.graph_format.specs.declared.parents.ParentEdge.TheVariants as edge
 use Rattle.graph_layer.proofs.ElementLemmas.{drop-next}
 use Rattle.commitgraph_c.specs.Answers.{TellsParents, parents_in, written}
 use Rattle.commitgraph_c.specs.Blocks.{TellsBlock, block_of, parent_positions, told_parents}
 use Rattle.commitgraph_c.specs.declared.parents.CgParents.{CgParents}
+use Rattle.commitgraph_c.proofs.FieldParents.{one_told}
 use Rattle.commitgraph_c.proofs.Written.{first_places, next_taken, none_written, numbers_length, one_more, written_after}
 
 -- the element at an index of what is left from a place on
@@ -217,6 +221,32 @@ module _ (commits : List (Layer × ℕ)) (answers : List CgParents) (room : List
         answers_of = next_answer here fits (told_is commit told _ new s) t.answers_of;
         room = rest_put used now new ∙ next_room here t written_is;
       })
+
+-- a number at the first place of the rest
+set_in_rest : (place : ℕ) (xs : List ℕ) (x : ℕ) → take place xs ++ set (drop place xs) 0 x ≡ set xs place x
+set_in_rest zero xs x = refl
+set_in_rest (suc place) [] x = refl
+set_in_rest (suc place) (y ∷ xs) x = ap (λ ys. y ∷ ys) (set_in_rest place xs x)
+
+-- One commit more is told, whose fields give one parent.
+pub only_told : (commits : List (Layer × ℕ)) (answers : List CgParents) (room : List ℕ) (place used : ℕ)
+    (answered : List CgParents) (now : List ℕ) (commit : Layer × ℕ) (pos : Position) → slice_get commits place ≡ Some commit
+    → place < length answers → length room < 2 ^ 64 - 1 → AreTold commits answers room place used answered now
+    → used < length room
+    → edge_of (record_at commit.0 commit.1).parent1 ≡ edge.GraphPosition pos
+    → edge_of (record_at commit.0 commit.1).parent2 ≡ edge.None
+    → AreTold commits answers room (place + 1) (used + 1) (set answered place (record { code = 0; count = 1 }))
+    (set now used pos.0)
+only_told commits answers room place used answered now commit pos here fits few t free first second =
+    let r = record_at commit.0 commit.1 in
+    let rest = take (length now - used) (drop used now) in
+    let told = one_told (edge_of r.parent1) (edge_of r.parent2) commit.0.edges rest pos first second in
+    let is =
+    rest_put used now (set rest 0 pos.0) ∙ ap (λ ys. take used now ++ set ys 0 pos.0) (rest_of used now)
+    ∙ set_in_rest used now pos.0 in
+    subst (AreTold commits answers room (place + 1) (used + 1) (set answered place (record { code = 0; count = 1 }))) is
+    (next_told commits answers room place used answered now commit (record { code = 0; count = 1 }) (set rest 0 pos.0) here fits
+    few t told (omega (arith, free)))
 
 module _ (commits : List (Layer × ℕ)) (answers : List CgParents) (room : List ℕ) (place used : ℕ) (answered : List CgParents)
     (now : List ℕ) where

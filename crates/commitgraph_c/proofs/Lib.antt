@@ -1,6 +1,7 @@
 mod AsBox
 mod BlockRoom
 mod Called
+mod FieldParents
 mod Files
 mod ParentRoom
 mod Positions

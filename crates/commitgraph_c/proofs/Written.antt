@@ -54,6 +54,18 @@ module _ {T : Type 0} where
   one_more (i ∷ items) item [] lt = absurd (omega (arith, lt))
   one_more (i ∷ items) item (x ∷ room) lt = ap (λ r. i ∷ r) (one_more items item room (omega (arith, lt)))
 
+  -- one item, or two, each in its place
+  pub one_written : (item : T) (room : List T) → set room 0 item ≡ written (item ∷ []) room
+  one_written item [] = refl
+  one_written item (x ∷ []) = refl
+  one_written item (x ∷ y ∷ room) = refl
+
+  pub two_written : (first second : T) (room : List T) → set (set room 0 first) 1 second ≡ written (first ∷ second ∷ []) room
+  two_written first second [] = refl
+  two_written first second (x ∷ []) = refl
+  two_written first second (x ∷ y ∷ []) = refl
+  two_written first second (x ∷ y ∷ z ∷ room) = refl
+
   -- the room keeps its size
   pub written_length : (items room : List T) → length (written items room) ≡ length room
   written_length [] [] = refl

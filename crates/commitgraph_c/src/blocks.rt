@@ -10,6 +10,8 @@ use crate::parents::{CgParents, write_parents};
 use crate::read::{CgCommit, told};
 use gix_commitgraph::law::graph::the_commits_of_layers_add_up;
 use gix_commitgraph::{Graph, Position};
+use graph_format::parents::ParentEdge;
+use graph_layer::check::parent_edges;
 
 /// Writes what the records from a position on say, as many as there is room for. Answers how many
 /// commits there are from there on.
@@ -90,6 +92,15 @@ fn write_block(graph: &Graph, first: u32, answers: &mut [CgParents], out: &mut [
         let Some(commit) = commits.next() else {
             break;
         };
+        // Most commits have one parent.
+        if let (ParentEdge::GraphPosition(pos), ParentEdge::None) = parent_edges(&commit)
+            && used < out.len()
+        {
+            out[used] = pos.0;
+            answers[place] = CgParents { code: 0, count: 1 };
+            used += 1;
+            continue;
+        }
         let room = (out.len() - used) as u64;
         let told = write_parents(commit, &mut out[used..]);
         answers[place] = told;

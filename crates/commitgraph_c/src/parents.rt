@@ -1,6 +1,6 @@
 //! The parents of a commit.
 
-ghost use Rattle.std.specs.Prelude.{◌≡◌, ◌<◌, ◌≤◌, None, IfSome, true};
+ghost use Rattle.std.specs.Prelude.{◌≡◌, ◌<◌, ◌≤◌, None, IfSome, set, true};
 ghost use Rattle.graph_layer.specs.Commit.{commit_parents};
 ghost use Rattle.gix_commitgraph.specs.Graph.{total};
 ghost use Rattle.commitgraph_c.specs.Answers.{HasCommit, TellsParents, layers_of, parents_in};
@@ -10,6 +10,8 @@ use gix_commitgraph::Position;
 use gix_commitgraph::file::Commit;
 use gix_commitgraph::law::sound::the_parents_of_a_right_graph_are_there;
 use graph_format::error_numbers::parent_number;
+use graph_format::parents::ParentEdge;
+use graph_layer::check::parent_edges;
 
 /// The parents of a commit, as far as they can be decoded.
 #[repr(C)]
@@ -49,7 +51,39 @@ pub extern "C" fn cg_parents(graph: CgGraph, pos: u32, out: &mut [u32]) -> CgPar
 }
 
 /// Writes the positions of a commit's parents, as many as there is room for.
+#[inline(always)]
 pub(crate) fn write_parents(commit: Commit<'_>, out: &mut [u32]) -> CgParents
+    ensures { TellsParents (commit_parents commit.entry) result out.old out.new }
+{
+    match parent_edges(&commit) {
+        (ParentEdge::None, ParentEdge::None) => CgParents { code: 0, count: 0 },
+        (ParentEdge::GraphPosition(first), ParentEdge::None) => {
+            write_at(out, 0, first);
+            CgParents { code: 0, count: 1 }
+        }
+        (ParentEdge::GraphPosition(first), ParentEdge::GraphPosition(second)) => {
+            write_at(out, 0, first);
+            write_at(out, 1, second);
+            CgParents { code: 0, count: 2 }
+        }
+        _ => write_items(commit, out),
+    }
+}
+
+/// Writes a position at a place, if there is room for it.
+#[inline(always)]
+fn write_at(out: &mut [u32], place: usize, pos: Position)
+    ensures { out.new ≡ set out.old place pos.0 }
+{
+    if place < out.len() {
+        out[place] = pos.0;
+    }
+}
+
+/// Writes the positions of a commit's parents, one by one.
+#[cold]
+#[inline(never)]
+fn write_items(commit: Commit<'_>, out: &mut [u32]) -> CgParents
     ensures { TellsParents (commit_parents commit.entry) result out.old out.new }
 {
     let mut count: u64 = 0;

@@ -1,7 +1,7 @@
 use Rattle.std.proofs.Common.{◌≡◌, ◌-◌, ◌<◌, ◌^◌, drop, length, length-drop, ap, sym, ◌∙◌, arith, rules}
 use Rattle.gix_commitgraph.specs.Graph.{graph_commits}
 use Rattle.graph_layer.specs.Commit.{layer_and_position}
-use Rattle.commitgraph_c.proofs.BlockRoom.{next_told, last_told, block_told}
+use Rattle.commitgraph_c.proofs.BlockRoom.{next_told, last_told, only_told, block_told}
 use Rattle.commitgraph_c.proofs.Written.{item_at, items_after}
 use Rattle.commitgraph_c.proofs.blocks.write_block.Goals.{Left-loop-place, else-loop-place-test, then-loop-place-test+in_default}
 use Rattle.commitgraph_c.proofs.blocks.write_block.Goals as goal
@@ -33,6 +33,23 @@ loop-place-preserved c =
           c.loop-place.out commit c.write_parents-told.result c.write_parents-told.new.out
           (item_at commits place commit _ left) (omega arith) few c.loop-place.invariant.0
           c.write_parents-told.ensures (omega (arith, same)),
+      items_after commits place commit _ left,
+    )
+
+pub loop-place-preserved-in-loop-place : goal.loop-place-preserved-in-loop-place
+loop-place-preserved-in-loop-place c =
+    let all = graph_commits c.args.graph.now in
+    let place = c.loop-place.place in
+    let commit = layer_and_position c.in-Some.commit in
+    let commits = drop c.args.first all in
+    let left = sym c.loop-place.invariant.1 ∙ c.in-Some.ensures.steps in
+    let same : length c.loop-place.out ≡ length c.args.out.now = c.loop-place.auto.out in
+    let few : length c.args.out.now < 2 ^ 64 - 1 = search rules in
+    let edges = c.parent_edges.ensures in
+    let only = c.in-GraphPosition-None in (
+      only_told commits c.args.answers.now c.args.out.now place c.loop-place.used c.loop-place.answers c.loop-place.out commit
+          only.pos (item_at commits place commit _ left) (omega arith) few c.loop-place.invariant.0
+          (omega (arith, same, c.if-used-out.true)) (sym edges.first ∙ only.is-0) (sym edges.second ∙ only.is-1),
       items_after commits place commit _ left,
     )
 

@@ -1,40 +1,30 @@
-use Rattle.std.proofs.Common.{◌≡◌, ◌∙◌, ◌<◌, ◌^◌, ap, refl, arith, length, rules}
-use Rattle.graph_layer.specs.Commit.{commit_parents}
-use Rattle.graph_layer.specs.RemainingParents.{parents_left}
-use Rattle.commitgraph_c.proofs.ParentRoom.{none_seen, next_written, next_past, all_told, fault_told}
-use Rattle.commitgraph_c.proofs.parents.write_parents.Goals.{then-count-out, else-count-out}
+use Rattle.std.proofs.Common.{◌∙◌, sym}
+use Rattle.graph_format.specs.Parents.{edge_of}
+use Rattle.graph_layer.specs.Commit.{commit_layer, commit_record}
+use Rattle.commitgraph_c.proofs.FieldParents.{none_told, one_told, two_told}
 use Rattle.commitgraph_c.proofs.parents.write_parents.Goals as goal
 
-pub loop-parent-init : goal.loop-parent-init
-loop-parent-init c =
-    none_seen (commit_parents c.args.commit) c.args.out.now (parents_left c.into_iter-parent-iterator.result)
-    (ap parents_left c.into_iter-parent-iterator.ensures.into_iter_gives ∙ c.iter_parents-parent-items.ensures.items)
+pub returns-in-None-None : goal.returns-in-None-None
+returns-in-None-None c =
+    let r = commit_record c.args.commit in
+    let edges = c.parent_edges.ensures in
+    none_told (edge_of r.parent1) (edge_of r.parent2) (commit_layer c.args.commit).edges c.args.out.now
+    (sym edges.first ∙ c.in-None-None.is-0) (sym edges.second ∙ c.in-None-None.is-1)
 
-pub loop-parent-preserved : goal.loop-parent-preserved
-loop-parent-preserved c =
-    let seen = rw (c.in-Some.ensures.steps.steps, c.in-Ok.is) at c.loop-parent.invariant in
-    let parents = commit_parents c.args.commit in
-    let left = parents_left c.next.new.self in
-    let same : length c.loop-parent.out ≡ length c.args.out.now = c.loop-parent.auto.out in
-    let few : length c.args.out.now < 2 ^ 64 = search rules in
-    elim c.if-count-out.branch [
-      | then-count-out w ↦ rw (w.out-is, c.saturating_add-count.ensures)
-          (next_written parents c.loop-parent.count c.args.out.now c.loop-parent.out c.in-Ok.pos left few
-          (omega (arith, same, w.if-count-out.true)) seen)
-      | else-count-out w ↦ rw (w.out-is, c.saturating_add-count.ensures)
-          (next_past parents c.loop-parent.count c.args.out.now c.loop-parent.out c.in-Ok.pos left
-          (omega (arith, same, w.if-count-out.false)) seen)
-    ]
+pub returns-in-GraphPosition-None : goal.returns-in-GraphPosition-None
+returns-in-GraphPosition-None c =
+    let r = commit_record c.args.commit in
+    let edges = c.parent_edges.ensures in
+    let told = c.in-GraphPosition-None in
+    rw c.write_at.ensures
+    (one_told (edge_of r.parent1) (edge_of r.parent2) (commit_layer c.args.commit).edges c.args.out.now told.first
+    (sym edges.first ∙ told.is-0) (sym edges.second ∙ told.is-1))
 
-pub returns-in-Err : goal.returns-in-Err
-returns-in-Err c =
-    let seen = rw (c.in-Some.ensures.steps.steps, c.in-Err.is) at c.loop-parent.invariant in
-    let told = fault_told (commit_parents c.args.commit) c.loop-parent.count c.args.out.now c.loop-parent.out c.in-Err.error
-    (parents_left c.next.new.self) seen in
-    record { count_of = told.count_is; code_of = rw told.fault_is c.parent_number-code.ensures; room = told.room_is }
-
-pub returns : goal.returns
-returns c =
-    let seen = rw c.in-None.ensures.steps.steps.0 at c.loop-parent.invariant in
-    let told = all_told (commit_parents c.args.commit) c.loop-parent.count c.args.out.now c.loop-parent.out seen in
-    record { count_of = told.count_is; code_of = rw told.fault_is refl; room = told.room_is }
+pub returns-in-GraphPosition-GraphPosition : goal.returns-in-GraphPosition-GraphPosition
+returns-in-GraphPosition-GraphPosition c =
+    let r = commit_record c.args.commit in
+    let edges = c.parent_edges.ensures in
+    let told = c.in-GraphPosition-GraphPosition in
+    rw (c.write_at-in-GraphPosition-GraphPosition-2.ensures, c.write_at-in-GraphPosition-GraphPosition.ensures)
+    (two_told (edge_of r.parent1) (edge_of r.parent2) (commit_layer c.args.commit).edges c.args.out.now told.first told.second
+    (sym edges.first ∙ told.is-0) (sym edges.second ∙ told.is-1))
