@@ -19,7 +19,7 @@ mod chain;
 mod file;
 mod graph;
 mod info;
-mod path;
+pub mod path;
 
 use crate::graph::Graph;
 use chain::has_chain;

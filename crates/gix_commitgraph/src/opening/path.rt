@@ -1,4 +1,4 @@
-//! The paths of a graph's files.
+//! The paths of a graph's files and folders.
 
 ghost use Rattle.std.specs.Prelude.{◌≡◌, IfOk, string_bytes};
 ghost use Rattle.gix_commitgraph.specs.Paths.{join_path, layer_path};
@@ -6,8 +6,8 @@ ghost use Rattle.gix_commitgraph.specs.Paths.{join_path, layer_path};
 use std::alloc::{AllocError, Global};
 
 /// The path of `name` below `folder`: a slash stands between them unless the folder's path is empty
-/// or ends with one.
-pub(super) fn join(alloc: Global, folder: &str, name: &str) -> Result<String, AllocError>
+/// or ends with one. `AllocError` comes where an allocation failed.
+pub fn join(alloc: Global, folder: &str, name: &str) -> Result<String, AllocError>
     ensures { IfOk result (λ path. string_bytes path ≡ join_path folder.now name.now) }
 {
     let mut path = String::from_str(alloc, folder)?;
@@ -18,9 +18,10 @@ pub(super) fn join(alloc: Global, folder: &str, name: &str) -> Result<String, Al
     Ok(path)
 }
 
-/// The path of the layer that a line of the folder's chain file names.
+/// The path of the layer that a line of the folder's chain file names. `AllocError` comes where an
+/// allocation failed.
 #[tactic(auto, using(crate::proofs::opening::PathLemmas::join_laws))]
-pub(super) fn layer_path(alloc: Global, folder: &str, line: &str) -> Result<String, AllocError>
+pub fn layer_path(alloc: Global, folder: &str, line: &str) -> Result<String, AllocError>
     ensures { IfOk result (λ path. string_bytes path ≡ layer_path folder.now line.now) }
 {
     let mut path = join(alloc, folder, "graph-")?;
