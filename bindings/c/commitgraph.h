@@ -64,8 +64,8 @@ cg_error cg_open(const cg_file *files, size_t count, cg_graph *out);
 
 /* Opens the graph and checks it, as cg_verify does: code 4, and no graph, where the check refuses it for the reason that
  * *verdict then has, whose number is `detail` (10: memory ran out). *verdict is written where the code is 0 or 4, and `counts`
- * as by cg_verify where it is 0; nothing else is. Only such a graph answers cg_ancestor_walk, cg_is_ancestor and cg_merge_bases.
- * The rest is as in cg_open. */
+ * as by cg_verify where it is 0; nothing else is. Only such a graph answers cg_ancestor_walk, cg_is_ancestor, cg_are_ancestors
+ * and cg_merge_bases. The rest is as in cg_open. */
 struct cg_verdict;
 struct cg_count;
 cg_error cg_open_checked(const cg_file *files, size_t count, bool distinct_ids, struct cg_verdict *verdict,
@@ -169,6 +169,22 @@ typedef struct cg_leads { uint32_t code; bool found; } cg_leads;
 /* Looks whether the commit at `from` leads to the one at `to`, which is then its ancestor. A commit leads to itself. */
 cg_leads cg_is_ancestor(cg_graph graph, uint32_t from, uint32_t to);
 
+/* Two commits, by their positions. */
+typedef struct cg_pair { uint32_t from, to; } cg_pair;
+
+/* How many pairs were answered. `code` is
+ *   4  of CG_CLOSED; else
+ *   2  where the graph was not opened by cg_open_checked; else
+ *   0  where `answered` is the smaller of the two lengths, so that each pair was answered for which there is room; else
+ *   1  where a position of the next pair, whose number `answered` is, is none;
+ *   3  where memory ran out on that pair.
+ * The first `answered` places of the room were written, and no other. It is 0 for 2 and 4. */
+typedef struct cg_answered { uint32_t code; uint64_t answered; } cg_answered;
+
+/* Asks for many pairs what cg_is_ancestor asks for one, and writes of each 1 where `from` leads to `to`, and else 0. The memory
+ * of the search is filled once for all pairs, which takes most of the time where the commits of a pair are near each other. */
+cg_answered cg_are_ancestors(cg_graph graph, const cg_pair *pairs, size_t count, uint8_t *out, size_t len);
+
 /* The merge bases of a commit and some others. code 0: there are `length`; `ahead` commits are those that the first leads to
  * and none of the others does, and `behind` those that some of the others leads to and the first does not; `visits` commits
  * were visited. The other codes are those of cg_reached, of which 3 may come before 1. */
@@ -177,6 +193,38 @@ typedef struct cg_bases { uint32_t code, ahead, behind; uint64_t visits, length;
 /* Looks for the merge bases that `git merge-base --all FIRST OTHERS..` names, and writes their positions, the least first, as
  * many as there is room for. */
 cg_bases cg_merge_bases(cg_graph graph, uint32_t first, const uint32_t *others, size_t count, uint32_t *out, size_t len);
+
+/* The corrected commit dates of a graph, by which Git orders commits. `code` is
+ *   0       where each commit has one, and all are right: there are `length`;
+ *   1 to 5  where they are refused, for the reason of that number, the N of "dates N" in docs/REFUSALS.md: those of `layer` (1, 2),
+ *           or that of the commit at `position` (3 to 5), whose date has to be `expected` (5). The first refusal is told;
+ *   6       where memory ran out;
+ *   7       where a layer has no dates, so that Git reads none of the graph;
+ *   8       of CG_CLOSED.
+ * What is not named is 0. */
+typedef struct cg_dates { uint32_t code, position; uint64_t layer, expected, length; } cg_dates;
+
+/* Writes the corrected dates of all commits, in seconds since 1970-01-01 00:00:00 UTC, from position 0 on, as many as there is
+ * room for; nothing where the code is not 0. The graph need not be checked: parents are then those that can be decoded. Each call
+ * reads and compares all dates, and takes 8 bytes for each commit while it runs. */
+cg_dates cg_corrected_dates(cg_graph graph, uint64_t *out, size_t len);
+
+/* Of how many commits the changed-path filters were asked for a path. `code` is
+ *   0       where `answered` is the smaller of the two lengths, so that each commit was answered for which there is room;
+ *   1 to 9  where the filters of the graph are refused, for the reason of that number, the N of "filters N" in docs/REFUSALS.md:
+ *           those of `layer`, whose version (3) or number of hashes (4) is `number`, or that of the commit at `position` (6, 7);
+ *   10      where memory ran out;
+ *   11      where the next position, whose number `answered` is, is none;
+ *   12      of CG_CLOSED.
+ * The first `answered` places of the room were written, and no other. What is not named is 0. */
+typedef struct cg_probed { uint32_t code, position, number; uint64_t layer, answered; } cg_probed;
+
+/* Asks the filters of the commits at these positions for a path, and writes of each commit 0 where the path is none of those that
+ * its filter was made for, 1 where it may be, and 2 where there is no filter. A path is bytes, with `/` between its parts and none
+ * at either end. Git makes a filter for the paths that a commit changes against its first parent, and the folders that lead to
+ * them. The graph need not be checked. Each call reads the sizes of all filters, so that it is best asked for many commits. */
+cg_probed cg_probe_path(cg_graph graph, const uint8_t *path, size_t path_len, const uint32_t *positions, size_t count,
+                        uint8_t *out, size_t len);
 
 /* A line of a chain file, commit-graph-chain, each of which names a layer, from the lowest on: the line L is the layer of the
  * file graph-L.graph in the same folder. `found`: the line is the bytes from the start that was asked for up to `end`, without

@@ -1,7 +1,8 @@
-//! `ask PATH list | verify | distinct | find ID | ancestor ID ID`: answers of the graph at the path, in the lines of `graphtool`.
+//! `ask PATH list | verify | distinct | dates | probe NAME | find ID | ancestor ID ID`: answers of the graph at the path, in the
+//! lines of `graphtool`, and `dates` and what refuses a `probe` in lines of `historytool check`.
 
-use commitgraph::{Checked, CommitFault, Fault, Graph, LayerFault, ObjectId, OpenError, ParentError, Position};
-use commitgraph::{VerifyError, VerifyOptions};
+use commitgraph::{Checked, CommitFault, DatesError, Fault, Graph, LayerFault, ObjectId, OpenError, ParentError, Position};
+use commitgraph::{Probe, ProbeError, VerifyError, VerifyOptions};
 use std::convert::Infallible;
 use std::process::ExitCode;
 
@@ -15,10 +16,12 @@ fn main() -> ExitCode {
         [path, "list"] => Graph::at(path).map(|graph| list(&graph)),
         [path, "verify"] => Graph::at(path).map(|graph| verify(&graph, false)),
         [path, "distinct"] => Graph::at(path).map(|graph| verify(&graph, true)),
+        [path, "dates"] => Graph::at(path).map(|graph| dates(&graph)),
+        [path, "probe", name] => Graph::at(path).map(|graph| probe(&graph, name)),
         [path, "find", id] => Graph::at(path).map(|graph| find(&graph, id)),
         [path, "ancestor", from, to] => Checked::at(path).map(|graph| ancestor(&graph, from, to)),
         _ => {
-            eprintln!("usage: ask PATH list | verify | distinct | find ID | ancestor ID ID");
+            eprintln!("usage: ask PATH list | verify | distinct | dates | probe NAME | find ID | ancestor ID ID");
             return ExitCode::from(2);
         }
     };
@@ -73,6 +76,61 @@ fn verify(graph: &Graph, distinct_ids: bool) -> Answer {
     }
 }
 
+fn dates(graph: &Graph) -> Answer {
+    match graph.corrected_dates() {
+        Ok(Some(dates)) => {
+            let lines: String = dates.iter().map(|date| format!("{date}\n")).collect();
+            (format!("dates commits {}\n{lines}", dates.len()), true)
+        }
+        Ok(None) => ("dates none\n".to_owned(), true),
+        Err(error) => (format!("refused dates {}\n", dates_words(error)), false),
+    }
+}
+
+fn dates_words(error: DatesError) -> String {
+    match error {
+        DatesError::DataSize { layer } => format!("1 layer {layer}"),
+        DatesError::OverflowSize { layer } => format!("2 layer {layer}"),
+        DatesError::OverflowIndex { pos } => format!("3 position {}", pos.0),
+        DatesError::TooLarge { pos } => format!("4 position {}", pos.0),
+        DatesError::Date { pos, expected } => format!("5 position {} expected {expected}", pos.0),
+        DatesError::OutOfMemory => panic!("{error}"),
+    }
+}
+
+/// For each commit a line with what its filter says of a path.
+fn probe(graph: &Graph, name: &str) -> Answer {
+    let positions: Vec<_> = (0..graph.num_commits()).map(Position).collect();
+    let number = |probe: &Probe| match probe {
+        Probe::Absent => "0\n",
+        Probe::Possible => "1\n",
+        Probe::NotComputed => "2\n",
+    };
+    match graph.probe_path(name.as_bytes(), &positions) {
+        Ok(answers) => {
+            let past = graph.probe_path(name.as_bytes(), &[Position(graph.num_commits())]);
+            assert_eq!(past, Err(ProbeError::NoSuchPosition));
+            (answers.iter().map(number).collect(), true)
+        }
+        Err(error) => (format!("refused filters {}\n", filters_words(error)), false),
+    }
+}
+
+fn filters_words(error: ProbeError) -> String {
+    match error {
+        ProbeError::IndexSize { layer } => format!("1 layer {layer}"),
+        ProbeError::DataSize { layer } => format!("2 layer {layer}"),
+        ProbeError::Version { layer, version } => format!("3 layer {layer} version {version}"),
+        ProbeError::Hashes { layer, .. } => format!("4 layer {layer}"),
+        ProbeError::NoBits { layer } => format!("5 layer {layer}"),
+        ProbeError::Falls { pos } => format!("6 position {}", pos.0),
+        ProbeError::PastEnd { pos } => format!("7 position {}", pos.0),
+        ProbeError::LeftOver { layer } => format!("8 layer {layer}"),
+        ProbeError::Settings { layer } => format!("9 layer {layer}"),
+        ProbeError::NoSuchPosition | ProbeError::OutOfMemory => panic!("{error}"),
+    }
+}
+
 fn find(graph: &Graph, id: &str) -> Answer {
     let Some(commit) = ObjectId::from_hex(id).and_then(|id| graph.commit_by_id(id)) else {
         return ("none\n".to_owned(), false);
@@ -88,6 +146,9 @@ fn ancestor(graph: &Checked, from: &str, to: &str) -> Answer {
     };
     let reached = graph.ancestor_walk(from, to).expect("both are positions of the graph");
     assert_eq!(graph.is_ancestor(from, to), Ok(reached.walk.is_some()));
+    let back = graph.is_ancestor(to, from).expect("both are positions of the graph");
+    let pairs = [(from, to), (to, from), (to, to)];
+    assert_eq!(graph.are_ancestors(&pairs), Ok(vec![reached.walk.is_some(), back, true]));
     let steps = |walk: &Vec<Position>| walk.iter().map(|pos| format!(" {}", pos.0)).collect::<String>();
     let walk = reached.walk.as_ref().map_or("none".to_owned(), |walk| format!("walk{}", steps(walk)));
     (format!("{walk}\nvisits {}\n", reached.visits), reached.walk.is_some())

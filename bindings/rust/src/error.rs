@@ -175,6 +175,110 @@ impl fmt::Display for QueryError {
 
 impl std::error::Error for QueryError {}
 
+/// Why the corrected dates of a graph are refused: the first that holds, of the lowest layer whose dates cannot be read, and
+/// then of the first commit.
+#[derive(Clone, Copy, Debug, PartialEq, Eq)]
+pub enum DatesError {
+    /// The chunk `GDA2` of the layer does not have four bytes for each commit.
+    DataSize { layer: usize },
+    /// The length of the chunk `GDO2` of the layer is no multiple of eight.
+    OverflowSize { layer: usize },
+    /// The commit names a number that the chunk `GDO2` of its layer does not have.
+    OverflowIndex { pos: Position },
+    /// The date of the commit is 2^63 or more.
+    TooLarge { pos: Position },
+    /// The date of the commit is not the expected one: its time or, if later, one second after the latest date of its parents.
+    Date { pos: Position, expected: u64 },
+    /// An allocation of the library failed.
+    OutOfMemory,
+}
+
+impl DatesError {
+    /// The error that an answer tells of, which is neither of dates nor that there are none.
+    pub(crate) fn of(told: &sys::Dates) -> DatesError {
+        let (layer, pos) = (told.layer as usize, Position(told.position));
+        match told.code {
+            1 => DatesError::DataSize { layer },
+            2 => DatesError::OverflowSize { layer },
+            3 => DatesError::OverflowIndex { pos },
+            4 => DatesError::TooLarge { pos },
+            5 => DatesError::Date { pos, expected: told.expected },
+            _ => DatesError::OutOfMemory,
+        }
+    }
+}
+
+impl fmt::Display for DatesError {
+    fn fmt(&self, f: &mut fmt::Formatter<'_>) -> fmt::Result {
+        match self {
+            DatesError::OutOfMemory => write!(f, "out of memory"),
+            error => write!(f, "{error:?}"),
+        }
+    }
+}
+
+impl std::error::Error for DatesError {}
+
+/// Why the changed-path filters of a graph cannot be asked: the first that holds, of the lowest layer whose filters are refused,
+/// or else of the positions.
+#[derive(Clone, Copy, Debug, PartialEq, Eq)]
+pub enum ProbeError {
+    /// The chunk `BIDX` of the layer does not have four bytes for each commit.
+    IndexSize { layer: usize },
+    /// The chunk `BDAT` of the layer has fewer than twelve bytes.
+    DataSize { layer: usize },
+    /// The version of the hash is neither 1 nor 2.
+    Version { layer: usize, version: u32 },
+    /// The number of hashes is 0, or more than 65535.
+    Hashes { layer: usize, hashes: u32 },
+    /// The number of bits per entry is 0.
+    NoBits { layer: usize },
+    /// The filter of the commit ends before it begins.
+    Falls { pos: Position },
+    /// The filter of the commit ends past the end of the chunk `BDAT` of its layer.
+    PastEnd { pos: Position },
+    /// There are bytes after the last filter of the layer.
+    LeftOver { layer: usize },
+    /// The version or the number of hashes is not that of the lowest layer with filters.
+    Settings { layer: usize },
+    /// A position is none of the graph's.
+    NoSuchPosition,
+    /// An allocation of the library failed.
+    OutOfMemory,
+}
+
+impl ProbeError {
+    /// The error that an answer tells of.
+    pub(crate) fn of(told: &sys::Probed) -> ProbeError {
+        let (layer, pos) = (told.layer as usize, Position(told.position));
+        match told.code {
+            1 => ProbeError::IndexSize { layer },
+            2 => ProbeError::DataSize { layer },
+            3 => ProbeError::Version { layer, version: told.number },
+            4 => ProbeError::Hashes { layer, hashes: told.number },
+            5 => ProbeError::NoBits { layer },
+            6 => ProbeError::Falls { pos },
+            7 => ProbeError::PastEnd { pos },
+            8 => ProbeError::LeftOver { layer },
+            9 => ProbeError::Settings { layer },
+            11 => ProbeError::NoSuchPosition,
+            _ => ProbeError::OutOfMemory,
+        }
+    }
+}
+
+impl fmt::Display for ProbeError {
+    fn fmt(&self, f: &mut fmt::Formatter<'_>) -> fmt::Result {
+        match self {
+            ProbeError::NoSuchPosition => write!(f, "no such position"),
+            ProbeError::OutOfMemory => write!(f, "out of memory"),
+            error => write!(f, "{error:?}"),
+        }
+    }
+}
+
+impl std::error::Error for ProbeError {}
+
 /// Why the parents of a commit, or the rest of them, cannot be decoded.
 #[derive(Clone, Copy, Debug, PartialEq, Eq)]
 pub enum ParentError {

@@ -12,6 +12,7 @@
 //! ```
 
 mod blocks;
+mod chunks;
 mod commit;
 mod commits;
 mod error;
@@ -21,10 +22,11 @@ mod sys;
 mod verify;
 
 pub use blocks::{ParentBlock, Record};
+pub use chunks::Probe;
 pub use commit::{Commit, Parents};
 use commits::Commits;
 use error::fault_of;
-pub use error::{CommitFault, Fault, LayerFault, OpenError, ParentError, QueryError, VerifyError};
+pub use error::{CommitFault, DatesError, Fault, LayerFault, OpenError, ParentError, ProbeError, QueryError, VerifyError};
 pub use id::ObjectId;
 use open::{chain_at, file_at, lent, open_at, open_info};
 use std::fmt;
@@ -220,6 +222,18 @@ impl Checked {
         let leads = unsafe { sys::cg_is_ancestor(self.graph.raw, from.0, to.0) };
         refusal_of(leads.code)?;
         Ok(leads.found)
+    }
+
+    /// Whether the first commit of each pair leads along parents to the second, as [`Checked::is_ancestor`] answers for one
+    /// pair. The memory of the search is filled once for all pairs.
+    pub fn are_ancestors(&self, pairs: &[(Position, Position)]) -> Result<Vec<bool>, QueryError> {
+        let asked: Vec<_> = pairs.iter().map(|&(from, to)| sys::Pair { from: from.0, to: to.0 }).collect();
+        let mut out = vec![0; asked.len()];
+        // SAFETY: `raw` is open, and each pointer and length are those of a slice.
+        let told =
+            unsafe { sys::cg_are_ancestors(self.graph.raw, asked.as_ptr(), asked.len(), out.as_mut_ptr(), out.len()) };
+        refusal_of(told.code)?;
+        Ok(out.into_iter().map(|answer| answer == 1).collect())
     }
 
     /// The merge bases of a commit and some others, which `git merge-base --all FIRST OTHERS..` names, the least position

@@ -105,6 +105,40 @@ pub struct Bases {
     pub length: u64,
 }
 
+#[repr(C)]
+#[derive(Clone, Copy)]
+pub struct Pair {
+    pub from: u32,
+    pub to: u32,
+}
+
+#[repr(C)]
+#[derive(Clone, Copy)]
+pub struct Answered {
+    pub code: u32,
+    pub answered: u64,
+}
+
+#[repr(C)]
+#[derive(Clone, Copy)]
+pub struct Dates {
+    pub code: u32,
+    pub position: u32,
+    pub layer: u64,
+    pub expected: u64,
+    pub length: u64,
+}
+
+#[repr(C)]
+#[derive(Clone, Copy)]
+pub struct Probed {
+    pub code: u32,
+    pub position: u32,
+    pub number: u32,
+    pub layer: u64,
+    pub answered: u64,
+}
+
 extern "C" {
     pub fn cg_open(files: *const File, count: usize, out: *mut Graph) -> Error;
     pub fn cg_open_checked(
@@ -143,6 +177,17 @@ extern "C" {
     ) -> u32;
     pub fn cg_ancestor_walk(graph: Graph, from: u32, to: u32, out: *mut u32, len: usize) -> Reached;
     pub fn cg_is_ancestor(graph: Graph, from: u32, to: u32) -> Leads;
+    pub fn cg_are_ancestors(graph: Graph, pairs: *const Pair, count: usize, out: *mut u8, len: usize) -> Answered;
+    pub fn cg_corrected_dates(graph: Graph, out: *mut u64, len: usize) -> Dates;
+    pub fn cg_probe_path(
+        graph: Graph,
+        path: *const u8,
+        path_len: usize,
+        positions: *const u32,
+        count: usize,
+        out: *mut u8,
+        len: usize,
+    ) -> Probed;
     pub fn cg_merge_bases(
         graph: Graph,
         first: u32,
@@ -177,5 +222,9 @@ mod layout {
     laid_out!(Reached, 16, code 0, visits 4, length 8);
     laid_out!(Leads, 8, code 0, found 4);
     laid_out!(Bases, 32, code 0, ahead 4, behind 8, visits 16, length 24);
+    laid_out!(Pair, 8, from 0, to 4);
+    laid_out!(Answered, 16, code 0, answered 8);
+    laid_out!(Dates, 32, code 0, position 4, layer 8, expected 16, length 24);
+    laid_out!(Probed, 32, code 0, position 4, number 8, layer 16, answered 24);
     laid_out!(Line, 24, found 0, end 8, next 16);
 }

@@ -2,7 +2,7 @@
 //! `FAULTY_COMMIT_GRAPH` names, which has a wrong generation number above position 0; and the chain of the folder that
 //! `COMMIT_GRAPHS_FOLDER` names.
 
-use commitgraph::{Checked, Commit, Fault, Graph, ObjectId, OpenError, Position, VerifyError};
+use commitgraph::{Checked, Commit, Fault, Graph, ObjectId, OpenError, Position, QueryError, VerifyError};
 use std::error::Error;
 use std::path::PathBuf;
 
@@ -86,6 +86,31 @@ fn blocks_tell_of_each_commit_once() {
         }
     }
     assert_eq!(next.0, graph.num_commits());
+}
+
+#[test]
+fn each_pair_is_answered_as_alone() {
+    let graph = Checked::at(named("COMMIT_GRAPHS_FOLDER")).unwrap();
+    let all = first(graph.num_commits());
+    let pairs: Vec<_> = all.iter().flat_map(|&from| all.iter().map(move |&to| (from, to))).collect();
+    let alone: Vec<_> = pairs.iter().map(|&(from, to)| graph.is_ancestor(from, to).unwrap()).collect();
+    assert_eq!(graph.are_ancestors(&pairs), Ok(alone));
+    assert_eq!(graph.are_ancestors(&[]), Ok(vec![]));
+    let none = Position(graph.num_commits());
+    assert_eq!(graph.are_ancestors(&[pairs[0], (none, all[0])]), Err(QueryError::NoSuchPosition));
+    assert_eq!(graph.are_ancestors(&[(all[0], none)]), Err(QueryError::NoSuchPosition));
+}
+
+#[test]
+fn each_date_follows_from_the_time_and_the_dates_of_the_parents() {
+    let graph = Graph::at(named("COMMIT_GRAPHS_FOLDER")).unwrap();
+    let dates = graph.corrected_dates().unwrap().expect("Git writes dates");
+    assert_eq!(dates.len(), graph.num_commits() as usize);
+    for (commit, date) in graph.iter_commits().zip(&dates) {
+        let parents = commit.parents().unwrap();
+        let after = parents.iter().map(|parent| dates[parent.0 as usize] + 1).max().unwrap_or(0);
+        assert_eq!(*date, commit.committer_timestamp().max(after).max(1));
+    }
 }
 
 #[test]

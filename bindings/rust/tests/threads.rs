@@ -17,13 +17,14 @@ fn answers(graph: &Checked) -> String {
         all += &format!("{pos:?} {} {} {:?}", graph.id_at(pos), commit.root_tree_id(), commit.parents());
         all += &format!(" {:?} {}", commit.parent1(), commit.committer_timestamp() + u64::from(commit.generation()));
         all += &format!(" {:?} {:?}", graph.ancestor_walk(last, pos), graph.is_ancestor(pos, last));
-        all += &format!(" {:?}\n", graph.compare(pos, &[last]));
+        all += &format!(" {:?} {:?}\n", graph.compare(pos, &[last]), graph.are_ancestors(&[(last, pos), (pos, last)]));
     }
     let options = VerifyOptions { distinct_ids: true };
     let outcome = graph.verify_integrity_with(options, |_| Ok::<_, Infallible>(()));
     let records: Vec<_> = graph.iter_records().collect();
     let parents: Vec<_> = graph.iter_parents().collect();
-    all + &format!("{commits} {outcome:?} {records:?} {parents:?} {}", graph.iter_ids().len())
+    let chunks = (graph.corrected_dates(), graph.probe_path(b"file", &[last]));
+    all + &format!("{commits} {outcome:?} {records:?} {parents:?} {chunks:?} {}", graph.iter_ids().len())
 }
 
 fn is_shared<T: Send + Sync>() {}

@@ -1,8 +1,10 @@
 mod AsBox
 mod BlockRoom
 mod Called
+mod DateRoom
 mod FieldParents
 mod Files
+mod ManyRoom
 mod ParentRoom
 mod Positions
 mod Written

@@ -1,7 +1,10 @@
 pub mod Answers
 pub mod Blocks
+pub mod FaultNumbers
 pub mod Files
 pub mod Held
-pub mod FaultNumbers
+pub mod Many
+pub mod Probes
 pub mod State
+pub mod ToldDates
 pub mod Verdict

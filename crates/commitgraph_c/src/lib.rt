@@ -1,5 +1,5 @@
-//! The reader and the checks of `gix_commitgraph`, and the queries of `graph_history`, for C: a
-//! static library. Its header is `bindings/c/commitgraph.h`.
+//! The reader and the checks of `gix_commitgraph`, the queries of `graph_history`, and the dates of
+//! `graph_chunks`, for C: a static library. Its header is `bindings/c/commitgraph.h`.
 //!
 //! C holds an opened graph as a value of an address and a flag, which `cg_open` makes and
 //! `cg_close` frees. No call has a `requires`: what is wrong is answered with a code.
@@ -9,10 +9,13 @@ mod bases;
 mod blocks;
 mod chain;
 mod check;
+mod dates;
 mod handle;
 mod numbers;
 mod open;
 mod opened;
+mod pairs;
 mod parents;
+mod probes;
 mod query;
 mod read;

@@ -1,0 +1,41 @@
+-- what is told of the corrected commit dates of a graph
+use Rattle.std.specs.Prelude.{◌≡◌, ◌≢◌, ℕ, List, Some, None, All}
+use Rattle.graph_walks.specs.Dates.{AreRight}
+use Rattle.graph_format.specs.Layer.{Layer}
+use Rattle.graph_format.specs.StoredHistory.{history_of}
+use Rattle.gix_commitgraph.specs.Graph.{total}
+use Rattle.graph_chunks.specs.GraphStoredDates.{HasDates, times_of, dates_of}
+use Rattle.graph_chunks.specs.GraphDates.{graph_dates_refusal}
+use Rattle.graph_chunks.specs.declared.dates.DatesError.{DatesError}
+use Rattle.graph_chunks.specs.declared.dates.DatesError.TheVariants as fault
+use Rattle.commitgraph_c.specs.Answers.{written}
+use Rattle.commitgraph_c.specs.declared.dates.CgDates.{CgDates}
+
+-- no dates are told, but why: a code, the commit or the layer that it is about, and the date that is expected of the commit
+abbrev pub without_dates : ℕ → ℕ → ℕ → ℕ → CgDates
+without_dates code position layer expected =
+    record { code = code; position = position; layer = layer; expected = expected; length = 0 }
+
+-- how it is told that dates are refused: the number that historytool prints, and the place
+abbrev pub told_date_fault : DatesError → CgDates
+told_date_fault (fault.DataSize layer) = without_dates 1 0 layer 0
+told_date_fault (fault.OverflowSize layer) = without_dates 2 0 layer 0
+told_date_fault (fault.OverflowIndex pos) = without_dates 3 pos.0 0 0
+told_date_fault (fault.TooLarge pos) = without_dates 4 pos.0 0 0
+told_date_fault (fault.Date pos expected) = without_dates 5 pos.0 0 expected
+told_date_fault fault.OutOfMemory = without_dates 6 0 0 0
+
+-- Each layer of a graph has dates, and they are right. It is told how many commits there are, and the dates are written.
+pub record TellsDates (layers : List Layer) (told : CgDates) (old new : List ℕ) : Type 0 where
+  pub all : All HasDates layers
+  pub accepted : graph_dates_refusal layers ≡ None
+  pub right : AreRight (history_of layers) (times_of layers) (dates_of layers)
+  pub count : told ≡ record { code = 0; position = 0; layer = 0; expected = 0; length = total layers }
+  pub room : new ≡ written (dates_of layers) old
+
+-- Each layer of a graph has dates, and the first condition that refuses them is told; or memory ran out.
+pub record RefusesDates (layers : List Layer) (told : CgDates) : Type 0 where
+  pub error : DatesError
+  pub all : All HasDates layers
+  pub may : error ≢ fault.OutOfMemory → graph_dates_refusal layers ≡ Some error
+  pub told_as : told ≡ told_date_fault error
