@@ -1,9 +1,12 @@
-"""Tests the library for C and Rust: `python3 scripts/bindings [GRAPHTOOL]`. Its last line is `N passed, M failed`.
+"""Tests the library for C and Rust: `python3 scripts/bindings [GRAPHTOOL [HISTORYTOOL]]`. Its last line is
+`N passed, M failed`.
 
 It builds the static library, where it is not built, over what `rt ci` left, and links it with the kit's own
-heap. What C and Rust list and count is compared with what the program at the path GRAPHTOOL does. Where it is
-not given, or a compiler or a tool is missing, one line says what is left out.
+heap. What C and Rust list and count is compared with what the program at the path GRAPHTOOL does, and what they
+tell of dates and filters also with what the one at HISTORYTOOL does. Where one is not given, or a compiler or a tool is missing,
+one line says what is left out.
 """
+import chunked
 import functools
 import layout
 import os
@@ -23,7 +26,7 @@ CRATE = TOP / "crates" / NAME
 LISTED = (line.partition(":") for line in (TOP / "crates.txt").read_text().splitlines() if line and line[0] != "#")
 USES = {crate.split()[0]: used.split() for crate, _, used in LISTED}
 """For each crate, those that crates.txt lists for it."""
-GRAPHTOOL = sys.argv[1] if len(sys.argv) > 1 else None
+GRAPHTOOL, HISTORYTOOL = [*sys.argv[1:3], None, None][:2]
 KINDS = ("sha1", "sha256")
 REFUSING = [f"-Wl,--wrap={name}" for name in ("malloc", "realloc", "free")]
 LINES = [b"", b"\n", b"a", b"a\n", b"a\r\n\nb\r", b"\r\n\r\r\nc", b"\n\n", b"ab\ncd\n\r"]
@@ -286,6 +289,10 @@ def fields(name, compiler, archives, scratch):
         told = [row for row in rows if row[0] == "commit"][verdict[4]]
         expect(f"{name}: each field, {fault}", ["verdict", *verdict] in rows and told[3:] == parents + parents, rows)
         expect(f"{name}: refused, {fault}", ["checked", 4, verdict[0], 0, 0, 0, 0] in rows, rows)
+    for fault, data, dates in layout.date_faults(graph.read_bytes(), history):
+        file.write_bytes(data)
+        rows, _ = layout.without_visits(run(program, file).stdout.splitlines())
+        expect(f"{name}: each field, {fault}", ["dates", *dates] in rows, rows)
     whole = [layer.read_bytes() for layer in layers_of(chain(scratch, "sha1"))]
     for fault, layers, error, verdict in layout.layered(whole):
         files = [scratch / f"changed-{number}" for number in range(len(layers))]
@@ -330,10 +337,43 @@ def same_as_real(name, program, scratch, folders=False):
                 same_answer(f"{name}, {title}", program, file, file, *words)
 
 
+def same_chunks(name, program, scratch, folders=False):
+    """What is told of the dates and filters of each graph beside what has to be told, and what `historytool check` says."""
+    for title, path, layers in (row for kind in KINDS for row in chunked.graphs(scratch / "chunked", kind)):
+        opened, check = path.parent if folders else path, checked_by_program(path.parent) if HISTORYTOOL else []
+        lines = tells(f"{name}: {title}", program, (opened, "dates"), chunked.told_dates(layers))
+        same_check(f"{name}: {title}, dates", "dates", lines[0], check)
+        for asked in ("file", "folder", "folder/file", "no/such/file"):
+            lines = tells(f"{name}: {title}", program, (opened, "probe", asked), chunked.told_filters(layers, asked.encode()))
+        computed = sum(line != "2" for line in lines)
+        none = "none" if computed == 0 and "filters none" in check else f"commits {computed}"
+        refused = lines[:1] if "".join(lines[:1]).startswith("refused") else [f"filters {none}"]
+        same_check(f"{name}: {title}, filters", "filters", refused[0], check)
+
+
+def tells(name, program, words, wanted):
+    """The lines that a program writes, which have to be these; its status is 1 where they refuse."""
+    done = run(program, *words)
+    expect(f"{name}: {words[1:]}", (done.stdout, done.returncode) == (wanted, int(wanted[:1] == "r")), (done, wanted))
+    return done.stdout.splitlines()
+
+
+def same_check(name, word, line, check):
+    """What is told is what `historytool check` says, where it comes to that."""
+    said = [row for row in check if row.startswith((word + " ", f"refused {word} "))]
+    expect(f"{name}, as checked", said in ([], [line]), (line, said))
+
+
+@functools.lru_cache(maxsize=None)
+def checked_by_program(folder):
+    """The lines of `historytool check`."""
+    return run(HISTORYTOOL, "check", folder).stdout.splitlines()
+
+
 def rust_tests(crate, environment):
     """The tests of the Rust crate, and that of its threads under ThreadSanitizer, where a toolchain can."""
     done = run("cargo", "test", "--quiet", "--offline", cwd=crate, env=environment)
-    expect("Rust: tests", done.returncode == 0 and "6 passed" in done.stdout and "4 threads read" in done.stdout, done)
+    expect("Rust: tests", done.returncode == 0 and "8 passed" in done.stdout and "4 threads read" in done.stdout, done)
     command = ["cargo", "+nightly", "test", "--quiet", "--offline", "--test", "threads", "--target", "x86_64-unknown-linux-gnu"]
     at = {**environment, "RUSTFLAGS": SANITIZED}
     if run(*command, "--no-run", cwd=crate, env=at).returncode:
@@ -364,6 +404,7 @@ def rust(environment, scratch, graphs):
         commits = git(where, "rev-list", "main").split()
         same_as_program(f"Rust, {kind}, chain", built / "ask", where / ".git/objects/info/commit-graphs", commits)
     same_as_real("Rust", built / "ask", scratch, folders=True)
+    same_chunks("Rust", built / "ask", scratch, folders=True)
 
 
 def c(compiler, archives, scratch, graphs):
@@ -378,6 +419,7 @@ def c(compiler, archives, scratch, graphs):
             chained(f"{name}, {kind}", program, scratch, kind)
         if flags:
             same_as_real(name, program, scratch)
+            same_chunks(name, program, scratch)
         elif present("valgrind", "valgrind"):
             nothing_left(name, program, scratch, graphs)
     fields(compiler, compiler, archives, scratch)
@@ -395,7 +437,7 @@ def nothing_left(name, program, scratch, graphs):
     words = ["valgrind", "-q", "--error-exitcode=99", "--leak-check=full", "--show-leak-kinds=all", "--errors-for-leak-kinds=all"]
     for kind, (graph, ids) in graphs.items():
         file = chain(scratch, kind) / ".git/objects/info/commit-graphs/commit-graph-chain"
-        asked = [("list",), ("parents", ids[-1]), ("bases", *ids[-3:]), *questions([ids[0], ids[-1]])]
+        asked = [("list",), ("dates",), ("probe", "file"), ("parents", ids[-1]), ("bases", *ids[-3:]), *questions([ids[0], ids[-1]])]
         for opened, command in [(opened, command) for opened in (graph, file) for command in asked]:
             done = run(*words, program, opened, *command)
             expect(f"{name}: valgrind {kind} {command}", done.returncode in (0, 1) and not done.stderr, done)
@@ -422,9 +464,12 @@ def main():
     exports()
     if not GRAPHTOOL:
         print("what graphtool lists and counts: left out, since no GRAPHTOOL is given")
+    if not HISTORYTOOL:
+        print("what historytool says of dates and filters: left out, since no HISTORYTOOL is given")
     with tempfile.TemporaryDirectory() as folder:
         scratch = pathlib.Path(folder)
         (scratch / "real").mkdir()
+        (scratch / "chunked").mkdir()
         graphs = {}
         for kind in KINDS:
             ids = repository(scratch / kind, kind)

@@ -1,6 +1,6 @@
-/* ask PATH list | verify | distinct | lines | find ID | ancestor ID ID | parents ID | bases ID ID..: answers through the library,
- * for scripts/bindings, the first four of graphs and `find` and `ancestor` in the lines of `graphtool`. The path is that of a
- * file or of a chain. */
+/* ask PATH list | verify | distinct | lines | dates | probe NAME | find ID | ancestor ID ID | parents ID | bases ID ID..: answers
+ * through the library, for scripts/bindings, those of graphs and `find` and `ancestor` in the lines of `graphtool`, and `dates` and
+ * what refuses a `probe` in lines of `historytool check`. The path is that of a file or of a chain. */
 #include "commitgraph.h"
 #include <inttypes.h>
 #include <stdio.h>
@@ -155,6 +155,17 @@ static int parents(cg_graph graph, const char *hex) {
     return 0;
 }
 
+/* Whether the call for many pairs answers these, in a room that ends too early, up to a pair that is none, and in all. */
+static bool answers_pairs(cg_graph graph, uint32_t from, uint32_t to, bool leads) {
+    cg_pair pairs[] = { { from, to }, { to, from }, { from, from }, { cg_num_commits(graph), to }, { from, to } };
+    uint8_t out[5] = { 7, 7, 7, 7, 7 };
+    uint8_t wanted[5] = { leads, cg_is_ancestor(graph, to, from).found, 1, 7, 7 };
+    cg_answered few = cg_are_ancestors(graph, pairs, 5, out, 1);
+    if (few.code || few.answered != 1 || out[0] != leads || out[1] != 7) return false;
+    cg_answered some = cg_are_ancestors(graph, pairs, 5, out, 5), none = cg_are_ancestors(graph, pairs, 0, out, 5);
+    return some.code == 1 && some.answered == 3 && !memcmp(out, wanted, 5) && !none.code && !none.answered;
+}
+
 /* A shortest walk from a commit to another, and how many commits were visited. */
 static int ancestor(cg_graph graph, char **hex) {
     uint32_t from = position_of(graph, hex[0]), to = position_of(graph, hex[1]), out[ROOM];
@@ -162,6 +173,7 @@ static int ancestor(cg_graph graph, char **hex) {
     cg_reached reached = cg_ancestor_walk(graph, from, to, out, ROOM);
     cg_leads leads = cg_is_ancestor(graph, from, to);
     if (reached.code || reached.length > ROOM || leads.code || leads.found != (reached.length > 0)) return 9;
+    if (!answers_pairs(graph, from, to, leads.found)) return 9;
     if (reached.length) printf("walk");
     else printf("none");
     for (uint64_t i = 0; i < reached.length; i++) printf(" %" PRIu32, out[i]);
@@ -180,6 +192,52 @@ static int bases(cg_graph graph, int count, char **hex) {
     return 0;
 }
 
+/* All dates, which are asked for in no room, in too little and in more than enough; or why there are none. */
+static int dates(cg_graph graph) {
+    uint64_t count = cg_num_commits(graph), *out = calloc(count + 1, sizeof *out);
+    cg_dates told = cg_corrected_dates(graph, out, 0), few, all;
+    if (!out) return 9;
+    out[count] = 7;
+    few = cg_corrected_dates(graph, out, count / 2);
+    for (uint64_t i = count / 2; i < count; i++)
+        if (out[i]) return 9;
+    all = cg_corrected_dates(graph, out, count);
+    if (memcmp(&told, &few, sizeof told) || memcmp(&told, &all, sizeof told) || out[count] != 7) return 9;
+    if (told.code == 0) printf("dates commits %" PRIu64 "\n", told.length);
+    else if (told.code == 7) puts("dates none");
+    else if (told.code < 3) printf("refused dates %" PRIu32 " layer %" PRIu64 "\n", told.code, told.layer);
+    else printf("refused dates %" PRIu32 " position %" PRIu32, told.code, told.position);
+    if (told.code == 5) printf(" expected %" PRIu64, told.expected);
+    if (told.code >= 3 && told.code <= 5) putchar('\n');
+    for (uint64_t i = 0; i < told.length; i++) printf("%" PRIu64 "\n", out[i]);
+    free(out);
+    return told.code == 0 || told.code == 7 ? 0 : 1;
+}
+
+/* What the filters of all commits say of a path, in a room that ends too early, and up to a position that is none. */
+static int probe(cg_graph graph, const char *name) {
+    uint32_t count = cg_num_commits(graph), *all = malloc((count + 1) * sizeof *all);
+    uint8_t *few = calloc(count + 1, 1), *out = calloc(count + 1, 1);
+    if (!all || !few || !out) return 9;
+    for (uint32_t i = 0; i <= count; i++) all[i] = i;
+    few[count / 2] = out[count] = 7;
+    cg_probed half = cg_probe_path(graph, (const uint8_t *)name, strlen(name), all, count + 1, few, count / 2);
+    cg_probed told = cg_probe_path(graph, (const uint8_t *)name, strlen(name), all, count + 1, out, count + 1);
+    bool refused = told.code > 0 && told.code < 11;
+    if (few[count / 2] != 7 || out[count] != 7 || half.code != (refused ? told.code : 0)) return 9;
+    if (half.answered != (refused ? 0 : count / 2) || told.answered != (refused ? 0 : count)) return 9;
+    if (memcmp(few, out, count / 2) || (told.code == 4 && told.number - 1 < 65535)) return 9;
+    if (refused && (told.code == 6 || told.code == 7)) printf("refused filters %" PRIu32 " position %" PRIu32, told.code, told.position);
+    else if (refused) printf("refused filters %" PRIu32 " layer %" PRIu64, told.code, told.layer);
+    if (told.code == 3) printf(" version %" PRIu32, told.number);
+    if (refused) putchar('\n');
+    for (uint64_t i = 0; i < told.answered; i++) printf("%d\n", out[i]);
+    free(all);
+    free(few);
+    free(out);
+    return refused;
+}
+
 /* What each call answers of no graph, and that none but cg_verify writes anything. */
 static bool closed_answers(void) {
     uint32_t out[1] = { 7 };
@@ -188,6 +246,8 @@ static bool closed_answers(void) {
     cg_parent_count answer = { .code = 7 };
     cg_count count = { .parents = 7 };
     cg_verdict verdict = { .called = 7 };
+    cg_pair pair = { 0, 0 };
+    uint64_t date = 7;
     cg_close(CG_CLOSED);
     bool good = cg_num_commits(CG_CLOSED) == 0 && cg_id_len(CG_CLOSED) == 0 && cg_lookup(CG_CLOSED, id, 20) == CG_NOWHERE
         && cg_id_at(CG_CLOSED, 0, id, 20) == 0 && cg_tree_at(CG_CLOSED, 0, id, 20) == 0 && !cg_commit_at(CG_CLOSED, 0, &commit)
@@ -195,14 +255,19 @@ static bool closed_answers(void) {
         && cg_parents_from(CG_CLOSED, 0, &answer, 1, out, 1).commits == 0
         && cg_verify(CG_CLOSED, true, &verdict, &count, 1) == 12 && verdict.code == 12 && verdict.called == 0
         && cg_ancestor_walk(CG_CLOSED, 0, 0, out, 1).code == 4 && cg_is_ancestor(CG_CLOSED, 0, 0).code == 4
-        && cg_merge_bases(CG_CLOSED, 0, out, 1, out, 0).code == 4;
-    return good && out[0] == 7 && id[0] == 7 && commit.time == 7 && answer.code == 7 && count.parents == 7;
+        && cg_merge_bases(CG_CLOSED, 0, out, 1, out, 0).code == 4
+        && cg_are_ancestors(CG_CLOSED, &pair, 1, id, 1).code == 4 && cg_corrected_dates(CG_CLOSED, &date, 1).code == 8
+        && cg_probe_path(CG_CLOSED, (const uint8_t *)"a", 1, out, 1, id, 1).code == 12;
+    return good && date == 7 && out[0] == 7 && id[0] == 7 && commit.time == 7 && answer.code == 7 && count.parents == 7;
 }
 
 /* What the queries answer of a graph that was not checked. */
 static bool unchecked_answers(cg_graph graph) {
     uint32_t out[1] = { 7 };
+    uint8_t bit = 7;
+    cg_pair pair = { 0, 0 };
     return cg_ancestor_walk(graph, 0, 0, out, 1).code == 2 && cg_is_ancestor(graph, 0, 0).code == 2
+        && cg_are_ancestors(graph, &pair, 1, &bit, 1).code == 2 && bit == 7
         && cg_merge_bases(graph, 0, out, 0, out, 1).code == 2 && out[0] == 7;
 }
 
@@ -251,17 +316,19 @@ static int lines(const char *path) {
 
 /* Whether the words after the path are those of a command. */
 static bool is_command(int count, char **words) {
-    static const char *const alone[] = { "list", "verify", "distinct", "lines" };
+    static const char *const alone[] = { "list", "verify", "distinct", "lines", "dates" };
     for (size_t i = 0; count == 1 && i < sizeof alone / sizeof *alone; i++)
         if (!strcmp(words[0], alone[i])) return true;
-    return (count == 2 && (!strcmp(words[0], "find") || !strcmp(words[0], "parents")))
+    return (count == 2 && (!strcmp(words[0], "find") || !strcmp(words[0], "parents") || !strcmp(words[0], "probe")))
         || (count == 3 && !strcmp(words[0], "ancestor")) || (count > 2 && !strcmp(words[0], "bases"));
 }
 
 /* The answer of an open graph. */
 static int answer(cg_graph graph, int count, char **words) {
     if (!strcmp(words[0], "list")) return list(graph);
+    if (!strcmp(words[0], "dates")) return dates(graph);
     if (!strcmp(words[0], "find")) return find(graph, words[1]);
+    if (!strcmp(words[0], "probe")) return probe(graph, words[1]);
     if (!strcmp(words[0], "ancestor")) return ancestor(graph, words + 1);
     if (!strcmp(words[0], "parents")) return parents(graph, words[1]);
     if (!strcmp(words[0], "bases")) return bases(graph, count - 1, words + 1);
@@ -278,7 +345,7 @@ int main(int argc, char **argv) {
     if (chain ? !add_layers(files, &count, argv[1], (int)(chain - argv[1])) : !add(files, &count, argv[1])) return 2;
     cg_verdict verdict;
     cg_count counts[1];
-    bool asks = strchr("apb", argv[2][0]);
+    bool asks = strchr("ab", argv[2][0]) || !strcmp(argv[2], "parents");
     cg_error error = asks ? cg_open_checked(files, count, false, &verdict, counts, 1, &graph) : cg_open(files, count, &graph);
     while (count) free((void *)files[--count].bytes);
     if (error.code == 4) return error.detail == verdict.code ? not_right(verdict) : 9;

@@ -19,6 +19,12 @@ AT(cg_verdict, called, 28); AT(cg_verdict, layer, 32); AT(cg_verdict, index, 40)
 SIZE(cg_count, 8); AT(cg_count, parents, 0); AT(cg_count, commits, 4);
 SIZE(cg_reached, 16); AT(cg_reached, code, 0); AT(cg_reached, visits, 4); AT(cg_reached, length, 8);
 SIZE(cg_leads, 8); AT(cg_leads, code, 0); AT(cg_leads, found, 4);
+SIZE(cg_pair, 8); AT(cg_pair, from, 0); AT(cg_pair, to, 4);
+SIZE(cg_answered, 16); AT(cg_answered, code, 0); AT(cg_answered, answered, 8);
+SIZE(cg_probed, 32); AT(cg_probed, code, 0); AT(cg_probed, position, 4); AT(cg_probed, number, 8); AT(cg_probed, layer, 16);
+AT(cg_probed, answered, 24);
+SIZE(cg_dates, 32); AT(cg_dates, code, 0); AT(cg_dates, position, 4); AT(cg_dates, layer, 8); AT(cg_dates, expected, 16);
+AT(cg_dates, length, 24);
 SIZE(cg_bases, 32); AT(cg_bases, code, 0); AT(cg_bases, ahead, 4); AT(cg_bases, behind, 8); AT(cg_bases, visits, 16);
 AT(cg_bases, length, 24);
 SIZE(cg_line, 24); AT(cg_line, found, 0); AT(cg_line, end, 8); AT(cg_line, next, 16);
@@ -61,15 +67,32 @@ static void print_commits(cg_graph graph) {
     }
 }
 
+/* The dates of all commits, or why there are none, and what the filter of a commit says of a path. */
+static void print_chunks(cg_graph graph) {
+    uint64_t out[ROOM];
+    memset(out, OTHER, sizeof out);
+    cg_dates dates = cg_corrected_dates(graph, out, ROOM);
+    PRINT("dates", dates.code, dates.position, dates.layer, dates.expected, dates.length);
+    for (uint64_t i = 0; i < dates.length; i++) PRINT("date", out[i]);
+    uint32_t positions[] = { 0, CG_NOWHERE };
+    uint8_t bits[2] = { OTHER, OTHER };
+    cg_probed probed = cg_probe_path(graph, (const uint8_t *)"a", 1, positions, 2, bits, 2);
+    PRINT("probed", probed.code, probed.position, probed.number, probed.layer, probed.answered, bits[0], bits[1]);
+}
+
 /* What is asked of a commit and another, in this order. */
 static void print_queries(cg_graph graph, uint32_t first, uint32_t second) {
     uint32_t out[ROOM];
     cg_reached reached = cg_ancestor_walk(graph, first, second, out, ROOM);
     cg_leads leads = cg_is_ancestor(graph, first, second);
     cg_bases bases = cg_merge_bases(graph, first, &second, 1, out, ROOM);
+    cg_pair pairs[] = { { first, second }, { second, first }, { first, CG_NOWHERE } };
+    uint8_t bits[3] = { OTHER, OTHER, OTHER };
+    cg_answered many = cg_are_ancestors(graph, pairs, 3, bits, 3);
     PRINT("asked", first, second);
     PRINT("reached", reached.code, reached.visits, reached.length);
     PRINT("leads", leads.code, N(leads.found));
+    PRINT("answered", many.code, many.answered, bits[0], bits[1], bits[2]);
     PRINT("bases", bases.code, bases.ahead, bases.behind, bases.visits, bases.length);
 }
 
@@ -89,6 +112,7 @@ int main(int argc, char **argv) {
     PRINT("error", error.code, error.detail, error.chunk, error.layer, N(graph.opened), N(graph.address != NULL));
     print_check(graph);
     print_commits(graph);
+    print_chunks(graph);
     error = cg_open_checked(files, (size_t)argc - 1, false, &verdict, counts, 1, &checked);
     PRINT("checked", error.code, error.detail, error.chunk, error.layer, N(checked.opened), N(checked.address != NULL));
     uint32_t count = cg_num_commits(checked);

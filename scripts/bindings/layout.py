@@ -29,6 +29,10 @@ class History:
     def generation(self, commit):
         return 1 + max(map(self.generation, self.parents[commit]), default=0)
 
+    def date(self, commit):
+        """The corrected date of a commit, where all are of one time: a second for each step of its longest walk is added."""
+        return 999999999 + self.generation(commit)
+
     def verdict(self):
         longest = max(map(self.generation, self.ids)) - 1
         kinds = len(set(map(len, self.parents.values())))
@@ -44,19 +48,23 @@ class History:
         for commit in self.ids:
             parents = len(self.parents[commit])
             yield ["commit", 1000000000, self.generation(commit), 0, parents, 0, parents]
+        yield ["dates", 0, 0, 0, 0, len(self.ids)]
+        yield from (["date", self.date(commit)] for commit in self.ids)
+        yield ["probed", 11, 0, 0, 0, 1, 2, 0xAA]
         yield ["checked", 0, 0, 0, 0, 1, 1]
         for first, one in enumerate(self.ids):
             for second, other in enumerate(self.ids):
                 yield ["asked", first, second]
-                yield from self.answers(self.reached(one), self.reached(other), other)
+                yield from self.answers(one, self.reached(one), other, self.reached(other))
         yield ["line", 1, 3, 5]
 
-    def answers(self, one, two, other):
+    def answers(self, first, one, other, two):
         """What is asked of a commit and another: what each leads to."""
         common = set(one) & set(two)
         below = {it for commit in common for it in self.reached(commit) if it != commit}
         yield ["reached", 0, one.get(other, -1) + 1]
         yield ["leads", 0, int(other in one)]
+        yield ["answered", 1, 2, int(other in one), int(first in two), 0xAA]
         yield ["bases", 0, len(set(one) - set(two)), len(set(two) - set(one)), len(common - below)]
 
 
@@ -101,6 +109,14 @@ def faults(data, history):
     yield "edges", changed(data, edges + 4, word(data, edges + 4) & 0x7fffffff), verdict(6, merge, 0, 4, merge), [4, 3]
     yield "parent", changed(data, record + 20, count + 5), verdict(7, merge, count + 5, 0, merge), [0, 3]
     yield "number", changed(data, record + 28, stored ^ 0x40), verdict(8, merge, generation, 0, merge), [0, 3]
+
+
+def date_faults(data, history):
+    """Files of one layer with another date of the merge, each with what is told of the dates."""
+    merge = next(pos for pos, commit in enumerate(history.ids) if len(history.parents[commit]) == 3)
+    place = chunk(data, b"GDA2") + 4 * merge
+    yield "a later date", changed(data, place, 1000), [5, merge, 0, history.date(history.ids[merge]), 0]
+    yield "no such date", changed(data, place, 1 << 31), [3, merge, 0, 0, 0]
 
 
 def layered(layers):

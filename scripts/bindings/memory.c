@@ -99,6 +99,31 @@ static outcome walk(void) {
 
 static outcome ancestor(void) { return outcome_of(cg_is_ancestor(graph, from, to).code, 3); }
 
+static outcome ancestors(void) {
+    cg_pair pairs[] = { { to, from }, { from, to }, { from, from } };
+    uint8_t bits[3];
+    memset(bits, OTHER + 1, sizeof bits);
+    cg_answered many = cg_are_ancestors(graph, pairs, 3, bits, 3);
+    for (uint64_t i = 0; i < 3; i++)
+        if ((i < many.answered) != (bits[i] < OTHER + 1)) return WRONG;
+    return outcome_of(many.code, 3);
+}
+
+static outcome dates(void) {
+    static uint64_t found[ROOM];
+    memset(found, OTHER, sizeof found);
+    cg_dates told = cg_corrected_dates(graph, found, ROOM);
+    outcome seen = outcome_of(told.code, 6);
+    return seen == NO_MEMORY && (told.length || !unwritten(found, sizeof found)) ? WRONG : seen;
+}
+
+static outcome probe(void) {
+    uint8_t bits[1] = { OTHER + 2 };
+    cg_probed told = cg_probe_path(graph, (const uint8_t *)"a", 1, &from, 1, bits, 1);
+    outcome seen = outcome_of(told.code, 10);
+    return told.answered != (seen == DONE) || (bits[0] == OTHER + 1) != (seen == DONE) ? WRONG : seen;
+}
+
 static outcome bases(void) {
     uint32_t others[2] = { to, from };
     memset(out, OTHER, sizeof out);
@@ -157,6 +182,9 @@ int main(int argc, char **argv) {
     printf("verify %ld\n", refusals("verify", verify));
     printf("walk %ld\n", refusals("walk", walk));
     printf("ancestor %ld\n", refusals("ancestor", ancestor));
+    printf("ancestors %ld\n", refusals("ancestors", ancestors));
+    printf("dates %ld\n", refusals("dates", dates));
+    printf("probe %ld\n", refusals("probe", probe));
     printf("bases %ld\n", refusals("bases", bases));
     printf("reading %ld\n", refusals("reading", reading));
     cg_close(graph);

@@ -15,6 +15,7 @@ static uint64_t sum(void) {
     cg_commit commits[ROOM];
     cg_verdict verdict;
     cg_count counts[ROOM];
+    uint64_t dates[ROOM];
     for (uint32_t pos = 0; pos < count; pos++) {
         uint8_t id[32];
         size_t len = cg_id_at(graph, pos, id, cg_id_len(graph));
@@ -23,7 +24,10 @@ static uint64_t sum(void) {
         all = all * 31 + block.length + out[0] + cg_is_ancestor(graph, count - 1, pos).found;
         all = all * 31 + cg_ancestor_walk(graph, count - 1, pos, out, ROOM).length;
         all = all * 31 + cg_merge_bases(graph, pos, &pos, 1, out, ROOM).length;
+        all = all * 31 + cg_are_ancestors(graph, &(cg_pair){ count - 1, pos }, 1, id, 1).answered + id[0];
     }
+    all = all * 31 + cg_corrected_dates(graph, dates, ROOM).length + dates[count - 1];
+    all = all * 31 + cg_probe_path(graph, (const uint8_t *)"a", 1, out, 0, (uint8_t *)commits, 0).code;
     return all * 31 + cg_verify(graph, true, &verdict, counts, ROOM) + verdict.longest + counts[0].commits;
 }
 
