@@ -12,8 +12,8 @@ A line a figure: the times through C and through Rust and ours, in nanoseconds a
 ratios; and the bound that is wanted of them, or of the times where it begins with a sign. The items are the commits that
 are opened, with a copy of their bytes; lookups of ids; commits with their parents, by a call each (`iterate`) and many in a
 call (`blocks`); commits at random positions; the commits of the graphs that are checked; queries for a walk, or for whether
-there is one, of 30 random pairs and of 1,000 near ones; and calls that only answer a number. The status is 1 where the sums
-differ.
+there is one, by a call each (`yes`) and all in a call (`many`), of 30 random pairs and of 1,000 near ones, whose positions
+are looked up before; and calls that only answer a number. The status is 1 where the sums differ.
 """
 
 import os
@@ -33,7 +33,7 @@ CALLS = 100_000_000
 """How many calls each program makes that only answer a number."""
 ITEMS = {"calls": CALLS, "any": FEW, "newest": PAIRS}
 """How many items the figures have that are not of each commit."""
-OURS = {"blocks": "iterate"}
+OURS = {"blocks": "iterate", "any-many": "any-yes", "newest-many": "newest-yes"}
 """The figure of our program that another is compared with, where it has another name."""
 OPENING = 45
 """Opening may take so many nanoseconds a commit more than ours, as it copies the bytes."""

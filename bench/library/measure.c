@@ -125,22 +125,30 @@ static uint32_t position(cg_graph graph, const uint8_t *id) {
     return pos;
 }
 
-/* Walks between pairs of commits, and then whether there is one. */
-static void queries(const char *layers, const char *kind, cg_graph graph, bytes pairs) {
+/* Walks between pairs of commits; and whether there is one, by a call each, and for all in one call. */
+static void queries(const char *layers, const char *kind, cg_graph graph, bytes ids) {
     static uint32_t walk[1 << 20];
+    static cg_pair pairs[PLACES];
+    static uint8_t found[PLACES];
+    size_t count = 0;
+    for (size_t at = 0; at + 2 * ID_LEN <= ids.len && count < PLACES; at += 2 * ID_LEN)
+        pairs[count++] = (cg_pair){ position(graph, ids.bytes + at), position(graph, ids.bytes + at + ID_LEN) };
     uint64_t walks = 0, commits = 0, visits = 0, yes = 0, start = now();
-    for (size_t at = 0; at + 2 * ID_LEN <= pairs.len; at += 2 * ID_LEN) {
-        uint32_t from = position(graph, pairs.bytes + at), to = position(graph, pairs.bytes + at + ID_LEN);
-        cg_reached reached = cg_ancestor_walk(graph, from, to, walk, 1 << 20);
+    for (size_t i = 0; i < count; i++) {
+        cg_reached reached = cg_ancestor_walk(graph, pairs[i].from, pairs[i].to, walk, 1 << 20);
         visits += reached.visits;
         walks += reached.length > 0;
         commits += reached.length;
     }
     printf("%s-%s-walk %" PRIu64 " %" PRIu64 " %" PRIu64 " %" PRIu64 "\n", layers, kind, now() - start, walks, commits, visits);
     start = now();
-    for (size_t at = 0; at + 2 * ID_LEN <= pairs.len; at += 2 * ID_LEN)
-        yes += cg_is_ancestor(graph, position(graph, pairs.bytes + at), position(graph, pairs.bytes + at + ID_LEN)).found;
+    for (size_t i = 0; i < count; i++) yes += cg_is_ancestor(graph, pairs[i].from, pairs[i].to).found;
     printf("%s-%s-yes %" PRIu64 " %" PRIu64 " 0\n", layers, kind, now() - start, yes);
+    start = now();
+    if (cg_are_ancestors(graph, pairs, count, found, count).answered != count) exit(1);
+    yes = 0;
+    for (size_t i = 0; i < count; i++) yes += found[i];
+    printf("%s-%s-many %" PRIu64 " %" PRIu64 " 0\n", layers, kind, now() - start, yes);
 }
 
 static seen calls(cg_graph graph) {

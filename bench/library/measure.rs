@@ -105,23 +105,28 @@ fn calls(graph: &Graph) -> Seen {
     seen
 }
 
-/// Walks between pairs of commits, and then whether there is one.
-fn queries(layers: &str, kind: &str, graph: &Checked, pairs: &[u8]) {
+/// Walks between pairs of commits; and whether there is one, by a call each, and for all in one call.
+fn queries(layers: &str, kind: &str, graph: &Checked, ids: &[u8]) {
     let position = |id: &[u8]| graph.lookup(id).unwrap();
+    let pair = |ids: &[u8]| (position(&ids[..ID_LEN]), position(&ids[ID_LEN..]));
+    let pairs: Vec<_> = ids.chunks_exact(2 * ID_LEN).map(pair).collect();
     let (mut walks, mut commits, mut visits, mut yes) = (0, 0, 0, 0);
     let start = Instant::now();
-    for pair in pairs.chunks_exact(2 * ID_LEN) {
-        let reached = graph.ancestor_walk(position(&pair[..ID_LEN]), position(&pair[ID_LEN..])).unwrap();
+    for &(from, to) in &pairs {
+        let reached = graph.ancestor_walk(from, to).unwrap();
         visits += u64::from(reached.visits);
         walks += u64::from(reached.walk.is_some());
         commits += reached.walk.map_or(0, |walk| walk.len() as u64);
     }
     println!("{layers}-{kind}-walk {} {walks} {commits} {visits}", start.elapsed().as_nanos());
     let start = Instant::now();
-    for pair in pairs.chunks_exact(2 * ID_LEN) {
-        yes += u64::from(graph.is_ancestor(position(&pair[..ID_LEN]), position(&pair[ID_LEN..])).unwrap());
+    for &(from, to) in &pairs {
+        yes += u64::from(graph.is_ancestor(from, to).unwrap());
     }
     println!("{layers}-{kind}-yes {} {yes} 0", start.elapsed().as_nanos());
+    let start = Instant::now();
+    let yes = graph.are_ancestors(&pairs).unwrap().into_iter().filter(|found| *found).count();
+    println!("{layers}-{kind}-many {} {yes} 0", start.elapsed().as_nanos());
 }
 
 fn timed<T>(layers: &str, name: &str, call: impl FnOnce() -> T, seen: impl FnOnce(&T) -> Seen) -> T {
