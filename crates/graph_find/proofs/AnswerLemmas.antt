@@ -10,14 +10,14 @@ use Rattle.graph_format.specs.Head.{BeginsWith}
 use Rattle.graph_format.specs.Layer.{Layer, decoded_layer}
 use Rattle.graph_format.specs.Lookup.{Found}
 use Rattle.graph_find.specs.Bucket.{IsBucket}
-use Rattle.graph_find.specs.ReadHead.{IsHead, IsBucketSpan}
-use Rattle.graph_find.specs.Finding.{Answers, AnswersIn}
+use Rattle.graph_find.specs.ReadHead.{BeginsAt, IsHead, IsBucketSpan}
+use Rattle.graph_find.specs.LayerFinding.{AnswersOfLayer, AnswersInLayer, IsLayerOfHead}
 use Rattle.graph_find.specs.declared.head.Head.{Head}
 use Rattle.graph_find.specs.declared.head.Span.{Span}
-use Rattle.graph_find.specs.declared.search.Place.{Place}
-use Rattle.graph_find.specs.declared.search.Search.{Search}
-use Rattle.graph_find.specs.declared.search.Search.TheVariants.{Found as found_at, Missing}
-use Rattle.graph_find.proofs.LayerLemmas.{graph-one, opened-one, found-other_kind, is-bucket, tells-record, found-one, missed-one}
+use Rattle.graph_find.specs.declared.answer.Place.{Place}
+use Rattle.graph_find.specs.declared.answer.Search.{Search}
+use Rattle.graph_find.specs.declared.answer.Search.TheVariants.{Found as found_at, Missing}
+use Rattle.graph_find.proofs.LayerLemmas.{found-other_kind, is-bucket, tells-record}
 use Rattle.graph_find.proofs.SeenLemmas.{StandsAs, seen-front, seen-part, seen-parts}
 
 row : (size k n : ℕ) → k < n → size * k + size ≤ size * n
@@ -34,25 +34,21 @@ bucket-end size first end commits order within =
 
 module _ (known : Option Tree) (path id : List ℕ) (head : Head) (is : IsHead head) where
   answers-in : (search : Search) (file : List ℕ) → StandsAs known path file → BeginsWith file head.front.items head.len
-      → Answers (decoded_layer file path) id search → AnswersIn known path id search
-  answers-in search file at begins answers =
-      let kept = is.layout.each file begins in
-      record {
-        layer = decoded_layer file path;
-        opened = λ tree there. opened-one file path head.layout kept tree is.order.few (at.stands tree there);
-        graph = graph-one file path head.layout kept is.order.few;
-        answers = answers;
-      }
+      → AnswersOfLayer (decoded_layer file path) id search → AnswersInLayer known path head id search
+  answers-in search file at begins answers = record {
+    layer = decoded_layer file path;
+    is = record { file = file; stands = at.stands; begins = begins; decoded = refl };
+    answers = answers;
+  }
 
   module _ (front_seen : ForSome known (λ (tree : Tree). IsSomeAnd (file_at tree path) (λ file.
       BeginsWith file head.front.items head.len))) where
     -- the id is of another kind
-    pub missing-kind : (length id ≡ id_len head.layout.kind → ⊥) → AnswersIn known path id Missing
+    pub missing-kind : (length id ≡ id_len head.layout.kind → ⊥) → AnswersInLayer known path head id Missing
     missing-kind differs =
         let seen = seen-front known path head.front.items head.len is.fits front_seen in
         answers-in Missing seen.0 seen.1 seen.2
-        (missed-one (decoded_layer seen.0 path) id
-        (found-other_kind seen.0 path head.layout (is.layout.each seen.0 seen.2) id differs))
+        (found-other_kind seen.0 path head.layout (is.layout.each seen.0 seen.2) id differs)
 
     module _ (size : ℕ) (long : length id ≡ size) (kind : size ≡ id_len head.layout.kind) (byte : slice_index id 0 < 256)
         (span : Span) (order : span.first ≤ span.end) (within : span.end ≤ head.layout.commits)
@@ -94,14 +90,13 @@ module _ (known : Option Tree) (path id : List ℕ) (head : Head) (is : IsHead h
 
         -- the id is not in its bucket
         pub missing-bucket : ((layer : Layer) → IsBucket layer id span.first span.end bytes → Found layer id None)
-            → AnswersIn known path id Missing
+            → AnswersInLayer known path head id Missing
         missing-bucket nowhere =
             let seen =
             seen-part known path head.front.items head.len start bytes (omega (arith, is.order.ids, starts))
             (omega (arith, ends, is.order.end)) front_seen part-seen in
             answers-in Missing seen.0 seen.1 seen.2.begins
-            (missed-one (decoded_layer seen.0 path) id
-            (nowhere (decoded_layer seen.0 path) (bucket seen.0 seen.2.begins seen.2.has)))
+            (nowhere (decoded_layer seen.0 path) (bucket seen.0 seen.2.begins seen.2.has))
 
         -- the id is there, and its record was read
         pub found-place : (pos : ℕ) → pos < span.end
@@ -113,7 +108,7 @@ module _ (known : Option Tree) (path id : List ℕ) (head : Head) (is : IsHead h
             (λ file. slice_range file later (later + more_len) ≡ more))
             → (place : Place) → place.pos ≡ pos
             → place.generation ≡ (record_of head.layout.kind more).generation
-            → place.time ≡ (record_of head.layout.kind more).time → AnswersIn known path id (found_at place)
+            → place.time ≡ (record_of head.layout.kind more).time → AnswersInLayer known path head id (found_at place)
         found-place pos below there later more_len is_len is_later more more_sized more_seen place at generation time =
             let R : ℕ → Type 0 = λ n. ForSome known (λ (tree : Tree). IsSomeAnd (file_at tree path) (λ file.
             slice_range file later (later + n) ≡ more)) in
@@ -143,6 +138,13 @@ module _ (known : Option Tree) (path id : List ℕ) (head : Head) (is : IsHead h
             subst (λ (n : ℕ). Q n (head.layout.chunks.records.start + wide * place.pos + wide)) from
             (subst (Q later) stop seen.2.has) in
             answers-in (found_at place) file seen.1 begins (
-              found-one (decoded_layer file path) id place.pos here,
+              here,
               tells-record file path head.layout kept id more place here moved generation time,
             )
+
+-- Some layer of a head that was read.
+pub some-layer : (known : Option Tree) (path : List ℕ) (head : Head) → IsHead head → BeginsAt known path head
+    → (layer : Layer) × IsLayerOfHead known path head layer
+some-layer known path head is begins =
+    let seen = seen-front known path head.front.items head.len is.fits begins in
+    (decoded_layer seen.0 path, record { file = seen.0; stands = seen.1.stands; begins = seen.2; decoded = refl })

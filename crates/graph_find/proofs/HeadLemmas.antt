@@ -10,7 +10,6 @@ use Rattle.gix_chunk_core.proofs.HeadLemmas.{filled-len, filled-take}
 use Rattle.graph_format.specs.Format.{fan_of}
 use Rattle.graph_format.specs.Head.{BeginsWith}
 use Rattle.graph_format.specs.Layer.{decoded_layer}
-use Rattle.graph_format.specs.Layout.{IsLayout}
 use Rattle.graph_format.proofs.FanLemmas.{fan_of-at}
 use Rattle.graph_layer.proofs.BucketLemmas.{view-fan-size}
 use Rattle.graph_find.specs.ReadHead.{IsHead}

@@ -4,3 +4,8 @@ pub mod LayerLemmas
 pub mod SeenLemmas
 pub mod ReadLemmas
 pub mod AnswerLemmas
+pub mod FoundInLayersLemmas
+pub mod FileFindingLemmas
+pub mod ChainHeadLemmas
+pub mod ChainReadLemmas
+pub mod SearchedLemmas

@@ -1,6 +1,6 @@
 -- a file that has the parts that were read, and is that of the tree where the tree is known
-use Rattle.std.proofs.Common.{◌≡◌, ℕ, ◌+◌, ◌≤◌, List, length, take, slice_range, Option, Some, None}
-use Rattle.std.proofs.Common.{refl, sym, ap, ◌∙◌, arith, subst}
+use Rattle.std.proofs.Common.{◌≡◌, ℕ, ◌+◌, ◌≤◌, List, length, slice_range, Option, Some, None}
+use Rattle.std.proofs.Common.{refl, sym, ap, ◌∙◌, arith}
 use Rattle.std.specs.Option.{ForSome, IsSomeAnd}
 use Rattle.gix_chunk_core.specs.FirstBytes.{filled}
 use Rattle.graph_folder.specs.Tree.{Tree, file_at}

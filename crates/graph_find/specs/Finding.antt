@@ -1,36 +1,50 @@
 -- What a search by parts answers.
-use Rattle.std.specs.Prelude.{◌≡◌, ℕ, List, [], ◌∷◌, Option, Some, None, Result, Ok, slice_get}
+use Rattle.std.specs.Prelude.{◌≡◌, ℕ, List, Option, Some, None, Result, Ok, slice_get}
 use Rattle.std.specs.Option.{ForSome}
 use Rattle.graph_folder.specs.Tree.{Tree}
 use Rattle.graph_format.specs.Layer.{Layer, record_at}
 use Rattle.gix_commitgraph.specs.Graph.{IsGraph, graph_commits}
 use Rattle.gix_commitgraph.specs.GraphLookup.{FoundIn}
-use Rattle.gix_commitgraph.specs.Opening.{file_opened}
-use Rattle.graph_find.specs.declared.search.Place.{Place}
-use Rattle.graph_find.specs.declared.search.Search.{Search}
-use Rattle.graph_find.specs.declared.search.Search.TheVariants.{Found, Missing, NotByParts}
+use Rattle.gix_commitgraph.specs.OpenAlways.{IsFromFile, IsFromChain}
+use Rattle.gix_commitgraph.specs.Opening.{file_opened, chain_opened}
+use Rattle.graph_layer.specs.declared.opening.error.OpenError.{OpenError}
+use Rattle.graph_find.specs.declared.answer.Place.{Place}
+use Rattle.graph_find.specs.declared.answer.Search.{Search}
+use Rattle.graph_find.specs.declared.answer.Search.TheVariants.{Found, Missing, NotByParts}
 
--- What is told of a commit of a layer: its position there, and the numbers of its record.
-pub record Tells (layer : Layer) (place : Place) : Type 0 where
-  pub stands : slice_get (graph_commits (layer ∷ [])) place.pos ≡ Some (layer, place.pos)
-  pub generation : place.generation ≡ (record_at layer place.pos).generation
-  pub time : place.time ≡ (record_at layer place.pos).time
-
--- an answer of the lookup of an id in the graph of one layer, with the commit there
-abbrev pub Answers : Layer → List ℕ → Search → Type 0
-Answers layer id (Found place) = FoundIn (layer ∷ []) id (Some place.pos) × Tells layer place
-Answers layer id Missing = FoundIn (layer ∷ []) id None
-Answers layer id NotByParts = Unit
-
--- the same, in a layer that makes a graph: where the tree is known, that of the file at the path
-pub record AnswersIn (known : Option Tree) (path id : List ℕ) (search : Search) : Type 0 where
+-- What is told of a commit of a graph: where it stands, and the numbers of its record.
+pub record Tells (layers : List Layer) (place : Place) : Type 0 where
   pub layer : Layer
-  pub opened : ForSome known (λ tree. file_opened tree path ≡ Ok (layer ∷ []))
-  pub graph : IsGraph (layer ∷ [])
-  pub answers : Answers layer id search
+  pub pos : ℕ
+  pub stands : slice_get (graph_commits layers) place.pos ≡ Some (layer, pos)
+  pub generation : place.generation ≡ (record_at layer pos).generation
+  pub time : place.time ≡ (record_at layer pos).time
 
--- nothing is said of a file that is not read by parts
-abbrev pub Finds : Option Tree → List ℕ → List ℕ → Search → Type 0
-Finds known path id (Found place) = AnswersIn known path id (Found place)
-Finds known path id Missing = AnswersIn known path id Missing
-Finds known path id NotByParts = Unit
+-- an answer of the lookup of an id in a graph, with the commit there
+abbrev pub Answers : List Layer → List ℕ → Search → Type 0
+Answers layers id (Found place) = FoundIn layers id (Some place.pos) × Tells layers place
+Answers layers id Missing = FoundIn layers id None
+Answers layers id NotByParts = Unit
+
+-- the same in the layers of some graph: where the tree is known, those that an opener finds there
+pub record AnswersIn (known : Option Tree) (opened : Tree → Result (List Layer) OpenError) (IsFrom : List Layer → Type 0)
+    (id : List ℕ) (search : Search) : Type 0 where
+  pub layers : List Layer
+  pub opens : ForSome known (λ tree. opened tree ≡ Ok layers)
+  pub graph : IsGraph layers
+  pub from : IsFrom layers
+  pub answers : Answers layers id search
+
+-- nothing is said of what is not read by parts
+abbrev pub IfByParts : Search → Type 0 → Type 0
+IfByParts (Found place) P = P
+IfByParts Missing P = P
+IfByParts NotByParts P = Unit
+
+abbrev pub FindsInFile : Option Tree → List ℕ → List ℕ → Search → Type 0
+FindsInFile known path id search =
+    IfByParts search (AnswersIn known (λ tree. file_opened tree path) (IsFromFile path) id search)
+
+abbrev pub FindsInChain : Option Tree → List ℕ → List ℕ → Search → Type 0
+FindsInChain known folder id search =
+    IfByParts search (AnswersIn known (λ tree. chain_opened tree folder) (IsFromChain folder) id search)

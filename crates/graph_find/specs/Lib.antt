@@ -1,3 +1,6 @@
 pub mod ReadHead
 pub mod Bucket
 pub mod Finding
+pub mod LayerFinding
+pub mod ChainHeads
+pub mod ChainFinding

@@ -1,8 +1,10 @@
 -- The first bytes of a file, and where its parts lie.
-use Rattle.std.specs.Prelude.{◌≡◌, ℕ, ◌+◌, ◌*◌, ◌≤◌, List, length, slice_index}
+use Rattle.std.specs.Prelude.{◌≡◌, ℕ, ◌+◌, ◌*◌, ◌≤◌, List, length, slice_index, Option}
+use Rattle.std.specs.Option.{ForSome, IsSomeAnd}
 use Rattle.gix_hash_core.specs.Kind.{id_len}
+use Rattle.graph_folder.specs.Tree.{Tree, file_at}
 use Rattle.graph_format.specs.Format.{record_len}
-use Rattle.graph_format.specs.Head.{IsLayoutOfHead}
+use Rattle.graph_format.specs.Head.{BeginsWith, IsLayoutOfHead}
 use Rattle.graph_format.specs.Lookup.{bucket_start}
 use Rattle.graph_format.specs.declared.TheConstants.{MAX_COMMITS}
 use Rattle.graph_format.specs.declared.layout.Layout.{Layout}
@@ -21,6 +23,11 @@ pub record IsHead (head : Head) : Type 0 where
   pub layout : IsLayoutOfHead head.front.items head.len head.layout
   pub fits : length head.front.items ≤ head.len
   pub order : LieInOrder head.layout (length head.front.items) head.len
+
+-- where the tree is known, the file at the path begins so
+abbrev pub BeginsAt : Option Tree → List ℕ → Head → Type 0
+BeginsAt known path head =
+    ForSome known (λ tree. IsSomeAnd (file_at tree path) (λ file. BeginsWith file head.front.items head.len))
 
 -- The positions of a byte's bucket.
 pub record IsBucketSpan (fan : List ℕ) (byte : ℕ) (span : Span) : Type 0 where

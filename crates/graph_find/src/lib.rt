@@ -1,8 +1,12 @@
-//! The search for an id in a commit-graph file of which only parts are read: its first bytes, the
-//! ids that begin with the same byte, and the record of the commit that is found.
+//! The search for an id in commit-graph files of which only parts are read: of each layer its first
+//! bytes, the ids that begin with the same byte, and the record of the commit that is found.
 #![tactic(auto)]
 
+mod answer;
 mod bucket;
+mod chain;
 mod head;
+mod layer;
+pub mod paths;
 mod reading;
 pub mod search;

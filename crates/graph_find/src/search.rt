@@ -1,44 +1,21 @@
-//! The search for an id in a file.
+//! The search for an id in a file, and in the layers of a chain.
 
-ghost use Rattle.std.specs.Prelude.{◌≡◌, ◌+◌, length, IfOk, IsErrOf, None};
+ghost use Rattle.std.specs.Prelude.{◌≡◌, IfOk, IfSome, IsErrOf, None, All};
 ghost use Rattle.std.specs.Option.{ForSome};
-ghost use Rattle.gix_hash_core.specs.Kind.{id_len};
 ghost use Rattle.gix_hash_core.specs.Oid.{oid_bytes};
 ghost use Rattle.graph_folder.specs.Tree.{file_at};
 ghost use Rattle.graph_folder.specs.Failures.{failures_after};
-ghost use Rattle.graph_format.specs.Format.{record_of};
-ghost use Rattle.graph_find.specs.Finding.{Finds};
+ghost use Rattle.graph_find.specs.ChainHeads.{IsHeadOfLayer, SayGraph};
+ghost use Rattle.graph_find.specs.ChainFinding.{FindsInLayers};
+ghost use Rattle.graph_find.specs.Finding.{FindsInFile, FindsInChain};
 
-use crate::bucket::search;
-use crate::reading::{read_head, read_range};
-use gix_hash_core::{Kind, oid};
+pub use crate::answer::{Place, Search};
+use crate::chain::{ChainLayer, make_graph, read_layers};
+use crate::layer::find_in_layer;
+use crate::reading::read_head;
+use gix_hash_core::oid;
 use graph_folder::folder::{Folder, ReadError};
-use graph_format::chunks::record_len;
-use graph_format::numbers::long_at;
 use std::alloc::Global;
-
-/// A commit of a file.
-#[derive(Clone, Copy, Debug, PartialEq, Eq)]
-pub struct Place {
-    /// Its position in the file.
-    pub pos: u32,
-    /// Its generation number.
-    pub generation: u32,
-    /// Its time, in seconds since 1970-01-01 00:00:00 UTC.
-    pub time: u64,
-}
-
-/// What a search by parts answers.
-#[derive(Clone, Copy, Debug, PartialEq, Eq)]
-pub enum Search {
-    /// The commit that has the id.
-    Found(Place),
-    /// No commit with the id is found.
-    Missing,
-    /// The file is to be opened whole: it is refused, or not read by parts, or its parts stand in
-    /// another order than Git writes them.
-    NotByParts,
-}
 
 /// Searches the file at the path for an id, as the lookup in a graph of this file alone does, and
 /// reads only parts of it: its first bytes, the ids that begin with the same byte, and one record.
@@ -53,56 +30,93 @@ pub fn find_in_file<T: Folder>(
     path: &str,
     id: oid<'_>,
 ) -> Result<Search, ReadError>
-    ensures found { IfOk result (Finds (T.tree folder.old) path.now (oid_bytes id.entry)) }
+    ensures found { IfOk result (FindsInFile (T.tree folder.old) path.now (oid_bytes id.entry)) }
     ensures not_opened { ForSome (T.tree folder.old) (λ tree.
         IsErrOf result ReadError.NotOpened → file_at tree path.now ≡ None) }
     ensures tree { T.tree folder.new ≡ T.tree folder.old }
     ensures failures { T.failure_count folder.new
         ≡ failures_after result (T.failure_count folder.old) }
 {
-    let Some(head) = read_head(alloc, folder, path)? else {
-        return Ok(Search::NotByParts);
-    };
-    let wanted = id.as_bytes();
-    let size = head.layout.kind.len_in_bytes();
-    if wanted.len() != size {
-        return Ok(Search::Missing);
+    match read_head(alloc, folder, path)? {
+        Some(head) => find_in_layer(alloc, folder, path, &head, id),
+        None => Ok(Search::NotByParts),
     }
-    let span = head.span(id.first_byte());
-    if span.end < span.first || head.layout.commits < span.end {
-        return Ok(Search::NotByParts);
-    }
-    let start = head.layout.chunks.ids.start + size * span.first as usize;
-    let len = size * (span.end - span.first) as usize;
-    let Some(ids) = read_range(alloc, folder, path, head.len, start, len)? else {
-        return Ok(Search::NotByParts);
-    };
-    let Some(pos) = search(&ids, span, wanted) else {
-        return Ok(Search::Missing);
-    };
-    let len = record_len(head.layout.kind);
-    let start = head.layout.chunks.records.start + len * pos as usize;
-    let Some(record) = read_range(alloc, folder, path, head.len, start, len)? else {
-        return Ok(Search::NotByParts);
-    };
-    Ok(Search::Found(place_of(head.layout.kind, pos, &record)))
 }
 
-/// What the bytes of a record say of the commit at a position.
-#[tactic(auto, unfolding(graph_format::specs::Format::record_of))]
-fn place_of(kind: Kind, pos: u32, fields: &[u8]) -> Place
-    requires { length fields.now ≡ id_len kind + 16 }
-    ensures pos { result.pos ≡ pos }
-    ensures generation { result.generation ≡ (record_of kind fields.now).generation }
-    ensures time { result.time ≡ (record_of kind fields.now).time }
+/// Searches the chain folder at the path for an id, as the lookup in its graph does. It reads the
+/// chain file and the first bytes of each layer; then of the layers, from the lowest on and until
+/// the id is found, the ids that begin with the same byte; and one record.
+///
+/// # Errors
+///
+/// `Device` where a read failed, and the folder's count of failures rises with it, and
+/// `OutOfMemory`. A file that is not opened is none: the chain is to be opened whole then.
+pub fn find_in_chain<T: Folder>(
+    alloc: Global,
+    folder: &mut T,
+    path: &str,
+    id: oid<'_>,
+) -> Result<Search, ReadError>
+    ensures found { IfOk result (FindsInChain (T.tree folder.old) path.now (oid_bytes id.entry)) }
+    ensures opened { ¬ (IsErrOf result ReadError.NotOpened) }
+    ensures tree { T.tree folder.new ≡ T.tree folder.old }
+    ensures failures { T.failure_count folder.new
+        ≡ failures_after result (T.failure_count folder.old) }
 {
-    let generation_and_time = long_at(fields, kind.len_in_bytes() + 8);
-    Place {
-        pos,
-        generation: (generation_and_time >> TIME_BITS) as u32,
-        time: generation_and_time % (1 << TIME_BITS),
+    match search_chain(alloc, folder, path, id) {
+        Err(ReadError::NotOpened) => Ok(Search::NotByParts),
+        answer => answer,
     }
 }
 
-/// How many bits of a record's last eight bytes are the committer's time.
-const TIME_BITS: u32 = 34;
+/// The same, with `NotOpened` where a file is not opened.
+fn search_chain<T: Folder>(
+    alloc: Global,
+    folder: &mut T,
+    path: &str,
+    id: oid<'_>,
+) -> Result<Search, ReadError>
+    ensures found { IfOk result (FindsInChain (T.tree folder.old) path.now (oid_bytes id.entry)) }
+    ensures tree { T.tree folder.new ≡ T.tree folder.old }
+    ensures failures { T.failure_count folder.new
+        ≡ failures_after result (T.failure_count folder.old) }
+{
+    let Some(layers) = read_layers(alloc, folder, path)? else {
+        return Ok(Search::NotByParts);
+    };
+    if !make_graph(&layers) {
+        return Ok(Search::NotByParts);
+    }
+    find_in_layers(alloc, folder, &layers, id)
+}
+
+/// Searches the layers one after another.
+fn find_in_layers<T: Folder>(
+    alloc: Global,
+    folder: &mut T,
+    layers: &[ChainLayer],
+    id: oid<'_>,
+) -> Result<Search, ReadError>
+    requires heads { All (IsHeadOfLayer (T.tree folder.old)) layers.now }
+    requires graph { SayGraph layers.now }
+    ensures found { IfOk result
+        (FindsInLayers (T.tree folder.old) layers.now (oid_bytes id.entry)) }
+    ensures tree { T.tree folder.new ≡ T.tree folder.old }
+    ensures failures { T.failure_count folder.new
+        ≡ failures_after result (T.failure_count folder.old) }
+{
+    let mut start = 0;
+    for layer in layers {
+        match find_in_layer(alloc, folder, layer.path.as_str(), &layer.head, id)? {
+            Search::Found(place) => {
+                return Ok(Search::Found(Place {
+                    pos: start + place.pos,
+                    ..place
+                }));
+            }
+            Search::Missing => start += layer.head.layout.commits,
+            Search::NotByParts => return Ok(Search::NotByParts),
+        }
+    }
+    Ok(Search::Missing)
+}

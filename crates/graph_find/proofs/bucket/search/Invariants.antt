@@ -1,5 +1,5 @@
 -- The id stands nowhere outside of what is left.
-use Rattle.std.proofs.Common.{ℕ, ◌-◌, ◌≤◌, List}
+use Rattle.std.proofs.Common.{◌-◌, ◌≤◌}
 use Rattle.graph_format.specs.Layer.{Layer}
 use Rattle.graph_layer.proofs.SearchLemmas.{StandsWithin}
 use Rattle.graph_find.specs.Bucket.{IsBucket}

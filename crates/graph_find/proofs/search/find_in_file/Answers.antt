@@ -1,58 +1,20 @@
--- What was read says what the lookup answers.
-use Rattle.std.proofs.Common.{◌+◌, ◌*◌, ◌-◌, refl, sym, ◌∙◌, arith}
-use Rattle.graph_find.proofs.AnswerLemmas.{missing-kind, missing-bucket, found-place}
+-- The search is that in the one layer.
+use Rattle.std.proofs.Common.{Option, IfOk, sym, subst, ◌∙◌}
+use Rattle.gix_hash_core.specs.Oid.{oid_bytes}
+use Rattle.graph_folder.specs.Tree.{Tree}
+use Rattle.graph_find.specs.LayerFinding.{FindsInLayer}
+use Rattle.graph_find.proofs.FileFindingLemmas.{ok-in_file}
 use Rattle.graph_find.proofs.search.find_in_file.Goals as goal
 
-pub returns-then-wanted-size-clause-found : goal.returns-then-wanted-size-clause-found
-returns-then-wanted-size-clause-found g c =
-    rw (← c.as_bytes-wanted.ensures.bytes)
-    (missing-kind (g.T.Folder.tree c.args.folder.now) c.args.path.now c.as_bytes-wanted.result.now c.in-Some.head
-    (rw c.in-Some.is at c.in_ok-head.ensures.head)
-    (λ tree is. rw c.in-Some.is at (c.in_ok-head.ensures.begins tree is))
-    (λ same. c.if-wanted-size.true (same ∙ sym c.len_in_bytes-size.ensures)))
+pub find_in_layer-requires-clause-begins : goal.find_in_layer-requires-clause-begins
+find_in_layer-requires-clause-begins g c = λ tree is.
+    rw c.in-Some.is at (c.in_ok-head.ensures.begins tree (sym c.in_ok-head.ensures.tree ∙ is))
 
-pub returns-in_default-search-clause-found : goal.returns-in_default-search-clause-found
-returns-in_default-search-clause-found g c =
+pub returns-in-Some-clause-found : goal.returns-in-Some-clause-found
+returns-in-Some-clause-found g c =
     let head = c.in-Some.head in
-    let size = c.len_in_bytes-size.result in
-    let span = c.span-span.result in
-    rw (← c.as_bytes-wanted.ensures.bytes)
-    (missing-bucket (g.T.Folder.tree c.args.folder.now) c.args.path.now c.as_bytes-wanted.result.now head
-    (rw c.in-Some.is at c.in_ok-head.ensures.head)
-    (λ tree is. rw c.in-Some.is at (c.in_ok-head.ensures.begins tree is))
-    size c.if-wanted-size.false c.len_in_bytes-size.ensures
-    (rw c.as_bytes-wanted.ensures.bytes (omega (arith, c.first_byte.ensures)))
-    span (omega (arith, c.if-span.false)) (omega (arith, c.if-head-span.false))
-    (λ file begins. rw (c.as_bytes-wanted.ensures.bytes, ← c.first_byte.ensures) (c.span-span.ensures.fan file begins))
-    (head.layout.chunks.ids.start + size * span.first) (size * (span.end - span.first)) refl refl
-    c.in-Some-2.ids.items (rw c.in-Some-2.is at c.in_ok-ids.ensures.size)
-    (λ tree is. rw c.in-Some-2.is at (c.in_ok-ids.ensures.part tree (c.in_ok-head.ensures.tree ∙ is)))
-    (λ layer bucket. c.in_default-search.ensures.found layer (rw c.deref.ensures.value bucket)))
-
-pub returns-clause-found : goal.returns-clause-found
-returns-clause-found g c =
-    let head = c.in-Some.head in
-    let size = c.len_in_bytes-size.result in
-    let span = c.span-span.result in
-    let pos = c.in-Some-search.pos in
-    let len = c.record_len-len.result in
-    rw (← c.as_bytes-wanted.ensures.bytes)
-    (found-place (g.T.Folder.tree c.args.folder.now) c.args.path.now c.as_bytes-wanted.result.now head
-    (rw c.in-Some.is at c.in_ok-head.ensures.head)
-    (λ tree is. rw c.in-Some.is at (c.in_ok-head.ensures.begins tree is))
-    size c.if-wanted-size.false c.len_in_bytes-size.ensures
-    (rw c.as_bytes-wanted.ensures.bytes (omega (arith, c.first_byte.ensures)))
-    span (omega (arith, c.if-span.false)) (omega (arith, c.if-head-span.false))
-    (λ file begins. rw (c.as_bytes-wanted.ensures.bytes, ← c.first_byte.ensures) (c.span-span.ensures.fan file begins))
-    (head.layout.chunks.ids.start + size * span.first) (size * (span.end - span.first)) refl refl
-    c.in-Some-2.ids.items (rw c.in-Some-2.is at c.in_ok-ids.ensures.size)
-    (λ tree is. rw c.in-Some-2.is at (c.in_ok-ids.ensures.part tree (c.in_ok-head.ensures.tree ∙ is)))
-    pos c.in-Some-search.ensures.within
-    (λ layer bucket. c.in-Some-search.ensures.found layer (rw c.deref.ensures.value bucket))
-    (head.layout.chunks.records.start + len * pos) len c.record_len-len.ensures refl
-    c.in-Some-3.record.items (rw c.in-Some-3.is at c.in_ok-record.ensures.size)
-    (λ tree is. rw c.in-Some-3.is at
-    (c.in_ok-record.ensures.part tree (c.in_ok-ids.ensures.tree ∙ (c.in_ok-head.ensures.tree ∙ is))))
-    c.place_of.result c.place_of.ensures.pos
-    (rw c.deref-2.ensures.value at c.place_of.ensures.generation)
-    (rw c.deref-2.ensures.value at c.place_of.ensures.time))
+    let id = oid_bytes c.args.id in
+    ok-in_file (g.T.Folder.tree c.args.folder.now) c.args.path.now head (rw c.in-Some.is at c.in_ok-head.ensures.head) id
+    c.find_in_layer.result
+    (subst (λ (known : Option Tree). IfOk c.find_in_layer.result (FindsInLayer known c.args.path.now head id))
+    c.in_ok-head.ensures.tree c.find_in_layer.ensures.found)

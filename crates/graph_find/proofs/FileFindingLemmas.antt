@@ -1,0 +1,61 @@
+-- the search in a file as that in its one layer
+use Rattle.std.proofs.Common.{◌≡◌, ℕ, ◌≤◌, List, [], ◌∷◌, Option, Result, Ok, refl, ap, ◌∙◌}
+use Rattle.std.proofs.Common.{Err, IfOk, arith, lit<}
+use Rattle.std.proofs.lemmas.List.Elements.{All-cons, All-nil}
+use Rattle.graph_folder.specs.Tree.{Tree}
+use Rattle.graph_folder.specs.declared.folder.ReadError.{ReadError}
+use Rattle.graph_format.specs.Layer.{Layer, IsOpened}
+use Rattle.graph_format.specs.declared.TheConstants.{MAX_COMMITS}
+use Rattle.graph_layer.specs.OpenAnswer.{and_then}
+use Rattle.graph_layer.specs.declared.opening.error.OpenError.{OpenError}
+use Rattle.gix_commitgraph.specs.Graph.{total}
+use Rattle.gix_commitgraph.specs.OpenAlways.{IsFromFile}
+use Rattle.gix_commitgraph.specs.Opening.{file_opened, graph_of_layers, graph_unless_refused}
+use Rattle.gix_commitgraph.proofs.layers.LayerListLemmas.{graph-accepted}
+use Rattle.graph_find.specs.Finding.{Answers, AnswersIn, FindsInFile}
+use Rattle.graph_find.specs.LayerFinding.{AnswersInLayer, AnswersOfLayer, FindsInLayer}
+use Rattle.graph_find.specs.ReadHead.{IsHead}
+use Rattle.graph_find.specs.declared.answer.Search.{Search}
+use Rattle.graph_find.specs.declared.answer.Search.TheVariants.{Found, Missing, NotByParts}
+use Rattle.graph_find.specs.declared.head.Head.{Head}
+use Rattle.graph_find.proofs.FoundInLayersLemmas.{Misses, answers-found, answers-missing, none-refused}
+use Rattle.graph_find.proofs.LayerLemmas.{keeps-head, opens-head}
+
+-- the answer of one layer is that of the graph
+answers-one : (layer : Layer) (id : List ℕ) (search : Search) → AnswersOfLayer layer id search → Answers (layer ∷ []) id search
+answers-one layer id (Found place) there =
+    answers-found id [] [] layer place place (All-nil (Misses id)) there (omega arith) refl refl
+answers-one layer id Missing there = answers-missing id (layer ∷ []) (All-cons (Misses id) layer [] there (All-nil (Misses id)))
+answers-one layer id NotByParts there = tt
+
+module _ (known : Option Tree) (path : List ℕ) (head : Head) (is : IsHead head) (id : List ℕ) where
+  file-answers : (search : Search) → AnswersInLayer known path head id search
+      → AnswersIn known (λ (tree : Tree). file_opened tree path) (IsFromFile path) id search
+  file-answers search found =
+      let layer = found.layer in
+      let keeps = keeps-head known path head is layer found.is in
+      let few : total (layer ∷ []) ≤ MAX_COMMITS = omega (arith, is.order.few, keeps.size) in
+      let none = none-refused head.layout.kind (layer ∷ []) (lit< tt) few
+      (All-cons (λ (l : Layer). l.kind ≡ head.layout.kind) layer [] keeps.kind
+      (All-nil (λ (l : Layer). l.kind ≡ head.layout.kind))) in
+      record {
+        layers = layer ∷ [];
+        opens = λ tree there.
+            ap (λ (r : Result Layer OpenError). and_then r (λ (l : Layer). graph_of_layers (l ∷ [])))
+            (opens-head known path head is layer found.is tree 0 there)
+            ∙ ap (λ r. graph_unless_refused r (layer ∷ [])) none;
+        graph = graph-accepted (layer ∷ []) none (All-cons IsOpened layer [] keeps.opened (All-nil IsOpened));
+        from = ap (λ (p : List ℕ). p ∷ []) keeps.path;
+        answers = answers-one layer id search found.answers;
+      }
+
+  pub finds-in_file : (search : Search) → FindsInLayer known path head id search → FindsInFile known path id search
+  finds-in_file (Found place) found = file-answers (Found place) found
+  finds-in_file Missing found = file-answers Missing found
+  finds-in_file NotByParts found = tt
+
+-- where the search did not fail
+pub ok-in_file : (known : Option Tree) (path : List ℕ) (head : Head) → IsHead head → (id : List ℕ)
+    → (answer : Result Search ReadError) → IfOk answer (FindsInLayer known path head id) → IfOk answer (FindsInFile known path id)
+ok-in_file known path head is id (Ok search) found = finds-in_file known path head is id search found
+ok-in_file known path head is id (Err error) found = tt

@@ -1,0 +1,39 @@
+-- What the search in one layer answers.
+use Rattle.std.specs.Prelude.{◌≡◌, ℕ, List, Option, Some, None}
+use Rattle.std.specs.Option.{ForSome}
+use Rattle.graph_folder.specs.Tree.{Tree, file_at}
+use Rattle.graph_format.specs.Head.{BeginsWith}
+use Rattle.graph_format.specs.Layer.{Layer, decoded_layer, record_at}
+use Rattle.graph_format.specs.Lookup.{Found}
+use Rattle.graph_find.specs.Finding.{IfByParts}
+use Rattle.graph_find.specs.declared.answer.Place.{Place}
+use Rattle.graph_find.specs.declared.answer.Search.{Search}
+use Rattle.graph_find.specs.declared.answer.Search.TheVariants.{Found as found_at, Missing, NotByParts}
+use Rattle.graph_find.specs.declared.head.Head.{Head}
+
+-- The layer is that of a file that begins with the head: where the tree is known, of the one at the path.
+pub record IsLayerOfHead (known : Option Tree) (path : List ℕ) (head : Head) (layer : Layer) : Type 0 where
+  pub file : List ℕ
+  pub stands : ForSome known (λ tree. file_at tree path ≡ Some file)
+  pub begins : BeginsWith file head.front.items head.len
+  pub decoded : layer ≡ decoded_layer file path
+
+-- What is told of a commit of the layer.
+pub record TellsOfRecord (layer : Layer) (place : Place) : Type 0 where
+  pub generation : place.generation ≡ (record_at layer place.pos).generation
+  pub time : place.time ≡ (record_at layer place.pos).time
+
+-- an answer of the lookup of an id in the layer, with the commit there
+abbrev pub AnswersOfLayer : Layer → List ℕ → Search → Type 0
+AnswersOfLayer layer id (found_at place) = Found layer id (Some place.pos) × TellsOfRecord layer place
+AnswersOfLayer layer id Missing = Found layer id None
+AnswersOfLayer layer id NotByParts = Unit
+
+-- the same in some layer of the head
+pub record AnswersInLayer (known : Option Tree) (path : List ℕ) (head : Head) (id : List ℕ) (search : Search) : Type 0 where
+  pub layer : Layer
+  pub is : IsLayerOfHead known path head layer
+  pub answers : AnswersOfLayer layer id search
+
+abbrev pub FindsInLayer : Option Tree → List ℕ → Head → List ℕ → Search → Type 0
+FindsInLayer known path head id search = IfByParts search (AnswersInLayer known path head id search)
