@@ -4,3 +4,4 @@ pub mod Appended
 pub mod BlockLemmas
 pub mod AncestorAnswers
 pub mod CheckAnswers
+pub mod FindLemmas

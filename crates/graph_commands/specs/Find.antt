@@ -29,6 +29,11 @@ MayBeFound layers id None = FoundIn layers id None
 abbrev pub MayFindIn : (Result (List Layer) OpenError → Type 0) → List ℕ → Option Found → Type 0
 MayFindIn MayOpen id found = (layers : List Layer) × MayOpen (Ok layers) × MayBeFound layers id found
 
+-- what the search may answer, given what the opener may: its error, or what is found
+abbrev pub FindsBy : (Result (List Layer) OpenError → Type 0) → List ℕ → Result (Option Found) OpenError → Type 0
+FindsBy MayOpen id (Ok found) = MayFindIn MayOpen id found
+FindsBy MayOpen id (Err error) = MayOpen (Err error)
+
 -- what `find` may answer for the text of an id, given what the opener may answer. For a text that is no id the folder is left
 -- as it was: nothing is opened
 abbrev pub MayFind : List ℕ → Type 0 → (Result (List Layer) OpenError → Type 0) → Result (Option Found) Refusal → Type 0

@@ -5,6 +5,7 @@ use Rattle.graph_folder.specs.Tree.{Tree}
 use Rattle.graph_format.specs.Layer.{Layer}
 use Rattle.gix_commitgraph.specs.Graph.{IsGraph}
 use Rattle.gix_commitgraph.specs.Opening.{Opens, MetFailureIfDevice}
+use Rattle.graph_layer.specs.OpenAnswer.{IsAsExpected}
 use Rattle.graph_layer.specs.declared.opening.error.OpenError.{OpenError}
 
 -- in a call that took the count of device failures from old to new: what the tree has at the path, where the tree is known; and
@@ -12,3 +13,13 @@ use Rattle.graph_layer.specs.declared.opening.error.OpenError.{OpenError}
 abbrev pub MayOpen : Option Tree → List ℕ → ℕ → ℕ → Result (List Layer) OpenError → Type 0
 MayOpen known path old new answer =
     ForSome known (λ tree. Opens tree path old new answer) × IfOk answer IsGraph × MetFailureIfDevice answer old new
+
+-- the same of an opener that opens so in a known tree
+abbrev pub MayOpenBy : Option Tree → (Tree → Result (List Layer) OpenError → Type 0) → ℕ → ℕ → Result (List Layer) OpenError
+    → Type 0
+MayOpenBy known OpensSo old new answer =
+    ForSome known (λ tree. OpensSo tree answer) × IfOk answer IsGraph × MetFailureIfDevice answer old new
+
+-- and of one that opens this in a known tree, and stops at a failure
+abbrev pub OpensAs : Option Tree → (Tree → Result (List Layer) OpenError) → Result (List Layer) OpenError → Type 0
+OpensAs known opened answer = ForSome known (λ tree. IsAsExpected answer (opened tree)) × IfOk answer IsGraph

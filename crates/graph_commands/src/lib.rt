@@ -8,6 +8,7 @@
 mod ancestor;
 pub mod block;
 mod bytes;
+mod find;
 pub mod line;
 mod listing;
 mod numbers;

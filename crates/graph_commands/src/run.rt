@@ -1,21 +1,20 @@
 //! The commands, over their inputs and a writer.
 
-ghost use Rattle.std.specs.Prelude.{◌≡◌, [], IfOk, IfErr, IfSome, OnOk, Ok, Err};
+ghost use Rattle.std.specs.Prelude.{◌≡◌, [], IfOk, IfErr, IfSome, Ok, Err};
 ghost use Rattle.std.specs.BTreeMap.{IsOrdered};
 ghost use Rattle.std.specs.Io.KnownBytes.{Appends};
 ghost use Rattle.std.specs.Ordering.{nat_cmp};
-ghost use Rattle.gix_hash_core.specs.Oid.{oid_bytes};
 ghost use Rattle.graph_commands.specs.WrittenAnswer.{WritesAnswer, WritesRefusal};
 ghost use Rattle.graph_commands.specs.OpenerAnswer.{MayOpen};
 ghost use Rattle.graph_commands.specs.List.{MayList, list_text, list_status};
-ghost use Rattle.graph_commands.specs.Find.{MayBeFound, MayFind, MayFindIn};
-ghost use Rattle.graph_commands.specs.Find.{find_text, find_status};
+ghost use Rattle.graph_commands.specs.Find.{MayFind, find_text, find_status};
 ghost use Rattle.graph_commands.specs.Report.{outcome_text};
 ghost use Rattle.graph_commands.specs.CheckAnswers.{MayVerify, MayVerifyDistinct};
 ghost use Rattle.graph_commands.specs.CheckAnswers.{verify_text, verify_status};
 
 pub use crate::ancestor::{Ancestry, run_ancestor};
 use crate::block::Block;
+use crate::find::find_at;
 pub use crate::line::WriteFailed;
 use crate::line::write_line;
 use crate::listing::write_listing;
@@ -25,9 +24,8 @@ use crate::status::Status;
 use gix_commitgraph::file::Commit;
 use gix_commitgraph::opening::{OpenError, open_in};
 use gix_commitgraph::verify::{Outcome, VerifyError, VerifyOptions};
-use gix_commitgraph::{File, FileError, Graph, Position};
-use gix_hash_core::{ObjectId, oid};
-use graph_find::search::{Search, find_in_file};
+use gix_commitgraph::{File, FileError};
+use gix_hash_core::ObjectId;
 use graph_folder::folder::{Folder, read_all};
 use std::alloc::Global;
 use std::convert::Infallible;
@@ -172,8 +170,7 @@ pub fn run_find<T: Folder, W: Write>(
     }
 }
 
-/// The commit whose id the digits spell, in the graph that the path opens. Of a file only parts are
-/// read, where they suffice.
+/// The commit whose id the digits spell, in the graph that the path opens.
 fn find<T: Folder>(
     alloc: Global,
     folder: &mut T,
@@ -187,92 +184,6 @@ fn find<T: Folder>(
 {
     let id = ObjectId::from_hex(hex.as_bytes())?;
     Ok(find_at(alloc, folder, path, id.as_oid())?)
-}
-
-/// The commit with an id, in the graph that the path opens.
-fn find_at<T: Folder>(
-    alloc: Global,
-    folder: &mut T,
-    path: &str,
-    id: oid<'_>,
-) -> Result<Option<Found>, OpenError>
-    ensures found { IfOk result (MayFindIn
-        (MayOpen (T.tree folder.old) path.now (T.failure_count folder.old)
-        (T.failure_count folder.new)) (oid_bytes id.entry)) }
-    ensures refused { IfErr result (λ error.
-        MayOpen (T.tree folder.old) path.now (T.failure_count folder.old)
-        (T.failure_count folder.new) (Err error)) }
-    ensures tree { T.tree folder.new ≡ T.tree folder.old }
-{
-    match find_by_parts(alloc, folder, path, id)? {
-        Some(answer) => Ok(answer),
-        None => find_whole(alloc, folder, path, id),
-    }
-}
-
-/// The commit with an id, in the graph that is opened whole.
-fn find_whole<T: Folder>(
-    alloc: Global,
-    folder: &mut T,
-    path: &str,
-    id: oid<'_>,
-) -> Result<Option<Found>, OpenError>
-    ensures found { IfOk result (MayFindIn
-        (MayOpen (T.tree folder.old) path.now (T.failure_count folder.old)
-        (T.failure_count folder.new)) (oid_bytes id.entry)) }
-    ensures refused { IfErr result (λ error.
-        MayOpen (T.tree folder.old) path.now (T.failure_count folder.old)
-        (T.failure_count folder.new) (Err error)) }
-    ensures tree { T.tree folder.new ≡ T.tree folder.old }
-{
-    match open_in(alloc, folder, path) {
-        Ok(graph) => Ok(found_in(&graph, id)),
-        Err(error) => Err(error),
-    }
-}
-
-/// The commit with an id in the graph of the file at the path, by parts of the file. It is `None`
-/// where the path is that of no file, or of one that is to be opened whole.
-fn find_by_parts<T: Folder>(
-    alloc: Global,
-    folder: &mut T,
-    path: &str,
-    id: oid<'_>,
-) -> Result<Option<Option<Found>>, OpenError>
-    ensures found { IfOk result (λ answer. IfSome answer
-        (MayFindIn (MayOpen (T.tree folder.old) path.now (T.failure_count folder.old)
-        (T.failure_count folder.new)) (oid_bytes id.entry))) }
-    ensures refused { IfErr result (λ error.
-        MayOpen (T.tree folder.old) path.now (T.failure_count folder.old)
-        (T.failure_count folder.new) (Err error)) }
-    ensures failures { OnOk result (T.failure_count folder.new ≡ T.failure_count folder.old) }
-    ensures tree { T.tree folder.new ≡ T.tree folder.old }
-{
-    if !folder.is_file(alloc, path)? {
-        return Ok(None);
-    }
-    match find_in_file(alloc, folder, path, id)? {
-        Search::Found(place) => Ok(Some(Some(Found {
-            pos: Position(place.pos),
-            generation: place.generation,
-            time: place.time,
-        }))),
-        Search::Missing => Ok(Some(None)),
-        Search::NotByParts => Ok(None),
-    }
-}
-
-/// The commit with an id in the graph.
-fn found_in(graph: &Graph, id: oid<'_>) -> Option<Found>
-    ensures { MayBeFound graph.now (oid_bytes id.entry) result }
-{
-    let pos = graph.lookup(id)?;
-    let commit = graph.commit_at(pos);
-    Some(Found {
-        pos,
-        generation: commit.generation(),
-        time: commit.committer_timestamp(),
-    })
 }
 
 /// Writes the line of a refusal, and answers its exit status. `WriteFailed` comes where the writer

@@ -124,7 +124,8 @@ module _ (known : Option Tree) where
       let layers = found.layers in
       let read = heads-read folder (lines chain.text) heads chain.each in
       let counted = layers-counted heads layers found.each read in
-      let none = none-refused says.kind layers (omega (arith, says.some, AllZip-long (IsLayerOfChain known) heads layers found.each))
+      let long = AllZip-long (IsLayerOfChain known) heads layers found.each in
+      let none = none-refused says.kind layers (omega (arith, says.some, long))
       (omega (arith, says.few, counted)) (layers-alike says.kind heads layers found.each read says.alike) in
       record {
         layers = layers;

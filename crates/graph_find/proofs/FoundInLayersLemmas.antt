@@ -26,7 +26,8 @@ use Rattle.graph_find.specs.declared.answer.Search.TheVariants.{Found as found_a
 abbrev pub Misses : List ℕ → Layer → Type 0
 Misses id layer = Found layer id None
 
-get-middle : (front : List Layer) (layer : Layer) (rest : List Layer) → slice_get (front ++ layer ∷ rest) (length front) ≡ Some layer
+get-middle : (front : List Layer) (layer : Layer) (rest : List Layer)
+    → slice_get (front ++ layer ∷ rest) (length front) ≡ Some layer
 get-middle [] layer rest = refl
 get-middle (x ∷ xs) layer rest = get-middle xs layer rest
 

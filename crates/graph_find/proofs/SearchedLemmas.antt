@@ -72,8 +72,7 @@ module _ (known : Option Tree) (heads : List ChainLayer) (id : List ℕ) where
           (found.is, tt));
       missed = All-push (Misses id) searched.layers found.layer searched.missed found.answers;
       counted =
-          let more : sum_by counts (take (count + 1) heads) ≡ sum_by counts (take count heads) + counts (get_or heads count head) =
-          sum_by_more counts heads count head within in
+          let more = sum_by_more counts heads count head within in
           let one : counts head ≡ counts (get_or heads count head) = ap counts here in
           omega (arith, is, searched.counted, more, one);
     }

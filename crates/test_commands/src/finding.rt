@@ -1,4 +1,4 @@
-use crate::fixtures::{built, hex_of, put_chain, with_commits};
+use crate::fixtures::{built, hex_of, put_chain, put_dir, with_commits};
 use crate::verifying::expect_verify;
 use gix_hash_core::ObjectId;
 use graph_commands::run::{WriteFailed, run_find};
@@ -113,33 +113,60 @@ fn digits_are_of_either_case(rt: HostRuntime) {
     }
 }
 
+/// A folder with a chain of three layers, of which two ids stand in two.
+fn with_three_layers(rt: &impl Abort, alloc: Global, path: &str) -> Memory {
+    let lower = built(rt, alloc, &[], &[(0x11, &[], 1), (0x33, &[0], 2)]);
+    let first = ObjectId::from([0xab; 20]);
+    let rows = [(0x33, [].as_slice(), 5), (0x44, &[0], 6), (0x55, &[1], 7)];
+    let middle = built(rt, alloc, &[first], &rows);
+    let second = ObjectId::from([0xcd; 20]);
+    let rows = [(0x22, [4].as_slice(), 8), (0x44, &[], 9)];
+    let upper = built(rt, alloc, &[first, second], &rows);
+    let mut folder = Memory::new(alloc);
+    put_chain(rt, alloc, &mut folder, path, &[&lower, &middle, &upper]);
+    folder
+}
+
 /// The bytes that ids repeat, each with the status of `find` and what it writes.
 const IN_A_CHAIN: &[(u8, u8, &str)] = &[
     (0x11, 0, "position 0 generation 1 time 7\n"),
     (0x33, 0, "position 1 generation 2 time 7\n"),
     (0x44, 0, "position 3 generation 6 time 7\n"),
     (0x55, 0, "position 4 generation 7 time 7\n"),
+    (0x22, 0, "position 5 generation 8 time 7\n"),
     (0x66, 1, "none\n"),
 ];
 
 #[test]
 fn finds_a_commit_in_a_chain(rt: HostRuntime) {
     let alloc = rt.alloc();
-    let lower = built(&rt, alloc, &[], &[(0x11, &[], 1), (0x33, &[0], 2)]);
-    let base = ObjectId::from([0xab; 20]);
-    let rows = [(0x33, [].as_slice(), 5), (0x44, &[0], 6), (0x55, &[1], 7)];
-    let upper = built(&rt, alloc, &[base], &rows);
-    let mut folder = Memory::new(alloc);
-    put_chain(&rt, alloc, &mut folder, "graphs", &[&lower, &upper]);
+    let mut folder = with_three_layers(&rt, alloc, "graphs");
+    let mut info = with_three_layers(&rt, alloc, "info/commit-graphs");
+    put_dir(&rt, alloc, &mut info, "info");
     for (id, status, want) in IN_A_CHAIN {
         let hex = hex_of(&rt, alloc, *id);
-        expect_find(
-            &rt,
-            alloc,
-            &mut folder,
-            ("graphs", hex.as_str()),
-            (*status, want),
-        );
+        let hex = hex.as_str();
+        expect_find(&rt, alloc, &mut folder, ("graphs", hex), (*status, want));
+        expect_find(&rt, alloc, &mut info, ("info", hex), (*status, want));
+    }
+}
+
+/// The reads are those of the chain file, of each layer's head, of the ids in each that begin
+/// alike, and of the record.
+#[test]
+fn each_read_of_a_search_in_a_chain_may_fail(rt: HostRuntime) {
+    let alloc = rt.alloc();
+    let hex = hex_of(&rt, alloc, 0x22);
+    for read in 0..9 {
+        let mut folder = with_three_layers(&rt, alloc, "graphs");
+        folder.fail_read(read);
+        let want = if read < 8 {
+            (1, "refused open 3\n")
+        } else {
+            (0, "position 5 generation 8 time 7\n")
+        };
+        expect_find(&rt, alloc, &mut folder, ("graphs", hex.as_str()), want);
+        assert_eq!(rt; folder.failures(), if read < 8 { 1 } else { 0 });
     }
 }
 

@@ -5,7 +5,7 @@ use Rattle.std.proofs.lemmas.Option.{slice_get_within}
 use Rattle.gix_hash_core.specs.Oid.{oid_bytes}
 use Rattle.graph_format.specs.Layer.{Layer}
 use Rattle.gix_commitgraph.specs.Graph.{graph_ids}
-use Rattle.graph_commands.proofs.run.found_in.Goals as goal
+use Rattle.graph_commands.proofs.find.found_in.Goals as goal
 
 pub commit_at-commit-requires : goal.commit_at-commit-requires
 commit_at-commit-requires c =
