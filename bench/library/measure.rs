@@ -16,11 +16,13 @@ struct Seen {
 }
 
 impl Seen {
+    #[inline(always)]
     fn add(&mut self, number: impl Into<u64>) {
         self.count += 1;
         self.sum = self.sum.wrapping_add(number.into());
     }
 
+    #[inline(always)]
     fn add_parents(&mut self, commit: Commit<'_>) {
         for parent in commit.iter_parents() {
             self.add(parent.map_or(u64::MAX, |pos| pos.0.into()));

@@ -17,11 +17,17 @@ pub struct Record {
 /// The parents of some commits that follow one another.
 pub struct ParentBlock {
     first: Position,
-    answers: Vec<sys::ParentCount>,
-    parents: Vec<Position>,
+    pub(crate) answers: Vec<sys::ParentCount>,
+    pub(crate) parents: Vec<Position>,
 }
 
 impl ParentBlock {
+    /// Of no commits.
+    #[inline]
+    pub(crate) fn empty() -> ParentBlock {
+        ParentBlock { first: Position(0), answers: Vec::new(), parents: Vec::new() }
+    }
+
     /// The position of the first of these commits.
     pub fn first(&self) -> Position {
         self.first
@@ -34,7 +40,6 @@ impl ParentBlock {
     }
 
     /// The parents of each commit, in the order of the commits; or why they cannot be decoded, or not all of them.
-    #[inline]
     pub fn iter(&self) -> impl Iterator<Item = Result<&[Position], ParentError>> {
         let mut rest = &self.parents[..];
         self.answers.iter().map(move |answer| {
@@ -77,7 +82,7 @@ impl Graph {
     }
 
     /// The parents of some commits from a position on, or `None` where no commit is left.
-    fn parents_from(&self, first: Position) -> Option<ParentBlock> {
+    pub(crate) fn parents_from(&self, first: Position) -> Option<ParentBlock> {
         let mut answers = vec![sys::ParentCount::default(); BLOCK];
         let mut parents = vec![Position(0); 2 * BLOCK];
         loop {

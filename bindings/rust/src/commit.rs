@@ -14,14 +14,13 @@ pub struct Commit<'g> {
     known: Option<Few>,
 }
 
-/// All parents of a commit that has few.
+/// All parents of a commit that has few: as many of these positions as the count says.
 #[derive(Clone, Copy, Debug)]
+#[repr(C)]
 pub(crate) struct Few {
-    pub(crate) count: u32,
     pub(crate) positions: [Position; FEW],
+    pub(crate) count: u32,
 }
-
-const NONE: Few = Few { count: 0, positions: [Position(0); FEW] };
 
 impl fmt::Debug for Commit<'_> {
     fn fmt(&self, f: &mut fmt::Formatter<'_>) -> fmt::Result {
@@ -88,30 +87,8 @@ impl<'g> Commit<'g> {
     pub fn iter_parents(&self) -> Parents {
         match self.known {
             Some(few) => Parents { few, rest: None },
-            None => self.read_parents(),
+            None => read_parents(self.graph, self.pos),
         }
-    }
-
-    /// Reads its parents.
-    fn read_parents(&self) -> Parents {
-        let mut positions = NONE.positions;
-        let told = self.write_parents(&mut positions);
-        let fault = ParentError::of(told.code);
-        if told.count > FEW as u64 {
-            let mut many = vec![Position(0); told.count as usize];
-            self.write_parents(&mut many);
-            let rest = Box::new(Rest { positions: many.into_iter(), fault });
-            return Parents { few: NONE, rest: Some(rest) };
-        }
-        let rest = fault.map(|fault| Box::new(Rest { positions: Vec::new().into_iter(), fault: Some(fault) }));
-        Parents { few: Few { count: told.count as u32, positions }, rest }
-    }
-
-    /// Writes the positions of its parents, as many as there is room for.
-    #[inline]
-    fn write_parents(&self, out: &mut [Position]) -> sys::ParentCount {
-        // SAFETY: `raw` is open, the pointer and the length are those of a slice, and a position is one number.
-        unsafe { sys::cg_parents(self.graph.raw, self.pos.0, out.as_mut_ptr().cast(), out.len()) }
     }
 
     /// Its generation number.
@@ -125,6 +102,27 @@ impl<'g> Commit<'g> {
     pub fn committer_timestamp(&self) -> u64 {
         self.record().committer_timestamp
     }
+}
+
+/// Reads the parents of the commit at a position.
+fn read_parents(graph: &Graph, pos: Position) -> Parents {
+    let mut positions = [Position(0); FEW];
+    let told = write_parents(graph, pos, &mut positions);
+    let fault = ParentError::of(told.code);
+    if told.count > FEW as u64 {
+        let mut many = vec![Position(0); told.count as usize];
+        write_parents(graph, pos, &mut many);
+        let rest = Box::new(Rest { positions: many.into_iter(), fault });
+        return Parents { few: Few { positions, count: 0 }, rest: Some(rest) };
+    }
+    let rest = fault.map(|fault| Box::new(Rest { positions: Vec::new().into_iter(), fault: Some(fault) }));
+    Parents { few: Few { positions, count: told.count as u32 }, rest }
+}
+
+/// Writes the positions of the parents of the commit at a position, as many as there is room for.
+fn write_parents(graph: &Graph, pos: Position, out: &mut [Position]) -> sys::ParentCount {
+    // SAFETY: `raw` is open, the pointer and the length are those of a slice, and a position is one number.
+    unsafe { sys::cg_parents(graph.raw, pos.0, out.as_mut_ptr().cast(), out.len()) }
 }
 
 /// The positions of a commit's parents in order, and after them the error that ends their decoding, if there is one.
@@ -160,7 +158,7 @@ impl Iterator for Parents {
     fn next(&mut self) -> Option<Self::Item> {
         if self.few.count > 0 {
             let [first, second] = self.few.positions;
-            self.few = Few { count: self.few.count - 1, positions: [second, second] };
+            self.few = Few { positions: [second, second], count: self.few.count - 1 };
             return Some(Ok(first));
         }
         self.rest.as_mut()?.next()

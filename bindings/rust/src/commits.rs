@@ -1,65 +1,36 @@
 //! The commits of a graph, one after another.
 
+use crate::blocks::ParentBlock;
 use crate::commit::{Few, FEW};
-use crate::{sys, Commit, Graph, Position};
+use crate::{Commit, Graph, Position};
 
-/// Of so many commits the parents are read by one call.
-const BLOCK: usize = 64;
-/// There is room for so many parents of these.
-const ROOM: usize = 2 * BLOCK;
-
-/// An iterator over the commits of a graph, in order. It reads the parents of many at a time, and so allocates nothing.
+/// An iterator over the commits of a graph, in order. It reads the parents of many by one call.
 pub(crate) struct Commits<'g> {
     graph: &'g Graph,
-    /// The next position, and that after the last one.
     next: u32,
     end: u32,
-    /// How many parents the commits of the block have, and which of these commits is next; and their parents, and where
-    /// those of the next one begin.
-    answers: [sys::ParentCount; BLOCK],
-    at: usize,
-    told: usize,
-    parents: [Position; ROOM + FEW],
+    /// The parents of the next commits; how many of these were given, and how many parents those have.
+    block: ParentBlock,
+    given: usize,
     used: usize,
 }
 
 impl<'g> Commits<'g> {
+    #[inline]
     pub(crate) fn new(graph: &'g Graph) -> Commits<'g> {
-        Commits {
-            graph,
-            next: 0,
-            end: graph.num_commits(),
-            answers: [sys::ParentCount::default(); BLOCK],
-            at: 0,
-            told: 0,
-            parents: [Position(0); ROOM + FEW],
-            used: 0,
-        }
+        Commits { graph, next: 0, end: graph.num_commits(), block: ParentBlock::empty(), given: 0, used: 0 }
     }
 
-    /// Reads the parents of the commits from the next one on: of one at least, though not all parents where they are many.
-    #[cold]
-    fn read(&mut self) {
-        let (answers, parents) = (self.answers.as_mut_ptr(), self.parents.as_mut_ptr().cast());
-        // SAFETY: `raw` is open, each pointer and length are those of an array, and a position is one number.
-        let block = unsafe { sys::cg_parents_from(self.graph.raw, self.next, answers, BLOCK, parents, ROOM) };
-        let fits = block.length <= ROOM as u64;
-        self.told = (block.commits as usize - usize::from(!fits)).max(1);
-        (self.at, self.used) = (0, 0);
-    }
-
-    /// The parents of the next commit of the block, where they are few and no fault ends them.
+    /// All parents of the next commit, where they are few and no fault comes after them.
     #[inline]
     fn few(&mut self) -> Option<Few> {
-        let answer = self.answers[self.at];
-        let start = self.used;
-        self.at += 1;
-        if answer.count > FEW as u64 || answer.code != 0 {
-            self.used = (start + answer.count as usize).min(ROOM);
-            return None;
-        }
-        self.used = start + answer.count as usize;
-        Some(Few { count: answer.count as u32, positions: [self.parents[start], self.parents[start + 1]] })
+        let answer = self.block.answers[self.given];
+        let rest = self.block.parents.get(self.used..)?;
+        self.given += 1;
+        self.used += answer.count as usize;
+        let positions = *rest.first_chunk()?;
+        let all = answer.count <= FEW as u64 && answer.code == 0;
+        all.then_some(Few { positions, count: answer.count as u32 })
     }
 }
 
@@ -68,13 +39,11 @@ impl<'g> Iterator for Commits<'g> {
 
     #[inline]
     fn next(&mut self) -> Option<Commit<'g>> {
-        if self.next == self.end {
-            return None;
-        }
-        if self.at == self.told {
-            self.read();
-        }
         let pos = Position(self.next);
+        if self.given == self.block.answers.len() {
+            self.block = block_from(self.graph, pos)?;
+            (self.given, self.used) = (0, 0);
+        }
         self.next += 1;
         Some(Commit::new(self.graph, pos, self.few()))
     }
@@ -87,3 +56,9 @@ impl<'g> Iterator for Commits<'g> {
 }
 
 impl ExactSizeIterator for Commits<'_> {}
+
+/// The parents of some commits from a position on, or `None` where no commit is left.
+#[cold]
+fn block_from(graph: &Graph, first: Position) -> Option<ParentBlock> {
+    graph.parents_from(first)
+}
