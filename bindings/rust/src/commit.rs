@@ -15,6 +15,7 @@ pub struct Commit<'g> {
 }
 
 /// All parents of a commit that has few: as many of these positions as the count says.
+// The positions lie side by side at its start, so that a copy reads them as they were written: by one load.
 #[derive(Clone, Copy, Debug)]
 #[repr(C)]
 pub(crate) struct Few {

@@ -2,6 +2,7 @@
 
 use crate::blocks::ParentBlock;
 use crate::commit::{Few, FEW};
+use crate::sys::ParentCount;
 use crate::{Commit, Graph, Position};
 
 /// An iterator over the commits of a graph, in order. It reads the parents of many by one call.
@@ -24,13 +25,12 @@ impl<'g> Commits<'g> {
     /// All parents of the next commit, where they are few and no fault comes after them.
     #[inline]
     fn few(&mut self) -> Option<Few> {
-        let answer = self.block.answers[self.given];
-        let rest = self.block.parents.get(self.used..)?;
+        let ParentCount { code, count } = self.block.answers[self.given];
+        let positions = self.block.parents[self.used..].first_chunk();
         self.given += 1;
-        self.used += answer.count as usize;
-        let positions = *rest.first_chunk()?;
-        let all = answer.count <= FEW as u64 && answer.code == 0;
-        all.then_some(Few { positions, count: answer.count as u32 })
+        self.used += count as usize;
+        let positions = *positions.filter(|_| code == 0 && count <= FEW as u64)?;
+        Some(Few { positions, count: count as u32 })
     }
 }
 
