@@ -22,7 +22,7 @@ use crate::refusal::Refusal;
 use crate::report::{Found, write_outcome};
 use crate::status::Status;
 use gix_commitgraph::file::Commit;
-use gix_commitgraph::opening::{OpenError, open_in};
+use gix_commitgraph::opening::open_in;
 use gix_commitgraph::verify::{Outcome, VerifyError, VerifyOptions};
 use gix_commitgraph::{File, FileError};
 use gix_hash_core::ObjectId;

@@ -1,6 +1,6 @@
 //! The search for an id in a file, and in the layers of a chain.
 
-ghost use Rattle.std.specs.Prelude.{◌≡◌, IfOk, IfSome, IsErrOf, None, All};
+ghost use Rattle.std.specs.Prelude.{◌≡◌, IfOk, IsErrOf, None, All};
 ghost use Rattle.std.specs.Option.{ForSome};
 ghost use Rattle.gix_hash_core.specs.Oid.{oid_bytes};
 ghost use Rattle.graph_folder.specs.Tree.{file_at};
