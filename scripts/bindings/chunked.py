@@ -5,9 +5,8 @@ import itertools
 import random
 
 import real
-from checks import further_checks
+from checks import damaged_checks, further_checks
 from damage import further
-from damage.layer import contents, with_chunks
 from expected import reading
 from expected.filters import SEEDS, WORD, murmur3
 from expected.further import Layer, Refused, dates_told, filters_told, numbers, starts, stored_dates
@@ -44,11 +43,10 @@ def all_layers(folder, kind):
         repository.write_graph("--split=no-merge", generation_version=1 if last else 2)
         yield f"{start // 6 + 1} layers", [layer for _, layer in repository.chain()]
     repository = Repository(str(folder / f"{kind} damaged dates"), kind)
-    further_checks.add_changes(repository, further_checks.FIVE)
+    further_checks.add_changes(repository, damaged_checks.FIVE)
     layer = repository.new_graph("--changed-paths")
-    for name, _, edits in further_checks.damages(layer, kind):
-        chunks = {**dict(contents(layer, kind)), **edits}
-        yield name, [with_chunks(layer, kind, [(key, text) for key, text in chunks.items() if text is not None])]
+    for name, _, edits in damaged_checks.damages(layer, kind):
+        yield name, damaged_checks.edited([layer], kind, [edits])
     chance = random.Random(4)
     found = filter(lambda graph: graph.kind == kind, (further.graph(chance) for _ in itertools.count()))
     for number, graph in enumerate(itertools.islice(found, AT_RANDOM)):
