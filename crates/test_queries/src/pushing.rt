@@ -88,7 +88,6 @@ fn compare_refused(
     assert!(rt; matches!(&answer, Err(error) if error == want));
     let left = lower.as_checked();
     assert!(rt; left.num_commits() == 2 && left.outcome().longest_path_length == Some(1));
-    assert!(rt; left.options().distinct_ids);
 }
 
 #[test]
@@ -98,10 +97,7 @@ fn a_wrong_layer_is_refused_as_the_whole_graph(rt: HostRuntime) {
     let base = top(&rt, lower.as_checked().graph());
     for (rows, want) in REFUSED {
         let whole = graph(&rt, alloc, &[LOWER, *rows]);
-        let options = VerifyOptions { distinct_ids: true };
-        let lent = Checked::new_with(alloc, options, &whole);
-        assert!(&rt; matches!(&lent, Err(error) if error == want));
-        let answer = CheckedGraph::new_with(alloc, options, whole);
+        let answer = CheckedGraph::new_with(alloc, VerifyOptions { distinct_ids: true }, whole);
         assert!(&rt; matches!(&answer, Err(error) if error == want));
         let Err(error) = answer else {
             panic!(&rt; "a wrong graph")
@@ -122,11 +118,8 @@ fn a_repeated_id_is_put_on_top_where_none_was_asked_about(rt: HostRuntime) {
     let alloc = rt.alloc();
     let mut lower = checked(&rt, alloc, false);
     let base = top(&rt, lower.as_checked().graph());
-    let answer = lower.push(alloc, layer(&rt, alloc, &[base], RIGHT));
-    assert!(&rt; answer == Ok(()) && !lower.as_checked().options().distinct_ids);
-    let bases = [base, top(&rt, lower.as_checked().graph())];
-    let answer = lower.push(alloc, layer(&rt, alloc, &bases, &[(0x22, &[], 1)]));
-    assert!(&rt; answer == Ok(()) && !lower.as_checked().options().distinct_ids);
+    let answer = lower.push(alloc, layer(&rt, alloc, &[base], &[(0x22, &[], 1)]));
+    assert!(&rt; answer == Ok(()));
 }
 
 #[test]
