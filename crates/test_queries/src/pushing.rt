@@ -1,4 +1,4 @@
-use crate::fixtures::{empty_layer, graph, layer};
+use crate::fixtures::{empty_layer, graph, graph_of, layer};
 use gix_commitgraph::verify::{CommitFault, VerifyError, VerifyOptions};
 use gix_commitgraph::{File, Graph, GraphError, Position};
 use gix_hash_core::{Kind, ObjectId};
@@ -6,6 +6,7 @@ use graph_history::{Checked, CheckedGraph, NoFault, PushError};
 use graph_vectors::Row;
 use std::alloc::Global;
 use std::process::Abort;
+use std::time::Instant;
 
 /// The positions 0 and 1.
 const LOWER: &[Row<'static>] = &[(0x11, &[], 1), (0x22, &[0], 2)];
@@ -88,6 +89,29 @@ fn compare_refused(
     assert!(rt; matches!(&answer, Err(error) if error == want));
     let left = lower.as_checked();
     assert!(rt; left.num_commits() == 2 && left.outcome().longest_path_length == Some(1));
+    assert!(rt; left.options().distinct_ids);
+}
+
+#[test]
+fn a_wrong_graph_that_is_lent_is_refused_by_its_first_fault(rt: HostRuntime) {
+    let alloc = rt.alloc();
+    let options = VerifyOptions { distinct_ids: true };
+    for (rows, want) in REFUSED {
+        let whole = graph(&rt, alloc, &[LOWER, *rows]);
+        let answer = Checked::new_with(alloc, options, &whole);
+        assert!(&rt; matches!(&answer, Err(error) if error == want));
+    }
+}
+
+#[test]
+fn a_wrong_graph_that_is_owned_is_refused_by_its_first_fault(rt: HostRuntime) {
+    let alloc = rt.alloc();
+    // No other than the last of them is about ids that are to be distinct.
+    for (rows, want) in REFUSED.iter().take(3) {
+        let whole = graph(&rt, alloc, &[LOWER, *rows]);
+        let answer = CheckedGraph::new(alloc, whole);
+        assert!(&rt; matches!(&answer, Err(error) if error == want));
+    }
 }
 
 #[test]
@@ -118,8 +142,11 @@ fn a_repeated_id_is_put_on_top_where_none_was_asked_about(rt: HostRuntime) {
     let alloc = rt.alloc();
     let mut lower = checked(&rt, alloc, false);
     let base = top(&rt, lower.as_checked().graph());
-    let answer = lower.push(alloc, layer(&rt, alloc, &[base], &[(0x22, &[], 1)]));
-    assert!(&rt; answer == Ok(()));
+    let answer = lower.push(alloc, layer(&rt, alloc, &[base], RIGHT));
+    assert!(&rt; answer == Ok(()) && !lower.as_checked().options().distinct_ids);
+    let bases = [base, top(&rt, lower.as_checked().graph())];
+    let answer = lower.push(alloc, layer(&rt, alloc, &bases, &[(0x22, &[], 1)]));
+    assert!(&rt; answer == Ok(()) && !lower.as_checked().options().distinct_ids);
 }
 
 #[test]
@@ -150,4 +177,51 @@ fn what_was_asked_is_asked_of_each_layer(rt: HostRuntime) {
         assert!(&rt; matches!(&answer, Err(error) if *error == want));
         assert!(&rt; pushed.as_checked().options().distinct_ids);
     }
+}
+
+/// How many layers are put on top of a first one, and how many commits each has.
+const LAYERS: u8 = 200;
+
+/// The rows of this many commits without parents.
+fn roots(rt: &impl Abort, alloc: Global, commits: u8) -> Vec<Row<'static>> {
+    let mut rows = Vec::new(alloc);
+    for byte in 0..commits {
+        let row: Row<'static> = (byte, &[], 1);
+        rows.push(row).expect(rt, "memory");
+    }
+    rows
+}
+
+/// The layers that stand on a first layer and on each other, and have its commits once more.
+fn layers_above(rt: &impl Abort, alloc: Global, first: &File, rows: &[Row<'_>]) -> Vec<File> {
+    let mut bases = Vec::new(alloc);
+    bases.push(first.checksum().to_owned()).expect(rt, "memory");
+    let mut files = Vec::new(alloc);
+    for _ in 0..LAYERS {
+        let file = layer(rt, alloc, &bases, rows);
+        bases.push(file.checksum().to_owned()).expect(rt, "memory");
+        files.push(file).expect(rt, "memory");
+    }
+    files
+}
+
+// A push that checks all layers anew takes a hundred times as long.
+#[test]
+fn all_pushes_take_about_as_long_as_one_check_of_the_whole(rt: HostRuntime) {
+    let alloc = rt.alloc();
+    let rows = roots(&rt, alloc, LAYERS);
+    let first = layer(&rt, alloc, &[], &rows);
+    let files = layers_above(&rt, alloc, &first, &rows);
+    let lower = graph_of(&rt, alloc, [first]);
+    let mut graph = CheckedGraph::new(alloc, lower).expect(&rt, "a right graph");
+    let start = Instant::now(&rt).expect(&rt, "a clock");
+    for file in files {
+        assert!(&rt; graph.push(alloc, file) == Ok(()));
+    }
+    let pushes = start.elapsed(&rt).expect(&rt, "a clock").as_micros();
+    let whole = graph.into_graph();
+    let start = Instant::now(&rt).expect(&rt, "a clock");
+    Checked::new(alloc, &whole).expect(&rt, "a right graph");
+    let check = start.elapsed(&rt).expect(&rt, "a clock").as_micros();
+    assert!(&rt; pushes / 20 < check);
 }
