@@ -3,7 +3,7 @@ use Rattle.std.proofs.Common.{◌≡◌, ◌∙◌, sym, ap, ℕ, ◌+◌, ◌<�
 use Rattle.std.proofs.lemmas.Grind.{common_steps}
 use Rattle.std.proofs.lemmas.List.{take_more}
 use Rattle.std.specs.List.{Any}
-use Rattle.graph_history.specs.WalkAnswer.{numbers_of}
+use Rattle.graph_ancestors.specs.WalkAnswer.{numbers_of}
 use Rattle.graph_format.specs.declared.Position.{Position}
 use Rattle.commitgraph_c.proofs.Written.{numbers_end}
 

@@ -5,9 +5,9 @@ use Rattle.graph_format.specs.Format.{Record}
 use Rattle.graph_format.specs.Parents.{DecodedParents, parents_of}
 use Rattle.graph_format.specs.Layer.{Layer, record_at}
 use Rattle.graph_format.specs.StoredHistory.{history_of}
-use Rattle.graph_history.specs.WalkAnswer.{IsAnswer, numbers_of}
+use Rattle.graph_ancestors.specs.WalkAnswer.{IsAnswer, numbers_of}
 use Rattle.graph_history.specs.Comparison.{IsComparisonOf}
-use Rattle.graph_history.specs.declared.Reached.{Reached}
+use Rattle.graph_ancestors.specs.declared.Reached.{Reached}
 use Rattle.graph_history.specs.declared.bases.Comparison.{Comparison}
 use Rattle.gix_commitgraph.specs.Graph.{graph_ids, graph_commits}
 use Rattle.graph_format.specs.ErrorNumbers.{parent_number}

@@ -11,8 +11,8 @@ use Rattle.graph_format.specs.declared.Position.{Position}
 use Rattle.graph_layer.specs.declared.opening.error.OpenError.{OpenError}
 use Rattle.gix_commitgraph.specs.GraphLookup.{FoundIn}
 use Rattle.gix_commitgraph.specs.Sound.{Sound}
-use Rattle.graph_history.specs.WalkAnswer.{IsAnswer}
-use Rattle.graph_history.specs.Checked.{MayRefuseGraph}
+use Rattle.graph_ancestors.specs.WalkAnswer.{IsAnswer}
+use Rattle.graph_ancestors.specs.RefusedGraph.{MayRefuseGraph}
 use Rattle.graph_commands.specs.declared.ancestor.Ancestry.{Ancestry}
 use Rattle.graph_commands.specs.declared.ancestor.Ancestry.TheVariants.{FirstUnknown, SecondUnknown, Known}
 use Rattle.graph_commands.specs.declared.refusal.Refusal.{Refusal}

@@ -20,8 +20,8 @@ use crate::status::Status;
 use gix_commitgraph::opening::open_in;
 use gix_commitgraph::{Graph, Position};
 use gix_hash_core::{ObjectId, oid};
+use graph_ancestors::{Reached, Searcher, check};
 use graph_folder::folder::Folder;
-use graph_history::{Checked, Reached};
 use std::alloc::Global;
 use std::io::Write;
 
@@ -115,14 +115,14 @@ fn ancestry_in(
 ) -> Result<Ancestry, Refusal>
     ensures { MayAnswerIn graph.now (oid_bytes first.entry) (oid_bytes second.entry) result }
 {
-    let checked = Checked::new(alloc, graph)?;
+    check(alloc, graph)?;
     let Some(from) = graph.lookup(first) else {
         return Ok(Ancestry::FirstUnknown);
     };
     let Some(to) = graph.lookup(second) else {
         return Ok(Ancestry::SecondUnknown);
     };
-    match checked.ancestor_walk(alloc, from, to) {
+    match Searcher::new(alloc, graph).ancestor_walk(from, to) {
         Ok(reached) => Ok(Ancestry::Known(reached)),
         Err(_) => Err(Refusal::Walk),
     }

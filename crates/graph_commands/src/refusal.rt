@@ -8,11 +8,11 @@ use gix_commitgraph::FileError;
 use gix_commitgraph::opening::OpenError;
 use gix_commitgraph::verify::{LayerFault, VerifyError};
 use gix_hash_core::IdError;
+use graph_ancestors::NoFault;
 use graph_folder::folder::ReadError;
 use graph_format::error_numbers::{
     chunk_number, commit_number, file_number, graph_number, parent_number,
 };
-use graph_history::NoFault;
 use std::convert::Infallible;
 use std::fmt;
 

@@ -15,7 +15,7 @@ use Rattle.std.proofs.lemmas.List.Sums.{sum_by-set, get_or-le-sum_by}
 use Rattle.graph_walks.specs.declared.TheConstants.{GENERATION_NUMBER_MAX}
 use Rattle.graph_walks.specs.History.{Node, IsParent, generation_at}
 use Rattle.graph_format.specs.declared.Position.{Position}
-use Rattle.graph_history.specs.WalkAnswer.{numbers_of}
+use Rattle.graph_ancestors.specs.WalkAnswer.{numbers_of}
 use Rattle.graph_history.specs.declared.paint.Coat.{Coat}
 use Rattle.graph_history.specs.declared.paint.Paint.{Paint}
 use Rattle.graph_history.specs.declared.paint.Paint.TheVariants.{First, Others}

@@ -14,7 +14,7 @@ use Rattle.graph_walks.specs.declared.TheConstants.{GENERATION_NUMBER_MAX}
 use Rattle.graph_walks.specs.History.{Node, IsParent, generation_at}
 use Rattle.graph_walks.specs.Walks.{Reaches, IsProperAncestor}
 use Rattle.graph_history.specs.Bases.{IsStart, AreBelowCap, IsOnOneSide, IsAtEdge, IsAboveEdge, AreVisits, IsMergeBase}
-use Rattle.graph_history.specs.Cardinality.{IsNumberOf}
+use Rattle.graph_ancestors.specs.Cardinality.{IsNumberOf}
 use Rattle.graph_history.specs.declared.paint.Coat.{Coat}
 use Rattle.graph_history.specs.declared.paint.Paint.{Paint}
 use Rattle.graph_history.specs.Paint.{is_painted, is_stale, is_fresh, is_visited, is_on_one_side, covers, joined, bare}
@@ -25,7 +25,7 @@ use Rattle.graph_history.proofs.PaintLemmas.{ahead_live, behind_live, base_live}
 use Rattle.graph_history.proofs.ReachLemmas.{proper_step, reaches_itself}
 use Rattle.graph_history.proofs.CoatLemmas.{TakenBy}
 use Rattle.graph_history.proofs.FoundLemmas.{counted_number, some_counted, tested_within}
-use Rattle.graph_history.proofs.VisitLemmas.{no_more}
+use Rattle.graph_ancestors.proofs.VisitLemmas.{no_more}
 
 -- a commit of which something is known is below the cap
 pub painted_below_cap : (h : List Node) (a : ℕ) (bs : List ℕ) (coats : List Coat) → IsPaint h a bs coats

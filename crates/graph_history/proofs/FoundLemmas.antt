@@ -18,14 +18,14 @@ use Rattle.std.proofs.lemmas.Map.Keys.{IsStrictlyIncreasing-from_distinct, IsDis
 use Rattle.std.proofs.lemmas.Map.Made.{IsDistinct-from_AllPairs}
 use Rattle.graph_walks.specs.History.{Node}
 use Rattle.graph_format.specs.declared.Position.{Position}
-use Rattle.graph_history.specs.WalkAnswer.{numbers_of}
+use Rattle.graph_ancestors.specs.WalkAnswer.{numbers_of}
 use Rattle.graph_history.specs.Bases.{AreMergeBases, IsAhead, IsBehind}
-use Rattle.graph_history.specs.Cardinality.{IsNumberOf}
+use Rattle.graph_ancestors.specs.Cardinality.{IsNumberOf}
 use Rattle.graph_history.specs.declared.paint.Coat.{Coat}
 use Rattle.graph_history.specs.Paint.{is_base, is_ahead, is_behind, first_leads, bare, coat_at, paint_at}
 use Rattle.graph_history.specs.Painting.{AreBasesGathered, AreBases, IsPainted}
 use Rattle.graph_history.proofs.ReachLemmas.{reaches_within}
-use Rattle.graph_history.proofs.ListLemmas.{head_contained, tail_contained, contained_cases}
+use Rattle.graph_ancestors.proofs.ListLemmas.{head_contained, tail_contained, contained_cases}
 
 -- How many coats pass a test, as the length of a list of their places.
 

@@ -1,16 +1,4 @@
 pub mod RightGraphLemmas
-pub mod MarkLemmas
-pub mod QueueLemmas
-pub mod ListLemmas
-pub mod FieldLemmas
-pub mod SearchLemmas
-pub mod AheadLemmas
-pub mod StepLemmas
-pub mod ShortestWalkLemmas
-pub mod VisitLemmas
-pub mod QueryLemmas
-pub mod KnownAnswerLemmas
-pub mod DescentLemmas
 pub mod PushLemmas
 pub mod ReachLemmas
 pub mod TrailLemmas

@@ -8,7 +8,7 @@ use Rattle.graph_format.specs.declared.Position.{Position}
 use Rattle.graph_format.specs.declared.parents.ExtraEdge.{ExtraEdge}
 use Rattle.graph_format.specs.declared.parents.ExtraEdge.TheVariants as extra
 use Rattle.graph_format.specs.Layer.{Layer}
-use Rattle.graph_history.specs.Commits.{named_by, named_from, list_in}
+use Rattle.graph_ancestors.specs.Commits.{named_by, named_from, list_in}
 use Rattle.graph_history.specs.declared.painting.Painting.{Painting}
 use Rattle.graph_history.specs.declared.trails.Trails.{Trails}
 use Rattle.graph_history.specs.declared.paint.Coat.{Coat}
@@ -17,7 +17,7 @@ use Rattle.graph_history.specs.declared.paint.Paint.TheVariants.{Bare}
 use Rattle.graph_history.specs.Paint.{covers, joined, passed, paint_at, is_queued, Grows}
 use Rattle.graph_history.specs.Painting.{IsSpread, IsSpreadBut, IsPassed, PassesPaint, PassesOn}
 use Rattle.graph_history.specs.Trails.{trail_at, trail_in}
-use Rattle.graph_history.proofs.ListLemmas.{contained_cases, named_internal, named_last, named_past}
+use Rattle.graph_ancestors.proofs.ListLemmas.{contained_cases, named_internal, named_last, named_past}
 use Rattle.graph_history.proofs.PaintLemmas.{grows_trans, grows_left, grows_right, grows_joined, covers_joined}
 
 -- All parents of a commit have heard what is known of it.

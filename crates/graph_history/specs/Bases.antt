@@ -5,7 +5,7 @@ use Rattle.std.specs.List.Sorted.{IsStrictlyIncreasing}
 use Rattle.graph_walks.specs.declared.TheConstants.{GENERATION_NUMBER_MAX}
 use Rattle.graph_walks.specs.History.{Node, IsParent, generation_at}
 use Rattle.graph_walks.specs.Walks.{Reaches, IsProperAncestor}
-use Rattle.graph_history.specs.Cardinality.{AtLeast, AtMost}
+use Rattle.graph_ancestors.specs.Cardinality.{AtLeast, AtMost}
 
 -- some of these commits leads to p; each commit leads to itself
 abbrev pub IsReachedFromSome : List Node → List ℕ → ℕ → Type 0

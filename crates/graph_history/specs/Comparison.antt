@@ -3,9 +3,9 @@ use Rattle.std.specs.Prelude.{ℕ, ◌<◌, List, All}
 use Rattle.graph_format.specs.Layer.{Layer}
 use Rattle.graph_format.specs.StoredHistory.{history_of}
 use Rattle.gix_commitgraph.specs.Graph.{total}
-use Rattle.graph_history.specs.WalkAnswer.{numbers_of}
+use Rattle.graph_ancestors.specs.WalkAnswer.{numbers_of}
 use Rattle.graph_history.specs.Bases.{AreMergeBases, IsAhead, IsBehind, AreBelowCap, AreVisits}
-use Rattle.graph_history.specs.Cardinality.{IsNumberOf}
+use Rattle.graph_ancestors.specs.Cardinality.{IsNumberOf}
 use Rattle.graph_history.specs.declared.bases.Comparison.{Comparison}
 
 -- The merge bases of a commit and some others, how far they have come apart, and how many commits were visited for that.

@@ -1,12 +1,5 @@
 pub mod Checked
 pub mod RightGraph
-pub mod Cardinality
-pub mod WalkAnswer
-pub mod Marks
-pub mod Queue
-pub mod BreadthFirst
-pub mod Commits
-pub mod Search
 pub mod Bases
 pub mod Comparison
 pub mod Trails

@@ -15,9 +15,9 @@ use Rattle.graph_format.specs.declared.Position.{Position}
 use Rattle.graph_format.specs.declared.parents.ExtraEdge.TheVariants as extra
 use Rattle.gix_commitgraph.specs.Graph.{IsGraph, total}
 use Rattle.gix_commitgraph.specs.Sound.{Sound}
-use Rattle.graph_history.specs.WalkAnswer.{numbers_of}
+use Rattle.graph_ancestors.specs.WalkAnswer.{numbers_of}
 use Rattle.graph_history.specs.Bases.{IsMergeBase, IsAhead, IsBehind, IsStart, AreBelowCap}
-use Rattle.graph_history.specs.Commits.{named_by, list_in}
+use Rattle.graph_ancestors.specs.Commits.{named_by, list_in}
 use Rattle.graph_history.specs.Paint.{is_on_one_side, is_visited, IsSo}
 use Rattle.graph_history.specs.Paint.{first_leads, others_lead, is_stale, is_painted, is_ahead, is_behind, is_base, passed}
 use Rattle.graph_history.specs.Paint.{unknown, bare}

@@ -3,11 +3,11 @@
 ghost use Rattle.std.specs.Prelude.{◌≡◌, ◌<◌, All, IfOk};
 ghost use Rattle.graph_format.specs.StoredHistory.{history_of};
 ghost use Rattle.gix_commitgraph.specs.Graph.{total};
-ghost use Rattle.graph_history.specs.WalkAnswer.{numbers_of};
+ghost use Rattle.graph_ancestors.specs.WalkAnswer.{numbers_of};
 ghost use Rattle.graph_history.specs.Bases.{AreMergeBases, IsAhead, IsBehind};
 ghost use Rattle.graph_history.specs.Bases.{AreBelowCap, AreVisits};
 ghost use Rattle.graph_history.specs.Comparison.{IsComparisonOf};
-ghost use Rattle.graph_history.specs.Cardinality.{IsNumberOf};
+ghost use Rattle.graph_ancestors.specs.Cardinality.{IsNumberOf};
 ghost use Rattle.graph_history.specs.Paint.{AreIdle};
 
 use crate::checked::Checked;

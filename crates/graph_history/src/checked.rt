@@ -7,22 +7,17 @@ ghost use Rattle.gix_commitgraph.specs.Distinct.{IsSoundWith};
 ghost use Rattle.gix_commitgraph.specs.Graph.{total};
 ghost use Rattle.gix_commitgraph.specs.Headline.{Stats};
 ghost use Rattle.gix_commitgraph.specs.Sound.{Sound};
-ghost use Rattle.graph_history.specs.WalkAnswer.{IsAnswer};
-ghost use Rattle.graph_history.specs.Checked.{MayRefuseGraph, MayRefuseWith};
+ghost use Rattle.graph_ancestors.specs.WalkAnswer.{IsAnswer};
+ghost use Rattle.graph_ancestors.specs.RefusedGraph.{MayRefuseGraph};
+ghost use Rattle.graph_history.specs.Checked.{MayRefuseWith};
 
-use crate::Reached;
-use crate::search::shortest_walk;
-use crate::searcher::Searcher;
 use gix_commitgraph::file::Commit;
 use gix_commitgraph::verify::{Outcome, VerifyError, VerifyOptions};
 use gix_commitgraph::{Graph, Position};
+use graph_ancestors::{NoFault, Reached, Searcher, check};
 use std::alloc::{AllocError, Global};
 use std::borrow::Cow;
 use std::marker::Model;
-
-/// The error of a processor that accepts each commit: it never comes.
-#[derive(Clone, Copy, Debug, PartialEq, Eq)]
-pub struct NoFault;
 
 /// The options of a check that looks for nothing besides what every right graph keeps.
 pub(crate) const PLAIN: VerifyOptions = VerifyOptions {
@@ -66,7 +61,7 @@ impl<'g> Checked<'g> {
         ensures sound { IfOk result (λ _. Sound graph.now) }
         ensures refusal { IfErr result (MayRefuseGraph graph.now) }
     {
-        let outcome = graph.verify_integrity(alloc, &mut |_: &Commit<'_>| Ok(()))?;
+        let outcome = check(alloc, graph)?;
         Ok(Checked {
             graph,
             options: PLAIN,
@@ -170,6 +165,6 @@ impl<'g> Checked<'g> {
         requires to { to.0 < total self.now }
         ensures { IfOk result (IsAnswer (history_of self.now) from.0 to.0) }
     {
-        shortest_walk(alloc, self.graph, from, to)
+        self.searcher(alloc).ancestor_walk(from, to)
     }
 }

@@ -11,37 +11,18 @@
 #![tactic(auto)]
 
 mod access;
-mod ahead;
-mod ancestor;
 mod bases;
 mod checked;
-mod commits;
 pub mod law;
-mod lists;
-mod marks;
 mod owned;
 mod paint;
 mod painting;
 mod parents;
 mod passing;
-mod search;
-mod searcher;
 mod trails;
-mod walk;
-mod words;
 
 pub use bases::{Bases, Comparer, Comparison, Divergence};
-pub use checked::{Checked, NoFault};
-use gix_commitgraph::Position;
+pub use checked::Checked;
+pub use graph_ancestors::{NoFault, Reached, Searcher};
 pub use owned::{CheckedGraph, PushError};
 pub use parents::ParentPositions;
-pub use searcher::Searcher;
-
-/// The answer of a query for a walk from one commit to another.
-#[derive(Debug, Drop)]
-pub struct Reached {
-    /// A shortest walk, both commits included, or `None` where there is no walk.
-    pub walk: Option<Vec<Position>>,
-    /// How many commits were visited: taken from the queue of the search.
-    pub visits: u32,
-}

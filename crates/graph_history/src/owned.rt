@@ -3,13 +3,15 @@
 ghost use Rattle.std.specs.Prelude.{◌≡◌, ◌∷◌, ◌++◌, [], IfErr, IfOk, OnErr, OnOk};
 ghost use Rattle.gix_commitgraph.specs.Distinct.{IsSoundWith};
 ghost use Rattle.gix_commitgraph.specs.Sound.{Sound};
-ghost use Rattle.graph_history.specs.Checked.{MayRefuseGraph, MayRefusePush, MayRefuseWith};
+ghost use Rattle.graph_ancestors.specs.RefusedGraph.{MayRefuseGraph};
+ghost use Rattle.graph_history.specs.Checked.{MayRefusePush, MayRefuseWith};
 
-use crate::checked::{Checked, NoFault, PLAIN};
+use crate::checked::{Checked, PLAIN};
 use gix_commitgraph::file::Commit;
 use gix_commitgraph::law::check::the_first_fault_stands_above_right_layers;
 use gix_commitgraph::verify::{Outcome, VerifyError, VerifyOptions};
 use gix_commitgraph::{File, Graph, GraphError};
+use graph_ancestors::{NoFault, check};
 use std::alloc::Global;
 use std::borrow::Cow;
 use std::marker::Model;
@@ -59,7 +61,7 @@ impl CheckedGraph {
         ensures sound { IfOk result (λ _. Sound graph) }
         ensures refusal { IfErr result (MayRefuseGraph graph) }
     {
-        let outcome = graph.verify_integrity(alloc, &mut |_: &Commit<'_>| Ok(()))?;
+        let outcome = check(alloc, &graph)?;
         Ok(CheckedGraph {
             graph,
             options: PLAIN,

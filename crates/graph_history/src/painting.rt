@@ -8,7 +8,7 @@ ghost use Rattle.std.specs.BinaryHeap.{heap_items};
 ghost use Rattle.graph_walks.specs.History.{generation_at};
 ghost use Rattle.graph_format.specs.StoredHistory.{history_of};
 ghost use Rattle.gix_commitgraph.specs.Graph.{total};
-ghost use Rattle.graph_history.specs.WalkAnswer.{numbers_of};
+ghost use Rattle.graph_ancestors.specs.WalkAnswer.{numbers_of};
 ghost use Rattle.graph_history.specs.Bases.{AreBelowCap, AreVisits};
 ghost use Rattle.graph_history.specs.Painting.{IsKnownEdge, IsVisiting};
 ghost use Rattle.graph_history.specs.Paint.{is_painted, is_stale, is_queued};

@@ -5,15 +5,13 @@ ghost use Rattle.std.specs.BinaryHeap.{heap_items};
 ghost use Rattle.graph_walks.specs.History.{IsParent, generation_at};
 ghost use Rattle.graph_format.specs.StoredHistory.{history_of};
 ghost use Rattle.gix_commitgraph.specs.Graph.{total};
-ghost use Rattle.graph_history.specs.WalkAnswer.{numbers_of};
+ghost use Rattle.graph_ancestors.specs.WalkAnswer.{numbers_of};
 ghost use Rattle.graph_history.specs.Bases.{AreBelowCap};
-ghost use Rattle.graph_history.specs.Commits.{IsReading, NamesParents, Names, list_in, named_from};
+ghost use Rattle.graph_ancestors.specs.Commits.{IsReading, NamesParents, Names, list_in, named_from};
 ghost use Rattle.graph_history.specs.Paint.{is_painted, is_queued, paint_at, passed, Grows};
 ghost use Rattle.graph_history.specs.Painting.{IsSpread, IsSpreadBut, IsLevel, IsPainting, work};
 ghost use Rattle.graph_history.specs.Painting.{ArePassed, PassesPaint, PassesOn};
 
-use crate::commits::{layer_of, list_of, parent_fields_of};
-use crate::lists::parent_of;
 use crate::paint::Paint;
 use crate::painting::Painting;
 use gix_commitgraph::file::commit::{ExtraEdge, ParentEdge};
@@ -21,6 +19,7 @@ use gix_commitgraph::law::walk::{
     generations_fall_along_walks, generations_never_rise_along_walks,
 };
 use gix_commitgraph::{GENERATION_NUMBER_MAX, Position};
+use graph_ancestors::commits::{layer_of, list_of, parent_fields_of, parent_of};
 use std::alloc::AllocError;
 
 impl<'p, 'g> Painting<'p, 'g> {

@@ -14,7 +14,7 @@ use Rattle.graph_format.specs.Layer.{Layer}
 use Rattle.graph_format.specs.Lookup.{scan}
 use Rattle.graph_format.specs.declared.Position.{Position}
 use Rattle.gix_commitgraph.specs.Graph.{graph_ids, total}
-use Rattle.graph_history.specs.WalkAnswer.{numbers_of}
+use Rattle.graph_ancestors.specs.WalkAnswer.{numbers_of}
 use Rattle.graph_commands.specs.WrittenAnswer.{WritesAnswer, WritesRefusal}
 use Rattle.graph_commands.specs.declared.refusal.Refusal.{Refusal}
 use Rattle.history_commands.specs.MergeBases.{SpellNotAll, IsIdAt, IsFirstUnknown, MayFindOfAll, merge_base_text}

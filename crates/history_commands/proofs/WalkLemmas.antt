@@ -14,8 +14,8 @@ use Rattle.graph_format.specs.Lookup.{scan}
 use Rattle.graph_format.specs.declared.Position.{Position}
 use Rattle.gix_commitgraph.specs.Graph.{graph_ids}
 use Rattle.gix_commitgraph.proofs.history.HistoryLemmas.{length-history}
-use Rattle.graph_history.specs.WalkAnswer.{IsAnswer, IsShortestWalk, numbers_of}
-use Rattle.graph_history.specs.declared.Reached.{Reached}
+use Rattle.graph_ancestors.specs.WalkAnswer.{IsAnswer, IsShortestWalk, numbers_of}
+use Rattle.graph_ancestors.specs.declared.Reached.{Reached}
 use Rattle.graph_history.proofs.RightGraphLemmas.{all_within}
 use Rattle.graph_commands.specs.WrittenAnswer.{WritesAnswer, WritesRefusal}
 use Rattle.graph_commands.specs.declared.refusal.Refusal.{Refusal}

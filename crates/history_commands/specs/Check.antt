@@ -10,7 +10,7 @@ use Rattle.gix_commitgraph.specs.Graph.{total}
 use Rattle.gix_commitgraph.specs.Headline.{Stats}
 use Rattle.gix_commitgraph.specs.Sound.{Sound}
 use Rattle.gix_commitgraph.specs.declared.verify.Outcome.{Outcome}
-use Rattle.graph_history.specs.Checked.{MayRefuseGraph}
+use Rattle.graph_ancestors.specs.RefusedGraph.{MayRefuseGraph}
 use Rattle.graph_chunks.specs.GraphStoredDates.{HasDates, times_of, dates_of}
 use Rattle.graph_chunks.specs.GraphDates.{graph_dates_refusal}
 use Rattle.graph_chunks.specs.GraphFilters.{settings_of, computed_in, graph_filters_refusal}

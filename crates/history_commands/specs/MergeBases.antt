@@ -13,10 +13,10 @@ use Rattle.graph_format.specs.declared.Position.{Position}
 use Rattle.graph_layer.specs.declared.opening.error.OpenError.{OpenError}
 use Rattle.gix_commitgraph.specs.Graph.{graph_ids, total}
 use Rattle.gix_commitgraph.specs.Sound.{Sound}
-use Rattle.graph_history.specs.WalkAnswer.{numbers_of}
+use Rattle.graph_ancestors.specs.WalkAnswer.{numbers_of}
 use Rattle.graph_history.specs.Bases.{AreMergeBases, IsAhead, IsBehind, AreBelowCap, AreVisits}
-use Rattle.graph_history.specs.Checked.{MayRefuseGraph}
-use Rattle.graph_history.specs.Cardinality.{IsNumberOf}
+use Rattle.graph_ancestors.specs.RefusedGraph.{MayRefuseGraph}
+use Rattle.graph_ancestors.specs.Cardinality.{IsNumberOf}
 use Rattle.graph_history.specs.declared.bases.Comparison.{Comparison}
 use Rattle.graph_commands.specs.Ancestor.{visits_line}
 use Rattle.graph_commands.specs.RefusalLines.{refusal_text, refusal_status}

@@ -8,7 +8,7 @@ ghost use Rattle.gix_hash_core.specs.Hexadecimal.{SpellsId};
 ghost use Rattle.gix_hash_core.specs.Oid.{oid_bytes};
 ghost use Rattle.gix_hash_core.specs.declared.object_id.IdError.{IdError};
 ghost use Rattle.gix_commitgraph.specs.Graph.{IsGraph, total};
-ghost use Rattle.graph_history.specs.WalkAnswer.{numbers_of};
+ghost use Rattle.graph_ancestors.specs.WalkAnswer.{numbers_of};
 ghost use Rattle.graph_commands.specs.WrittenAnswer.{WritesAnswer};
 ghost use Rattle.graph_commands.specs.Block.{with_block};
 ghost use Rattle.graph_commands.specs.OpenerAnswer.{MayOpen};

@@ -1,5 +1,5 @@
 use Rattle.std.proofs.Common.{◌≡◌, ◌<◌, Some, ◌∙◌, All, ap, subst, sym}
-use Rattle.graph_history.specs.WalkAnswer.{numbers_of}
+use Rattle.graph_ancestors.specs.WalkAnswer.{numbers_of}
 use Rattle.graph_history.specs.Comparison.{IsComparisonOf}
 use Rattle.gix_commitgraph.specs.Graph.{total}
 use Rattle.std.proofs.lemmas.List.Elements.{All-map}

@@ -10,7 +10,7 @@ use Rattle.graph_commands.proofs.ancestor.ancestry_in.Goals as goal
 pub ancestor_walk-requires-clause-from : goal.ancestor_walk-requires-clause-from
 ancestor_walk-requires-clause-from c =
     let layers = c.args.graph.now in
-    rw c.in_ok-checked.ensures.graph
+    rw c.new.ensures
     (omega (
       arith,
       slice_get_within (graph_ids layers) c.in-Some.from.0 (oid_bytes c.args.first) c.in-Some.ensures.holds,
@@ -20,7 +20,7 @@ ancestor_walk-requires-clause-from c =
 pub ancestor_walk-requires-clause-to : goal.ancestor_walk-requires-clause-to
 ancestor_walk-requires-clause-to c =
     let layers = c.args.graph.now in
-    rw c.in_ok-checked.ensures.graph
+    rw c.new.ensures
     (omega (
       arith,
       slice_get_within (graph_ids layers) c.in-Some-lookup.to.0 (oid_bytes c.args.second) c.in-Some-lookup.ensures.holds,

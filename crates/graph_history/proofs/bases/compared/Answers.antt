@@ -1,6 +1,6 @@
 use Rattle.graph_format.specs.StoredHistory.{history_of}
 use Rattle.gix_commitgraph.specs.Graph.{total}
-use Rattle.graph_history.specs.WalkAnswer.{numbers_of}
+use Rattle.graph_ancestors.specs.WalkAnswer.{numbers_of}
 use Rattle.graph_history.proofs.FoundLemmas.{ahead_number, behind_number, bases_are, bases_within}
 use Rattle.graph_history.proofs.bases.compared.Goals as goal
 

@@ -4,7 +4,7 @@ use Rattle.graph_format.specs.declared.Position.{Position}
 use Rattle.graph_walks.specs.declared.TheConstants.{GENERATION_NUMBER_MAX}
 use Rattle.graph_walks.specs.History.{generation_at}
 use Rattle.graph_format.specs.StoredHistory.{history_of}
-use Rattle.graph_history.specs.WalkAnswer.{numbers_of}
+use Rattle.graph_ancestors.specs.WalkAnswer.{numbers_of}
 use Rattle.graph_history.proofs.CoatLemmas.{so_first, so_other, bare_level, begun_first, begun_more, begun_all}
 use Rattle.graph_history.proofs.CoatLemmas.{number_at, number_contained}
 use Rattle.graph_history.proofs.EdgeLemmas.{painted_queued, visits_told}

@@ -1,7 +1,7 @@
 use Rattle.std.proofs.Common.{◌≡◌, heap_items}
 use Rattle.graph_walks.specs.declared.TheConstants.{GENERATION_NUMBER_MAX}
 use Rattle.graph_format.specs.StoredHistory.{history_of}
-use Rattle.graph_history.specs.WalkAnswer.{numbers_of}
+use Rattle.graph_ancestors.specs.WalkAnswer.{numbers_of}
 use Rattle.graph_history.specs.Painting.{IsPainting, ArePassed, IsLevel}
 use Rattle.graph_history.proofs.CoatLemmas.{IsBegun}
 use Rattle.graph_history.proofs.painting.paint_from.Given as goal

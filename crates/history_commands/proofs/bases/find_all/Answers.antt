@@ -1,7 +1,7 @@
 -- The id at the index is one of all.
 use Rattle.std.proofs.Common.{◌≡◌, Some, length, slice_get, refl, sym, arith}
 use Rattle.std.proofs.lemmas.Option.{slice_get_read}
-use Rattle.graph_history.specs.WalkAnswer.{numbers_of}
+use Rattle.graph_ancestors.specs.WalkAnswer.{numbers_of}
 use Rattle.history_commands.proofs.BasesLemmas.{first_unknown, found_more, within_more}
 use Rattle.history_commands.proofs.bases.find_all.Goals as goal
 

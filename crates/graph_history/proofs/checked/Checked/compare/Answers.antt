@@ -1,6 +1,6 @@
 use Rattle.std.proofs.lemmas.Result.{IfOk-weaker}
 use Rattle.graph_format.specs.StoredHistory.{history_of}
-use Rattle.graph_history.specs.WalkAnswer.{numbers_of}
+use Rattle.graph_ancestors.specs.WalkAnswer.{numbers_of}
 use Rattle.graph_history.specs.Bases.{AreBelowCap, AreVisits}
 use Rattle.graph_history.specs.Comparison.{IsComparisonOf}
 use Rattle.graph_history.specs.declared.bases.Comparison.{Comparison}

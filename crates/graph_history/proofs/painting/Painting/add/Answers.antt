@@ -1,7 +1,7 @@
 use Rattle.std.proofs.Common.{◌<◌, true, length, set, sym, ap, ◌∙◌, heap_items, arith}
 use Rattle.std.proofs.lemmas.List.{length-set}
 use Rattle.graph_format.specs.StoredHistory.{history_of}
-use Rattle.graph_history.specs.WalkAnswer.{numbers_of}
+use Rattle.graph_ancestors.specs.WalkAnswer.{numbers_of}
 use Rattle.graph_history.specs.Paint.{joined, covers}
 use Rattle.graph_history.specs.declared.paint.Coat.{Coat}
 use Rattle.graph_history.specs.declared.paint.Coats.{Coats}

@@ -1,7 +1,7 @@
 use Rattle.std.proofs.Common.{◌≡◌, length, sym, ◌∙◌, heap_items, arith}
 use Rattle.gix_commitgraph.specs.Graph.{total}
 use Rattle.graph_format.specs.StoredHistory.{history_of}
-use Rattle.graph_history.specs.WalkAnswer.{numbers_of}
+use Rattle.graph_ancestors.specs.WalkAnswer.{numbers_of}
 use Rattle.graph_history.proofs.CoatLemmas.{gathered_none}
 use Rattle.graph_history.proofs.EdgeLemmas.{paint_none, waiting_none, visiting_none}
 use Rattle.graph_history.proofs.PassLemmas.{passed_none}

@@ -1,7 +1,7 @@
 use Rattle.std.proofs.Common.{◌<◌, ◌≤◌, ap, ◌∙◌, sym, inr, arith}
 use Rattle.graph_walks.specs.History.{generation_at}
 use Rattle.graph_format.specs.StoredHistory.{history_of}
-use Rattle.graph_history.specs.WalkAnswer.{numbers_of}
+use Rattle.graph_ancestors.specs.WalkAnswer.{numbers_of}
 use Rattle.graph_history.specs.Bases.{AreBelowCap}
 use Rattle.graph_history.specs.Paint.{is_on_one_side}
 use Rattle.graph_history.specs.declared.paint.Coat.{Coat}

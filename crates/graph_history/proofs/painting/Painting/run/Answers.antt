@@ -5,7 +5,7 @@ use Rattle.std.proofs.lemmas.List.Sums.{count_by-le-length}
 use Rattle.graph_walks.specs.declared.TheConstants.{GENERATION_NUMBER_MAX}
 use Rattle.graph_format.specs.Layer.{Layer}
 use Rattle.graph_format.specs.StoredHistory.{history_of}
-use Rattle.graph_history.specs.WalkAnswer.{numbers_of}
+use Rattle.graph_ancestors.specs.WalkAnswer.{numbers_of}
 use Rattle.graph_history.specs.declared.paint.Coat.{Coat}
 use Rattle.graph_history.specs.Painting.{IsSpread, IsLevel, IsDone}
 use Rattle.graph_walks.specs.History.{generation_at}

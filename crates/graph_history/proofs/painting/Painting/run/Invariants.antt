@@ -1,6 +1,6 @@
 use Rattle.std.proofs.Common.{◌≡◌, ℕ, heap_items}
 use Rattle.graph_format.specs.StoredHistory.{history_of}
-use Rattle.graph_history.specs.WalkAnswer.{numbers_of}
+use Rattle.graph_ancestors.specs.WalkAnswer.{numbers_of}
 use Rattle.graph_history.specs.Painting.{IsPainting, ArePassed, IsSpread, IsLevel, work}
 use Rattle.graph_history.proofs.painting.Painting.run.Given as goal
 

@@ -1,9 +1,9 @@
 use Rattle.std.proofs.Common.{◌≡◌, ℕ, sym, subst, arith}
 use Rattle.std.proofs.lemmas.Option.{slice_get_within}
 use Rattle.graph_format.specs.declared.parents.ParentEdge.{ParentEdge}
-use Rattle.graph_history.specs.Commits.{NamesParents, Names}
+use Rattle.graph_ancestors.specs.Commits.{NamesParents, Names}
 use Rattle.graph_history.specs.Paint.{passed, paint_at, Grows}
-use Rattle.graph_history.proofs.ListLemmas.{contained_in}
+use Rattle.graph_ancestors.proofs.ListLemmas.{contained_in}
 use Rattle.graph_history.proofs.PaintLemmas.{grows_refl}
 use Rattle.graph_history.proofs.PassLemmas.{passed_kept}
 use Rattle.graph_history.proofs.painting.Painting.visit_field.Goals as goal

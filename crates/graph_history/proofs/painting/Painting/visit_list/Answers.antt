@@ -1,13 +1,13 @@
 use Rattle.std.proofs.Common.{◌≡◌, ◌≢◌, ℕ, List, length, get_or, refl, sym, ap, ◌∙◌, subst, inl, inr, ⊎_elim, arith}
 use Rattle.graph_format.specs.Parents.{extra_edge_of}
 use Rattle.graph_format.specs.StoredHistory.{history_of}
-use Rattle.graph_history.specs.Commits.{list_in, named_by}
+use Rattle.graph_ancestors.specs.Commits.{list_in, named_by}
 use Rattle.graph_history.specs.Paint.{covers, paint_at, Grows}
 use Rattle.graph_history.specs.Painting.{IsPassed}
 use Rattle.graph_history.specs.Trails.{trail_at, trail_in}
 use Rattle.graph_history.specs.declared.paint.Paint.{Paint}
 use Rattle.graph_history.specs.declared.trails.Trails.{Trails}
-use Rattle.graph_history.proofs.ListLemmas.{reading_within, reading_goes_on, next_is_parent, few_words}
+use Rattle.graph_ancestors.proofs.ListLemmas.{reading_within, reading_goes_on, next_is_parent, few_words}
 use Rattle.graph_history.proofs.PaintLemmas.{grows_refl, covers_grows}
 use Rattle.graph_history.proofs.PassLemmas.{passed_kept, passed_same, named_heard, passed_begins, passed_stops, passed_next}
 use Rattle.graph_history.proofs.PassLemmas.{passed_last, begun_after, passes_with, are_passed_from, passes_on_trans}

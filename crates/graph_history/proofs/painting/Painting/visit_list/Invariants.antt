@@ -1,6 +1,6 @@
 use Rattle.std.proofs.Common.{◌≡◌, ◌≢◌, ◌⊎◌, ℕ, ◌-◌, ◌≤◌, length}
 use Rattle.graph_format.specs.StoredHistory.{history_of}
-use Rattle.graph_history.specs.Commits.{IsReading, list_in}
+use Rattle.graph_ancestors.specs.Commits.{IsReading, list_in}
 use Rattle.graph_history.specs.Paint.{Grows}
 use Rattle.graph_history.specs.Painting.{PassesPaint, PassesOn, IsPassed}
 use Rattle.graph_history.specs.Trails.{trail_at, trail_in}

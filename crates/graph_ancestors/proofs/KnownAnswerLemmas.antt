@@ -1,0 +1,40 @@
+-- The answers that are known without a search.
+use Rattle.std.proofs.Common.{ℕ, zero, suc, ◌<◌, ◌≤◌, List, [], ◌∷◌, length, get_or, refl, arith}
+use Rattle.std.proofs.lemmas.Option.{none-some}
+use Rattle.graph_walks.specs.History.{Node, generation_at}
+use Rattle.graph_walks.specs.Walks.{IsWalkBetween, Reaches}
+use Rattle.graph_ancestors.specs.WalkAnswer.{IsShortestWalk, IsAtOrAbove, IsAbove}
+use Rattle.graph_ancestors.specs.Cardinality.{AtLeast, AtMost}
+
+module _ (h : List Node) (p : ℕ) (within : p < length h) where
+  one_walk : IsWalkBetween h p p (p ∷ [])
+  one_walk = record { is_walk = within; first = refl; last = refl }
+
+  not_shorter : (other : List ℕ) → IsWalkBetween h p p other → 1 ≤ length other
+  not_shorter [] walk = absurd (none-some p walk.first)
+  not_shorter (q ∷ rest) walk = omega arith
+
+  pub one_is_shortest : IsShortestWalk h p p (p ∷ [])
+  one_is_shortest = record { between = one_walk; least = not_shorter }
+
+  one_at_or_above : (k d : ℕ) → k < 1 → IsAtOrAbove h p p (get_or (p ∷ []) k d)
+  one_at_or_above zero d lt = ((p ∷ [], one_walk), omega arith)
+  one_at_or_above (suc k) d lt = absurd (omega arith)
+
+  -- one visit, of the commit itself
+  pub one_is_visited : AtLeast 1 (IsAtOrAbove h p p)
+  one_is_visited = (p ∷ [], refl, (λ i j d lt lt' same. absurd (omega arith)), one_at_or_above)
+
+  pub reaches_itself : Reaches h p p
+  reaches_itself = (p ∷ [], one_walk)
+
+-- no visit
+pub none_is_visited : (P : ℕ → Type 0) → AtLeast 0 P
+none_is_visited P = ([], refl, (λ i j d lt lt' same. omega arith), (λ k d lt. absurd (omega arith)))
+
+pub none_is_above : (h : List Node) (from to : ℕ) → ((p q : ℕ) → Reaches h p q → generation_at h q ≤ generation_at h p)
+    → generation_at h from ≤ generation_at h to → AtMost 0 (IsAbove h from to)
+none_is_above h from to never_rises below [] apart all = omega arith
+none_is_above h from to never_rises below (p ∷ ps) apart all =
+    let above = all 0 p (omega arith) in
+    absurd (omega (arith, never_rises from p above.0, above.1))

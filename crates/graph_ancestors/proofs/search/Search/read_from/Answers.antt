@@ -1,0 +1,40 @@
+use Rattle.std.proofs.Common.{ℕ, length, refl, ap, subst, arith}
+use Rattle.std.proofs.lemmas.List.{length_push}
+use Rattle.graph_format.specs.StoredHistory.{history_of}
+use Rattle.graph_ancestors.specs.Commits.{AreParentFields}
+use Rattle.graph_ancestors.specs.Queue.{commit_in}
+use Rattle.graph_ancestors.specs.Search.{queued_by}
+use Rattle.graph_ancestors.proofs.AheadLemmas.{ahead_push}
+use Rattle.graph_ancestors.proofs.VisitLemmas.{length-queued}
+use Rattle.graph_ancestors.proofs.search.Search.read_from.Goals as goal
+
+pub overflow_cast-next-end : goal.overflow_cast-next-end
+overflow_cast-next-end c =
+    let s = c.args.self.now in
+    let search = c.requires.search in
+    let few = search.few in
+    omega (
+      arith,
+      length-queued (history_of s.graph.now) s.least (queued_by s) search.queue,
+      few,
+      c.len.ensures,
+      c.min-end.ensures,
+    )
+
+pub loop-next-preserved : goal.loop-next-preserved
+loop-next-preserved c =
+    let s = c.args.self.now in
+    let l = c.loop-next in
+    let inv = l.invariant in
+    let fields = c.parent_fields_of-fields in
+    let pushed = c.in_ok-push.ensures.items in
+    let here : AreParentFields s.graph.now (commit_in (queued_by s) l.next) fields.result =
+    subst (λ (p : ℕ). AreParentFields s.graph.now p fields.result) c.commit_at.ensures
+    (record { first = fields.ensures.named.first; second = fields.ensures.named.second; all = fields.ensures.named.all }) in
+    record {
+      first = inv.first;
+      len = omega (arith, inv.len, ap length pushed, length_push l.ahead.fields.items fields.result);
+      ahead = ahead_push s l.ahead (record l.ahead { fields = c.push.new.self }) fields.result l.next refl pushed
+          (omega (arith, inv.first, inv.len)) (omega (arith, c.loop-next-test.true, c.len.ensures, c.min-end.ensures)) here
+          inv.ahead;
+    }

@@ -1,0 +1,35 @@
+-- what a query for a walk along parents, from one commit of a history to another, answers
+use Rattle.std.specs.Prelude.{ℕ, ◌+◌, ◌<◌, ◌≤◌, List, map, length, IfSome, IfNone}
+use Rattle.graph_walks.specs.History.{Node, generation_at}
+use Rattle.graph_walks.specs.Walks.{IsWalkBetween, Reaches}
+use Rattle.graph_format.specs.declared.Position.{Position}
+use Rattle.graph_ancestors.specs.Cardinality.{AtLeast, AtMost}
+use Rattle.graph_ancestors.specs.declared.Reached.{Reached}
+
+-- positions as numbers
+abbrev pub numbers_of : List Position → List ℕ
+numbers_of positions = map (λ pos. pos.0) positions
+
+-- A walk from p to q, and no walk from p to q has fewer commits.
+pub record IsShortestWalk (history : List Node) (p q : ℕ) (walk : List ℕ) : Type 0 where
+  pub between : IsWalkBetween history p q walk
+  pub least : (other : List ℕ) → IsWalkBetween history p q other → length walk ≤ length other
+
+-- p is a commit that from reaches, and its generation number is at least that of to
+abbrev pub IsAtOrAbove : List Node → ℕ → ℕ → ℕ → Type 0
+IsAtOrAbove history from to p = Reaches history from p × (generation_at history to ≤ generation_at history p)
+
+-- p is a commit that from reaches, and its generation number is greater than that of to
+abbrev pub IsAbove : List Node → ℕ → ℕ → ℕ → Type 0
+IsAbove history from to p = Reaches history from p × (generation_at history to < generation_at history p)
+
+-- The answer to a query for a walk.
+pub record IsAnswer (history : List Node) (from to : ℕ) (reached : Reached) : Type 0 where
+  -- a walk that is answered is a shortest one; where none is answered, none is there
+  pub walk : IfSome reached.walk (λ walk. IsShortestWalk history from to (numbers_of walk.items))
+  pub none : IfNone reached.walk (¬ Reaches history from to)
+  -- no more commits are visited than there are at or above the generation number of to
+  pub visits : AtLeast reached.visits (IsAtOrAbove history from to)
+  -- no fewer are visited than the walk has before its end, and where there is no walk, than there are above that number
+  pub walk_visits : IfSome reached.walk (λ walk. length walk.items ≤ reached.visits + 1)
+  pub none_visits : IfNone reached.walk (AtMost reached.visits (IsAbove history from to))

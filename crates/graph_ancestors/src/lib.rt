@@ -1,0 +1,32 @@
+//! Walks along parents to ancestors, in commit-graphs that are right.
+//!
+//! A [`Searcher`] looks for walks from one commit to another in a graph that [`check`] accepts. It
+//! relies on the generation numbers, which the check has found right, and leaves out each commit
+//! whose number is too low to lead to the one that is looked for ("topological level" in Git's
+//! commit-graph design).
+#![tactic(auto)]
+
+mod ahead;
+mod ancestor;
+pub mod commits;
+pub mod law;
+mod lists;
+mod marks;
+mod no_fault;
+mod search;
+mod searcher;
+mod walk;
+mod words;
+
+use gix_commitgraph::Position;
+pub use no_fault::{NoFault, check};
+pub use searcher::Searcher;
+
+/// The answer of a query for a walk from one commit to another.
+#[derive(Debug, Drop)]
+pub struct Reached {
+    /// A shortest walk, both commits included, or `None` where there is no walk.
+    pub walk: Option<Vec<Position>>,
+    /// How many commits were visited: taken from the queue of the search.
+    pub visits: u32,
+}
