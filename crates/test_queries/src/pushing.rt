@@ -185,7 +185,7 @@ const LAYERS: u8 = 200;
 /// The rows of this many commits without parents.
 fn roots(rt: &impl Abort, alloc: Global, commits: u8) -> Vec<Row<'static>> {
     let mut rows = Vec::new(alloc);
-    for byte in 0..commits {
+    for byte in 1..=commits {
         let row: Row<'static> = (byte, &[], 1);
         rows.push(row).expect(rt, "memory");
     }
