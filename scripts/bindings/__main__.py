@@ -89,7 +89,7 @@ def build_words(archive, kit):
         *(word for extern in externs for word in ("--extern", extern)),
         *(word for folder in folders for word in ("-L", f"dependency={folder}")),
         *("--antt-project", kit / "rattle/logic/antt-project.json", "--logic-built", kit / "logic_built"),
-        *("--links", f"{NAME}=", "--toolchain", kit / "toolchain", "--backend", "llvm", "-o", archive),
+        *("--links", f"{NAME}=", "--toolchain", kit / "toolchain", "--backend", "llvm", "--jobs", "2", "-o", archive),
     ]
 
 
