@@ -1,6 +1,6 @@
 //! How many commits have each number of parents.
 
-ghost use Rattle.std.specs.Prelude.{◌≡◌, ◌≢◌, ◌==◌, ℕ, ◌+◌, ◌<◌, ◌^◌, Some, None, OnOk, IfOk};
+ghost use Rattle.std.specs.Prelude.{◌≡◌, ◌≢◌, ◌==◌, ℕ, ◌+◌, ◌<◌, ◌≤◌, ◌^◌, Some, None, OnOk, IfOk};
 ghost use Rattle.std.specs.Prelude.{if◌then◌else◌, unwrap_or};
 ghost use Rattle.std.specs.Ordering.{nat_cmp};
 ghost use Rattle.std.specs.BTreeMap.{get};
@@ -47,6 +47,7 @@ impl ParentCounts {
     }
 
     /// Counts one more commit with so many parents. The error is that an allocation failed.
+    #[inline(always)]
     pub fn add(&mut self, parents: u32) -> Result<(), AllocError>
         requires { unwrap_or (counted self.old parents) 0 + 1 < 2 ^ 32 }
         ensures { OnOk result ((k : ℕ) → counted self.new k
@@ -55,9 +56,23 @@ impl ParentCounts {
     {
         if parents < 3 {
             self.few[parents as usize] += 1;
+            Ok(())
         } else {
-            *self.more.entry(parents)?.or_insert(0) += 1;
+            self.add_more(parents)
         }
+    }
+
+    /// Counts one more commit with more than 2 parents. The error is that an allocation failed.
+    #[cold]
+    #[inline(never)]
+    fn add_more(&mut self, parents: u32) -> Result<(), AllocError>
+        requires many { 3 ≤ parents }
+        requires few { unwrap_or (counted self.old parents) 0 + 1 < 2 ^ 32 }
+        ensures { OnOk result ((k : ℕ) → counted self.new k
+            ≡ (if k == parents then Some (unwrap_or (counted self.old parents) 0 + 1) else counted
+            self.old k)) }
+    {
+        *self.more.entry(parents)?.or_insert(0) += 1;
         Ok(())
     }
 
