@@ -5,5 +5,6 @@ pub mod GraphCheckLemmas
 pub mod GraphCallLemmas
 pub mod EdgeListLemmas
 pub mod GatherLemmas
+pub mod NearParentLemmas
 pub mod DuplicateNameLemmas
 pub mod OutcomeLemmas

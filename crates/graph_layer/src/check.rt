@@ -59,6 +59,27 @@ pub fn times(file: &File) -> &[u64]
     file.times()
 }
 
+/// The first parent fields of a layer's commits, in the order of their positions ("Commit Data").
+pub fn first_fields(file: &File) -> &[u32]
+    ensures { result.now ≡ map (λ r. r.parent1) file.now.records }
+{
+    file.first_fields()
+}
+
+/// The second parent fields of a layer's commits, in the order of their positions ("Commit Data").
+pub fn second_fields(file: &File) -> &[u32]
+    ensures { result.now ≡ map (λ r. r.parent2) file.now.records }
+{
+    file.second_fields()
+}
+
+/// The generation numbers of a layer's commits, in the order of their positions ("Commit Data").
+pub fn generations(file: &File) -> &[u32]
+    ensures { result.now ≡ map (λ r. r.generation) file.now.records }
+{
+    file.generations()
+}
+
 /// The id of a layer below this one ("Base Graphs List").
 pub fn base_id_at(file: &File, index: u8) -> oid<'_>
     requires { index < length file.now.bases }

@@ -1,9 +1,11 @@
 //! Parent count and greatest parent generation of many commits, gathered before their check.
 //!
 //! Parents stand anywhere in a layer, so that the memory with their generation numbers is waited
-//! for. In a loop as short as the one here, those of several commits are waited for at once.
+//! for. In a loop as short as the one here, those of several commits are waited for at once. So one
+//! or two parents that stand in the commit's own layer are read there, with no branch on their
+//! number, and all others, which are rare, in a call.
 
-ghost use Rattle.std.specs.Prelude.{◌≡◌, ◌+◌, ◌%◌, ◌<◌, length};
+ghost use Rattle.std.specs.Prelude.{◌≡◌, ◌+◌, ◌%◌, ◌<◌, Some, IfSome, length, map};
 
 use crate::file;
 use crate::file::commit::ParentEdge;
@@ -11,7 +13,8 @@ use crate::graph::Graph;
 use crate::verify::lists::{ListedTally, NO_PARENTS};
 use crate::verify::parents::ParentTally;
 use crate::verify::span::LayerSpan;
-use graph_layer::check::parent_edges;
+use graph_format::parents::NO_PARENT;
+use graph_layer::check::{first_fields, generations, parent_edges, second_fields};
 
 /// For how many commits parents are gathered at a time.
 const BLOCK: usize = 256;
@@ -63,13 +66,77 @@ impl Graph {
         requires begins { first % 256 ≡ 0 }
         ensures { AreGathered self.now span.entry first block.new }
     {
+        let firsts = first_fields(span.file);
+        let seconds = second_fields(span.file);
+        let numbers = generations(span.file);
         let count = (span.file.num_commits() - first).min(BLOCK as u32);
         for index in 0..count {
-            block[index as usize] = self.gather_one(span, tallies, first + index);
+            let place = first + index;
+            match self.tally_within(span, place, firsts, seconds, numbers) {
+                Some(tally) => block[index as usize] = Some(tally),
+                None => self.gather_rare(span, tallies, place, &mut block[index as usize]),
+            }
         }
     }
 
-    /// The same of one commit.
+    /// The tally of the parents of the commit at this place, where there are one or two, and they
+    /// stand in its own layer ("Commit Data"). Of other commits it is `None`.
+    ///
+    /// A field that is a position of the layer is neither "no parent" nor an index, since all
+    /// positions are below those. One that stands before the layer wraps to a number past its end.
+    #[inline(always)]
+    fn tally_within(
+        &self,
+        span: LayerSpan<'_>,
+        place: u32,
+        firsts: &[u32],
+        seconds: &[u32],
+        numbers: &[u32],
+    ) -> Option<ParentTally>
+        requires span { IsSpan self.now span }
+        requires within { place < length span.file.now.ids }
+        requires firsts { firsts.now ≡ map (λ r. r.parent1) span.file.now.records }
+        requires seconds { seconds.now ≡ map (λ r. r.parent2) span.file.now.records }
+        requires numbers { numbers.now ≡ map (λ r. r.generation) span.file.now.records }
+        ensures { IfSome result (λ tally. IsGathered self.now span.entry place (Some tally)) }
+    {
+        let first = firsts[place as usize];
+        let second = seconds[place as usize];
+        let (count, last) = if second == NO_PARENT {
+            (1, first)
+        } else {
+            (2, second)
+        };
+        let one = first.wrapping_sub(span.start) as usize;
+        let other = last.wrapping_sub(span.start) as usize;
+        if one >= numbers.len() || other >= numbers.len() {
+            return None;
+        }
+        Some(ParentTally {
+            count,
+            max_generation: numbers[one].max(numbers[other]),
+        })
+    }
+
+    /// Gathers one commit, whatever its parents are.
+    #[cold]
+    #[inline(never)]
+    fn gather_rare(
+        &self,
+        span: LayerSpan<'_>,
+        tallies: &[ListedTally],
+        place: u32,
+        gathered: &mut Option<ParentTally>,
+    )
+        requires span { IsSpan self.now span }
+        requires tallies { AreTallied self.now span tallies.now }
+        requires within { place < length span.file.now.ids }
+        ensures { IsGathered self.now span.entry place gathered.new }
+    {
+        *gathered = self.gather_one(span, tallies, place);
+    }
+
+    /// The tally of the parents of one commit.
     #[inline(always)]
     fn gather_one(
         &self,

@@ -1,21 +1,26 @@
-use Rattle.std.proofs.Common.{◌≡◌, ℕ, ◌%◌, ◌<◌, subst, ◌+◌, None, ◌∙◌, arith, length-set}
+use Rattle.std.proofs.Common.{◌≡◌, ℕ, ◌%◌, ◌<◌, subst, ◌+◌, Option, None, Some, arith}
 use Rattle.std.specs.Prelude.{slice_index_or}
 use Rattle.gix_commitgraph.specs.Tallies.{IsGathered}
+use Rattle.gix_commitgraph.specs.declared.verify.parents.ParentTally.{ParentTally}
 use Rattle.gix_commitgraph.proofs.check.GatherLemmas.{one-more}
+use Rattle.gix_commitgraph.proofs.graph.Graph.gather.Goals.{in-Some, in-None}
 use Rattle.gix_commitgraph.proofs.graph.Graph.gather.Goals as goal
 
 pub loop-index-init : goal.loop-index-init
 loop-index-init c = record { sized = c.told-block; gathered = λ i below. absurd (omega (arith, below)) }
 
 pub loop-index-preserved : goal.loop-index-preserved
-loop-index-preserved c = record {
-  sized = length-set c.loop-index.block c.loop-index.index c.gather_one.result ∙ c.loop-index.invariant.sized;
-  gathered =
-      one-more (λ i. IsGathered c.args.self.now c.args.span (c.args.first + i)) c.loop-index.block c.loop-index.index
-      c.gather_one.result None
-      (omega (arith, c.loop-index.invariant.sized, c.loop-index-test.true, c.min-count.ensures))
-      c.loop-index.invariant.gathered c.gather_one.ensures;
-}
+loop-index-preserved c =
+    let more = λ (tally : Option ParentTally).
+    one-more (λ i. IsGathered c.args.self.now c.args.span (c.args.first + i)) c.loop-index.block c.loop-index.index tally None
+    (omega (arith, c.loop-index.invariant.sized, c.loop-index-test.true, c.min-count.ensures)) c.loop-index.invariant.gathered in
+    record {
+      sized = c.match-tally_within.array_long;
+      gathered = elim c.match-tally_within.branch [
+        | in-Some w ↦ rw w.block-is (more (Some w.in-Some.tally) w.in-Some.ensures)
+        | in-None w ↦ rw w.block-is (more w.gather_rare.new.gathered w.gather_rare.ensures)
+      ];
+    }
 
 pub returns : goal.returns
 returns c = λ place within near.
