@@ -1,14 +1,17 @@
 -- A search that goes on.
-use Rattle.std.proofs.Common.{◌≡◌, ◌≢◌, ℕ, List, None, refl, sym, ◌∙◌, subst, ⊎_elim}
+use Rattle.std.proofs.Common.{◌≡◌, ◌≢◌, ℕ, ◌<◌, ◌≤◌, List, length, None, refl, sym, ◌∙◌, subst, subst₂, ⊎_elim}
 use Rattle.std.proofs.lemmas.Bool.{cases_eq}
 use Rattle.graph_format.specs.Layer.{Layer}
 use Rattle.graph_format.specs.StoredHistory.{history_of}
+use Rattle.graph_format.specs.declared.parents.ParentEdge.{ParentEdge}
+use Rattle.graph_walks.specs.History.{IsParent, generation_at}
 use Rattle.graph_ancestors.specs.declared.search.Search.{Search}
-use Rattle.graph_ancestors.specs.Commits.{list_in}
+use Rattle.graph_ancestors.specs.Commits.{list_in, AreParentFields, NamesParents, Names}
 use Rattle.graph_ancestors.specs.Marks.{marked_at}
+use Rattle.graph_ancestors.specs.Queue.{IsQueued, QueuesParents, commit_in}
 use Rattle.graph_ancestors.specs.Search.{queued_by, GoesOn, IsRead, AreRead}
 use Rattle.graph_ancestors.proofs.ListLemmas.{read_extends}
-use Rattle.graph_ancestors.proofs.QueueLemmas.{extends_refl, extends_trans}
+use Rattle.graph_ancestors.proofs.QueueLemmas.{extends_refl, extends_trans, commit_extends, queued_extends}
 
 pub goes_on_refl : (s : Search) (c : ℕ) → GoesOn s s c
 goes_on_refl s c = record { graph = refl; least = refl; stack = refl; extends = extends_refl (queued_by s) c }
@@ -42,3 +45,34 @@ are_read_from s layers least layer graph is others here i =
     (sym same) here)
     (λ (apart : i ≡ layer → ⊥). others i apart)
     (cases_eq i layer))
+
+-- the parents that a field of the commit at a place names are queued, where they are of use
+abbrev QueuesNamed : Search → ParentEdge → ℕ → Search → Type 0
+QueuesNamed s field place after = (q : ℕ) → Names s.graph.now (commit_in (queued_by s) place) field q
+    → s.least ≤ generation_at (history_of s.graph.now) q → IsQueued (queued_by after) q
+
+-- one parent field of the commit at a place is gone over, and then the other
+module _ (s one : Search) (place : ℕ) (fields : ParentEdge × ParentEdge) (here : place < length (queued_by s))
+    (are : AreParentFields s.graph.now (commit_in (queued_by s) place) fields) (on : GoesOn s one place) where
+  pub second_names_parents : NamesParents one.graph.now (commit_in (queued_by one) place) fields.1
+  second_names_parents =
+      subst₂ (λ (layers : List Layer) (p : ℕ). NamesParents layers p fields.1) (sym on.graph)
+      (sym (commit_extends (queued_by s) (queued_by one) place place on.extends here)) are.second
+
+  pub both_queued : (two : Search) → GoesOn one two place → QueuesNamed s fields.0 place one
+      → QueuesNamed one fields.1 place two → QueuesParents (history_of s.graph.now) s.least (queued_by two) place
+  both_queued two goes first second q parent high =
+      let both = goes_on_trans s one two place on goes in
+      let same = commit_extends (queued_by s) (queued_by two) place place both.extends here in
+      let is : IsParent (history_of s.graph.now) (commit_in (queued_by s) place) q =
+      subst (λ (p : ℕ). IsParent (history_of s.graph.now) p q) same parent in
+      ⊎_elim
+      (λ (names : Names s.graph.now (commit_in (queued_by s) place) fields.0 q).
+      queued_extends (queued_by one) (queued_by two) place q goes.extends (first q names high))
+      (λ (names : Names s.graph.now (commit_in (queued_by s) place) fields.1 q).
+      second q
+      (subst₂ (λ (layers : List Layer) (p : ℕ). Names layers p fields.1 q) (sym on.graph)
+      (sym (commit_extends (queued_by s) (queued_by one) place place on.extends here)) names)
+      (subst₂ (λ (layers : List Layer) (least : ℕ). least ≤ generation_at (history_of layers) q) (sym on.graph)
+      (sym on.least) high))
+      (are.all q is)

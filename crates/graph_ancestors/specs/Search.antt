@@ -2,11 +2,13 @@
 -- For private contracts alone.
 use Rattle.std.specs.Prelude.{◌≡◌, ◌⊎◌, ℕ, ◌+◌, ◌<◌, ◌≤◌, List, [], length, slice_get, slice_index, Option, Some, None}
 use Rattle.graph_walks.specs.History.{Node, generation_at}
+use Rattle.graph_format.specs.Layer.{Layer}
 use Rattle.graph_format.specs.StoredHistory.{history_of}
 use Rattle.graph_format.specs.Parents.{extra_edge_of}
 use Rattle.graph_format.specs.declared.Position.{Position}
 use Rattle.graph_format.specs.declared.parents.ExtraEdge.TheVariants as extra
 use Rattle.graph_format.specs.declared.parents.ParentEdge.{ParentEdge}
+use Rattle.graph_format.specs.declared.parents.ParentEdge.TheVariants as edge
 use Rattle.graph_format.specs.declared.TheConstants.{MAX_COMMITS}
 use Rattle.gix_commitgraph.specs.Graph.{IsGraph}
 use Rattle.gix_commitgraph.specs.Sound.{Sound}
@@ -55,8 +57,25 @@ pub record GoesOn (old new : Search) (c : ℕ) : Type 0 where
   pub stack : new.stack.items ≡ old.stack.items
   pub extends : Extends (queued_by old) (queued_by new) c
 
--- What was read ahead are the parent fields of commits that stand one after another in the queue.
-abbrev pub AreAhead : Search → Ahead → Type 0
-AreAhead s ahead = (i : ℕ) (fields : ParentEdge × ParentEdge) → slice_get ahead.fields.items i ≡ Some fields
+-- The number is the generation number of the parent that a parent field names itself.
+abbrev pub IsParentNumber : List Layer → ParentEdge → ℕ → Type 0
+IsParentNumber layers edge.None number = Unit {0}
+IsParentNumber layers (edge.GraphPosition pos) number = number ≡ generation_at (history_of layers) pos.0
+IsParentNumber layers (edge.ExtraEdgeIndex index) number = Unit {0}
+
+-- The fields that were read ahead are the parent fields of commits that stand one after another in the queue.
+abbrev pub AreFieldsAhead : Search → Ahead → Type 0
+AreFieldsAhead s ahead = (i : ℕ) (fields : ParentEdge × ParentEdge) → slice_get ahead.fields.items i ≡ Some fields
     → (ahead.first + i < length (queued_by s))
     × AreParentFields s.graph.now (commit_in (queued_by s) (ahead.first + i)) fields
+
+-- The numbers are those of the parents that the first of the fields at the same index names.
+abbrev pub AreParentNumbers : List Layer → List (ParentEdge × ParentEdge) → List ℕ → Type 0
+AreParentNumbers layers fields numbers = (i : ℕ) (both : ParentEdge × ParentEdge) (number : ℕ)
+    → slice_get fields i ≡ Some both → slice_get numbers i ≡ Some number → IsParentNumber layers both.0 number
+
+-- what was read ahead
+pub record AreAhead (s : Search) (ahead : Ahead) : Type 0 where
+  pub fields : AreFieldsAhead s ahead
+  pub as_many : length ahead.numbers.items ≡ length ahead.fields.items
+  pub numbers : AreParentNumbers s.graph.now ahead.fields.items ahead.numbers.items

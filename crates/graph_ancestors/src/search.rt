@@ -9,6 +9,7 @@ ghost use Rattle.graph_ancestors.specs.WalkAnswer.{IsAnswer};
 ghost use Rattle.graph_ancestors.specs.Commits.{AreParentFields, NamesParents, Names};
 ghost use Rattle.graph_ancestors.specs.Queue.{commit_in, child_in, IsQueued, QueuesParents};
 ghost use Rattle.graph_ancestors.specs.Search.{queued_by, IsIdle, IsSearching, AreRead, GoesOn};
+ghost use Rattle.graph_ancestors.specs.Search.{IsParentNumber};
 
 use crate::commits::{generation_of, layer_of, parent_fields_of};
 use crate::marks::Marks;
@@ -120,7 +121,26 @@ impl<'g> Search<'g> {
             (self.old.least ≤ generation_at (history_of self.old.graph.now) commit.0
             → IsQueued (queued_by self.new) commit.0) }
     {
-        if !self.reached.is_marked(commit.0) && self.least <= generation_of(self.graph, commit) {
+        let number = generation_of(self.graph, commit);
+        self.enqueue_known(commit, child, number)
+    }
+
+    /// Puts it there so where it has this generation number, which need not be read then.
+    fn enqueue_known(&mut self, commit: Position, child: u32, number: u32) -> Result<(), AllocError>
+        requires search { IsSearching self.old }
+        requires child { child < length (queued_by self.old) }
+        requires parent { IsParent (history_of self.old.graph.now)
+            (commit_in (queued_by self.old) child) commit.0 }
+        requires number { number ≡ generation_at (history_of self.old.graph.now) commit.0 }
+        ensures graph { self.new.graph.now ≡ self.old.graph.now }
+        ensures words { self.new.words ≡ self.old.words }
+        ensures search { OnOk result (IsSearching self.new) }
+        ensures goes_on { OnOk result (GoesOn self.old self.new child) }
+        ensures queued { OnOk result
+            (self.old.least ≤ generation_at (history_of self.old.graph.now) commit.0
+            → IsQueued (queued_by self.new) commit.0) }
+    {
+        if self.least <= number && !self.reached.is_marked(commit.0) {
             self.reached.set(commit.0, child)?;
         }
         Ok(())
@@ -143,7 +163,7 @@ impl<'g> Search<'g> {
     }
 
     /// Visits the commit at a place, of which both parent fields say this.
-    pub(crate) fn visit_fields(
+    fn visit_fields(
         &mut self,
         fields: (ParentEdge, ParentEdge),
         place: u32,
@@ -163,6 +183,59 @@ impl<'g> Search<'g> {
         self.visit_field(fields.0, place)?;
         self.visit_field(fields.1, place)?;
         Ok(())
+    }
+
+    /// Visits it so where the parent that the first of the fields names has this generation number,
+    /// which need not be read then.
+    pub(crate) fn visit_known(
+        &mut self,
+        fields: (ParentEdge, ParentEdge),
+        number: u32,
+        place: u32,
+    ) -> Result<(), AllocError>
+        requires search { IsSearching self.old }
+        requires read { AreRead self.old }
+        requires place { place < length (queued_by self.old) }
+        requires fields { AreParentFields self.old.graph.now
+            (commit_in (queued_by self.old) place) fields }
+        requires number { IsParentNumber self.old.graph.now fields.0 number }
+        ensures graph { self.new.graph.now ≡ self.old.graph.now }
+        ensures search { OnOk result (IsSearching self.new) }
+        ensures read { OnOk result (AreRead self.new) }
+        ensures goes_on { OnOk result (GoesOn self.old self.new place) }
+        ensures parents { OnOk result (QueuesParents (history_of self.old.graph.now) self.old.least
+            (queued_by self.new) place) }
+    {
+        self.visit_first(fields.0, number, place)?;
+        self.visit_field(fields.1, place)?;
+        Ok(())
+    }
+
+    /// Goes over the parents that the first parent field of the commit at a place names. One that
+    /// it names itself has this generation number.
+    fn visit_first(&mut self, field: ParentEdge, number: u32, place: u32) -> Result<(), AllocError>
+        requires search { IsSearching self.old }
+        requires read { AreRead self.old }
+        requires place { place < length (queued_by self.old) }
+        requires field { NamesParents self.old.graph.now (commit_in (queued_by self.old) place)
+            field }
+        requires number { IsParentNumber self.old.graph.now field number }
+        ensures graph { self.new.graph.now ≡ self.old.graph.now }
+        ensures search { OnOk result (IsSearching self.new) }
+        ensures read { OnOk result (AreRead self.new) }
+        ensures goes_on { OnOk result (GoesOn self.old self.new place) }
+        ensures named { OnOk result ((q : ℕ)
+            → Names self.old.graph.now (commit_in (queued_by self.old) place) field q
+            → self.old.least ≤ generation_at (history_of self.old.graph.now) q
+            → IsQueued (queued_by self.new) q) }
+    {
+        match field {
+            ParentEdge::GraphPosition(parent) => {
+                self.enqueue_known(parent, place, number)?;
+                Ok(())
+            }
+            _ => self.visit_field(field, place),
+        }
     }
 
     /// Goes over the parents that a parent field of the commit at a place names.

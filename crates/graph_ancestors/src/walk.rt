@@ -47,8 +47,8 @@ impl<'g> Search<'g> {
                     visits,
                 });
             }
-            let fields = self.fields_at(place, &mut ahead)?;
-            self.visit_fields(fields, place)?;
+            let (fields, number) = self.fields_at(place, &mut ahead)?;
+            self.visit_known(fields, number, place)?;
         }
         Ok(Reached { walk: None, visits })
     }

@@ -15,7 +15,8 @@ use Rattle.graph_ancestors.proofs.search.Search.shortest_walk.Goals as goal
 pub loop-visits-init : goal.loop-visits-init
 loop-visits-init c = record {
   graph = c.begin.ensures.graph;
-  ahead = nothing_ahead c.begin.new.self c.new-ahead.result c.new-ahead.ensures;
+  ahead = nothing_ahead c.begin.new.self c.new-ahead.result c.new-ahead.ensures.fields
+      c.new-ahead.ensures.numbers;
   query =
       query_begins (history_of c.args.self.now.graph.now) c.args.from.0 c.args.to.0 c.begin.new.self
       (ap history_of c.begin.ensures.graph) c.in_ok-begin.ensures.search c.in_ok-begin.ensures.read c.in_ok-begin.ensures.first
@@ -46,18 +47,18 @@ loop-visits-smaller c =
 pub loop-visits-preserved : goal.loop-visits-preserved
 loop-visits-preserved c =
     let l = c.loop-visits in
-    let visit = c.in_ok-visit_fields.ensures in
+    let visit = c.in_ok-visit_known.ensures in
     let here : l.visits < length (queued_by l.self) = omega (arith, c.loop-visits-test.true, c.len.ensures) in
     let other =
     λ (at : commit_in (queued_by l.self) l.visits ≡ c.args.to.0). false≢true (c.if-eq.ensures
     ∙ eq-eqb _ _ (c.commit_at.ensures ∙ at)) in
     record {
-      graph = c.visit_fields.ensures.graph ∙ l.invariant.graph;
-      ahead = ahead_extends l.self c.visit_fields.new.self l.visits c.fields_at.new.ahead visit.goes_on
+      graph = c.visit_known.ensures.graph ∙ l.invariant.graph;
+      ahead = ahead_extends l.self c.visit_known.new.self l.visits c.fields_at.new.ahead visit.goes_on
           c.in_ok-fields.ensures.ahead;
       query =
           query_goes_on (history_of c.args.self.now.graph.now) c.args.from.0 c.args.to.0 l.self l.visits l.invariant.query
-          c.visit_fields.new.self here other visit.goes_on visit.search visit.read visit.parents;
+          c.visit_known.new.self here other visit.goes_on visit.search visit.read visit.parents;
     }
 
 pub returns-then-eq-clause-answer : goal.returns-then-eq-clause-answer

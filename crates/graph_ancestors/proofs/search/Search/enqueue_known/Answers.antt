@@ -5,7 +5,7 @@ use Rattle.graph_ancestors.specs.Marks.{Marked}
 use Rattle.graph_ancestors.specs.Queue.{IsQueue, IsQueued, Extends}
 use Rattle.graph_ancestors.specs.Search.{queued_by}
 use Rattle.graph_ancestors.proofs.QueueLemmas.{queue_push, extends_push, marked_new}
-use Rattle.graph_ancestors.proofs.search.Search.enqueue.Goals as goal
+use Rattle.graph_ancestors.proofs.search.Search.enqueue_known.Goals as goal
 
 pub returns-in_ok-set-clause-search : goal.returns-in_ok-set-clause-search
 returns-in_ok-set-clause-search c =
@@ -21,7 +21,7 @@ returns-in_ok-set-clause-search c =
       queue = subst (λ (xs : List Marked). IsQueue (history_of s.graph.now) s.least xs) (sym c.in_ok-set.ensures.marked)
           (queue_push (history_of s.graph.now) s.least (queued_by s)
           (record { number = c.args.commit.0; mark = c.args.child }) r.search.queue r.child r.parent unqueued
-          (omega (arith, c.if-self-generation_of.true, c.generation_of.ensures)));
+          (omega (arith, c.if-self-number.true, c.requires.number)));
     }
 
 pub returns-in_ok-set-clause-goes_on : goal.returns-in_ok-set-clause-goes_on
