@@ -24,7 +24,8 @@ pub struct NoFault;
 /// The first check that fails, in the order of [`Graph::verify_integrity`], or `OutOfMemory` where
 /// an allocation failed; never `Processor`.
 pub fn check(alloc: Global, graph: &Graph) -> Result<Outcome, VerifyError<NoFault>>
-    // Only a graph that is right is accepted. It is refused only where an allocation failed.
+    // Only a graph that is right is accepted, and a right one is refused only where an allocation
+    // failed.
     ensures sound { IfOk result (λ _. Sound graph.now) }
     ensures refusal { IfErr result (MayRefuseGraph graph.now) }
 

@@ -121,6 +121,9 @@ impl<'g> Search<'g> {
             (self.old.least ≤ generation_at (history_of self.old.graph.now) commit.0
             → IsQueued (queued_by self.new) commit.0) }
     {
+        if self.reached.is_marked(commit.0) {
+            return Ok(());
+        }
         let number = generation_of(self.graph, commit);
         self.enqueue_known(commit, child, number)
     }

@@ -3,7 +3,7 @@
 //! Parents stand anywhere in a layer, so that the memory with their generation numbers is waited
 //! for. In a loop as short as the one here, those of several commits are waited for at once. So one
 //! or two parents that stand in the commit's own layer are read there, with no branch on their
-//! number, and all others, which are rare, in a call.
+//! number, and all others in a call.
 
 ghost use Rattle.std.specs.Prelude.{◌≡◌, ◌+◌, ◌%◌, ◌<◌, Some, IfSome, length, map};
 
@@ -74,7 +74,7 @@ impl Graph {
             let place = first + index;
             match self.tally_within(span, place, firsts, seconds, numbers) {
                 Some(tally) => block[index as usize] = Some(tally),
-                None => self.gather_rare(span, tallies, place, &mut block[index as usize]),
+                None => self.gather_any(span, tallies, place, &mut block[index as usize]),
             }
         }
     }
@@ -121,7 +121,7 @@ impl Graph {
     /// Gathers one commit, whatever its parents are.
     #[cold]
     #[inline(never)]
-    fn gather_rare(
+    fn gather_any(
         &self,
         span: LayerSpan<'_>,
         tallies: &[ListedTally],

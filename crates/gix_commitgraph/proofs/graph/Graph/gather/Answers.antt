@@ -18,7 +18,7 @@ loop-index-preserved c =
       sized = c.match-tally_within.array_long;
       gathered = elim c.match-tally_within.branch [
         | in-Some w ↦ rw w.block-is (more (Some w.in-Some.tally) w.in-Some.ensures)
-        | in-None w ↦ rw w.block-is (more w.gather_rare.new.gathered w.gather_rare.ensures)
+        | in-None w ↦ rw w.block-is (more w.gather_any.new.gathered w.gather_any.ensures)
       ];
     }
 
