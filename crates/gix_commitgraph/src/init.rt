@@ -57,16 +57,12 @@ impl Graph {
             (λ e. (graph_refusal (self.old ++ file ∷ []) ≡ Some e) ⊎ (e ≡ GraphError.OutOfMemory)) }
     {
         let start = self.num_commits();
-        if self.files.push(file).is_err() {
-            return Err(GraphError::OutOfMemory);
-        }
-        if let Err(error) = check(&self.files) {
-            self.files.pop();
-            return Err(error);
-        }
         if self.starts.push(start).is_err() {
-            self.files.pop();
             return Err(GraphError::OutOfMemory);
+        }
+        if let Err(error) = push_checked(&mut self.files, file) {
+            self.starts.pop();
+            return Err(error);
         }
         Ok(())
     }
@@ -82,6 +78,26 @@ impl Graph {
         self.starts.pop();
         self.files.pop()
     }
+}
+
+/// Puts a file after others, unless they make no graph with it.
+fn push_checked(files: &mut Vec<File>, file: File) -> Result<(), GraphError>
+    ensures pushed { OnOk result (files.new.items ≡ files.old.items ++ file ∷ []) }
+    ensures kept { OnErr result (files.new.items ≡ files.old.items) }
+    ensures opened { OnOk result (All IsOpened files.new.items) }
+    ensures refusal { MatchResult result
+        (λ _. graph_refusal (files.old.items ++ file ∷ []) ≡ None)
+        (λ e. (graph_refusal (files.old.items ++ file ∷ []) ≡ Some e)
+        ⊎ (e ≡ GraphError.OutOfMemory)) }
+{
+    if files.push(file).is_err() {
+        return Err(GraphError::OutOfMemory);
+    }
+    if let Err(error) = check(files) {
+        files.pop();
+        return Err(error);
+    }
+    Ok(())
 }
 
 /// Refuses files that make no graph.
