@@ -1,7 +1,8 @@
+use crate::commands;
 use crate::fixtures::{built, checksum_of, compare_texts, put_chain, with_commits};
 use gix_commitgraph::verify::VerifyError;
 use graph_commands::refusal::Refusal;
-use graph_commands::run::{WriteFailed, run_ancestor};
+use graph_commands::run::WriteFailed;
 use graph_folder::folder::{Folder, Memory};
 use graph_vectors::{DIAMOND, Sink};
 use std::alloc::{AllocError, Global};
@@ -17,7 +18,7 @@ fn expect_walk(
     (status, lines, least, most): (u8, &[&str], u32, u32),
 ) {
     let mut out = Sink::new(alloc, usize::MAX, None);
-    let answer = run_ancestor(alloc, folder, "g", first, second, &mut out);
+    let answer = commands::ancestor(alloc, folder, ("g", first, second), &mut out);
     assert_eq!(rt; answer.expect(rt, "a status"), status);
     let told = tells(alloc, out.text(), lines, least, most);
     assert!(rt; told.expect(rt, "memory for a text"), "{first} {second}");
@@ -104,11 +105,11 @@ pub fn expect_ancestor<T: Folder>(
     rt: &impl Abort,
     alloc: Global,
     folder: &mut T,
-    (path, first, second): (&str, &str, &str),
+    words: (&str, &str, &str),
     (status, want): (u8, &str),
 ) {
     let mut out = Sink::new(alloc, usize::MAX, None);
-    let answer = run_ancestor(alloc, folder, path, first, second, &mut out);
+    let answer = commands::ancestor(alloc, folder, words, &mut out);
     assert_eq!(rt; answer.expect(rt, "a status"), status);
     assert_eq!(rt; out.text(), want);
 }
@@ -161,11 +162,11 @@ fn reports_each_write_of_a_walk_that_fails(rt: HostRuntime) {
     let mut folder = with_commits(&rt, alloc, "g", DIAMOND);
     for (first, second, status) in [(FOURS, ONES, 0), (ONES, FOURS, 1)] {
         let mut whole = Sink::new(alloc, 5, None);
-        let answer = run_ancestor(alloc, &mut folder, "g", first, second, &mut whole);
+        let answer = commands::ancestor(alloc, &mut folder, ("g", first, second), &mut whole);
         assert_eq!(rt; answer.expect(&rt, "a status"), status);
         for write in 0..whole.writes {
             let mut out = Sink::new(alloc, 5, Some(write));
-            let answer = run_ancestor(alloc, &mut folder, "g", first, second, &mut out);
+            let answer = commands::ancestor(alloc, &mut folder, ("g", first, second), &mut out);
             assert!(rt; matches!(answer, Err(WriteFailed)));
         }
     }

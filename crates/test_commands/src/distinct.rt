@@ -1,6 +1,7 @@
+use crate::commands;
 use crate::fixtures::{built, checksum_of, put_chain};
 use crate::verifying::expect_verify;
-use graph_commands::run::{WriteFailed, run_distinct};
+use graph_commands::run::WriteFailed;
 use graph_folder::folder::{Folder, Memory};
 use graph_vectors::{Row, Sink};
 use std::alloc::Global;
@@ -25,7 +26,7 @@ pub fn expect_distinct<T: Folder>(
     (status, want): (u8, &str),
 ) {
     let mut out = Sink::new(alloc, usize::MAX, None);
-    let answer = run_distinct(alloc, folder, path, &mut out);
+    let answer = commands::distinct(alloc, folder, path, &mut out);
     assert_eq!(rt; answer.expect(rt, "a status"), status);
     assert_eq!(rt; out.text(), want);
 }
@@ -70,10 +71,10 @@ fn reports_each_failed_write_of_a_check_for_distinct_ids(rt: HostRuntime) {
     for upper in [DISTINCT, REPEATED] {
         let mut folder = chain(&rt, alloc, upper);
         let mut whole = Sink::new(alloc, 10, None);
-        assert!(rt; run_distinct(alloc, &mut folder, "graphs", &mut whole).is_ok());
+        assert!(rt; commands::distinct(alloc, &mut folder, "graphs", &mut whole).is_ok());
         for write in 0..whole.writes {
             let mut out = Sink::new(alloc, 10, Some(write));
-            let answer = run_distinct(alloc, &mut folder, "graphs", &mut out);
+            let answer = commands::distinct(alloc, &mut folder, "graphs", &mut out);
             assert!(rt; matches!(answer, Err(WriteFailed)));
         }
     }

@@ -1,7 +1,8 @@
+use crate::commands;
 use crate::fixtures::{built, hex_of, put_chain, put_dir, with_commits};
 use crate::verifying::expect_verify;
 use gix_hash_core::ObjectId;
-use graph_commands::run::{WriteFailed, run_find};
+use graph_commands::run::WriteFailed;
 use graph_folder::folder::{Folder, Memory};
 use graph_vectors::{DIAMOND, Sink};
 use std::alloc::Global;
@@ -16,7 +17,7 @@ pub fn expect_find<T: Folder>(
     (status, want): (u8, &str),
 ) {
     let mut out = Sink::new(alloc, usize::MAX, None);
-    let answer = run_find(alloc, folder, path, hex, &mut out);
+    let answer = commands::find(alloc, folder, (path, hex), &mut out);
     assert_eq!(rt; answer.expect(rt, "a status"), status);
     assert_eq!(rt; out.text(), want);
 }
@@ -173,10 +174,10 @@ fn each_read_of_a_search_in_a_chain_may_fail(rt: HostRuntime) {
 /// Asserts that a search writes its line at once, and nothing where that write fails.
 fn expect_one_write(rt: &impl Abort, alloc: Global, folder: &mut Memory, hex: &str) {
     let mut whole = Sink::new(alloc, usize::MAX, None);
-    assert!(rt; run_find(alloc, folder, "g", hex, &mut whole).is_ok());
+    assert!(rt; commands::find(alloc, folder, ("g", hex), &mut whole).is_ok());
     assert_eq!(rt; whole.writes, 1);
     let mut out = Sink::new(alloc, usize::MAX, Some(0));
-    let answer = run_find(alloc, folder, "g", hex, &mut out);
+    let answer = commands::find(alloc, folder, ("g", hex), &mut out);
     assert!(rt; matches!(answer, Err(WriteFailed)));
     assert_eq!(rt; out.bytes.len(), 0);
 }
@@ -193,15 +194,15 @@ fn writes_the_line_of_a_search_at_once(rt: HostRuntime) {
 /// Asserts the status of a search, and the answer to each of its writes that fails.
 fn try_writes(rt: &impl Abort, alloc: Global, folder: &mut Memory, hex: &str, status: u8) {
     let mut whole = Sink::new(alloc, 5, None);
-    let answer = run_find(alloc, folder, "g", hex, &mut whole);
+    let answer = commands::find(alloc, folder, ("g", hex), &mut whole);
     assert_eq!(rt; answer.expect(rt, "a status"), status);
     for write in 0..whole.writes {
         let mut out = Sink::new(alloc, 5, Some(write));
-        let answer = run_find(alloc, folder, "g", hex, &mut out);
+        let answer = commands::find(alloc, folder, ("g", hex), &mut out);
         assert!(rt; matches!(answer, Err(WriteFailed)));
     }
     let mut out = Sink::new(alloc, 5, Some(whole.writes));
-    let answer = run_find(alloc, folder, "g", hex, &mut out);
+    let answer = commands::find(alloc, folder, ("g", hex), &mut out);
     assert_eq!(rt; answer.expect(rt, "a status"), status);
 }
 

@@ -6,6 +6,8 @@
 #[cfg(test)]
 mod ancestors;
 #[cfg(test)]
+mod commands;
+#[cfg(test)]
 mod distinct;
 #[cfg(test)]
 mod finding;

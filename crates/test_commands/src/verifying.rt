@@ -1,8 +1,9 @@
 use crate::ancestors::{ONES, expect_ancestor};
+use crate::commands;
 use crate::distinct::expect_distinct;
 use crate::fixtures::{built, checksum_of, put_chain, with_commits, with_file};
 use gix_hash_core::ObjectId;
-use graph_commands::run::{WriteFailed, run_verify};
+use graph_commands::run::WriteFailed;
 use graph_folder::folder::{Folder, Memory};
 use graph_vectors::changed::{
     Change, FIRST_IS_EDGE_INDEX, NO_EDGE_LIST, NULL_TREE, SECOND_WITHOUT_FIRST, WRONG_FAN,
@@ -21,7 +22,7 @@ pub fn expect_verify<T: Folder>(
     (status, want): (u8, &str),
 ) {
     let mut out = Sink::new(alloc, usize::MAX, None);
-    let answer = run_verify(alloc, folder, path, &mut out);
+    let answer = commands::verify(alloc, folder, path, &mut out);
     assert_eq!(rt; answer.expect(rt, "a status"), status);
     assert_eq!(rt; out.text(), want);
 }
@@ -279,13 +280,13 @@ fn writes_each_line_of_a_check_at_once(rt: HostRuntime) {
         let mut written = String::new(alloc);
         for (write, line) in lines.iter().enumerate() {
             let mut out = Sink::new(alloc, usize::MAX, Some(write));
-            let answer = run_verify(alloc, &mut folder, "g", &mut out);
+            let answer = commands::verify(alloc, &mut folder, "g", &mut out);
             assert!(rt; matches!(answer, Err(WriteFailed)));
             assert_eq!(rt; out.text(), written.as_str());
             written.push_str(line).expect(&rt, "memory for a line");
         }
         let mut whole = Sink::new(alloc, usize::MAX, Some(lines.len()));
-        assert!(rt; run_verify(alloc, &mut folder, "g", &mut whole).is_ok());
+        assert!(rt; commands::verify(alloc, &mut folder, "g", &mut whole).is_ok());
         assert_eq!(rt; whole.text(), written.as_str());
     }
 }
@@ -296,15 +297,15 @@ fn reports_each_write_of_a_check_that_fails(rt: HostRuntime) {
     for (commits, status) in [(DIAMOND, 0), (CYCLIC, 1)] {
         let mut folder = with_commits(&rt, alloc, "g", commits);
         let mut whole = Sink::new(alloc, 10, None);
-        let answer = run_verify(alloc, &mut folder, "g", &mut whole);
+        let answer = commands::verify(alloc, &mut folder, "g", &mut whole);
         assert_eq!(rt; answer.expect(&rt, "a status"), status);
         for write in 0..whole.writes {
             let mut out = Sink::new(alloc, 10, Some(write));
-            let answer = run_verify(alloc, &mut folder, "g", &mut out);
+            let answer = commands::verify(alloc, &mut folder, "g", &mut out);
             assert!(rt; matches!(answer, Err(WriteFailed)));
         }
         let mut out = Sink::new(alloc, 10, Some(whole.writes));
-        let answer = run_verify(alloc, &mut folder, "g", &mut out);
+        let answer = commands::verify(alloc, &mut folder, "g", &mut out);
         assert_eq!(rt; answer.expect(&rt, "a status"), status);
     }
 }

@@ -1,10 +1,9 @@
 use crate::conditions::refusal;
-use crate::fixtures::built;
+use crate::fixtures::{built, list};
 use gix_chunk_core::ChunkError;
 use gix_commitgraph::file::Commit;
 use gix_commitgraph::{File, FileError, Graph};
 use gix_hash_core::{Kind, ObjectId};
-use graph_commands::run::run_list;
 use graph_vectors::{DIAMOND, LayerPlan, OCTOPUS, PlanCommit, Sink, build};
 use std::alloc::Global;
 use std::convert::Infallible;
@@ -93,7 +92,7 @@ fn each_proper_prefix_of_a_file_is_refused(rt: HostRuntime) {
 /// Lists the layer of these bytes, looks up each of its ids, and checks it: its checksum is wrong.
 fn use_layer(rt: &impl Abort, alloc: Global, bytes: &[u8], file: File) {
     let mut out = Sink::new(alloc, usize::MAX, None);
-    let status = run_list(alloc, &mut &*bytes, &mut out);
+    let status = list(alloc, &mut &*bytes, &mut out);
     assert_eq!(rt; status.expect(rt, "a status"), 0);
     let files = vec![in alloc; file].expect(rt, "memory for a layer");
     let graph = Graph::new(alloc, files).expect(rt, "a graph");

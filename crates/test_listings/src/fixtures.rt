@@ -1,8 +1,20 @@
-//! What the tests share: files that are built from rows, and copies.
+//! What the tests share: files that are built from rows, and the command.
 
-use graph_vectors::{LayerPlan, Row, build};
+use graph_commands::run::{WriteFailed, run_list};
+use graph_vectors::{LayerPlan, Row, Sink, build};
 use std::alloc::Global;
+use std::io::Read;
 use std::process::Abort;
+
+/// Runs the command. Its contract is long, and here it ends: this function has none, so the proof of
+/// a test does not go over it once more.
+pub(super) fn list<R: Read>(
+    alloc: Global,
+    input: &mut R,
+    out: &mut Sink,
+) -> Result<u8, WriteFailed> {
+    run_list(alloc, input, out)
+}
 
 /// The bytes of a SHA-1 file of these commits, which has no base layers.
 pub(super) fn built(rt: &impl Abort, alloc: Global, rows: &[Row<'_>]) -> Vec<u8> {

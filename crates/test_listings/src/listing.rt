@@ -1,4 +1,5 @@
-use graph_commands::run::{WriteFailed, run_list};
+use crate::fixtures::list;
+use graph_commands::run::WriteFailed;
 use graph_vectors::{Sink, Source, words};
 use std::alloc::{AllocError, Global};
 use std::process::Abort;
@@ -211,7 +212,7 @@ fn lists_layers(rt: HostRuntime) {
         let bytes = file(alloc, plan).expect(&rt, "memory for a file");
         assert_eq!(rt; bytes.len(), *size);
         let mut out = Sink::new(alloc, usize::MAX, None);
-        let status = run_list(alloc, &mut Source::new(&bytes, usize::MAX, None), &mut out);
+        let status = list(alloc, &mut Source::new(&bytes, usize::MAX, None), &mut out);
         assert_eq!(rt; status.expect(&rt, "a status"), 0);
         assert_eq!(rt; out.text(), *want);
     }
@@ -220,7 +221,7 @@ fn lists_layers(rt: HostRuntime) {
 #[test]
 fn lists_the_empty_input(rt: HostRuntime) {
     let mut out = Sink::new(rt.alloc(), usize::MAX, None);
-    let status = run_list(rt.alloc(), &mut Source::new(b"", 1, None), &mut out);
+    let status = list(rt.alloc(), &mut Source::new(b"", 1, None), &mut out);
     assert_eq!(rt; status.expect(&rt, "a status"), 1);
     assert_eq!(rt; out.text(), "refused file 1\n");
 }
@@ -231,12 +232,12 @@ fn reports_each_read_that_fails(rt: HostRuntime) {
     let bytes = file(alloc, &ONE).expect(&rt, "memory for a file");
     let mut whole = Source::new(&bytes, 100, None);
     let mut out = Sink::new(alloc, usize::MAX, None);
-    let status = run_list(alloc, &mut whole, &mut out);
+    let status = list(alloc, &mut whole, &mut out);
     assert_eq!(rt; status.expect(&rt, "a status"), 0);
     assert_eq!(rt; whole.reads, 13);
     for read in 0..whole.reads {
         let mut out = Sink::new(alloc, usize::MAX, None);
-        let status = run_list(alloc, &mut Source::new(&bytes, 100, Some(read)), &mut out);
+        let status = list(alloc, &mut Source::new(&bytes, 100, Some(read)), &mut out);
         assert_eq!(rt; status.expect(&rt, "a status"), 1);
         assert_eq!(rt; out.text(), "refused read 2\n");
     }
@@ -246,16 +247,16 @@ fn reports_each_read_that_fails(rt: HostRuntime) {
 /// fails.
 fn try_writes(rt: &impl Abort, alloc: Global, input: &[u8], want: &str, status: u8) {
     let mut whole = Sink::new(alloc, 10, None);
-    let answer = run_list(alloc, &mut Source::new(input, 1, None), &mut whole);
+    let answer = list(alloc, &mut Source::new(input, 1, None), &mut whole);
     assert_eq!(rt; answer.expect(rt, "a status"), status);
     assert_eq!(rt; whole.text(), want);
     for write in 0..whole.writes {
         let mut out = Sink::new(alloc, 10, Some(write));
-        let answer = run_list(alloc, &mut Source::new(input, 1, None), &mut out);
+        let answer = list(alloc, &mut Source::new(input, 1, None), &mut out);
         assert!(rt; matches!(answer, Err(WriteFailed)));
     }
     let mut out = Sink::new(alloc, 10, Some(whole.writes));
-    let answer = run_list(alloc, &mut Source::new(input, 1, None), &mut out);
+    let answer = list(alloc, &mut Source::new(input, 1, None), &mut out);
     assert_eq!(rt; answer.expect(rt, "a status"), status);
 }
 
@@ -285,7 +286,7 @@ fn lists_in_blocks(rt: HostRuntime) {
     let alloc = rt.alloc();
     let bytes = many_parents(alloc).expect(&rt, "memory for a file");
     let mut whole = Sink::new(alloc, usize::MAX, None);
-    let status = run_list(
+    let status = list(
         alloc,
         &mut Source::new(&bytes, usize::MAX, None),
         &mut whole,
@@ -296,7 +297,7 @@ fn lists_in_blocks(rt: HostRuntime) {
     assert_eq!(rt; whole.writes, 2);
     for write in 0..2 {
         let mut out = Sink::new(alloc, usize::MAX, Some(write));
-        let status = run_list(alloc, &mut Source::new(&bytes, usize::MAX, None), &mut out);
+        let status = list(alloc, &mut Source::new(&bytes, usize::MAX, None), &mut out);
         assert!(rt; matches!(status, Err(WriteFailed)));
     }
 }

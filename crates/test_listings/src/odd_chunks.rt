@@ -1,8 +1,7 @@
-use crate::fixtures::built;
+use crate::fixtures::{built, list};
 use gix_commitgraph::file::Commit;
 use gix_commitgraph::verify::VerifyError;
 use gix_commitgraph::{File, Graph};
-use graph_commands::run::run_list;
 use graph_vectors::{DIAMOND, END, Row, Sink, file_of_parts};
 use std::alloc::{AllocError, Global};
 use std::process::Abort;
@@ -20,7 +19,7 @@ fn fan_of_one(alloc: Global) -> Result<Vec<u8>, AllocError> {
 fn expect_listing(rt: &impl Abort, alloc: Global, bytes: &[u8], size: usize, want: &str) {
     assert_eq!(rt; bytes.len(), size);
     let mut out = Sink::new(alloc, usize::MAX, None);
-    let status = run_list(alloc, &mut &*bytes, &mut out);
+    let status = list(alloc, &mut &*bytes, &mut out);
     assert_eq!(rt; status.expect(rt, "a status"), 0);
     assert_eq!(rt; out.text(), want);
 }

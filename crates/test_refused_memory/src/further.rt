@@ -21,29 +21,28 @@ pub fn with_chunks(alloc: Global, bytes: &[u8], chunks: &[Chunk<'_>]) -> Result<
         "no file with few chunks"
     );
     let count = bytes[6] as usize;
-    let body = 8 + ENTRY_LEN * (count + 1);
-    let end = bytes.len() - TRAILER_LEN;
-    let mut file = Vec::from_slice(alloc, b"CGPH\x01\x01")?;
-    file.push((count + chunks.len()) as u8)?;
-    file.push(0)?;
+    let (body, end) = (8 + ENTRY_LEN * (count + 1), bytes.len() - TRAILER_LEN);
     let moved = (ENTRY_LEN * chunks.len()) as u64;
-    for i in 0..count {
-        let entry = &bytes[8 + ENTRY_LEN * i..20 + ENTRY_LEN * i];
-        let mut offset = [0; 8];
-        offset.copy_from_slice(&entry[4..]);
-        let offset = u64::from_be_bytes(offset).saturating_add(moved);
-        file.extend_from_slice(&entry[..4])?;
-        file.extend_from_slice(&offset.to_be_bytes())?;
+    let mut file = Vec::from_slice(alloc, b"CGPH\x01\x01")?;
+    file.extend_from_slice(&[(count + chunks.len()) as u8, 0])?;
+    for entry in bytes[8..body - ENTRY_LEN].chunks_exact(ENTRY_LEN) {
+        put_moved(&mut file, entry, moved)?;
     }
     put_entries(&mut file, (end as u64).saturating_add(moved), chunks)?;
-    file.extend_from_slice(&bytes[body..end])?;
-    for (_, contents) in chunks {
-        file.extend_from_slice(*contents)?;
-    }
-    file.extend_from_slice(&[0; TRAILER_LEN])?;
+    put_contents(&mut file, &bytes[body..end], chunks)?;
     ensure!(file.len() >= TRAILER_LEN, "no room for a checksum");
     reseal(Kind::Sha1, &mut file);
     Ok(file)
+}
+
+/// Puts an entry of the table whose chunk lies so many bytes further on.
+fn put_moved(file: &mut Vec<u8>, entry: &[u8], moved: u64) -> Result<(), AllocError> {
+    let (id, offset) = entry.split_at(4.min(entry.len()));
+    let offset = offset
+        .iter()
+        .fold(0u64, |sum, byte| (sum << 8) | *byte as u64);
+    file.extend_from_slice(id)?;
+    file.extend_from_slice(&offset.saturating_add(moved).to_be_bytes())
 }
 
 /// Puts the entries of chunks that lie one after another, and the one that ends the table.
@@ -56,4 +55,13 @@ fn put_entries(file: &mut Vec<u8>, start: u64, chunks: &[Chunk<'_>]) -> Result<(
     }
     file.extend_from_slice(&[0; 4])?;
     file.extend_from_slice(&offset.to_be_bytes())
+}
+
+/// Puts what the chunks hold, and room for a checksum.
+fn put_contents(file: &mut Vec<u8>, first: &[u8], chunks: &[Chunk<'_>]) -> Result<(), AllocError> {
+    file.extend_from_slice(first)?;
+    for (_, contents) in chunks {
+        file.extend_from_slice(*contents)?;
+    }
+    file.extend_from_slice(&[0; TRAILER_LEN])
 }

@@ -7,11 +7,12 @@
 //! `scripts/refused_memory` runs it.
 #![tactic(auto)]
 
+mod answers;
 mod calls;
 mod further;
 mod stage;
 
-use calls::call;
+use calls::Call;
 use stage::Stage;
 use std::alloc::{AllocError, Global};
 use std::io::Read;
@@ -23,14 +24,27 @@ fn main(rt: HostRuntime) -> std::io::Result<()> {
     let mut input = [0; LONGEST_INPUT];
     let len = rt.reader().read(&mut input)?;
     let (name, rest) = first_line(&input[..len]);
-    let Ok(mut stage) = Stage::new(&rt, rt.alloc()) else {
-        return println!(rt; "refused before the call");
+    let Some(call) = Call::named(name) else {
+        return println!(rt; "no such call");
     };
-    let made = allocations_made(rt.alloc(), rest.len());
-    if made < rest.len() {
+    match Stage::new(&rt, rt.alloc()) {
+        Ok(mut stage) => make_after(&rt, call, rest.len(), &mut stage),
+        Err(_) => println!(rt; "refused before the call"),
+    }
+}
+
+/// Makes a call after so many allocations.
+fn make_after(
+    rt: &HostRuntime,
+    call: Call,
+    allocations: usize,
+    stage: &mut Stage,
+) -> std::io::Result<()> {
+    let made = allocations_made(rt.alloc(), allocations);
+    if made < allocations {
         return println!(rt; "refused after {made} allocations");
     }
-    call(&rt, rt.alloc(), name, &mut stage)
+    answers::make(rt, rt.alloc(), call, stage)
 }
 
 /// The bytes before the first newline, and those after it.

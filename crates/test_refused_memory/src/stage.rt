@@ -1,6 +1,6 @@
 //! What the calls need: plans, bytes, layers and graphs, and folders in memory and on disk.
 
-use crate::calls::SECOND;
+use crate::answers::SECOND;
 use crate::further::with_chunks;
 use anyhow::{Result, ensure};
 use gix_commitgraph::{File, Graph};
@@ -12,10 +12,18 @@ use std::alloc::{AllocError, Global};
 use std::rt::Files;
 use std::{fs, slice};
 
-/// What stands ready before a call.
+/// What stands ready before a call, in few parts: a proof goes over all that is dropped where one of
+/// them fails.
 #[derive(Drop)]
 pub struct Stage {
-    /// The plan of a layer of four commits, one of which has three parents.
+    pub single: Single,
+    pub graphs: Graphs,
+    pub folders: Folders,
+}
+
+/// A layer of four commits, one of which has three parents.
+#[derive(Drop)]
+pub struct Single {
     pub plan: LayerPlan,
     /// The file of that plan.
     pub bytes: Vec<u8>,
@@ -23,19 +31,34 @@ pub struct Stage {
     pub path: String,
     /// The layer of that file.
     pub layer: File,
-    /// The layers of a chain of two, each of one commit.
+}
+
+/// Graphs that are asked.
+#[derive(Drop)]
+pub struct Graphs {
+    pub chain: Chain,
+    /// Ten commits in a line, the last of which has its parent three times.
+    pub line: Graph,
+    /// Two commits in a line, with corrected dates and a filter.
+    pub dated: Graph,
+}
+
+/// A chain of two layers, each of one commit.
+#[derive(Drop)]
+pub struct Chain {
     pub layers: Vec<File>,
     /// The graph of the same layers.
     pub graph: Graph,
     /// The graph of the first of them, checked.
     pub lower: CheckedGraph,
-    /// The graph of a layer of ten commits in a line, the last of which has its parent three times.
-    pub line: Graph,
-    /// The graph of a layer of two commits in a line, with corrected dates and a filter.
-    pub dated: Graph,
-    /// The file `f`, the file `dated` of that graph, and the folders `chain`, `info` and `damaged`:
-    /// that of the chain, an info folder with the chain, and one with a damaged file beside the
-    /// chain.
+}
+
+/// What commands take and write.
+#[derive(Drop)]
+pub struct Folders {
+    /// The file `f`, the file `dated` of the graph of that name, and the folders `chain`, `info` and
+    /// `damaged`: that of the chain, an info folder with the chain, and one with a damaged file
+    /// beside the chain.
     pub memory: Memory,
     /// The id of the chain's second commit.
     pub others: Vec<String>,
@@ -46,32 +69,62 @@ pub struct Stage {
 impl Stage {
     /// The same each time. The folder `disk` is an info folder with the chain, and `f` a file.
     pub fn new<R: Files + Alloc>(rt: &R, alloc: Global) -> Result<Stage> {
-        let plan = LayerPlan::of_rows(
-            alloc,
-            &[],
-            &[(1, &[], 1), (2, &[0], 2), (3, &[1], 3), (4, &[0, 0, 2], 4)],
-        )?;
-        let bytes = file(alloc, &plan)?;
-        let chain = chain(alloc)?;
-        put_on_disk(rt, alloc, &bytes, &chain)?;
-        let dated = dated(alloc)?;
-        let mut memory = memory(alloc, &bytes, &chain)?;
-        put(alloc, &mut memory, "dated", &dated)?;
+        put_on_disk(rt, alloc)?;
         Ok(Stage {
+            single: Single::new(alloc)?,
+            graphs: Graphs::new(alloc)?,
+            folders: Folders::new(alloc)?,
+        })
+    }
+}
+
+impl Single {
+    fn new(alloc: Global) -> Result<Single> {
+        let plan = plan(alloc)?;
+        let bytes = file(alloc, &plan)?;
+        Ok(Single {
             layer: opened(alloc, &bytes)?,
-            dated: Graph::new(alloc, layers(alloc, slice::from_ref(&dated))?)?,
-            memory,
-            layers: layers(alloc, &chain)?,
-            graph: Graph::new(alloc, layers(alloc, &chain)?)?,
-            lower: lower(alloc, &chain)?,
-            line: line(alloc)?,
-            others: vec![in alloc; String::from_str(alloc, SECOND)?]?,
             path: String::from_str(alloc, "f")?,
-            out: Vec::with_capacity(alloc, 4096)?,
             plan,
             bytes,
         })
     }
+}
+
+impl Graphs {
+    fn new(alloc: Global) -> Result<Graphs> {
+        Ok(Graphs {
+            chain: Chain::new(alloc)?,
+            line: line(alloc)?,
+            dated: dated(alloc)?,
+        })
+    }
+}
+
+impl Chain {
+    fn new(alloc: Global) -> Result<Chain> {
+        let files = chain_files(alloc)?;
+        Ok(Chain {
+            layers: layers(alloc, &files)?,
+            graph: Graph::new(alloc, layers(alloc, &files)?)?,
+            lower: lower(alloc, &files)?,
+        })
+    }
+}
+
+impl Folders {
+    fn new(alloc: Global) -> Result<Folders> {
+        Ok(Folders {
+            memory: memory(alloc)?,
+            others: others(alloc)?,
+            out: Vec::with_capacity(alloc, 4096)?,
+        })
+    }
+}
+
+fn plan(alloc: Global) -> Result<LayerPlan> {
+    let rows: [Row<'_>; 4] = [(1, &[], 1), (2, &[0], 2), (3, &[1], 3), (4, &[0, 0, 2], 4)];
+    Ok(LayerPlan::of_rows(alloc, &[], &rows)?)
 }
 
 fn file(alloc: Global, plan: &LayerPlan) -> Result<Vec<u8>> {
@@ -85,7 +138,7 @@ fn opened(alloc: Global, bytes: &[u8]) -> Result<File> {
 }
 
 /// The files of a chain of two layers of one commit, the second on the first.
-fn chain(alloc: Global) -> Result<Vec<Vec<u8>>> {
+fn chain_files(alloc: Global) -> Result<Vec<Vec<u8>>> {
     let mut files = Vec::new(alloc);
     let mut checksums = Vec::new(alloc);
     let rows: [Row<'_>; 2] = [(1, &[], 1), (2, &[0], 2)];
@@ -130,7 +183,7 @@ fn line(alloc: Global) -> Result<Graph> {
 }
 
 /// A file of two commits in a line, with corrected dates, and a filter of the first commit.
-fn dated(alloc: Global) -> Result<Vec<u8>> {
+fn dated_file(alloc: Global) -> Result<Vec<u8>> {
     let plain = file(
         alloc,
         &LayerPlan::of_rows(alloc, &[], &[(1, &[], 1), (2, &[0], 2)])?,
@@ -146,6 +199,16 @@ fn dated(alloc: Global) -> Result<Vec<u8>> {
     )
 }
 
+/// The graph of that file.
+fn dated(alloc: Global) -> Result<Graph> {
+    let file = dated_file(alloc)?;
+    Ok(Graph::new(alloc, layers(alloc, slice::from_ref(&file))?)?)
+}
+
+fn others(alloc: Global) -> Result<Vec<String>> {
+    Ok(vec![in alloc; String::from_str(alloc, SECOND)?]?)
+}
+
 /// The name of a layer's file in its folder, and the line of the chain file.
 fn name_and_line(alloc: Global, bytes: &[u8]) -> Result<(String, String)> {
     let layer = opened(alloc, bytes)?;
@@ -154,30 +217,33 @@ fn name_and_line(alloc: Global, bytes: &[u8]) -> Result<(String, String)> {
     Ok((name, format!(in alloc; "{checksum}\n")?))
 }
 
-fn memory(alloc: Global, bytes: &[u8], chain: &[Vec<u8>]) -> Result<Memory> {
+fn memory(alloc: Global) -> Result<Memory> {
     let mut memory = Memory::new(alloc);
-    put(alloc, &mut memory, "f", bytes)?;
+    put(alloc, &mut memory, "f", &file(alloc, &plan(alloc)?)?)?;
+    put(alloc, &mut memory, "dated", &dated_file(alloc)?)?;
     put(alloc, &mut memory, "damaged/commit-graph", b"damaged")?;
     for folder in ["chain", "info/commit-graphs", "damaged/commit-graphs"] {
-        memory.put_dir(String::from_str(alloc, folder)?)?;
-        let mut lines = String::new(alloc);
-        for bytes in chain {
-            let (name, line) = name_and_line(alloc, bytes)?;
-            lines.push_str(&line)?;
-            put(
-                alloc,
-                &mut memory,
-                format!(in alloc; "{folder}/{name}")?.as_str(),
-                bytes,
-            )?;
-        }
-        let path = format!(in alloc; "{folder}/commit-graph-chain")?;
-        memory.put_file(path, lines.into_bytes())?;
+        put_chain(alloc, &mut memory, folder)?;
     }
     for folder in ["info", "damaged"] {
         memory.put_dir(String::from_str(alloc, folder)?)?;
     }
     Ok(memory)
+}
+
+/// Puts a folder with the chain there.
+fn put_chain(alloc: Global, memory: &mut Memory, folder: &str) -> Result<()> {
+    memory.put_dir(String::from_str(alloc, folder)?)?;
+    let mut lines = String::new(alloc);
+    for bytes in chain_files(alloc)?.as_slice() {
+        let (name, line) = name_and_line(alloc, bytes)?;
+        lines.push_str(&line)?;
+        let path = format!(in alloc; "{folder}/{name}")?;
+        put(alloc, memory, path.as_str(), bytes)?;
+    }
+    let path = format!(in alloc; "{folder}/commit-graph-chain")?;
+    put(alloc, memory, path.as_str(), lines.as_bytes())?;
+    Ok(())
 }
 
 fn put(alloc: Global, memory: &mut Memory, path: &str, bytes: &[u8]) -> Result<(), AllocError> {
@@ -187,18 +253,18 @@ fn put(alloc: Global, memory: &mut Memory, path: &str, bytes: &[u8]) -> Result<(
     )
 }
 
-fn put_on_disk<R: Files + Alloc>(
-    rt: &R,
-    alloc: Global,
-    bytes: &[u8],
-    chain: &[Vec<u8>],
-) -> Result<()> {
+fn put_on_disk<R: Files + Alloc>(rt: &R, alloc: Global) -> Result<()> {
     let _ = fs::remove_dir_all(rt, "disk");
-    fs::write(rt, "f", bytes)?;
+    fs::write(rt, "f", file(alloc, &plan(alloc)?)?.as_slice())?;
     fs::create_dir(rt, "disk")?;
     fs::create_dir(rt, "disk/commit-graphs")?;
+    put_chain_on_disk(rt, alloc)
+}
+
+/// Puts the chain into its folder.
+fn put_chain_on_disk<R: Files + Alloc>(rt: &R, alloc: Global) -> Result<()> {
     let mut lines = String::new(alloc);
-    for bytes in chain {
+    for bytes in chain_files(alloc)?.as_slice() {
         let (name, line) = name_and_line(alloc, bytes)?;
         lines.push_str(&line)?;
         let path = format!(in alloc; "disk/commit-graphs/{name}")?;
