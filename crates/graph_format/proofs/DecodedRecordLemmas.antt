@@ -9,7 +9,7 @@ use Rattle.std.proofs.lemmas.Simd.{map-map}
 use Rattle.gix_hash_core.specs.declared.kind.Kind.{Kind}
 use Rattle.graph_format.specs.Format.{Record, record_of, record_len, pieces, words}
 use Rattle.graph_format.specs.Layer.{Layer, record_at, no_record}
-use Rattle.graph_format.specs.DecodedRecords.{AreDecoded}
+use Rattle.graph_format.specs.DecodedRecords.{stored_parents, AreDecoded}
 use Rattle.graph_format.specs.declared.records.Records.{Records}
 
 -- the first n records of bytes
@@ -31,22 +31,20 @@ first_records-all kind bytes n e = ap (first_records kind bytes) e
     ∙ sym (map-map (record_of kind) _ (range_with_len 0 (length bytes / record_len kind)))
 
 -- one more of a field
-field-more : {items old : List ℕ} (field : Record → ℕ) (records : List Record) (r : Record) → old ≡ map field records
-    → items ≡ old ++ field r ∷ [] → items ≡ map field (records ++ r ∷ [])
-field-more field records r before after = after ∙ ap (λ (xs : List ℕ). xs ++ field r ∷ []) before
+field-more : {A : Type 0} {items old : List A} (field : Record → A) (records : List Record) (r : Record)
+    → old ≡ map field records → items ≡ old ++ field r ∷ [] → items ≡ map field (records ++ r ∷ [])
+field-more {A} field records r before after = after ∙ ap (λ (xs : List A). xs ++ field r ∷ []) before
     ∙ sym (map-append field records (r ∷ []))
 
 -- one record more
 pub decoded-more : (records : List Record) (r : Record) (old new : Records) → AreDecoded records old
     → new.generations.items ≡ old.generations.items ++ r.generation ∷ [] → new.times.items ≡ old.times.items ++ r.time ∷ []
-    → new.first_fields.items ≡ old.first_fields.items ++ r.parent1 ∷ []
-    → new.second_fields.items ≡ old.second_fields.items ++ r.parent2 ∷ []
+    → new.parent_fields.items ≡ old.parent_fields.items ++ stored_parents r ∷ []
     → AreDecoded (records ++ r ∷ []) new
-decoded-more records r old new before generation time first second = record {
+decoded-more records r old new before generation time parents = record {
   generations = field-more (λ r. r.generation) records r before.generations generation;
   times = field-more (λ r. r.time) records r before.times time;
-  first_fields = field-more (λ r. r.parent1) records r before.first_fields first;
-  second_fields = field-more (λ r. r.parent2) records r before.second_fields second;
+  parent_fields = field-more stored_parents records r before.parent_fields parents;
 }
 
 -- the first n words of bytes
@@ -63,17 +61,17 @@ unfolding words pieces
 first_words-all bytes n e = ap (first_words bytes) e ∙ sym (map-map (from_be_bytes w32) _ (range_with_len 0 (length bytes / 4)))
 
 -- a field of the record at a position
-field-at : (field : Record → ℕ) (records : List Record) (i d : ℕ) → i < length records
+field-at : {A : Type 0} (field : Record → A) (records : List Record) (i : ℕ) (d : A) → i < length records
     → slice_index_or (map field records) i d ≡ field (unwrap_or (slice_get records i) no_record)
 field-at field [] i d h = absurd (omega (arith, h))
 field-at field (r ∷ records) zero d h = refl
 field-at field (r ∷ records) (suc i) d h = field-at field records i d (omega (arith, h))
 
-field-of : (field : Record → ℕ) (layer : Layer) (xs : List ℕ) (i d : ℕ) → xs ≡ map field layer.records → i < length xs
-    → slice_index_or xs i d ≡ field (record_at layer i)
+field-of : {A : Type 0} (field : Record → A) (layer : Layer) (xs : List A) (i : ℕ) (d : A) → xs ≡ map field layer.records
+    → i < length xs → slice_index_or xs i d ≡ field (record_at layer i)
 unfolding record_at
-field-of field layer xs i d e h =
-    ap (λ (ys : List ℕ). slice_index_or ys i d) e
+field-of {A} field layer xs i d e h =
+    ap (λ (ys : List A). slice_index_or ys i d) e
     ∙ field-at field layer.records i d (omega (arith, h, ap length e, length-map layer.records field))
 
 pub generation-of : (layer : Layer) (xs : List ℕ) (i d : ℕ) → xs ≡ map (λ r. r.generation) layer.records → i < length xs
@@ -84,13 +82,13 @@ pub time-of : (layer : Layer) (xs : List ℕ) (i d : ℕ) → xs ≡ map (λ r. 
     → slice_index_or xs i d ≡ (record_at layer i).time
 time-of layer xs i d e h = field-of (λ r. r.time) layer xs i d e h
 
-pub first_field-of : (layer : Layer) (xs : List ℕ) (i d : ℕ) → xs ≡ map (λ r. r.parent1) layer.records → i < length xs
-    → slice_index_or xs i d ≡ (record_at layer i).parent1
-first_field-of layer xs i d e h = field-of (λ r. r.parent1) layer xs i d e h
+pub first_field-of : (layer : Layer) (xs : List (ℕ × ℕ)) (i : ℕ) (d : ℕ × ℕ) → xs ≡ map stored_parents layer.records
+    → i < length xs → (slice_index_or xs i d).0 ≡ (record_at layer i).parent1
+first_field-of layer xs i d e h = ap (λ (p : ℕ × ℕ). p.0) (field-of stored_parents layer xs i d e h)
 
-pub second_field-of : (layer : Layer) (xs : List ℕ) (i d : ℕ) → xs ≡ map (λ r. r.parent2) layer.records → i < length xs
-    → slice_index_or xs i d ≡ (record_at layer i).parent2
-second_field-of layer xs i d e h = field-of (λ r. r.parent2) layer xs i d e h
+pub second_field-of : (layer : Layer) (xs : List (ℕ × ℕ)) (i : ℕ) (d : ℕ × ℕ) → xs ≡ map stored_parents layer.records
+    → i < length xs → (slice_index_or xs i d).1 ≡ (record_at layer i).parent2
+second_field-of layer xs i d e h = ap (λ (p : ℕ × ℕ). p.1) (field-of stored_parents layer xs i d e h)
 
 pub ruleset decoding_laws = (first_records-more, first_records-all, decoded-more, first_words-more, first_words-all)
 

@@ -21,13 +21,12 @@ const TIME_BITS: u32 = 34;
 const WORD_LEN: usize = 4;
 
 /// What records say, but for their root trees: a vector for each field, in the order of the
-/// positions.
+/// positions, and one for both parent fields, which are read together.
 #[derive(Drop)]
 pub struct Records {
     pub generations: Vec<u32>,
     pub times: Vec<u64>,
-    pub first_fields: Vec<u32>,
-    pub second_fields: Vec<u32>,
+    pub parent_fields: Vec<(u32, u32)>,
 }
 
 impl Records {
@@ -53,8 +52,7 @@ impl Records {
         Ok(Records {
             generations: Vec::with_capacity(alloc, count)?,
             times: Vec::with_capacity(alloc, count)?,
-            first_fields: Vec::with_capacity(alloc, count)?,
-            second_fields: Vec::with_capacity(alloc, count)?,
+            parent_fields: Vec::with_capacity(alloc, count)?,
         })
     }
 
@@ -66,8 +64,8 @@ impl Records {
             → AreDecoded (records ++ record_of kind bytes.now ∷ []) self.new) }
     {
         let fields = kind.len_in_bytes();
-        self.first_fields.push(word_at(bytes, fields))?;
-        self.second_fields.push(word_at(bytes, fields + 4))?;
+        let (first, second) = (word_at(bytes, fields), word_at(bytes, fields + 4));
+        self.parent_fields.push((first, second))?;
         let generation_and_time = long_at(bytes, fields + 8);
         self.generations
             .push((generation_and_time >> TIME_BITS) as u32)?;

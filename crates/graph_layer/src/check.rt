@@ -4,6 +4,7 @@
 
 ghost use Rattle.std.specs.Prelude.{◌≡◌, ◌<◌, length, map, slice_get, option_map, Some};
 ghost use Rattle.gix_hash_core.specs.Oid.{oid_bytes};
+ghost use Rattle.graph_format.specs.DecodedRecords.{stored_parents};
 ghost use Rattle.graph_format.specs.Faults.{layer_fault, id_fault, tree_fault};
 ghost use Rattle.graph_format.specs.Format.{words};
 ghost use Rattle.graph_format.specs.Parents.{edge_of};
@@ -59,18 +60,11 @@ pub fn times(file: &File) -> &[u64]
     file.times()
 }
 
-/// The first parent fields of a layer's commits, in the order of their positions ("Commit Data").
-pub fn first_fields(file: &File) -> &[u32]
-    ensures { result.now ≡ map (λ r. r.parent1) file.now.records }
+/// Both parent fields of a layer's commits, in the order of their positions ("Commit Data").
+pub fn parent_fields(file: &File) -> &[(u32, u32)]
+    ensures { result.now ≡ map stored_parents file.now.records }
 {
-    file.first_fields()
-}
-
-/// The second parent fields of a layer's commits, in the order of their positions ("Commit Data").
-pub fn second_fields(file: &File) -> &[u32]
-    ensures { result.now ≡ map (λ r. r.parent2) file.now.records }
-{
-    file.second_fields()
+    file.parent_fields()
 }
 
 /// The generation numbers of a layer's commits, in the order of their positions ("Commit Data").

@@ -28,17 +28,17 @@ abbrev pub past_start : LayerSpan → ℕ → ℕ
 past_start span field = (field + (4294967296 - span.start)) % 4294967296
 
 -- one of the columns of a layer's records, at a commit
-pub column-at : (layer : Layer) (f : Record → ℕ) (column : List ℕ) (place : ℕ) → f no_record ≡ 0 → column ≡ map f layer.records
-    → get_or column place 0 ≡ f (record_at layer place)
-column-at layer f column place none told =
-    ap (λ (ns : List ℕ). get_or ns place 0) told
+pub column-at : {A : Type 0} (layer : Layer) (f : Record → A) (column : List A) (place : ℕ) (d : A) → f no_record ≡ d
+    → column ≡ map f layer.records → get_or column place d ≡ f (record_at layer place)
+column-at {A} layer f column place d none told =
+    ap (λ (ns : List A). get_or ns place d) told
     ∙ ap (get_or (map f layer.records) place) (sym none)
     ∙ get_or-map f layer.records place no_record
     ∙ ap f (sym (record_at-get_or layer place))
 
 module _ (layers : List Layer) (span : LayerSpan) (is : IsSpan layers span) where
-  -- it has one number for each commit
-  pub length-column : (f : Record → ℕ) (column : List ℕ) → column ≡ map f span.file.now.records
+  -- it has one element for each commit
+  pub length-column : {A : Type 0} (f : Record → A) (column : List A) → column ≡ map f span.file.now.records
       → length column ≡ size span.file.now
   length-column f column told =
       ap length told ∙ length-map span.file.now.records f ∙ opened_is_paired span.file.now (span-opened layers span is)
@@ -67,7 +67,7 @@ module _ (layers : List Layer) (span : LayerSpan) (is : IsSpan layers span) wher
       ap (slice_get (graph_commits layers)) (near field fits below)
       ∙ graph_commits-counted layers span.layer span.start (past_start span field) span.file.now is.start is.there below in
       generation-at layers field (past_start span field) span.file.now is.graph.opened here
-      ∙ sym (column-at span.file.now (λ (r : Record). r.generation) numbers (past_start span field) refl told)
+      ∙ sym (column-at span.file.now (λ (r : Record). r.generation) numbers (past_start span field) 0 refl told)
 
   module _ (numbers : List ℕ) (told : numbers ≡ map (λ r. r.generation) span.file.now.records) where
     -- one such parent before others

@@ -14,7 +14,7 @@ use crate::verify::lists::{ListedTally, NO_PARENTS};
 use crate::verify::parents::ParentTally;
 use crate::verify::span::LayerSpan;
 use graph_format::parents::NO_PARENT;
-use graph_layer::check::{first_fields, generations, parent_edges, second_fields};
+use graph_layer::check::{generations, parent_edges, parent_fields};
 
 /// For how many commits parents are gathered at a time.
 const BLOCK: usize = 256;
@@ -26,6 +26,7 @@ pub(super) type Block = [Option<ParentTally>; BLOCK];
 pub(super) const NOTHING: Block = [None; BLOCK];
 
 impl Graph {
+    ghost use Rattle.graph_format.specs.Layer.{record_at};
     ghost use Rattle.graph_format.specs.Parents.{second_parents};
     ghost use Rattle.graph_format.specs.StoredHistory.{history_of};
     ghost use Rattle.gix_commitgraph.specs.LayerSpans.{IsSpan};
@@ -66,21 +67,21 @@ impl Graph {
         requires begins { first % 256 ≡ 0 }
         ensures { AreGathered self.now span.entry first block.new }
     {
-        let firsts = first_fields(span.file);
-        let seconds = second_fields(span.file);
+        let fields = parent_fields(span.file);
         let numbers = generations(span.file);
         let count = (span.file.num_commits() - first).min(BLOCK as u32);
         for index in 0..count {
             let place = first + index;
-            match self.tally_within(span, place, firsts, seconds, numbers) {
+            let (first, second) = fields[place as usize];
+            match self.tally_within(span, place, first, second, numbers) {
                 Some(tally) => block[index as usize] = Some(tally),
                 None => self.gather_any(span, tallies, place, &mut block[index as usize]),
             }
         }
     }
 
-    /// The tally of the parents of the commit at this place, where there are one or two, and they
-    /// stand in its own layer ("Commit Data"). Of other commits it is `None`.
+    /// The tally of the parents of the commit at this place, with these parent fields, where there
+    /// are one or two, and they stand in its own layer ("Commit Data"). Of others it is `None`.
     ///
     /// A field that is a position of the layer is neither "no parent" nor an index, since all
     /// positions are below those. One that stands before the layer wraps to a number past its end.
@@ -89,19 +90,17 @@ impl Graph {
         &self,
         span: LayerSpan<'_>,
         place: u32,
-        firsts: &[u32],
-        seconds: &[u32],
+        first: u32,
+        second: u32,
         numbers: &[u32],
     ) -> Option<ParentTally>
         requires span { IsSpan self.now span }
         requires within { place < length span.file.now.ids }
-        requires firsts { firsts.now ≡ map (λ r. r.parent1) span.file.now.records }
-        requires seconds { seconds.now ≡ map (λ r. r.parent2) span.file.now.records }
+        requires first { first ≡ (record_at span.file.now place).parent1 }
+        requires second { second ≡ (record_at span.file.now place).parent2 }
         requires numbers { numbers.now ≡ map (λ r. r.generation) span.file.now.records }
         ensures { IfSome result (λ tally. IsGathered self.now span.entry place (Some tally)) }
     {
-        let first = firsts[place as usize];
-        let second = seconds[place as usize];
         let (count, last) = if second == NO_PARENT {
             (1, first)
         } else {

@@ -5,6 +5,7 @@ ghost use Rattle.std.specs.Prelude.{slice_get, Some, IfSome, option_map, bytes_e
 ghost use Rattle.gix_hash_core.specs.Kind.{id_len};
 ghost use Rattle.gix_hash_core.specs.Oid.{oid_bytes};
 ghost use Rattle.graph_format.specs.Format.{words, commits_of, chunk_of};
+ghost use Rattle.graph_format.specs.DecodedRecords.{stored_parents};
 ghost use Rattle.graph_format.specs.Layer.{IsLayer, record_at, bytes_of};
 ghost use Rattle.graph_layer.specs.Commit.{commit_layer, commit_pos};
 
@@ -162,20 +163,12 @@ impl File {
         &self.records.times
     }
 
-    /// The first parent fields of the commits, in the order of their positions.
-    pub(crate) fn first_fields(&self) -> &[u32]
-        ensures fields { result.now ≡ map (λ r. r.parent1) self.now.records }
+    /// Both parent fields of the commits, in the order of their positions.
+    pub(crate) fn parent_fields(&self) -> &[(u32, u32)]
+        ensures fields { result.now ≡ map stored_parents self.now.records }
         ensures len { length result.now ≡ length self.now.ids }
     {
-        &self.records.first_fields
-    }
-
-    /// The second parent fields of the commits, in the order of their positions.
-    pub(crate) fn second_fields(&self) -> &[u32]
-        ensures fields { result.now ≡ map (λ r. r.parent2) self.now.records }
-        ensures len { length result.now ≡ length self.now.ids }
-    {
-        &self.records.second_fields
+        &self.records.parent_fields
     }
 
     /// The words of the extra edge list, where the file has one.

@@ -173,9 +173,7 @@ impl<'a> Commit<'a> {
         ensures first { result.0 ≡ (commit_record self.now).parent1 }
         ensures second { result.1 ≡ (commit_record self.now).parent2 }
     {
-        let index = self.pos.0 as usize;
-        let first = self.file.first_fields()[index];
-        (first, self.file.second_fields()[index])
+        self.file.parent_fields()[self.pos.0 as usize]
     }
 }
 

@@ -1,5 +1,5 @@
 -- The conditions of the header read its first bytes and the length.
-use Rattle.std.proofs.Common.{◌≡◌, ℕ, ◌≤◌, List, length, min, take, slice_index, not, is_none}
+use Rattle.std.proofs.Common.{◌≡◌, ℕ, ◌≤◌, List, length, take, slice_index, not, is_none}
 use Rattle.std.proofs.Common.{nat_lt, bytes_eq, refl, rules, arith}
 use Rattle.std.specs.Prelude.{◌==◌}
 use Rattle.first_faults.specs.First.{◌when◌, ◌otherwise◌}

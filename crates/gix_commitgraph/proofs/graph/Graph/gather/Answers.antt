@@ -1,13 +1,39 @@
-use Rattle.std.proofs.Common.{◌≡◌, ℕ, ◌%◌, ◌<◌, subst, ◌+◌, Option, None, Some, arith}
+use Rattle.std.proofs.Common.{◌≡◌, ℕ, ◌%◌, ◌<◌, refl, ap, subst, ◌+◌, Option, None, Some, arith}
 use Rattle.std.specs.Prelude.{slice_index_or}
+use Rattle.graph_format.specs.DecodedRecords.{stored_parents}
 use Rattle.gix_commitgraph.specs.Tallies.{IsGathered}
 use Rattle.gix_commitgraph.specs.declared.verify.parents.ParentTally.{ParentTally}
 use Rattle.gix_commitgraph.proofs.check.GatherLemmas.{one-more}
+use Rattle.gix_commitgraph.proofs.check.NearParentLemmas.{column-at, length-column}
 use Rattle.gix_commitgraph.proofs.graph.Graph.gather.Goals.{in-Some, in-None}
 use Rattle.gix_commitgraph.proofs.graph.Graph.gather.Goals as goal
 
 pub loop-index-init : goal.loop-index-init
 loop-index-init c = record { sized = c.told-block; gathered = λ i below. absurd (omega (arith, below)) }
+
+pub bounds-fields-place : goal.bounds-fields-place
+bounds-fields-place c =
+    let below = c.loop-index-test.true in
+    omega (
+      arith,
+      below,
+      c.min-count.ensures,
+      c.num_commits.ensures.ids,
+      length-column c.args.self.now c.args.span c.requires.span stored_parents c.parent_fields-fields.result.now
+      c.parent_fields-fields.ensures,
+    )
+
+pub tally_within-requires-clause-first : goal.tally_within-requires-clause-first
+tally_within-requires-clause-first c =
+    ap (λ (both : ℕ × ℕ). both.0)
+    (column-at c.args.span.file.now stored_parents c.parent_fields-fields.result.now (c.args.first + c.loop-index.index) (0, 0)
+    refl c.parent_fields-fields.ensures)
+
+pub tally_within-requires-clause-second : goal.tally_within-requires-clause-second
+tally_within-requires-clause-second c =
+    ap (λ (both : ℕ × ℕ). both.1)
+    (column-at c.args.span.file.now stored_parents c.parent_fields-fields.result.now (c.args.first + c.loop-index.index) (0, 0)
+    refl c.parent_fields-fields.ensures)
 
 pub loop-index-preserved : goal.loop-index-preserved
 loop-index-preserved c =
