@@ -112,9 +112,7 @@ impl Check<'_> {
     /// or two and they stand in this layer.
     fn gather(&self, from: usize, known: &mut [u32; BLOCK]) {
         let generations = &self.layer.generations[..];
-        let fields = self.layer.firsts[from..]
-            .iter()
-            .zip(&self.layer.seconds[from..]);
+        let fields = self.layer.parents[from..].iter();
         for (known, (first, second)) in known.iter_mut().zip(fields) {
             let second = if *second == NO_PARENT { first } else { second };
             let one = generations.get(first.wrapping_sub(self.start) as usize);
@@ -131,14 +129,14 @@ impl Check<'_> {
         ensure(!is_null(&self.layer.ids[pos]))?;
         ensure(pos == 0 || is_before(&self.layer.ids[pos - 1], &self.layer.ids[pos]))?;
         ensure(!is_null(self.layer.root_tree_id(pos)))?;
-        let second = self.layer.seconds[pos];
+        let second = self.layer.parents[pos].1;
         let parents = if known != UNKNOWN {
             Tally {
                 count: 1 + u32::from(second != NO_PARENT),
                 generation: known,
             }
         } else {
-            self.parents(self.layer.firsts[pos], second)?
+            self.parents(self.layer.parents[pos].0, second)?
         };
         let expected = (parents.generation + 1).min(GENERATION_NUMBER_MAX);
         ensure(self.layer.generations[pos] == expected)?;

@@ -31,8 +31,8 @@ pub struct Layer<'a> {
     /// The ids of base layers.
     pub bases: &'a [Id],
     records: &'a [[u8; RECORD_LEN]],
-    pub firsts: Vec<u32>,
-    pub seconds: Vec<u32>,
+    /// Both parent fields of each.
+    pub parents: Vec<(u32, u32)>,
     pub generations: Vec<u32>,
     times: Vec<u64>,
     /// The words of the extra edge list.
@@ -66,8 +66,7 @@ impl<'a> Layer<'a> {
             ids,
             bases,
             records,
-            firsts: Vec::with_capacity(records.len()),
-            seconds: Vec::with_capacity(records.len()),
+            parents: Vec::with_capacity(records.len()),
             generations: Vec::with_capacity(records.len()),
             times: Vec::with_capacity(records.len()),
             edges: chunk(b"EDGE").map(words),
@@ -81,8 +80,8 @@ impl<'a> Layer<'a> {
     fn decode(&mut self) {
         for record in self.records {
             let long = long_at(record, ID_LEN + 8);
-            self.firsts.push(word_at(record, ID_LEN));
-            self.seconds.push(word_at(record, ID_LEN + 4));
+            self.parents
+                .push((word_at(record, ID_LEN), word_at(record, ID_LEN + 4)));
             self.generations.push((long >> TIME_BITS) as u32);
             self.times.push(long % (1 << TIME_BITS));
         }
@@ -123,8 +122,8 @@ impl<'a> Layer<'a> {
     pub fn commit_at(&self, pos: u32) -> Commit<'_> {
         let pos = pos as usize;
         Commit {
-            first: self.firsts[pos],
-            second: self.seconds[pos],
+            first: self.parents[pos].0,
+            second: self.parents[pos].1,
             generation: self.generations[pos],
             time: self.times[pos],
             edges: self.edges.as_deref(),
@@ -134,7 +133,7 @@ impl<'a> Layer<'a> {
     /// The parents of each commit.
     pub fn all_parents(&self) -> impl Iterator<Item = Parents<'_>> {
         let edges = self.edges.as_deref();
-        let fields = self.firsts.iter().zip(&self.seconds);
+        let fields = self.parents.iter();
         fields.map(move |(first, second)| Parents::new(*first, *second, edges))
     }
 }

@@ -5,6 +5,9 @@ It builds the static library, where it is not built, over what `rt ci` left, and
 heap. What C and Rust list and count is compared with what the program at the path GRAPHTOOL does, and what they
 tell of dates and filters also with what the one at HISTORYTOOL does. Where one is not given, or a compiler or a tool is missing,
 one line says what is left out.
+
+`python3 scripts/bindings --library LOG` only builds the library, beside an `rt ci` that writes LOG, as soon as that has
+proved the crates which the library uses.
 """
 import chunked
 import functools
@@ -17,6 +20,7 @@ import shutil
 import subprocess
 import sys
 import tempfile
+import time
 
 TOP = pathlib.Path(__file__).resolve().parent.parent.parent
 HERE = TOP / "scripts/bindings"
@@ -91,6 +95,16 @@ def build_words(archive, kit):
         *("--antt-project", kit / "rattle/logic/antt-project.json", "--logic-built", kit / "logic_built"),
         *("--links", f"{NAME}=", "--toolchain", kit / "toolchain", "--backend", "llvm", "--jobs", "2", "-o", archive),
     ]
+
+
+def wait_for_crates(log):
+    """Waits until `rt ci` has proved the crates below the library, or has ended: the last line of its log counts."""
+    while True:
+        text = log.read_text(errors="replace") if log.exists() else ""
+        told = set(re.findall(r"^rt: (\w+) (?:proved|is kept)", text, re.MULTILINE))
+        if told.issuperset(below(NAME)) or re.search(r"^\d+ passed, \d+ failed$", text, re.MULTILINE):
+            return
+        time.sleep(2)
 
 
 def below(crate):
@@ -460,6 +474,10 @@ def example(compiler, archives, scratch, graphs):
 
 
 def main():
+    if sys.argv[1:2] == ["--library"]:
+        wait_for_crates(pathlib.Path(sys.argv[2]))
+        built()
+        return
     archives = built()
     exports()
     if not GRAPHTOOL:
