@@ -6,8 +6,8 @@ use std::alloc::Global;
 use std::io::Read;
 use std::process::Abort;
 
-/// Runs the command. Its contract is long, and here it ends: this function has none, so the proof of
-/// a test does not go over it once more.
+/// Runs the command. Its contract is long, and here it ends: this function has none, so the proof
+/// of a test does not go over it once more.
 pub(super) fn list<R: Read>(
     alloc: Global,
     input: &mut R,

@@ -12,8 +12,8 @@ use std::alloc::{AllocError, Global};
 use std::rt::Files;
 use std::{fs, slice};
 
-/// What stands ready before a call, in few parts: a proof goes over all that is dropped where one of
-/// them fails.
+/// What stands ready before a call, in few parts: a proof goes over all that is dropped where one
+/// of them fails.
 #[derive(Drop)]
 pub struct Stage {
     pub single: Single,
@@ -56,8 +56,8 @@ pub struct Chain {
 /// What commands take and write.
 #[derive(Drop)]
 pub struct Folders {
-    /// The file `f`, the file `dated` of the graph of that name, and the folders `chain`, `info` and
-    /// `damaged`: that of the chain, an info folder with the chain, and one with a damaged file
+    /// The file `f`, the file `dated` of the graph of that name, and the folders `chain`, `info`
+    /// and `damaged`: that of the chain, an info folder with the chain, and one with a damaged file
     /// beside the chain.
     pub memory: Memory,
     /// The id of the chain's second commit.
