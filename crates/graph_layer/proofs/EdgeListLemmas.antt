@@ -1,7 +1,6 @@
 -- How an extra edge list is gone over from its last word to its first.
 use Rattle.std.proofs.Common.{◌≡◌, ℕ, zero, suc, ◌+◌, ◌<◌, ◌≤◌, List, [], ◌∷◌, ◌++◌, Option, Some, None, IfSome, length}
 use Rattle.std.proofs.Common.{get_or, drop, option_map, reverse, refl, sym, ap, ◌∙◌, arith, append_assoc, length-append}
-use Rattle.std.specs.Prelude.{unwrap_or}
 use Rattle.std.proofs.lemmas.List.{nil_from_length, append-nil, reverse-append}
 use Rattle.graph_format.specs.Format.{words}
 use Rattle.graph_format.specs.Parents.{DecodedParents, no_parents, faulty, followed_by, listed}

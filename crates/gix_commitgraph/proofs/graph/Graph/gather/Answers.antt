@@ -20,7 +20,7 @@ bounds-fields-place c =
       c.min-count.ensures,
       c.num_commits.ensures.ids,
       length-column c.args.self.now c.args.span c.requires.span stored_parents c.parent_fields-fields.result.now
-      c.parent_fields-fields.ensures,
+          c.parent_fields-fields.ensures,
     )
 
 pub tally_within-requires-clause-first : goal.tally_within-requires-clause-first

@@ -1,4 +1,4 @@
-use Rattle.std.proofs.Common.{◌≡◌, ℕ, Option, Some, None, refl, ap, ◌∙◌}
+use Rattle.std.proofs.Common.{◌≡◌, ℕ, Option, Some, ap, ◌∙◌}
 use Rattle.graph_format.specs.Parents.{extra_parent, extra_edge_of, listed}
 use Rattle.graph_format.specs.declared.parents.ExtraEdge.{ExtraEdge}
 use Rattle.graph_layer.specs.ListedParents.{IsCount}
