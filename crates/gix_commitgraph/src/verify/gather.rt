@@ -72,8 +72,8 @@ impl Graph {
         let count = (span.file.num_commits() - first).min(BLOCK as u32);
         for index in 0..count {
             let place = first + index;
-            let (first, second) = fields[place as usize];
-            match self.tally_within(span, place, first, second, numbers) {
+            let (parent1, parent2) = fields[place as usize];
+            match self.tally_within(span, place, parent1, parent2, numbers) {
                 Some(tally) => block[index as usize] = Some(tally),
                 None => self.gather_any(span, tallies, place, &mut block[index as usize]),
             }
