@@ -5,7 +5,7 @@ usage: python3 bench/ancestor.py [FOLDER]
 
 FOLDER keeps the files and both programs for further runs. The commits are those of bench/lookup.py, almost a line, in one
 layer and in a chain of ten; and those of bench/bases.py, of topic branches. Both programs answer the same queries over a
-million commits, in turn: 1,000 pairs at random, and 1,000 of the newest 2,000, each for a shortest walk and for whether
+million commits, in turn: 100 pairs at random, and 1,000 of the newest 2,000, each for a shortest walk and for whether
 there is one. They have to give the same number of walks, of commits on them and of visits, and the same number of yes. A
 line a figure: ours and the baseline's, in microseconds a query, each the best of all runs, their ratio, and the visits a
 walk. The check of the graph is not counted.
@@ -32,7 +32,7 @@ SOURCES = os.path.join(lookup.TOP, "bench", "ancestor")
 PROGRAM_LIBRARIES = ["gix_hash_core", "gix_commitgraph", "graph_history", "anyhow"]
 FIRST_PAIRS = 50
 """So many pairs of each kind are asked of Git."""
-ROUNDS = 3
+ROUNDS = 2
 """How often each program is run. The two take turns."""
 
 
@@ -57,8 +57,9 @@ def report(programs, name, pairs, layers):
     rounds = [[figures(program, pairs + layers) for program in programs] for _ in range(ROUNDS)]
     agreed = True
     for kind in rounds[0][0]:
-        best, other = (min(run[at][kind][0] for run in rounds) / PAIRS / 1000 for at in range(2))
-        visits = rounds[0][1][kind][-1] / PAIRS
+        pairs_of_kind = PAIRS[kind.partition("-")[0]]
+        best, other = (min(run[at][kind][0] for run in rounds) / pairs_of_kind / 1000 for at in range(2))
+        visits = rounds[0][1][kind][-1] / pairs_of_kind
         print("%-24s %10.2f %10.2f %7.3f %10.1f" % (name + " " + kind, best, other, best / other, visits), flush=True)
         answers = {run[at][kind][1:] for run in rounds for at in range(2)}
         if len(answers) != 1:
@@ -103,9 +104,9 @@ def pairs_files(folder, present):
     paths = [os.path.join(folder, name) for name in ("pairs", "near")]
     newest, chance = range(lookup.COMMITS - NEWEST, lookup.COMMITS), random.Random(9)
     with open(present, "rb") as source, open(paths[0], "wb") as target:
-        target.write(source.read(2 * 20 * PAIRS))
+        target.write(source.read(2 * 20 * PAIRS["any"]))
     with open(paths[1], "wb") as target:
-        target.write(b"".join(lookup.digest("commit", place) for place in chance.choices(newest, k=2 * PAIRS)))
+        target.write(b"".join(lookup.digest("commit", place) for place in chance.choices(newest, k=2 * PAIRS["newest"])))
     return paths
 
 

@@ -5,7 +5,7 @@ usage: python3 bench/bases.py [FOLDER]
 
 FOLDER keeps the files and both programs for further runs. Git makes a million commits of topic branches,
 long lines that merge each other and merges of several at once, and a commit-graph of them, in one layer and
-in a chain of ten. Both programs compare 1,000 pairs of commits at random, 1,000 of the newest 2,000, and
+in a chain of ten. Both programs compare 100 pairs of commits at random, 1,000 of the newest 2,000, and
 1,000 commits with themselves, and these once more with memory that is asked for anew at each, in turn. They
 have to give the same sums of bases, of commits ahead and behind, and of visits. A line a figure: ours and
 the baseline's, in microseconds a pair, each the best of all runs, their ratio, and the visits a pair. The
@@ -29,9 +29,9 @@ import lookup
 from topics import PAIRS, Made
 
 SOURCES = os.path.join(lookup.TOP, "bench", "bases")
-FIRST_PAIRS = 50
+FIRST_PAIRS = 20
 """So many pairs of each kind are asked of Git."""
-ROUNDS = 3
+ROUNDS = 2
 """How often each program is run. The two take turns."""
 
 
@@ -55,8 +55,9 @@ def report(programs, name, pairs, layers):
     rounds = [[ancestor.figures(program, pairs + layers) for program in programs] for _ in range(ROUNDS)]
     agreed = True
     for kind in rounds[0][0]:
-        best, other = (min(run[at][kind][0] for run in rounds) / PAIRS / 1000 for at in range(2))
-        visits = rounds[0][1][kind][-1] / PAIRS
+        pairs_of_kind = PAIRS["same" if kind == "anew" else kind]
+        best, other = (min(run[at][kind][0] for run in rounds) / pairs_of_kind / 1000 for at in range(2))
+        visits = rounds[0][1][kind][-1] / pairs_of_kind
         print("%-16s %10.1f %10.1f %7.3f %10.1f" % (name + " " + kind, best, other, best / other, visits), flush=True)
         agreed = agreed and len({run[at][kind][1:] for run in rounds for at in range(2)}) == 1
     if not agreed:

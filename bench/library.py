@@ -31,7 +31,7 @@ FEW = 30
 """Of the pairs at random so many are asked about."""
 CALLS = 100_000_000
 """How many calls each program makes that only answer a number."""
-ITEMS = {"calls": CALLS, "any": FEW, "newest": PAIRS}
+ITEMS = {"calls": CALLS, "any": FEW, "newest": PAIRS["newest"]}
 """How many items the figures have that are not of each commit."""
 OURS = {"blocks": "iterate", "any-many": "any-yes", "newest-many": "newest-yes"}
 """The figure of our program that another is compared with, where it has another name."""

@@ -34,7 +34,7 @@ SOURCES = os.path.join(TOP, "bench", "lookup")
 
 COMMITS = 1_000_000
 LAYERS = 10
-ROUNDS = 7
+ROUNDS = 5
 """How often each program is run. The two take turns."""
 
 SHARED_COMMITS = 2_000

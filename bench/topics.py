@@ -12,7 +12,8 @@ from histories import repository, shapes
 
 COMMITS = 1_000_000
 LAYERS = 10
-PAIRS = 1000
+PAIRS = {"any": 100, "newest": 1000, "same": 1000}
+"""How many pairs of each kind are asked for: of all commits, of the newest ones, and of a commit with itself."""
 NEWEST = 2000
 """The pairs of the second kind are of so many commits."""
 
@@ -29,8 +30,8 @@ class Made:
         with open(ids_path) as file:
             self.ids = file.read().split()
         chance, newest = random.Random(9), self.ids[-NEWEST:]
-        same = [commit for commit in chance.sample(self.ids, PAIRS) for _ in range(2)]
-        asked = (chance.choices(self.ids, k=2 * PAIRS), chance.choices(newest, k=2 * PAIRS), same)
+        same = [commit for commit in chance.sample(self.ids, PAIRS["same"]) for _ in range(2)]
+        asked = (chance.choices(self.ids, k=2 * PAIRS["any"]), chance.choices(newest, k=2 * PAIRS["newest"]), same)
         for path, ids in zip(self.pairs, asked):
             with open(path, "wb") as file:
                 file.write(bytes.fromhex("".join(ids)))
