@@ -8,9 +8,6 @@
 
 ghost use Rattle.std.specs.Prelude.{◌≡◌, MatchResult};
 
-#[cfg(test)]
-mod tests;
-
 use graph_commands::line::{WriteFailed, write_line};
 use graph_commands::run::{run_ancestor, run_distinct, run_find, run_list, run_verify};
 use graph_commands::status::Status;
@@ -78,7 +75,6 @@ fn fail<W: Write>(errors: &mut W, why: &str) -> u8
 }
 
 /// What the program is asked to do.
-#[derive(Clone, Copy, Debug, PartialEq, Eq)]
 enum Command<'a> {
     // The layer on standard input is to be listed.
     List,

@@ -9,9 +9,6 @@
 
 ghost use Rattle.std.specs.Prelude.{◌≡◌, MatchResult};
 
-#[cfg(test)]
-mod tests;
-
 use graph_commands::line::{WriteFailed, write_line};
 use graph_commands::status::Status;
 use graph_folder::folder::{Disk, Folder};
@@ -101,7 +98,6 @@ fn fail<W: Write>(errors: &mut W, why: &str) -> u8
 }
 
 /// What the program is asked to do.
-#[derive(Clone, Copy, Debug, PartialEq, Eq)]
 enum Command<'a> {
     // The help text is to be written.
     Help,

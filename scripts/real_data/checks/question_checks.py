@@ -54,3 +54,5 @@ def check_failed_write(tally, name, run):
     """The answer of a run whose output is closed."""
     answer = run(preexec_fn=partial(os.close, 1))
     tally.check("%s, output that is closed" % name, judge.exactly(2, "", FAILED_WRITE, answer))
+    answer = run(preexec_fn=partial(os.closerange, 1, 3))
+    tally.check("%s, output and errors that are closed" % name, judge.exactly(2, "", "", answer))

@@ -100,6 +100,8 @@ def check_full(tally, command, run):
     """The answer of a run whose output cannot be written."""
     answer = run(preexec_fn=partial(os.close, 1))
     tally.check("%s, output that is closed" % command, judge.exactly(2, "", FAILED_WRITE, answer))
+    answer = run(preexec_fn=partial(os.closerange, 1, 3))
+    tally.check("%s, output and errors that are closed" % command, judge.exactly(2, "", "", answer))
     if os.path.exists("/dev/full"):
         with open("/dev/full", "wb") as full:
             answer = run(stdout=full)

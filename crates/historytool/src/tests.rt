@@ -1,2 +1,0 @@
-mod streams;
-mod words;
