@@ -17,6 +17,11 @@ class Tally:
             self.wrong.append("WRONG " + name + ": " + complaint)
             print(self.wrong[-1], flush=True)
 
+    def add(self, other):
+        """Counts the checks of another tally too, whose lines are printed already."""
+        self.passed += other.passed
+        self.wrong += other.wrong
+
     def finish(self):
         """Prints the checks that failed once more, and the last line, and answers the exit status."""
         for line in self.wrong:

@@ -10,6 +10,7 @@ one line says what is left out.
 proved the crates which the library uses.
 """
 import chunked
+import concurrent.futures
 import functools
 import layout
 import os
@@ -20,16 +21,18 @@ import shutil
 import subprocess
 import sys
 import tempfile
+import threading
 import time
+
+sys.path.insert(0, str(pathlib.Path(__file__).resolve().parent.parent))
+
+import proving
 
 TOP = pathlib.Path(__file__).resolve().parent.parent.parent
 HERE = TOP / "scripts/bindings"
 HEADER = TOP / "bindings/c"
-NAME = "commitgraph_c"
+NAME = proving.STATIC
 CRATE = TOP / "crates" / NAME
-LISTED = (line.partition(":") for line in (TOP / "crates.txt").read_text().splitlines() if line and line[0] != "#")
-USES = {crate.split()[0]: used.split() for crate, _, used in LISTED}
-"""For each crate, those that crates.txt lists for it."""
 GRAPHTOOL, HISTORYTOOL = [*sys.argv[1:3], None, None][:2]
 KINDS = ("sha1", "sha256")
 REFUSING = [f"-Wl,--wrap={name}" for name in ("malloc", "realloc", "free")]
@@ -39,6 +42,7 @@ HELGRIND = ["valgrind", "-q", "--tool=helgrind", "--error-exitcode=99"]
 SANITIZED = "-Zsanitizer=thread -Cunsafe-allow-abi-mismatch=sanitizer"
 """Flags of a nightly Rust compiler. Its standard library is not built with them."""
 STRICT = ["-D_GNU_SOURCE", "-Wall", "-Wextra", "-Wpedantic", "-Werror"]
+COUNTING = threading.Lock()
 passed = failed = 0
 
 
@@ -48,8 +52,9 @@ def run(*words, text=True, **options):
 
 def expect(name, good, detail=""):
     global passed, failed
-    passed += bool(good)
-    failed += not good
+    with COUNTING:
+        passed += bool(good)
+        failed += not good
     if not good:
         print(f"failed: {name}\n{detail}", flush=True)
 
@@ -63,38 +68,18 @@ def present(tool, part):
 
 def built():
     """The archives to link with: the library, built if it is older than a source, and the kit's own heap."""
-    archive, kit = CRATE / "out" / f"lib{NAME}.a", pathlib.Path(run("rt", "doc").stdout.strip()).parent
-    sources = [path for crate in (NAME, *below(NAME)) for path in source_files(TOP / "crates" / crate)]
-    if not archive.exists() or archive.stat().st_mtime < max(path.stat().st_mtime for path in sources):
-        done = run(*build_words(archive, kit), cwd=CRATE)
-        expect("the library is proved and built", done.returncode == 0, done.stdout[-2000:] + done.stderr[-2000:])
-    return archive, kit / "c/liblibc_c.a"
-
-
-def source_files(crate):
-    """The files of a crate that a check reads."""
-    return [path for part in ("src", "specs", "proofs") for path in (crate / part).rglob("*.*")]
-
-
-def build_words(archive, kit):
-    """The command that builds the archive, over the libraries below it that `rt ci` or `rt lib` left.
-
-    After `rt ci`, `rt lib` proves each of them once more. Where one was never built, it is what has to be run.
-    """
-    ours = below(NAME)
-    rlibs = {crate: TOP / "crates" / crate / "out/rlib" / f"{crate}.rlib" for crate in ours}
-    if not all(rlib.exists() for rlib in rlibs.values()):
-        return ["rt", "lib"]
-    named = ["std", *(crate for crate in USES[NAME])]
-    externs = [f"{crate}={rlibs.get(crate, kit / 'rlibs' / f'{crate}.rlib')}" for crate in named]
-    folders = [kit / "rlibs", *(rlib.parent for rlib in rlibs.values())]
-    return [
-        *(kit / "bin/rattle", "build", "--crate-name", NAME, "src/lib.rt", "--crate-type", "staticlib"),
-        *(word for extern in externs for word in ("--extern", extern)),
-        *(word for folder in folders for word in ("-L", f"dependency={folder}")),
-        *("--antt-project", kit / "rattle/logic/antt-project.json", "--logic-built", kit / "logic_built"),
-        *("--links", f"{NAME}=", "--toolchain", kit / "toolchain", "--backend", "llvm", "--jobs", "2", "-o", archive),
-    ]
+    archive = proving.made(NAME)
+    newest = max(path.stat().st_mtime for crate in (NAME, *proving.below(NAME)) for path in proving.source_files(crate))
+    if proving.made_at(NAME) < newest:
+        try:
+            # What `rt ci` proved below is not proved again.
+            left = all(proving.made(crate).exists() for crate in proving.below(NAME))
+            proving.prove(NAME, 2) if left else proving.build(NAME)
+            complaint = ""
+        except RuntimeError as error:
+            complaint = error
+        expect("the library is proved and built", not complaint, complaint)
+    return archive, proving.kit() / "c/liblibc_c.a"
 
 
 def wait_for_crates(log):
@@ -102,17 +87,9 @@ def wait_for_crates(log):
     while True:
         text = log.read_text(errors="replace") if log.exists() else ""
         told = set(re.findall(r"^rt: (\w+) (?:proved|is kept)", text, re.MULTILINE))
-        if told.issuperset(below(NAME)) or re.search(r"^\d+ passed, \d+ failed$", text, re.MULTILINE):
+        if told.issuperset(proving.below(NAME)) or re.search(r"^\d+ passed, \d+ failed$", text, re.MULTILINE):
             return
         time.sleep(2)
-
-
-def below(crate):
-    """The crates of this repository that a crate rests on, the lowest first."""
-    found = []
-    for name in USES.get(crate, []):
-        found += [it for it in (*below(name), name) if it in USES and it not in found]
-    return found
 
 
 def exports():
@@ -235,6 +212,7 @@ def chain(scratch, kind):
 
 def chained(name, program, scratch, kind):
     """A chain of layers, opened by its lines, and the lines of odd texts."""
+    text_file = program.parent / "text"
     where = chain(scratch, kind)
     file = where / ".git/objects/info/commit-graphs/commit-graph-chain"
     commits = len(git(where, "rev-list", "main").split())
@@ -244,8 +222,8 @@ def chained(name, program, scratch, kind):
     expect(f"{name}: the commits of the chain", len(listed.stdout.splitlines()) == commits, listed)
     same_as_program(f"{name}, chain", program, file, git(where, "rev-list", "main").split())
     for number, text in enumerate(LINES):
-        (scratch / "text").write_bytes(text)
-        found = run(program, scratch / "text", "lines", text=False)
+        text_file.write_bytes(text)
+        found = run(program, text_file, "lines", text=False)
         wanted = b"".join(b"%d %s\n" % (len(line), line) for line in lines_of(text))
         expect(f"{name}: the lines of text {number}", (found.returncode, found.stdout) == (0, wanted), found)
 
@@ -258,7 +236,7 @@ def lines_of(text):
 
 def refused_and_shared(name, compiler, archives, scratch, graphs):
     """Each allocation of each call refused in turn, over a file and over a chain; and four threads that read one graph."""
-    program = scratch / "memory"
+    program = scratch / compiler / "memory"
     done = run(compiler, "-std=c11", "-O1", *STRICT, f"-I{HEADER}", HERE / "memory.c", *REFUSING, *archives, "-o", program)
     expect(f"{name}: memory.c", done.returncode == 0, done.stderr)
     for kind, (graph, ids) in graphs.items():
@@ -270,7 +248,7 @@ def refused_and_shared(name, compiler, archives, scratch, graphs):
             expect(f"{title}: each call that allocates is refused", calls and all(int(n) > 0 for n in calls.values()), done)
     graph, _ = graphs["sha1"]
     for tool, flags, words in (("", ["-fsanitize=thread"], []), ("valgrind", [], HELGRIND)):
-        program = scratch / "threads"
+        program = scratch / compiler / "threads"
         done = run(compiler, "-std=c11", "-O1", *flags, *STRICT, "-pthread", f"-I{HEADER}", HERE / "threads.c",
                    *archives, "-o", program)
         if flags and done.returncode:
@@ -289,7 +267,7 @@ def layers_of(where):
 
 def fields(name, compiler, archives, scratch):
     """What calls write into each field of each struct, read by the layout of the header."""
-    program, file = scratch / "layout", scratch / "changed"
+    program, file = scratch / compiler / "layout", scratch / compiler / "changed"
     done = run(compiler, "-std=c11", "-O1", *STRICT, f"-I{HEADER}", HERE / "layout.c", *archives, "-o", program)
     expect(f"{name}: layout.c", done.returncode == 0, done.stderr)
     graph = scratch / "sha1/.git/objects/info/commit-graph"
@@ -309,7 +287,7 @@ def fields(name, compiler, archives, scratch):
         expect(f"{name}: each field, {fault}", ["dates", *dates] in rows, rows)
     whole = [layer.read_bytes() for layer in layers_of(chain(scratch, "sha1"))]
     for fault, layers, error, verdict in layout.layered(whole):
-        files = [scratch / f"changed-{number}" for number in range(len(layers))]
+        files = [scratch / compiler / f"changed-{number}" for number in range(len(layers))]
         for path, data in zip(files, layers):
             path.write_bytes(data)
         rows, _ = layout.without_visits(run(program, *files).stdout.splitlines())
@@ -423,7 +401,8 @@ def rust(environment, scratch, graphs):
 
 def c(compiler, archives, scratch, graphs):
     """The C programs by a compiler: the answers, the fields, refused allocations, threads, and the example."""
-    program = scratch / "ask"
+    program = scratch / compiler / "ask"
+    program.parent.mkdir()
     for flags in ([], ["-g", "-fsanitize=address,undefined", "-fno-sanitize-recover=undefined"]):
         name = " ".join([compiler, *flags[1:2]])
         done = run(compiler, "-std=c11", "-O1", *flags, *STRICT, f"-I{HEADER}", HERE / "ask.c", *archives, "-o", program)
@@ -455,14 +434,15 @@ def nothing_left(name, program, scratch, graphs):
         for opened, command in [(opened, command) for opened in (graph, file) for command in asked]:
             done = run(*words, program, opened, *command)
             expect(f"{name}: valgrind {kind} {command}", done.returncode in (0, 1) and not done.stderr, done)
-        (scratch / "cut").write_bytes(graph.read_bytes()[:-1])
-        done = run(*words, program, scratch / "cut", "verify")
+        cut = program.parent / "cut"
+        cut.write_bytes(graph.read_bytes()[:-1])
+        done = run(*words, program, cut, "verify")
         expect(f"{name}: valgrind {kind}, a refused file", done.returncode == 1 and not done.stderr, done)
 
 
 def example(compiler, archives, scratch, graphs):
     """The example: what it prints of a merge of three parents."""
-    program = scratch / "example"
+    program = scratch / compiler / "example"
     done = run(compiler, "-std=c11", *STRICT, f"-I{HEADER}", HEADER / "example.c", *archives, "-o", program)
     expect(f"{compiler}: example.c", done.returncode == 0, done.stderr)
     for kind, (graph, ids) in graphs.items():
@@ -471,6 +451,24 @@ def example(compiler, archives, scratch, graphs):
         commits, record, *rest = done.stdout.splitlines() or ["", ""]
         expect(f"{compiler}: example, {kind}", (done.returncode, commits, rest) == (0, "11 commits", parents), done)
         expect(f"{compiler}: example, time", record.endswith(" time 1000000000"), done)
+
+
+def parts(archives, scratch, graphs):
+    """The calls for each compiler that is there."""
+    for compiler in ("gcc", "clang"):
+        if present(compiler, f"C with {compiler}"):
+            yield functools.partial(c, compiler, archives, scratch, graphs)
+    if present("cargo", "Rust"):
+        folders = ":".join(str(archive.parent) for archive in archives)
+        at = {**os.environ, "COMMITGRAPH_LIB": folders, "CARGO_TARGET_DIR": str(scratch / "target")}
+        yield functools.partial(rust, at, scratch, graphs)
+
+
+def together(calls):
+    """Makes calls side by side. They wait for the programs that they run, most of the time."""
+    with concurrent.futures.ThreadPoolExecutor() as pool:
+        for done in [pool.submit(call) for call in calls]:
+            done.result()
 
 
 def main():
@@ -492,13 +490,11 @@ def main():
         for kind in KINDS:
             ids = repository(scratch / kind, kind)
             graphs[kind] = (scratch / kind / ".git/objects/info/commit-graph", ids)
-        for compiler in ("gcc", "clang"):
-            if present(compiler, f"C with {compiler}"):
-                c(compiler, archives, scratch, graphs)
-        if present("cargo", "Rust"):
-            folders = ":".join(str(archive.parent) for archive in archives)
-            at = {**os.environ, "COMMITGRAPH_LIB": folders, "CARGO_TARGET_DIR": str(scratch / "target")}
-            rust(at, scratch, graphs)
+            chain(scratch, kind)
+            real.graphs(scratch / "real", kind)
+            real.damaged(scratch / "real", kind)
+            chunked.graphs(scratch / "chunked", kind)
+        together(parts(archives, scratch, graphs))
     print(f"{passed} passed, {failed} failed")
     return failed != 0
 

@@ -35,6 +35,7 @@ is a check and has a line; the last line is `N passed, M failed`.
 import os
 import sys
 import tempfile
+from concurrent.futures import ProcessPoolExecutor
 from functools import partial
 
 sys.path.insert(0, os.path.dirname(os.path.dirname(os.path.abspath(__file__))))
@@ -59,7 +60,7 @@ from checks import (
     verify_checks,
     word_checks,
 )
-from checks.program import FilterProgram, HistoryProgram, Program
+from checks.program import LINES, FilterProgram, HistoryProgram, Program
 from expected.differences import Differences
 from histories.repository import ID_LENGTH, Repository
 from tally import Tally
@@ -67,33 +68,54 @@ from tally import Tally
 
 def main(path, history_path, filter_path, every_value=False):
     """Runs all checks on the programs at these paths, and answers the exit status."""
-    program, histories = programs = Program(os.path.abspath(path)), HistoryProgram(os.path.abspath(history_path))
-    asker = FilterProgram(os.path.abspath(filter_path))
+    paths = [os.path.abspath(it) for it in (path, history_path, filter_path)]
     tally, differences = Tally(), Differences()
+    with ProcessPoolExecutor() as pool:
+        of_kinds = [pool.submit(check_kind, paths, object_format) for object_format in ID_LENGTH]
+        check_others(paths, tally, every_value)
+        for of_kind in of_kinds:
+            counted, seen, lines = of_kind.result()
+            tally.add(counted)
+            differences.add(seen)
+            LINES.update(lines)
+    differences.check(tally)
+    row_checks.check_all(tally)
+    return tally.finish()
+
+
+def check_kind(paths, object_format):
+    """The checks of graphs with one kind of hash, in a process of their own: their tally, where Git's verdict differs,
+    and the first lines of all answers.
+    """
+    program, histories, asker = Program(paths[0]), HistoryProgram(paths[1]), FilterProgram(paths[2])
+    tally, differences = Tally(), Differences()
+    with tempfile.TemporaryDirectory() as folder:
+        new = partial(new_repository, folder, object_format)
+        list_checks.check_all(program, tally, new)
+        verify_checks.check_all(program, tally, new, differences)
+        path_checks.check_all(program, tally, new, differences)
+        ancestor_checks.check_all((program, histories), tally, new)
+        base_checks.check_long(histories, tally, new)
+        distinct_checks.check_all(program, tally, new, differences)
+        disk_checks.check_all((program, histories), tally, new, differences)
+        further_checks.check_all((histories, asker), tally, new)
+        damaged_checks.check_all((histories, asker), tally, new)
+    return tally, differences, LINES
+
+
+def check_others(paths, tally, every_value):
+    """The checks that are not of one kind of hash."""
+    program, histories = Program(paths[0]), HistoryProgram(paths[1])
     word_checks.check_all(program, tally)
     question_checks.check_all(histories, tally)
     surroundings_checks.check_all(program, tally)
     sweep_checks.check_all(program, tally, every_value)
     with tempfile.TemporaryDirectory() as folder:
-        cgraph_checks.check_all(programs, tally, folder, partial(new_repository, folder))
-        for object_format in ID_LENGTH:
-            new = partial(new_repository, folder, object_format)
-            list_checks.check_all(program, tally, new)
-            verify_checks.check_all(program, tally, new, differences)
-            path_checks.check_all(program, tally, new, differences)
-            ancestor_checks.check_all(programs, tally, new)
-            base_checks.check_long(histories, tally, new)
-            distinct_checks.check_all(program, tally, new, differences)
-            disk_checks.check_all(programs, tally, new, differences)
-            further_checks.check_all((histories, asker), tally, new)
-            damaged_checks.check_all((histories, asker), tally, new)
+        cgraph_checks.check_all((program, histories), tally, folder, partial(new_repository, folder))
         further_checks.check_shared_list(histories, tally, folder)
         date_checks.check_all(histories, tally, folder)
     cycle_checks.check_all(histories, tally)
     random_checks.check_all(histories, tally)
-    differences.check(tally)
-    row_checks.check_all(tally)
-    return tally.finish()
 
 
 def new_repository(folder, object_format, name):

@@ -9,9 +9,6 @@ TOP = os.path.dirname(os.path.dirname(os.path.dirname(os.path.abspath(__file__))
 TOOLS = ("sh", "awk", "cat", "chmod", "cp", "dirname", "find", "git", "id", "ln", "mkdir", "mktemp", "readlink", "rm", "rmdir")
 MORE_TOOLS = ("sed", "sleep", "touch", "tr")
 PROGRAMS = ("graphtool", "historytool")
-LOWEST = ("gix_hash_core", "gix_chunk_core", "graph_folder", "graph_walks", "graph_format")
-"""The libraries that are built first."""
-
 COPIED = (
     *("git-cgraph", "graphtool", "historytool", "VERSION", "docs/MANUAL.md", "docs/REFUSALS.md"),
     *("scripts/answers.sh", "scripts/explain.awk", "scripts/manual.awk", "scripts/git-cgraph.bash"),
@@ -37,10 +34,7 @@ class Clone:
         for name in COPIED:
             with open(os.path.join(TOP, name), encoding="utf-8") as file:
                 self.put(name, file.read())
-        for name in ("crates.txt", "crates/graphtool/stdin"):
-            self.put(name, "")
-        for name in LOWEST:
-            os.makedirs(os.path.join(self.folder, "crates", name))
+        self.put("crates.txt", "")
         for made in ("bin", self.temporary, self.home):
             os.mkdir(os.path.join(self.folder, made))
         for tool in TOOLS + MORE_TOOLS:

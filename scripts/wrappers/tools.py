@@ -43,13 +43,12 @@ HISTORYTOOL = Wrapper(
 KIT = re.compile(r"^ {4}(rattle-kit-\S+ logic \w+)$", re.MULTILINE)
 
 BUILD = """#!/bin/sh
-[ "$1" = run ] || exit 0
-echo output
-echo progress >&2
+echo progress
+cd "${1%/scripts/*}/crates/$2"
 mkdir out
-cp built "out/${PWD##*/}"
+cp built "out/$2"
 """
-"""An `rt` that builds a program from the file `built` beside its sources, and libraries from nothing."""
+"""A `python3` that builds a program from the file `built` beside its sources, in the place of scripts/proving.py."""
 
 
 def check_all(tally):
@@ -99,7 +98,8 @@ def first_command(wrapper):
 def check_build(tally, wrapper, clone):
     """The program is built on its first use, and its words come to it as they are."""
     name, words = wrapper.name, first_command(wrapper)
-    clone.put("bin/rt", BUILD)
+    clone.put("bin/rt", "#!/bin/sh\nexit 1\n")
+    clone.put("bin/python3", BUILD)
     clone.put("crates/%s/built" % name, "#!/bin/sh\nprintf '<%s>' \"$@\"\n")
     words[1] = "a b*\n$(c)"
     written = "".join("<%s>" % word for word in words)

@@ -104,24 +104,27 @@ impl<'a> Command<'a> {
     /// The first word is the program's own name.
     fn from_words(words: &'a [String]) -> Option<Command<'a>> {
         match words {
-            [_, name] if name.as_str() == "list" => Some(Command::List),
-            [_, name, path] if name.as_str() == "verify" => Some(Command::Verify {
-                path: path.as_str(),
-            }),
-            [_, name, path, hex] if name.as_str() == "find" => Some(Command::Find {
-                path: path.as_str(),
-                hex: hex.as_str(),
-            }),
-            [_, name, path, first, second] if name.as_str() == "ancestor" => {
-                Some(Command::Ancestor {
-                    path: path.as_str(),
-                    first: first.as_str(),
-                    second: second.as_str(),
-                })
-            }
-            [_, name, path] if name.as_str() == "distinct" => Some(Command::Distinct {
-                path: path.as_str(),
-            }),
+            [_, name] => match name.as_str() {
+                "list" => Some(Command::List),
+                _ => None,
+            },
+            [_, name, path] => match name.as_str() {
+                "verify" => Some(Command::Verify { path }),
+                "distinct" => Some(Command::Distinct { path }),
+                _ => None,
+            },
+            [_, name, path, hex] => match name.as_str() {
+                "find" => Some(Command::Find { path, hex }),
+                _ => None,
+            },
+            [_, name, path, first, second] => match name.as_str() {
+                "ancestor" => Some(Command::Ancestor {
+                    path,
+                    first,
+                    second,
+                }),
+                _ => None,
+            },
             _ => None,
         }
     }

@@ -131,31 +131,33 @@ impl<'a> Command<'a> {
     /// The first word is the program's own name.
     fn from_words(words: &'a [String]) -> Option<Command<'a>> {
         match words {
-            [_, name] if name.as_str() == "--help" || name.as_str() == "-h" => Some(Command::Help),
-            [_, name] if name.as_str() == "--version" => Some(Command::Version),
-            [_, name, path, first, second] if name.as_str() == "is-ancestor" => {
-                Some(Command::IsAncestor {
-                    path: path.as_str(),
-                    first: first.as_str(),
-                    second: second.as_str(),
-                })
-            }
-            [_, name, path, first, second] if name.as_str() == "walk" => Some(Command::Walk {
-                path: path.as_str(),
-                first: first.as_str(),
-                second: second.as_str(),
-            }),
-            [_, name, path] if name.as_str() == "check" => Some(Command::Check {
-                path: path.as_str(),
-            }),
-            [_, name, path, first, others @ ..]
-                if name.as_str() == "merge-base" && !others.is_empty() => {
-                Some(Command::MergeBase {
-                    path: path.as_str(),
-                    first: first.as_str(),
+            [_, name] => match name.as_str() {
+                "--help" | "-h" => Some(Command::Help),
+                "--version" => Some(Command::Version),
+                _ => None,
+            },
+            [_, name, path] => match name.as_str() {
+                "check" => Some(Command::Check { path }),
+                _ => None,
+            },
+            [_, name, path, first, others @ ..] => match (name.as_str(), others) {
+                ("is-ancestor", [second]) => Some(Command::IsAncestor {
+                    path,
+                    first,
+                    second,
+                }),
+                ("walk", [second]) => Some(Command::Walk {
+                    path,
+                    first,
+                    second,
+                }),
+                ("merge-base", [_, ..]) => Some(Command::MergeBase {
+                    path,
+                    first,
                     others,
-                })
-            }
+                }),
+                _ => None,
+            },
             _ => None,
         }
     }

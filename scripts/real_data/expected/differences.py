@@ -115,6 +115,12 @@ class Differences:
         if git.status < 0:
             self.crashes.add(name)
 
+    def add(self, other):
+        """Notes what was seen elsewhere."""
+        for name, finders in other.seen.items():
+            self.seen.setdefault(name, set()).update(finders)
+        self.crashes |= other.crashes
+
     def check(self, tally):
         """Prints the differences, and checks that they are the listed ones."""
         release = subprocess.check_output(["git", "--version"], text=True).strip()

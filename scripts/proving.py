@@ -1,0 +1,170 @@
+"""Proves crates, and builds a program or the static library from them: `python3 scripts/proving.py NAME`.
+
+The crates that NAME uses are proved first, those side by side that do not use one another. Of a library it keeps
+what its contracts say, and not their proofs, since the crates above read no more than that. So it takes less time than
+`rt run` and `rt lib`, which keep the proofs too: those are for whoever changes a crate and checks it again. A library that
+is newer than its sources and than what it uses stays as it is.
+"""
+import concurrent.futures
+import fcntl
+import functools
+import os
+import pathlib
+import shutil
+import subprocess
+import sys
+import time
+
+TOP = pathlib.Path(__file__).resolve().parent.parent
+CRATES = TOP / "crates"
+LISTED = (line.partition(":") for line in (TOP / "crates.txt").read_text().splitlines() if line and line[0] != "#")
+USES = {crate.split()[0]: used.split() for crate, _, used in LISTED}
+"""For each crate, those that crates.txt lists for it."""
+STATIC = "commitgraph_c"
+MEMORY = 3 * 2**30
+"""As many bytes of memory has to be there for each job of a check."""
+
+
+@functools.lru_cache(maxsize=None)
+def kit():
+    """The folder of the Rattle kit."""
+    return pathlib.Path(subprocess.run(["rt", "doc"], check=True, capture_output=True, text=True).stdout.strip()).parent
+
+
+def below(crate):
+    """The crates of this repository that a crate rests on, the lowest first."""
+    found = []
+    for name in USES.get(crate, []):
+        found += [it for it in (*below(name), name) if it in USES and it not in found]
+    return found
+
+
+def is_program(crate):
+    return (CRATES / crate / "src/main.rt").exists()
+
+
+def made(crate):
+    """What is built of a crate: a program, the archive of the static library, or a library's folder."""
+    out = CRATES / crate / "out"
+    if is_program(crate):
+        return out / crate
+    return out / f"lib{crate}.a" if crate == STATIC else out / f"rlib/{crate}.rlib"
+
+
+def dated(crate):
+    """The file whose time tells when a crate was built."""
+    return made(crate) / "format" if made(crate).suffix == ".rlib" else made(crate)
+
+
+def made_at(crate):
+    """When a crate was built, 0 where it was not."""
+    return dated(crate).stat().st_mtime if dated(crate).exists() else 0
+
+
+def source_files(crate):
+    """The files of a crate that a check reads."""
+    return [path for part in ("src", "specs", "proofs") for path in (CRATES / crate / part).rglob("*.*")]
+
+
+@functools.lru_cache(maxsize=None)
+def is_current(crate):
+    """Whether a crate is newer than its sources, and not older than what it uses, which is so too."""
+    used = [name for name in USES[crate] if name in USES]
+    is_newer = made_at(crate) > max(path.stat().st_mtime for path in source_files(crate))
+    return is_newer and all(made_at(name) <= made_at(crate) and is_current(name) for name in used)
+
+
+def processors():
+    """How many jobs a check gets: one for each processor, as far as there is memory for them."""
+    lines = pathlib.Path("/proc/meminfo").read_text().splitlines()
+    free = next(int(line.split()[1]) for line in lines if line.startswith("MemAvailable:"))
+    return max(1, min(len(os.sched_getaffinity(0)), free * 1024 // MEMORY))
+
+
+def build_words(crate, jobs):
+    """The command that proves a crate over the libraries below it, and builds it."""
+    rlibs = {name: made(name) for name in below(crate)}
+    named = ["std", *USES[crate]]
+    externs = [f"{name}={rlibs.get(name, kit() / 'rlibs' / f'{name}.rlib')}" for name in named]
+    folders = [kit() / "rlibs", *(rlib.parent for rlib in rlibs.values())]
+    to, linked = made(crate), ["--toolchain", kit() / "toolchain", "--backend", "llvm"]
+    if is_program(crate):
+        kind = [*linked, "-o", f"{to}.o"]
+    elif crate == STATIC:
+        kind = ["--crate-type", "staticlib", *linked, "-o", to]
+    else:
+        kind = ["--statements", "-o", to]
+    return [
+        *(kit() / "bin/rattle", "build", "--crate-name", crate, f"src/{'main' if is_program(crate) else 'lib'}.rt"),
+        *(word for extern in externs for word in ("--extern", extern)),
+        *(word for folder in folders for word in ("-L", f"dependency={folder}")),
+        *("--antt-project", kit() / "rattle/logic/antt-project.json", "--logic-built", kit() / "logic_built"),
+        *("--links", f"{crate}=", "--jobs", jobs, *kind),
+    ]
+
+
+def link_words(program):
+    """The command that links a program."""
+    archives = [kit() / f"c/lib{name}_c.a" for name in ("os", "libc")]
+    target = ["--target", "x86_64-unknown-linux-gnu", "--toolchain", kit() / "toolchain"]
+    return [kit() / "bin/rattle-link", *target, "-o", program, f"{program}.o", *archives]
+
+
+def run(words, folder):
+    """Runs a command, and answers what it wrote. Where it fails, all ends with that."""
+    done = subprocess.run([str(word) for word in words], cwd=folder, stdout=subprocess.PIPE, stderr=subprocess.STDOUT, text=True)
+    if done.returncode != 0:
+        raise RuntimeError(done.stdout[-4000:])
+    return done.stdout
+
+
+def prove(crate, jobs, date=None):
+    """Proves and builds one crate. It is dated to the start, so that a source that is edited meanwhile is newer than it."""
+    started, to = time.time(), made(crate)
+    folder = to.parent
+    if not is_program(crate) and crate != STATIC:
+        shutil.rmtree(folder, ignore_errors=True)
+    folder.mkdir(parents=True, exist_ok=True)
+    said = run(build_words(crate, jobs), CRATES / crate)
+    if not any(line.startswith("logic=proved ") for line in said.splitlines()):
+        raise RuntimeError(said[-4000:])
+    if is_program(crate):
+        run(link_words(to), CRATES / crate)
+    os.utime(dated(crate), (date or started,) * 2)
+    print(f"{crate}: proved in {time.time() - started:.0f} s", flush=True)
+
+
+def prove_all(crates, date):
+    """Proves crates, each as soon as those that it uses are proved, and dates them."""
+    left, running, jobs = list(crates), {}, processors()
+    with concurrent.futures.ThreadPoolExecutor(len(crates) + 1) as pool:
+        while left or running:
+            waited_for = {*left, *running.values()}
+            for crate in [it for it in left if waited_for.isdisjoint(below(it))]:
+                left.remove(crate)
+                running[pool.submit(prove, crate, jobs, date)] = crate
+            for done in concurrent.futures.wait(running, return_when=concurrent.futures.FIRST_COMPLETED).done:
+                del running[done]
+                done.result()
+
+
+def build(crate):
+    """Proves and builds a crate, and first what it uses, where a source is newer. No `rt` works in their folders meanwhile."""
+    locked = [os.open(CRATES / name, os.O_RDONLY) for name in sorted([*below(crate), crate])]
+    for folder in locked:
+        fcntl.flock(folder, fcntl.LOCK_EX)
+    date = time.time()
+    prove_all([name for name in (*below(crate), crate) if not is_current(name)], date)
+    # The program may be older than a source of a crate that it does not use.
+    os.utime(dated(crate), (date, date))
+    for folder in locked:
+        os.close(folder)
+
+
+if __name__ == "__main__":
+    if len(sys.argv) != 2 or sys.argv[1] not in USES:
+        sys.exit(__doc__)
+    try:
+        build(sys.argv[1])
+    except RuntimeError as error:
+        sys.exit(f"{error}\n{sys.argv[1]} was not proved or built")
