@@ -1,4 +1,4 @@
-use Rattle.std.proofs.Common.{◌≡◌, ℕ, ◌<◌, ◌≤◌, Bool, not, List, [], ◌∷◌, Some, None, Result, Ok, map, sym, ap, ◌∙◌}
+use Rattle.std.proofs.Common.{◌≡◌, ℕ, ◌<◌, ◌≤◌, Bool, not, List, [], ◌∷◌, Some, None, Result, Ok, Err, map, sym, ap, ◌∙◌}
 use Rattle.std.proofs.lemmas.Bool.{lt-ltb, le-ltb}
 use Rattle.first_faults.specs.First.{◌when◌}
 use Rattle.graph_format.specs.Parents.{position_of, items_of}
@@ -6,7 +6,7 @@ use Rattle.graph_format.specs.Points.{first_some}
 use Rattle.graph_format.specs.declared.Position.{Position}
 use Rattle.graph_format.specs.declared.parents.ParentError.{ParentError}
 use Rattle.gix_commitgraph.specs.Verify.{item_refusal}
-use Rattle.gix_commitgraph.specs.declared.verify.VerifyError.TheVariants.{ParentOutOfRange}
+use Rattle.gix_commitgraph.specs.declared.verify.VerifyError.TheVariants.{Parent, ParentOutOfRange}
 use Rattle.graph_layer.specs.Commit.{commit_pos, commit_parents}
 use Rattle.graph_layer.specs.RemainingParents.{parents_left}
 use Rattle.gix_commitgraph.proofs.check.GatherLemmas.{refusal-told, within-unrefused}
@@ -35,6 +35,22 @@ refusal-found {E} p stop left rest item parent taken is past =
     ∙ ap (λ (b : Bool). first_some
     ((ParentOutOfRange (position_of p) parent when not b) ∷ map (item_refusal {E = E} p stop) rest))
     (le-ltb parent.0 stop past)
+
+-- one that cannot be decoded is
+refusal-undecoded : {E : Type 0} (p stop : ℕ) (left rest : List (Result Position ParentError)) (item : Result Position ParentError)
+    (error : ParentError) → left ≡ item ∷ rest → item ≡ Err error
+    → first_some (map (item_refusal {E = E} p stop) left) ≡ Some (Parent (position_of p) error)
+refusal-undecoded {E} p stop left rest item error taken is =
+    ap (λ (items : List (Result Position ParentError)). first_some (map (item_refusal {E = E} p stop) items)) taken
+    ∙ ap (λ (first : Result Position ParentError). first_some
+    (item_refusal {E = E} p stop first ∷ map (item_refusal {E = E} p stop) rest)) is
+
+pub returns-in-Err : goal.returns-in-Err
+returns-in-Err g c =
+    sym (c.loop-parent.invariant
+    ∙ refusal-undecoded c.args.pos.0 c.args.span.stop _ (parents_left c.next.new.self) c.in-Some.parent c.in-Err.error
+    c.in-Some.ensures.steps.steps c.in-Err.is)
+    ∙ refusal-told c.args.self.now c.args.span c.args.commit.now c.args.pos.0 c.requires.span c.requires.commit
 
 pub returns-then-parent-span : goal.returns-then-parent-span
 returns-then-parent-span g c =
