@@ -3,14 +3,27 @@ use Rattle.std.proofs.Common.{◌≡◌, ◌++◌, map, ap, ◌∙◌, subst, ap
 use Rattle.std.specs.List.{flat_map}
 use Rattle.std.specs.Io.KnownBytes.{Appends}
 use Rattle.std.proofs.lemmas.Iterator.Consumers.{YieldsList-from_first, YieldsList-end}
+use Rattle.gix_hash_core.specs.Oid.{oid_bytes}
 use Rattle.graph_layer.specs.Commit.{layer_and_position}
 use Rattle.graph_layer.specs.Remaining.{commits_left}
 use Rattle.graph_format.specs.Layer.{positions_from}
 use Rattle.graph_commands.specs.Listing.{layer_line, base_line, commit_lines}
 use Rattle.graph_commands.specs.PositionLines.{position_line}
 use Rattle.graph_commands.proofs.PlaceLemmas.{place_lines-all}
+use Rattle.graph_commands.proofs.Appended.{appends_line}
 use Rattle.graph_commands.proofs.BlockLemmas.{appends_written}
 use Rattle.graph_commands.proofs.listing.write_listing.Goals as goal
+
+pub loop-base-preserved : goal.loop-base-preserved
+loop-base-preserved g c =
+    appends_line oid_bytes base_line (layer_line c.args.layer.now) c.loop-base.yielded c.in-Some.base _ _ _
+    c.loop-base.invariant c.in_ok-push_base.ensures
+
+pub loop-commit-preserved : goal.loop-commit-preserved
+loop-commit-preserved g c =
+    let layer = c.args.layer.now in
+    appends_line layer_and_position position_line (layer_line layer ++ flat_map base_line layer.bases) c.loop-commit.yielded
+    c.in-Some-commit.commit _ _ _ c.loop-commit.invariant c.in_ok-push_commit.ensures
 
 pub returns : goal.returns
 returns g c =
