@@ -37,8 +37,8 @@ refusal-found {E} p stop left rest item parent taken is past =
     (le-ltb parent.0 stop past)
 
 -- one that cannot be decoded is
-refusal-undecoded : {E : Type 0} (p stop : ℕ) (left rest : List (Result Position ParentError)) (item : Result Position ParentError)
-    (error : ParentError) → left ≡ item ∷ rest → item ≡ Err error
+refusal-undecoded : {E : Type 0} (p stop : ℕ) (left rest : List (Result Position ParentError))
+    (item : Result Position ParentError) (error : ParentError) → left ≡ item ∷ rest → item ≡ Err error
     → first_some (map (item_refusal {E = E} p stop) left) ≡ Some (Parent (position_of p) error)
 refusal-undecoded {E} p stop left rest item error taken is =
     ap (λ (items : List (Result Position ParentError)). first_some (map (item_refusal {E = E} p stop) items)) taken
