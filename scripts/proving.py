@@ -74,8 +74,8 @@ def is_current(crate):
     return is_newer and all(made_at(name) <= made_at(crate) and is_current(name) for name in used)
 
 
-def processors():
-    """How many jobs a check gets: one for each processor, as far as there is memory for them."""
+def most_jobs():
+    """How many jobs all checks get together: one for each processor, as far as there is memory for them."""
     lines = pathlib.Path("/proc/meminfo").read_text().splitlines()
     free = next(int(line.split()[1]) for line in lines if line.startswith("MemAvailable:"))
     return max(1, min(len(os.sched_getaffinity(0)), free * 1024 // MEMORY))
@@ -135,16 +135,20 @@ def prove(crate, jobs, date=None):
 
 
 def prove_all(crates, date):
-    """Proves crates, each as soon as those that it uses are proved, and dates them."""
-    left, running, jobs = list(crates), {}, processors()
+    """Proves crates, each as soon as those that it uses are proved, with the jobs that are free, and dates them."""
+    left, running, idle = list(crates), {}, most_jobs()
     with concurrent.futures.ThreadPoolExecutor(len(crates) + 1) as pool:
         while left or running:
-            waited_for = {*left, *running.values()}
-            for crate in [it for it in left if waited_for.isdisjoint(below(it))]:
+            waited_for = {*left, *(crate for crate, _ in running.values())}
+            ready = [crate for crate in left if waited_for.isdisjoint(below(crate))]
+            while ready and (idle or not running):
+                crate, jobs = ready[0], max(1, idle // len(ready))
+                ready.remove(crate)
                 left.remove(crate)
-                running[pool.submit(prove, crate, jobs, date)] = crate
+                running[pool.submit(prove, crate, jobs, date)] = crate, jobs
+                idle -= jobs
             for done in concurrent.futures.wait(running, return_when=concurrent.futures.FIRST_COMPLETED).done:
-                del running[done]
+                idle += running.pop(done)[1]
                 done.result()
 
 
