@@ -122,7 +122,7 @@ impl fmt::Display for Refusal {
             Refusal::Open(error) => write!(f, "refused open {}", OpenText(error)),
             Refusal::Verify(error) => write!(f, "refused verify {}", VerifyText(error)),
             Refusal::Check(error) => write!(f, "refused verify {}", VerifyText(error)),
-            Refusal::Walk => write!(f, "refused walk"),
+            Refusal::Walk => f.write_str("refused walk"),
         }
     }
 }
@@ -155,15 +155,15 @@ impl fmt::Display for OpenText<'_> {
 
     fn fmt<W: fmt::Write>(&self, f: &mut fmt::Formatter<W>) -> fmt::Result {
         match self.0 {
-            OpenError::NothingFound => write!(f, "1"),
-            OpenError::NotOpened => write!(f, "2"),
-            OpenError::Device => write!(f, "3"),
+            OpenError::NothingFound => f.write_str("1"),
+            OpenError::NotOpened => f.write_str("2"),
+            OpenError::Device => f.write_str("3"),
             OpenError::ChainNotText { line } => write!(f, "4 line {line}"),
             OpenError::Layer { layer, error } => {
                 write!(f, "5 layer {layer} {}", FileText(error))
             }
             OpenError::Graph(error) => write!(f, "6 graph {}", graph_number(error)),
-            OpenError::OutOfMemory => write!(f, "7"),
+            OpenError::OutOfMemory => f.write_str("7"),
         }
     }
 }
@@ -179,7 +179,7 @@ impl<E> fmt::Display for VerifyText<'_, E> {
 
     fn fmt<W: fmt::Write>(&self, f: &mut fmt::Formatter<W>) -> fmt::Result {
         match self.0 {
-            VerifyError::TooManyFiles => write!(f, "1"),
+            VerifyError::TooManyFiles => f.write_str("1"),
             VerifyError::BaseCount { layer } => write!(f, "2 layer {layer}"),
             VerifyError::BaseId { layer, index } => write!(f, "3 layer {layer} index {index}"),
             VerifyError::Layer { layer, fault } => {
@@ -200,7 +200,7 @@ impl<E> fmt::Display for VerifyText<'_, E> {
                 write!(f, "8 position {} expected {expected}", pos.0)
             }
             VerifyError::Processor { pos, .. } => write!(f, "9 position {}", pos.0),
-            VerifyError::OutOfMemory => write!(f, "10"),
+            VerifyError::OutOfMemory => f.write_str("10"),
             VerifyError::DuplicateId { pos, earlier } => {
                 write!(f, "11 position {} earlier {}", pos.0, earlier.0)
             }
@@ -219,8 +219,8 @@ impl fmt::Display for FaultText {
 
     fn fmt<W: fmt::Write>(&self, f: &mut fmt::Formatter<W>) -> fmt::Result {
         match self.0 {
-            LayerFault::Checksum => write!(f, "1"),
-            LayerFault::FileName => write!(f, "2"),
+            LayerFault::Checksum => f.write_str("1"),
+            LayerFault::FileName => f.write_str("2"),
             LayerFault::Fan { byte } => write!(f, "3 byte {byte}"),
         }
     }

@@ -44,7 +44,7 @@ impl fmt::Display for LongestText {
     fn fmt<W: fmt::Write>(&self, f: &mut fmt::Formatter<W>) -> fmt::Result {
         match self.0 {
             Some(longest) => write!(f, "{longest}"),
-            None => write!(f, "none"),
+            None => f.write_str("none"),
         }
     }
 }

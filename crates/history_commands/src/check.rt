@@ -100,7 +100,7 @@ impl fmt::Display for DatesText {
             DatesError::Date { pos, expected } => {
                 write!(f, "5 position {} expected {expected}", pos.0)
             }
-            DatesError::OutOfMemory => write!(f, "6"),
+            DatesError::OutOfMemory => f.write_str("6"),
         }
     }
 }
@@ -127,7 +127,7 @@ impl fmt::Display for FiltersText {
             FiltersError::PastEnd { pos } => write!(f, "7 position {}", pos.0),
             FiltersError::LeftOver { layer } => write!(f, "8 layer {layer}"),
             FiltersError::Settings { layer } => write!(f, "9 layer {layer}"),
-            FiltersError::OutOfMemory => write!(f, "10"),
+            FiltersError::OutOfMemory => f.write_str("10"),
         }
     }
 }

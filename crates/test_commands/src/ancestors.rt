@@ -1,8 +1,7 @@
-use crate::commands;
+use crate::commands::{Command, expect, try_writes};
 use crate::fixtures::{built, checksum_of, compare_texts, put_chain, with_commits};
 use gix_commitgraph::verify::VerifyError;
 use graph_commands::refusal::Refusal;
-use graph_commands::run::WriteFailed;
 use graph_folder::folder::{Folder, Memory};
 use graph_vectors::{DIAMOND, Sink};
 use std::alloc::{AllocError, Global};
@@ -18,10 +17,10 @@ fn expect_walk(
     (status, lines, least, most): (u8, &[&str], u32, u32),
 ) {
     let mut out = Sink::new(alloc, usize::MAX, None);
-    let answer = commands::ancestor(alloc, folder, ("g", first, second), &mut out);
-    assert_eq!(rt; answer.expect(rt, "a status"), status);
+    let answer = Command::Ancestor(first, second).run(alloc, folder, "g", &mut out);
+    assert!(rt; answer == Ok(status));
     let told = tells(alloc, out.text(), lines, least, most);
-    assert!(rt; told.expect(rt, "memory for a text"), "{first} {second}");
+    assert!(rt; told.expect(rt, "memory for a text"));
 }
 
 /// Whether a text is one of these lines, and then a number of visits within these bounds.
@@ -100,39 +99,49 @@ const NO_IDS: &[(&str, &str, &str)] = &[
     ("zz", "", "refused id 1\n"),
 ];
 
-/// Asserts the status of `ancestor` for a path and two texts of ids, and what it writes.
-pub fn expect_ancestor<T: Folder>(
-    rt: &impl Abort,
-    alloc: Global,
-    folder: &mut T,
-    words: (&str, &str, &str),
-    (status, want): (u8, &str),
-) {
-    let mut out = Sink::new(alloc, usize::MAX, None);
-    let answer = commands::ancestor(alloc, folder, words, &mut out);
-    assert_eq!(rt; answer.expect(rt, "a status"), status);
-    assert_eq!(rt; out.text(), want);
-}
-
 #[test]
 fn tells_why_no_walk_is_looked_for(rt: HostRuntime) {
     let alloc = rt.alloc();
     let mut folder = with_commits(&rt, alloc, "g", DIAMOND);
     for (first, second, line) in UNKNOWN {
-        expect_ancestor(&rt, alloc, &mut folder, ("g", first, second), (1, line));
+        expect(
+            &rt,
+            alloc,
+            &mut folder,
+            (Command::Ancestor(first, second), "g"),
+            (1, line),
+        );
     }
     // A text that is no id opens nothing.
     folder.fail_read(0);
     for (first, second, line) in NO_IDS {
-        expect_ancestor(&rt, alloc, &mut folder, ("g", first, second), (2, line));
-        assert_eq!(rt; folder.failures(), 0);
+        expect(
+            &rt,
+            alloc,
+            &mut folder,
+            (Command::Ancestor(first, second), "g"),
+            (2, line),
+        );
+        assert!(rt; folder.failures() == 0);
     }
     let failed = (1, "refused open 3\n");
-    expect_ancestor(&rt, alloc, &mut folder, ("g", FOURS, ONES), failed);
+    expect(
+        &rt,
+        alloc,
+        &mut folder,
+        (Command::Ancestor(FOURS, ONES), "g"),
+        failed,
+    );
     // A wrong graph is refused before an id is looked up.
     let mut wrong = with_commits(&rt, alloc, "g", &[(0x11, &[], 1), (0x22, &[0], 3)]);
     let want = "refused verify 8 position 1 expected 2\n";
-    expect_ancestor(&rt, alloc, &mut wrong, ("g", FIVES, ONES), (1, want));
+    expect(
+        &rt,
+        alloc,
+        &mut wrong,
+        (Command::Ancestor(FIVES, ONES), "g"),
+        (1, want),
+    );
 }
 
 /// Refusals of a query, with their texts.
@@ -152,7 +161,7 @@ const REFUSALS: &[(Refusal, &str)] = &[
 fn spells_each_refusal_of_a_query(rt: HostRuntime) {
     compare_texts(&rt, rt.alloc(), REFUSALS);
     for (refusal, _) in REFUSALS {
-        assert_eq!(rt; refusal.status(), 1);
+        assert!(rt; refusal.status() == 1);
     }
 }
 
@@ -161,13 +170,7 @@ fn reports_each_write_of_a_walk_that_fails(rt: HostRuntime) {
     let alloc = rt.alloc();
     let mut folder = with_commits(&rt, alloc, "g", DIAMOND);
     for (first, second, status) in [(FOURS, ONES, 0), (ONES, FOURS, 1)] {
-        let mut whole = Sink::new(alloc, 5, None);
-        let answer = commands::ancestor(alloc, &mut folder, ("g", first, second), &mut whole);
-        assert_eq!(rt; answer.expect(&rt, "a status"), status);
-        for write in 0..whole.writes {
-            let mut out = Sink::new(alloc, 5, Some(write));
-            let answer = commands::ancestor(alloc, &mut folder, ("g", first, second), &mut out);
-            assert!(rt; matches!(answer, Err(WriteFailed)));
-        }
+        let asked = (Command::Ancestor(first, second), "g");
+        try_writes(&rt, alloc, &mut folder, asked, 5, status);
     }
 }

@@ -1,9 +1,7 @@
-use crate::commands;
+use crate::commands::{Command, expect, try_writes};
 use crate::fixtures::{built, checksum_of, put_chain};
-use crate::verifying::expect_verify;
-use graph_commands::run::WriteFailed;
-use graph_folder::folder::{Folder, Memory};
-use graph_vectors::{Row, Sink};
+use graph_folder::folder::Memory;
+use graph_vectors::Row;
 use std::alloc::Global;
 use std::process::Abort;
 
@@ -17,20 +15,6 @@ fn chain(rt: &impl Abort, alloc: Global, upper: &[Row<'_>]) -> Memory {
     folder
 }
 
-/// Asserts the status of `distinct`, and what it writes.
-pub fn expect_distinct<T: Folder>(
-    rt: &impl Abort,
-    alloc: Global,
-    folder: &mut T,
-    path: &str,
-    (status, want): (u8, &str),
-) {
-    let mut out = Sink::new(alloc, usize::MAX, None);
-    let answer = commands::distinct(alloc, folder, path, &mut out);
-    assert_eq!(rt; answer.expect(rt, "a status"), status);
-    assert_eq!(rt; out.text(), want);
-}
-
 /// The id of position 1 stands at position 2 too.
 const REPEATED: &[Row<'static>] = &[(0x22, &[], 1), (0x33, &[1], 3), (0x44, &[], 1)];
 
@@ -42,9 +26,15 @@ const DISTINCT: &[Row<'static>] = &[(0x15, &[1], 3), (0x33, &[1], 3), (0x44, &[]
 
 const COUNTED: &str = "ok commits 5 longest 2\nparents 0 commits 2\nparents 1 commits 3\n";
 
-/// The same for the chain of these upper layers.
+/// Asserts the status of `distinct` for the chain of this upper layer, and what it writes.
 fn expect_chain(rt: &impl Abort, alloc: Global, upper: &[Row<'_>], want: (u8, &str)) {
-    expect_distinct(rt, alloc, &mut chain(rt, alloc, upper), "graphs", want);
+    expect(
+        rt,
+        alloc,
+        &mut chain(rt, alloc, upper),
+        (Command::Distinct, "graphs"),
+        want,
+    );
 }
 
 #[test]
@@ -56,11 +46,11 @@ fn tells_an_id_that_stands_in_two_layers(rt: HostRuntime) {
     let falling = "refused verify 5 position 3 fault 2\n";
     expect_chain(&rt, alloc, FALLING, (1, falling));
     let text = "ok commits 5 longest 2\nparents 0 commits 3\nparents 1 commits 2\n";
-    expect_verify(
+    expect(
         &rt,
         alloc,
         &mut chain(&rt, alloc, REPEATED),
-        "graphs",
+        (Command::Verify, "graphs"),
         (0, text),
     );
 }
@@ -68,14 +58,9 @@ fn tells_an_id_that_stands_in_two_layers(rt: HostRuntime) {
 #[test]
 fn reports_each_failed_write_of_a_check_for_distinct_ids(rt: HostRuntime) {
     let alloc = rt.alloc();
-    for upper in [DISTINCT, REPEATED] {
+    for (upper, status) in [(DISTINCT, 0), (REPEATED, 1)] {
         let mut folder = chain(&rt, alloc, upper);
-        let mut whole = Sink::new(alloc, 10, None);
-        assert!(rt; commands::distinct(alloc, &mut folder, "graphs", &mut whole).is_ok());
-        for write in 0..whole.writes {
-            let mut out = Sink::new(alloc, 10, Some(write));
-            let answer = commands::distinct(alloc, &mut folder, "graphs", &mut out);
-            assert!(rt; matches!(answer, Err(WriteFailed)));
-        }
+        let asked = (Command::Distinct, "graphs");
+        try_writes(&rt, alloc, &mut folder, asked, 10, status);
     }
 }

@@ -1,26 +1,11 @@
-use crate::commands;
+use crate::commands::{Command, expect, try_writes};
 use crate::fixtures::{built, hex_of, put_chain, put_dir, with_commits};
-use crate::verifying::expect_verify;
 use gix_hash_core::ObjectId;
 use graph_commands::run::WriteFailed;
 use graph_folder::folder::{Folder, Memory};
 use graph_vectors::{DIAMOND, Sink};
 use std::alloc::Global;
 use std::process::Abort;
-
-/// Asserts the status of `find`, and what it writes.
-pub fn expect_find<T: Folder>(
-    rt: &impl Abort,
-    alloc: Global,
-    folder: &mut T,
-    (path, hex): (&str, &str),
-    (status, want): (u8, &str),
-) {
-    let mut out = Sink::new(alloc, usize::MAX, None);
-    let answer = commands::find(alloc, folder, (path, hex), &mut out);
-    assert_eq!(rt; answer.expect(rt, "a status"), status);
-    assert_eq!(rt; out.text(), want);
-}
 
 /// Forty times a digit.
 const FOURS: &str = "4444444444444444444444444444444444444444";
@@ -50,7 +35,13 @@ fn finds_a_commit(rt: HostRuntime) {
     let alloc = rt.alloc();
     let mut folder = with_commits(&rt, alloc, "g", DIAMOND);
     for (path, hex, status, want) in SEARCHES {
-        expect_find(&rt, alloc, &mut folder, (path, hex), (*status, want));
+        expect(
+            &rt,
+            alloc,
+            &mut folder,
+            (Command::Find(hex), path),
+            (*status, want),
+        );
     }
 }
 
@@ -62,22 +53,22 @@ fn each_read_of_a_search_by_parts_may_fail(rt: HostRuntime) {
     for read in 0..3 {
         let mut folder = with_commits(&rt, alloc, "g", DIAMOND);
         folder.fail_read(read);
-        expect_find(
+        expect(
             &rt,
             alloc,
             &mut folder,
-            ("g", FOURS),
+            (Command::Find(FOURS), "g"),
             (1, "refused open 3\n"),
         );
-        assert_eq!(rt; folder.failures(), 1, "read {read}");
+        assert!(rt; folder.failures() == 1);
     }
     let mut folder = with_commits(&rt, alloc, "g", DIAMOND);
     folder.fail_read(3);
-    expect_find(
+    expect(
         &rt,
         alloc,
         &mut folder,
-        ("g", FOURS),
+        (Command::Find(FOURS), "g"),
         (0, "position 3 generation 3 time 7\n"),
     );
 }
@@ -91,11 +82,23 @@ fn a_text_that_is_no_id_opens_nothing(rt: HostRuntime) {
     let mut folder = with_commits(&rt, alloc, "g", DIAMOND);
     folder.fail_read(0);
     for (hex, want) in NO_IDS {
-        expect_find(&rt, alloc, &mut folder, ("g", hex), (2, want));
-        assert_eq!(rt; folder.failures(), 0);
+        expect(
+            &rt,
+            alloc,
+            &mut folder,
+            (Command::Find(hex), "g"),
+            (2, want),
+        );
+        assert!(rt; folder.failures() == 0);
     }
-    expect_verify(&rt, alloc, &mut folder, "g", (1, "refused open 3\n"));
-    assert_eq!(rt; folder.failures(), 1);
+    expect(
+        &rt,
+        alloc,
+        &mut folder,
+        (Command::Verify, "g"),
+        (1, "refused open 3\n"),
+    );
+    assert!(rt; folder.failures() == 1);
 }
 
 const CASES: &[&str] = &[
@@ -110,7 +113,7 @@ fn digits_are_of_either_case(rt: HostRuntime) {
     let mut folder = with_commits(&rt, alloc, "g", &[(0xab, &[], 9)]);
     for hex in CASES {
         let want = (0, "position 0 generation 9 time 7\n");
-        expect_find(&rt, alloc, &mut folder, ("g", hex), want);
+        expect(&rt, alloc, &mut folder, (Command::Find(hex), "g"), want);
     }
 }
 
@@ -147,8 +150,20 @@ fn finds_a_commit_in_a_chain(rt: HostRuntime) {
     for (id, status, want) in IN_A_CHAIN {
         let hex = hex_of(&rt, alloc, *id);
         let hex = hex.as_str();
-        expect_find(&rt, alloc, &mut folder, ("graphs", hex), (*status, want));
-        expect_find(&rt, alloc, &mut info, ("info", hex), (*status, want));
+        expect(
+            &rt,
+            alloc,
+            &mut folder,
+            (Command::Find(hex), "graphs"),
+            (*status, want),
+        );
+        expect(
+            &rt,
+            alloc,
+            &mut info,
+            (Command::Find(hex), "info"),
+            (*status, want),
+        );
     }
 }
 
@@ -166,20 +181,29 @@ fn each_read_of_a_search_in_a_chain_may_fail(rt: HostRuntime) {
         } else {
             (0, "position 5 generation 8 time 7\n")
         };
-        expect_find(&rt, alloc, &mut folder, ("graphs", hex.as_str()), want);
-        assert_eq!(rt; folder.failures(), if read < 8 { 1 } else { 0 });
+        expect(
+            &rt,
+            alloc,
+            &mut folder,
+            (Command::Find(hex.as_str()), "graphs"),
+            want,
+        );
+        assert!(rt; folder.failures() == u64::from(read < 8));
     }
 }
 
 /// Asserts that a search writes its line at once, and nothing where that write fails.
 fn expect_one_write(rt: &impl Abort, alloc: Global, folder: &mut Memory, hex: &str) {
     let mut whole = Sink::new(alloc, usize::MAX, None);
-    assert!(rt; commands::find(alloc, folder, ("g", hex), &mut whole).is_ok());
-    assert_eq!(rt; whole.writes, 1);
+    assert!(rt;
+        Command::Find(hex)
+            .run(alloc, folder, "g", &mut whole)
+            .is_ok()
+    );
+    assert!(rt; whole.writes == 1);
     let mut out = Sink::new(alloc, usize::MAX, Some(0));
-    let answer = commands::find(alloc, folder, ("g", hex), &mut out);
-    assert!(rt; matches!(answer, Err(WriteFailed)));
-    assert_eq!(rt; out.bytes.len(), 0);
+    let answer = Command::Find(hex).run(alloc, folder, "g", &mut out);
+    assert!(rt; answer == Err(WriteFailed) && out.bytes.is_empty());
 }
 
 #[test]
@@ -191,26 +215,18 @@ fn writes_the_line_of_a_search_at_once(rt: HostRuntime) {
     }
 }
 
-/// Asserts the status of a search, and the answer to each of its writes that fails.
-fn try_writes(rt: &impl Abort, alloc: Global, folder: &mut Memory, hex: &str, status: u8) {
-    let mut whole = Sink::new(alloc, 5, None);
-    let answer = commands::find(alloc, folder, ("g", hex), &mut whole);
-    assert_eq!(rt; answer.expect(rt, "a status"), status);
-    for write in 0..whole.writes {
-        let mut out = Sink::new(alloc, 5, Some(write));
-        let answer = commands::find(alloc, folder, ("g", hex), &mut out);
-        assert!(rt; matches!(answer, Err(WriteFailed)));
-    }
-    let mut out = Sink::new(alloc, 5, Some(whole.writes));
-    let answer = commands::find(alloc, folder, ("g", hex), &mut out);
-    assert_eq!(rt; answer.expect(rt, "a status"), status);
-}
-
 #[test]
 fn reports_each_write_of_a_search_that_fails(rt: HostRuntime) {
     let alloc = rt.alloc();
     let mut folder = with_commits(&rt, alloc, "g", DIAMOND);
-    try_writes(&rt, alloc, &mut folder, FOURS, 0);
-    try_writes(&rt, alloc, &mut folder, FIVES, 1);
-    try_writes(&rt, alloc, &mut folder, ZS, 2);
+    for (hex, status) in [(FOURS, 0), (FIVES, 1), (ZS, 2)] {
+        try_writes(
+            &rt,
+            alloc,
+            &mut folder,
+            (Command::Find(hex), "g"),
+            5,
+            status,
+        );
+    }
 }

@@ -3,7 +3,7 @@
 use gix_hash_core::{Kind, ObjectId, digest};
 use graph_folder::folder::Memory;
 use graph_vectors::{LayerPlan, Row, build};
-use std::alloc::{AllocError, Global};
+use std::alloc::Global;
 use std::fmt::Display;
 use std::process::Abort;
 
@@ -88,25 +88,19 @@ pub(super) fn put_chain(
     folder: &str,
     layers: &[&[u8]],
 ) {
-    let put = put_layers(alloc, memory, folder, layers);
-    put.expect(rt, "memory for a chain");
-}
-
-fn put_layers(
-    alloc: Global,
-    memory: &mut Memory,
-    folder: &str,
-    layers: &[&[u8]],
-) -> Result<(), AllocError> {
     let mut chain = String::new(alloc);
     for layer in layers {
         let checksum = checksum_of(layer);
-        let path = format!(in alloc; "{folder}/graph-{checksum}.graph")?;
-        memory.put_file(path, Vec::from_slice(alloc, *layer)?)?;
-        let line = format!(in alloc; "{checksum}\n")?;
-        chain.push_str(line.as_str())?;
+        let path = format!(in alloc; "{folder}/graph-{checksum}.graph");
+        let path = path.expect(rt, "memory for a path");
+        put_file(rt, alloc, memory, path.as_str(), copied(rt, alloc, layer));
+        let line = format!(in alloc; "{checksum}\n").expect(rt, "memory for a line");
+        chain
+            .push_str(line.as_str())
+            .expect(rt, "memory for a line");
     }
-    memory.put_dir(String::from_str(alloc, folder)?)?;
-    let path = format!(in alloc; "{folder}/commit-graph-chain")?;
-    memory.put_file(path, chain.into_bytes())
+    put_dir(rt, alloc, memory, folder);
+    let path = format!(in alloc; "{folder}/commit-graph-chain");
+    let path = path.expect(rt, "memory for a path");
+    put_file(rt, alloc, memory, path.as_str(), chain.into_bytes());
 }

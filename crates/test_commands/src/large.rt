@@ -5,14 +5,13 @@
 //! rounded down, as its second; where i is a multiple of 3, it has commit i / 3 as its third. Its
 //! generation number is i + 1.
 
-use crate::finding::expect_find;
+use crate::commands::{Command, expect};
 use crate::fixtures::{checksum_of, put_chain};
-use crate::verifying::expect_verify;
 use gix_hash_core::{Kind, ObjectId};
 use graph_commands::run::run_list;
 use graph_folder::folder::Memory;
 use graph_vectors::{LayerPlan, PlanCommit, Sink, build};
-use std::alloc::{AllocError, Global};
+use std::alloc::Global;
 use std::process::Abort;
 
 /// The id of a commit.
@@ -24,7 +23,7 @@ fn id(commit: u32) -> ObjectId {
 }
 
 /// The parents of a commit.
-fn parents(alloc: Global, commit: u32) -> Result<Vec<u32>, AllocError> {
+fn parents(rt: &impl Abort, alloc: Global, commit: u32) -> Vec<u32> {
     let all = [commit.saturating_sub(1), commit / 2, commit / 3];
     let count = if commit == 0 {
         0
@@ -33,50 +32,65 @@ fn parents(alloc: Global, commit: u32) -> Result<Vec<u32>, AllocError> {
     } else {
         2
     };
-    Vec::from_slice(alloc, &all[..count])
+    Vec::from_slice(alloc, &all[..count]).expect(rt, "memory for parents")
 }
 
 /// What the layer of the commits from one on, up to another, on these bases, is to say.
-fn plan(alloc: Global, bases: &[ObjectId], from: u32, to: u32) -> Result<LayerPlan, AllocError> {
-    let mut plan = LayerPlan::new(alloc, Kind::Sha1, bases)?;
+fn plan(rt: &impl Abort, alloc: Global, bases: &[ObjectId], from: u32, to: u32) -> LayerPlan {
+    let mut plan = LayerPlan::new(alloc, Kind::Sha1, bases).expect(rt, "memory for a plan");
     for commit in from..to {
-        let (parents, generation) = (parents(alloc, commit)?, commit.saturating_add(1));
-        let commit = PlanCommit::new(alloc, id(commit), &parents, generation)?;
-        plan.commits.push(commit)?;
+        let parents = parents(rt, alloc, commit);
+        let planned = PlanCommit::new(alloc, id(commit), &parents, commit.saturating_add(1));
+        let planned = planned.expect(rt, "memory for a plan");
+        plan.commits.push(planned).expect(rt, "memory for a plan");
     }
-    Ok(plan)
+    plan
+}
+
+/// Adds to a text.
+fn add(rt: &impl Abort, text: &mut String, more: &str) {
+    text.push_str(more).expect(rt, "memory for a text");
+}
+
+/// Adds the line of a commit of a layer that begins with another.
+fn add_commit(rt: &impl Abort, alloc: Global, text: &mut String, commit: u32, from: u32) {
+    let (place, generation) = (commit.saturating_sub(from), commit.saturating_add(1));
+    let (id, tree) = (id(commit), ObjectId::from([0x99; 20]));
+    let line = format!(in alloc; "{place} {id} {tree} {generation} 7 ");
+    add(rt, text, &line.expect(rt, "memory for a text"));
+    for (place, parent) in parents(rt, alloc, commit).iter().enumerate() {
+        add(rt, text, if place == 0 { "" } else { "," });
+        let parent = format!(in alloc; "{parent}");
+        add(rt, text, &parent.expect(rt, "memory for a text"));
+    }
+    add(rt, text, if commit == 0 { "-\n" } else { "\n" });
 }
 
 /// The listing of that layer.
-fn listing(alloc: Global, bases: &[ObjectId], from: u32, to: u32) -> Result<String, AllocError> {
+fn listing(rt: &impl Abort, alloc: Global, bases: &[ObjectId], from: u32, to: u32) -> String {
     let (count, commits) = (bases.len(), to.saturating_sub(from));
-    let mut text = format!(in alloc; "layer sha1 bases {count} commits {commits}\n")?;
+    let text = format!(in alloc; "layer sha1 bases {count} commits {commits}\n");
+    let mut text = text.expect(rt, "memory for a text");
     for base in bases {
-        text.push_str(&format!(in alloc; "base {base}\n")?)?;
+        let line = format!(in alloc; "base {base}\n");
+        add(rt, &mut text, &line.expect(rt, "memory for a text"));
     }
     for commit in from..to {
-        let (place, generation) = (commit.saturating_sub(from), commit.saturating_add(1));
-        let (id, tree) = (id(commit), ObjectId::from([0x99; 20]));
-        text.push_str(&format!(in alloc; "{place} {id} {tree} {generation} 7 ")?)?;
-        for (place, parent) in parents(alloc, commit)?.iter().enumerate() {
-            text.push_str(if place == 0 { "" } else { "," })?;
-            text.push_str(&format!(in alloc; "{parent}")?)?;
-        }
-        text.push_str(if commit == 0 { "-\n" } else { "\n" })?;
+        add_commit(rt, alloc, &mut text, commit, from);
     }
-    Ok(text)
+    text
 }
 
 /// Builds the file of that layer, and asserts its listing.
 fn listed(rt: &impl Abort, alloc: Global, bases: &[ObjectId], from: u32, to: u32) -> Vec<u8> {
-    let plan = plan(alloc, bases, from, to).expect(rt, "memory for a plan");
+    let plan = plan(rt, alloc, bases, from, to);
     assert!(rt; plan.is_buildable());
     let bytes = build(alloc, &plan).expect(rt, "memory for a file");
     let mut out = Sink::new(alloc, usize::MAX, None);
     let status = run_list(alloc, &mut &*bytes, &mut out);
-    assert_eq!(rt; status.expect(rt, "a status"), 0);
-    let want = listing(alloc, bases, from, to).expect(rt, "memory for a text");
-    assert_eq!(rt; out.text(), want.as_str());
+    assert!(rt; status == Ok(0));
+    let want = listing(rt, alloc, bases, from, to);
+    assert!(rt; out.text() == want.as_str());
     bytes
 }
 
@@ -88,27 +102,45 @@ const CHECKED: &str = "ok commits 600 longest 599\n\
 /// Where the layers end of which the history is made, the lowest first.
 const STOPS: &[&[u32]] = &[&[600], &[300, 590, 600]];
 
+/// The files of the layers that end there.
+fn files(rt: &impl Abort, alloc: Global, stops: &[u32]) -> Vec<Vec<u8>> {
+    let (mut files, mut bases) = (Vec::new(alloc), Vec::new(alloc));
+    let mut from = 0;
+    for stop in stops {
+        let file = listed(rt, alloc, &bases, from, *stop);
+        bases.push(checksum_of(&file)).expect(rt, "memory");
+        files.push(file).expect(rt, "memory");
+        from = *stop;
+    }
+    files
+}
+
 #[test]
 fn lists_and_checks_six_hundred_commits(rt: HostRuntime) {
     let alloc = rt.alloc();
     for stops in STOPS {
-        let (mut files, mut bases) = (Vec::new(alloc), Vec::new(alloc));
-        let mut from = 0;
-        for stop in *stops {
-            let file = listed(&rt, alloc, &bases, from, *stop);
-            bases.push(checksum_of(&file)).expect(&rt, "memory");
-            files.push(file).expect(&rt, "memory");
-            from = *stop;
-        }
+        let files = files(&rt, alloc, stops);
         let mut layers: Vec<&[u8]> = Vec::new(alloc);
         for file in &files {
             layers.push(file).expect(&rt, "memory");
         }
         let mut folder = Memory::new(alloc);
         put_chain(&rt, alloc, &mut folder, "graphs", &layers);
-        expect_verify(&rt, alloc, &mut folder, "graphs", (0, CHECKED));
+        expect(
+            &rt,
+            alloc,
+            &mut folder,
+            (Command::Verify, "graphs"),
+            (0, CHECKED),
+        );
         let last = id(599).to_string(alloc).expect(&rt, "memory");
         let found = (0, "position 599 generation 600 time 7\n");
-        expect_find(&rt, alloc, &mut folder, ("graphs", last.as_str()), found);
+        expect(
+            &rt,
+            alloc,
+            &mut folder,
+            (Command::Find(last.as_str()), "graphs"),
+            found,
+        );
     }
 }

@@ -1,6 +1,5 @@
-use crate::finding::expect_find;
+use crate::commands::{Command, expect};
 use crate::fixtures::{built, checksum_of};
-use crate::verifying::expect_verify;
 use gix_commitgraph::opening::OpenError;
 use gix_commitgraph::{File, Graph, at};
 use graph_folder::folder::Disk;
@@ -16,6 +15,11 @@ fn commits<E: Debug + Drop>(rt: &impl Abort, graph: Result<Graph, E>) -> u32 {
     graph.expect(rt, "a graph").num_commits()
 }
 
+/// Why no graph was opened.
+fn refusal(graph: Result<Graph, OpenError>) -> Option<OpenError> {
+    graph.err()
+}
+
 const FILE: &str = "graphtool_test_file";
 
 #[test]
@@ -24,10 +28,10 @@ fn opens_a_file_on_disk(rt: HostRuntime) {
     let bytes = built(&rt, alloc, &[], DIAMOND);
     fs::write(&rt, FILE, bytes.as_slice()).expect(&rt, "a file");
     let file = File::at(&rt, alloc, FILE).expect(&rt, "a layer");
-    assert_eq!(rt; file.num_commits(), 4);
-    assert_eq!(rt; commits(&rt, Graph::from_file(&rt, alloc, FILE)), 4);
-    assert_eq!(rt; commits(&rt, Graph::at(&rt, alloc, FILE)), 4);
-    assert_eq!(rt; commits(&rt, at(&rt, alloc, FILE)), 4);
+    assert!(rt; file.num_commits() == 4);
+    assert!(rt; commits(&rt, Graph::from_file(&rt, alloc, FILE)) == 4);
+    assert!(rt; commits(&rt, Graph::at(&rt, alloc, FILE)) == 4);
+    assert!(rt; commits(&rt, at(&rt, alloc, FILE)) == 4);
     fs::remove_file(&rt, FILE).expect(&rt, "no file");
 }
 
@@ -36,15 +40,11 @@ const MISSING: &str = "graphtool_test_missing";
 #[test]
 fn opens_nothing_where_nothing_is_on_disk(rt: HostRuntime) {
     let alloc = rt.alloc();
-    assert!(rt; matches!(at(&rt, alloc, MISSING), Err(OpenError::NothingFound)));
-    assert!(rt; matches!(Graph::at(&rt, alloc, MISSING), Err(OpenError::NothingFound)));
-    assert!(rt;
-        matches!(
-            Graph::from_file(&rt, alloc, MISSING),
-            Err(OpenError::NotOpened)
-        )
-    );
-    assert!(rt; matches!(File::at(&rt, alloc, MISSING), Err(OpenError::NotOpened)));
+    assert!(rt; refusal(at(&rt, alloc, MISSING)) == Some(OpenError::NothingFound));
+    assert!(rt; refusal(Graph::at(&rt, alloc, MISSING)) == Some(OpenError::NothingFound));
+    let file = Graph::from_file(&rt, alloc, MISSING);
+    assert!(rt; refusal(file) == Some(OpenError::NotOpened));
+    assert!(rt; File::at(&rt, alloc, MISSING).err() == Some(OpenError::NotOpened));
 }
 
 const INFO: &str = "graphtool_test_info";
@@ -77,17 +77,21 @@ fn opens_a_chain_on_disk(rt: HostRuntime) {
     let upper = built(&rt, alloc, &[checksum_of(&lower)], &rows);
     let _ = fs::remove_dir_all(&rt, INFO);
     write_chain(&rt, alloc, &lower, &upper);
-    assert_eq!(rt; commits(&rt, Graph::from_info_dir(&rt, alloc, INFO)), 5);
-    assert_eq!(rt;
-        commits(&rt, Graph::from_commit_graphs_dir(&rt, alloc, GRAPHS)),
-        5
-    );
+    assert!(rt; commits(&rt, Graph::from_info_dir(&rt, alloc, INFO)) == 5);
+    let chain = Graph::from_commit_graphs_dir(&rt, alloc, GRAPHS);
+    assert!(rt; commits(&rt, chain) == 5);
     for path in [INFO, GRAPHS] {
-        assert_eq!(rt; commits(&rt, Graph::at(&rt, alloc, path)), 5);
-        assert_eq!(rt; commits(&rt, at(&rt, alloc, path)), 5);
+        assert!(rt; commits(&rt, Graph::at(&rt, alloc, path)) == 5);
+        assert!(rt; commits(&rt, at(&rt, alloc, path)) == 5);
         let mut disk = Disk::new(&rt);
-        expect_verify(&rt, alloc, &mut disk, path, (0, LINES));
-        expect_find(&rt, alloc, &mut disk, (path, FIVES), (0, FOUND));
+        expect(&rt, alloc, &mut disk, (Command::Verify, path), (0, LINES));
+        expect(
+            &rt,
+            alloc,
+            &mut disk,
+            (Command::Find(FIVES), path),
+            (0, FOUND),
+        );
     }
     fs::remove_dir_all(&rt, INFO).expect(&rt, "no folder");
 }

@@ -1,8 +1,8 @@
 ghost use Rattle.std.specs.Prelude.{None};
 
-use crate::finding::expect_find;
+use crate::commands::{Command, expect};
 use crate::fixtures::{built, copied, put_chain, put_dir, put_file, with_commits};
-use crate::verifying::{expect_check, expect_verify};
+use crate::verifying::expect_check;
 use graph_folder::folder::{Folder, Memory, ReadError};
 use graph_vectors::DIAMOND;
 use std::alloc::{AllocError, Global};
@@ -68,7 +68,13 @@ fn tells_why_nothing_was_opened(rt: HostRuntime) {
     let mut folder = damaged_folder(&rt, alloc);
     for (path, want) in UNOPENED {
         expect_check(&rt, alloc, &mut folder, path, (1, want));
-        expect_find(&rt, alloc, &mut folder, (path, HEX), (1, want));
+        expect(
+            &rt,
+            alloc,
+            &mut folder,
+            (Command::Find(HEX), path),
+            (1, want),
+        );
     }
 }
 
@@ -78,7 +84,13 @@ fn opens_by_each_kind_of_path(rt: HostRuntime) {
     let mut folder = info_folder(&rt, alloc);
     for path in ["i", "i/", "i/commit-graphs", "i/commit-graphs/"] {
         put_dir(&rt, alloc, &mut folder, path);
-        expect_verify(&rt, alloc, &mut folder, path, (0, DIAMOND_OK));
+        expect(
+            &rt,
+            alloc,
+            &mut folder,
+            (Command::Verify, path),
+            (0, DIAMOND_OK),
+        );
     }
 }
 
@@ -88,14 +100,20 @@ fn a_good_file_goes_before_a_chain(rt: HostRuntime) {
     let mut folder = info_folder(&rt, alloc);
     let damaged = copied(&rt, alloc, &[0; 1099]);
     put_file(&rt, alloc, &mut folder, "i/commit-graph", damaged);
-    expect_verify(&rt, alloc, &mut folder, "i", (0, DIAMOND_OK));
-    let single = built(&rt, alloc, &[], &[]);
-    put_file(&rt, alloc, &mut folder, "i/commit-graph", single);
-    expect_verify(
+    expect(
         &rt,
         alloc,
         &mut folder,
-        "i",
+        (Command::Verify, "i"),
+        (0, DIAMOND_OK),
+    );
+    let single = built(&rt, alloc, &[], &[]);
+    put_file(&rt, alloc, &mut folder, "i/commit-graph", single);
+    expect(
+        &rt,
+        alloc,
+        &mut folder,
+        (Command::Verify, "i"),
         (0, "ok commits 0 longest 0\n"),
     );
 }
@@ -121,19 +139,25 @@ fn reports_each_read_of_a_graph_that_fails(rt: HostRuntime) {
         let mut folder = info_folder(&rt, alloc);
         folder.fail_read(*read);
         let want = if *failed { DEVICE } else { (0, DIAMOND_OK) };
-        expect_verify(&rt, alloc, &mut folder, path, want);
-        assert_eq!(rt; folder.failures(), 1);
+        expect(&rt, alloc, &mut folder, (Command::Verify, path), want);
+        assert!(rt; folder.failures() == 1);
         folder.fail_read(*read);
         let want = if *failed { DEVICE } else { (0, FOUND) };
-        expect_find(&rt, alloc, &mut folder, (path, HEX), want);
-        assert_eq!(rt; folder.failures(), 2);
+        expect(&rt, alloc, &mut folder, (Command::Find(HEX), path), want);
+        assert!(rt; folder.failures() == 2);
     }
     let mut folder = with_commits(&rt, alloc, "g", DIAMOND);
     folder.fail_read(0);
-    expect_verify(&rt, alloc, &mut folder, "g", DEVICE);
-    assert_eq!(rt; folder.failures(), 1);
-    expect_verify(&rt, alloc, &mut folder, "g", (0, DIAMOND_OK));
-    assert_eq!(rt; folder.failures(), 1);
+    expect(&rt, alloc, &mut folder, (Command::Verify, "g"), DEVICE);
+    assert!(rt; folder.failures() == 1);
+    expect(
+        &rt,
+        alloc,
+        &mut folder,
+        (Command::Verify, "g"),
+        (0, DIAMOND_OK),
+    );
+    assert!(rt; folder.failures() == 1);
 }
 
 /// A folder whose reads run out of memory from one of them on.
@@ -179,9 +203,9 @@ fn reports_each_read_that_runs_out_of_memory(rt: HostRuntime) {
                 memory: info_folder(&rt, alloc),
                 reads_before_refusal: read,
             };
-            expect_verify(&rt, alloc, &mut folder, path, want);
+            expect(&rt, alloc, &mut folder, (Command::Verify, path), want);
             folder.reads_before_refusal = read;
-            expect_find(&rt, alloc, &mut folder, (path, HEX), want);
+            expect(&rt, alloc, &mut folder, (Command::Find(HEX), path), want);
         }
     }
 }

@@ -1,8 +1,7 @@
 ghost use Rattle.std.specs.Prelude.{None};
 
-use crate::finding::expect_find;
+use crate::commands::{Command, expect};
 use crate::fixtures::{built, checksum_of, copied, put_chain, put_dir, put_file};
-use crate::verifying::expect_verify;
 use gix_commitgraph::opening::{OpenError, open_chain_dir_in, open_in, open_info_dir_in};
 use graph_folder::folder::{Folder, Memory, ReadError};
 use std::alloc::{AllocError, Global};
@@ -99,13 +98,13 @@ fn each_call_of_a_folder_may_find_no_memory(rt: HostRuntime) {
         folder.calls = 0;
         folder.refused = u32::MAX;
         let graph = open_in(alloc, &mut folder, path).expect(&rt, "a graph");
-        assert_eq!(rt; graph.num_commits(), 3);
+        assert!(rt; graph.num_commits() == 3);
         for call in 0..folder.calls {
             folder.calls = 0;
             folder.refused = call;
             let answer = open_in(alloc, &mut folder, path);
             assert!(rt; matches!(answer, Err(OpenError::OutOfMemory)));
-            assert_eq!(rt; folder.calls, call.saturating_add(1));
+            assert!(rt; folder.calls == call.saturating_add(1));
         }
     }
 }
@@ -119,14 +118,32 @@ fn a_command_may_find_no_memory_at_each_call(rt: HostRuntime) {
     for path in ["info", "damaged"] {
         folder.calls = 0;
         folder.refused = u32::MAX;
-        expect_verify(&rt, alloc, &mut folder, path, (0, CHECKED));
-        expect_find(&rt, alloc, &mut folder, (path, HEX), (0, FOUND));
+        expect(
+            &rt,
+            alloc,
+            &mut folder,
+            (Command::Verify, path),
+            (0, CHECKED),
+        );
+        expect(
+            &rt,
+            alloc,
+            &mut folder,
+            (Command::Find(HEX), path),
+            (0, FOUND),
+        );
         for call in 0..folder.calls / 2 {
             folder.calls = 0;
             folder.refused = call;
-            expect_verify(&rt, alloc, &mut folder, path, NO_MEMORY);
+            expect(&rt, alloc, &mut folder, (Command::Verify, path), NO_MEMORY);
             folder.calls = 0;
-            expect_find(&rt, alloc, &mut folder, (path, HEX), NO_MEMORY);
+            expect(
+                &rt,
+                alloc,
+                &mut folder,
+                (Command::Find(HEX), path),
+                NO_MEMORY,
+            );
         }
     }
 }

@@ -1,6 +1,5 @@
-use crate::ancestors::{ONES, expect_ancestor};
-use crate::commands;
-use crate::distinct::expect_distinct;
+use crate::ancestors::ONES;
+use crate::commands::{Command, expect, try_writes};
 use crate::fixtures::{built, checksum_of, put_chain, with_commits, with_file};
 use gix_hash_core::ObjectId;
 use graph_commands::run::WriteFailed;
@@ -13,32 +12,20 @@ use graph_vectors::{DIAMOND, Row, Sink};
 use std::alloc::Global;
 use std::process::Abort;
 
-/// Asserts the status of `verify`, and what it writes.
-pub fn expect_verify<T: Folder>(
-    rt: &impl Abort,
-    alloc: Global,
-    folder: &mut T,
-    path: &str,
-    (status, want): (u8, &str),
-) {
-    let mut out = Sink::new(alloc, usize::MAX, None);
-    let answer = commands::verify(alloc, folder, path, &mut out);
-    assert_eq!(rt; answer.expect(rt, "a status"), status);
-    assert_eq!(rt; out.text(), want);
-}
-
-/// The same, and that `distinct` and `ancestor` refuse a graph as `verify` does.
+/// Asserts the status of `verify`, and what it writes, and that `distinct` and `ancestor` refuse a
+/// graph as it does.
 pub fn expect_check<T: Folder>(
     rt: &impl Abort,
     alloc: Global,
     folder: &mut T,
     path: &str,
-    (status, want): (u8, &str),
+    want: (u8, &str),
 ) {
-    expect_verify(rt, alloc, folder, path, (status, want));
-    if status == 1 {
-        expect_distinct(rt, alloc, folder, path, (status, want));
-        expect_ancestor(rt, alloc, folder, (path, ONES, ONES), (status, want));
+    expect(rt, alloc, folder, (Command::Verify, path), want);
+    if want.0 == 1 {
+        for command in [Command::Distinct, Command::Ancestor(ONES, ONES)] {
+            expect(rt, alloc, folder, (command, path), want);
+        }
     }
 }
 
@@ -280,14 +267,13 @@ fn writes_each_line_of_a_check_at_once(rt: HostRuntime) {
         let mut written = String::new(alloc);
         for (write, line) in lines.iter().enumerate() {
             let mut out = Sink::new(alloc, usize::MAX, Some(write));
-            let answer = commands::verify(alloc, &mut folder, "g", &mut out);
-            assert!(rt; matches!(answer, Err(WriteFailed)));
-            assert_eq!(rt; out.text(), written.as_str());
+            let answer = Command::Verify.run(alloc, &mut folder, "g", &mut out);
+            assert!(rt; answer == Err(WriteFailed) && out.text() == written.as_str());
             written.push_str(line).expect(&rt, "memory for a line");
         }
         let mut whole = Sink::new(alloc, usize::MAX, Some(lines.len()));
-        assert!(rt; commands::verify(alloc, &mut folder, "g", &mut whole).is_ok());
-        assert_eq!(rt; whole.text(), written.as_str());
+        let answer = Command::Verify.run(alloc, &mut folder, "g", &mut whole);
+        assert!(rt; answer.is_ok() && whole.text() == written.as_str());
     }
 }
 
@@ -296,16 +282,6 @@ fn reports_each_write_of_a_check_that_fails(rt: HostRuntime) {
     let alloc = rt.alloc();
     for (commits, status) in [(DIAMOND, 0), (CYCLIC, 1)] {
         let mut folder = with_commits(&rt, alloc, "g", commits);
-        let mut whole = Sink::new(alloc, 10, None);
-        let answer = commands::verify(alloc, &mut folder, "g", &mut whole);
-        assert_eq!(rt; answer.expect(&rt, "a status"), status);
-        for write in 0..whole.writes {
-            let mut out = Sink::new(alloc, 10, Some(write));
-            let answer = commands::verify(alloc, &mut folder, "g", &mut out);
-            assert!(rt; matches!(answer, Err(WriteFailed)));
-        }
-        let mut out = Sink::new(alloc, 10, Some(whole.writes));
-        let answer = commands::verify(alloc, &mut folder, "g", &mut out);
-        assert_eq!(rt; answer.expect(&rt, "a status"), status);
+        try_writes(&rt, alloc, &mut folder, (Command::Verify, "g"), 10, status);
     }
 }

@@ -1,11 +1,10 @@
 //! What is asked of histories, and what is answered.
 
-use crate::fixtures::{Command, graphs};
+use crate::fixtures::{Command, expect_answer, graphs};
 use graph_folder::folder::Memory;
 use graph_vectors::Sink;
 use std::alloc::Global;
 use std::process::Abort;
-use std::test::Fail;
 
 pub const ONES: &str = "1111111111111111111111111111111111111111";
 
@@ -63,9 +62,9 @@ const ANSWERS: &[Answer] = &[
 ];
 
 #[test]
-fn tells_whether_there_is_a_walk_and_which(rt: HostRuntime) -> Result<(), Fail> {
+fn tells_whether_there_is_a_walk_and_which(rt: HostRuntime) {
     let alloc = rt.alloc();
-    let mut folder = graphs(alloc)?;
+    let mut folder = graphs(&rt, alloc);
     for (words, told, found) in ANSWERS {
         expect(
             &rt,
@@ -76,7 +75,6 @@ fn tells_whether_there_is_a_walk_and_which(rt: HostRuntime) -> Result<(), Fail> 
         );
         expect(&rt, alloc, &mut folder, (Command::Walk, *words), *found);
     }
-    Ok(())
 }
 
 /// A path and the texts of two ids, with the status and the line of each command.
@@ -106,15 +104,14 @@ pub const NO_ANSWERS: &[((&str, &str, &str), u8, &str)] = &[
 ];
 
 #[test]
-fn says_why_there_is_no_answer_as_ancestor_does(rt: HostRuntime) -> Result<(), Fail> {
+fn says_why_there_is_no_answer_as_ancestor_does(rt: HostRuntime) {
     let alloc = rt.alloc();
-    let mut folder = graphs(alloc)?;
+    let mut folder = graphs(&rt, alloc);
     for (words, status, line) in NO_ANSWERS {
         for command in [Command::Ancestor, Command::IsAncestor, Command::Walk] {
             expect(&rt, alloc, &mut folder, (command, *words), (*status, line));
         }
     }
-    Ok(())
 }
 
 /// Asserts the status of a command, and what it writes.
@@ -123,10 +120,9 @@ fn expect(
     alloc: Global,
     folder: &mut Memory,
     (command, words): (Command, (&str, &str, &str)),
-    (status, text): (u8, &str),
+    want: (u8, &str),
 ) {
     let mut out = Sink::new(alloc, usize::MAX, None);
     let answer = command.run(alloc, folder, words, &mut out);
-    assert_eq!(rt; answer, Ok(status), "{command:?} {words:?}");
-    assert_eq!(rt; out.text(), text, "{command:?} {words:?}");
+    expect_answer(rt, answer, &out, want);
 }

@@ -1,10 +1,8 @@
 //! `check`, of graphs without further chunks.
 
-use crate::fixtures::graphs;
+use crate::fixtures::{check, expect_answer, graphs};
 use graph_commands::run::WriteFailed;
 use graph_vectors::Sink;
-use history_commands::run::run_check;
-use std::test::Fail;
 
 const FIVE: &str = "ok commits 5 longest 3\n\
     parents 0 commits 2\n\
@@ -30,30 +28,28 @@ const ROWS: &[(&str, u8, &str)] = &[
 ];
 
 #[test]
-fn checks_graphs_without_further_chunks(rt: HostRuntime) -> Result<(), Fail> {
+fn checks_graphs_without_further_chunks(rt: HostRuntime) {
     let alloc = rt.alloc();
-    let mut folder = graphs(alloc)?;
+    let mut folder = graphs(&rt, alloc);
     for (path, status, text) in ROWS {
         let mut out = Sink::new(alloc, usize::MAX, None);
-        let answer = run_check(alloc, &mut folder, path, &mut out);
-        assert_eq!(rt; answer, Ok(*status), "{path}");
-        assert_eq!(rt; out.text(), *text, "{path}");
+        let answer = check(alloc, &mut folder, path, &mut out);
+        expect_answer(&rt, answer, &out, (*status, text));
     }
-    Ok(())
 }
 
 #[test]
-fn reports_each_write_of_dates_and_filters_that_fails(rt: HostRuntime) -> Result<(), Fail> {
+fn reports_each_write_of_dates_and_filters_that_fails(rt: HostRuntime) {
     let alloc = rt.alloc();
-    let mut folder = graphs(alloc)?;
+    let mut folder = graphs(&rt, alloc);
     for (path, _status, _text) in ROWS {
         let mut whole = Sink::new(alloc, 20, None);
-        let _answer = run_check(alloc, &mut folder, path, &mut whole)?;
+        let answer = check(alloc, &mut folder, path, &mut whole);
+        assert!(rt; answer.is_ok());
         for write in 0..whole.writes {
             let mut out = Sink::new(alloc, 20, Some(write));
-            let answer = run_check(alloc, &mut folder, path, &mut out);
-            assert_eq!(rt; answer, Err(WriteFailed), "{path}");
+            let answer = check(alloc, &mut folder, path, &mut out);
+            assert!(rt; answer == Err(WriteFailed));
         }
     }
-    Ok(())
 }

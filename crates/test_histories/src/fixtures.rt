@@ -1,11 +1,12 @@
-//! Graphs that are built from rows.
+//! Graphs that are built from rows. Where an allocation fails, the process aborts.
 
 use gix_hash_core::{Kind, ObjectId, digest};
 use graph_commands::run::{WriteFailed, run_ancestor};
 use graph_folder::folder::Memory;
 use graph_vectors::{LayerPlan, PlanCommit, Row, Sink, build};
-use history_commands::run::{run_is_ancestor, run_merge_base, run_walk};
-use std::alloc::{AllocError, Global};
+use history_commands::run::{run_check, run_is_ancestor, run_merge_base, run_walk};
+use std::alloc::Global;
+use std::process::Abort;
 
 /// A command that asks about the commits with two ids.
 #[derive(Clone, Copy, Debug)]
@@ -35,16 +36,39 @@ impl Command {
 
 /// The answer of `merge-base` for a path and the texts of an id and of others.
 pub(super) fn merge_base(
+    rt: &impl Abort,
     alloc: Global,
     folder: &mut Memory,
     (path, first, others): (&str, &str, &[&str]),
     out: &mut Sink,
-) -> Result<Result<u8, WriteFailed>, AllocError> {
+) -> Result<u8, WriteFailed> {
     let mut ids = Vec::new(alloc);
     for id in others {
-        ids.push(String::from_str(alloc, id)?)?;
+        let id = String::from_str(alloc, id).expect(rt, "memory");
+        ids.push(id).expect(rt, "memory");
     }
-    Ok(run_merge_base(alloc, folder, path, first, &ids, out))
+    run_merge_base(alloc, folder, path, first, &ids, out)
+}
+
+/// The answer of `check` for a path.
+pub(super) fn check(
+    alloc: Global,
+    folder: &mut Memory,
+    path: &str,
+    out: &mut Sink,
+) -> Result<u8, WriteFailed> {
+    run_check(alloc, folder, path, out)
+}
+
+/// Asserts the status of a command, and what it wrote.
+pub(super) fn expect_answer(
+    rt: &impl Abort,
+    answer: Result<u8, WriteFailed>,
+    out: &Sink,
+    (status, text): (u8, &str),
+) {
+    assert_eq!(rt; answer, Ok(status));
+    assert_eq!(rt; out.text(), text);
 }
 
 /// A file of two ways from the fourth commit to the first, one of them of a single step.
@@ -79,54 +103,51 @@ const WRONG: &[Row<'static>] = &[(0x11, &[], 1), (0xcc, &[0], 3)];
 
 /// The bytes of a file of these commits over these base layers.
 fn built(
+    rt: &impl Abort,
     alloc: Global,
     kind: Kind,
     bases: &[ObjectId],
     rows: &[Row<'_>],
-) -> Result<Vec<u8>, AllocError> {
+) -> Vec<u8> {
     let mut commits = Vec::new(alloc);
     for (byte, parents, generation) in rows {
-        commits.push(commit(alloc, id(kind, *byte), parents, *generation)?)?;
+        let commit = commit(rt, alloc, id(kind, *byte), parents, *generation);
+        commits.push(commit).expect(rt, "memory");
     }
-    let bases = Vec::from_slice(alloc, bases)?;
-    file_of(
-        alloc,
-        &LayerPlan {
-            kind,
-            bases,
-            commits,
-        },
-    )
+    let plan = LayerPlan {
+        kind,
+        bases: Vec::from_slice(alloc, bases).expect(rt, "memory"),
+        commits,
+    };
+    file_of(rt, alloc, &plan)
 }
 
 /// A commit with its own id as that of its root tree.
 fn commit(
+    rt: &impl Abort,
     alloc: Global,
     id: ObjectId,
     parents: &[u32],
     generation: u32,
-) -> Result<PlanCommit, AllocError> {
-    Ok(PlanCommit {
+) -> PlanCommit {
+    PlanCommit {
         id,
         tree: id,
-        parents: Vec::from_slice(alloc, parents)?,
+        parents: Vec::from_slice(alloc, parents).expect(rt, "memory"),
         generation,
         time: 7,
-    })
+    }
 }
 
-/// The bytes of a file that holds the plan, or no bytes where no file can.
-fn file_of(alloc: Global, plan: &LayerPlan) -> Result<Vec<u8>, AllocError> {
-    if plan.is_buildable() {
-        build(alloc, plan)
-    } else {
-        Ok(Vec::new(alloc))
-    }
+/// The bytes of a file that holds the plan.
+fn file_of(rt: &impl Abort, alloc: Global, plan: &LayerPlan) -> Vec<u8> {
+    assert!(rt; plan.is_buildable());
+    build(alloc, plan).expect(rt, "memory")
 }
 
 /// A folder with a file `line`, of so many commits in a line. The first four bytes of the id of the
 /// commit at position P are the number P + 1, and the others are null.
-pub(super) fn line(alloc: Global, count: u32) -> Result<Memory, AllocError> {
+pub(super) fn line(rt: &impl Abort, alloc: Global, count: u32) -> Memory {
     let mut commits = Vec::new(alloc);
     for place in 0..count {
         let before = [place.saturating_sub(1)];
@@ -134,22 +155,23 @@ pub(super) fn line(alloc: Global, count: u32) -> Result<Memory, AllocError> {
         let number = place.saturating_add(1);
         let mut id = [0; 20];
         id[..4].copy_from_slice(&number.to_be_bytes());
-        commits.push(commit(alloc, ObjectId::from(id), parents, number)?)?;
+        let commit = commit(rt, alloc, ObjectId::from(id), parents, number);
+        commits.push(commit).expect(rt, "memory");
     }
     let plan = LayerPlan {
         kind: Kind::Sha1,
         bases: Vec::new(alloc),
         commits,
     };
-    let file = file_of(alloc, &plan)?;
     let mut memory = Memory::new(alloc);
-    put(alloc, &mut memory, "line", file)?;
-    Ok(memory)
+    put(rt, alloc, &mut memory, "line", file_of(rt, alloc, &plan));
+    memory
 }
 
 /// Puts a file into a folder in memory.
-fn put(alloc: Global, memory: &mut Memory, path: &str, bytes: Vec<u8>) -> Result<(), AllocError> {
-    memory.put_file(String::from_str(alloc, path)?, bytes)
+fn put(rt: &impl Abort, alloc: Global, memory: &mut Memory, path: &str, bytes: Vec<u8>) {
+    let path = String::from_str(alloc, path).expect(rt, "memory");
+    memory.put_file(path, bytes).expect(rt, "memory");
 }
 
 /// The id that repeats a byte.
@@ -162,7 +184,7 @@ fn id(kind: Kind, byte: u8) -> ObjectId {
 
 /// A folder with the files `file`, `criss-cross`, `wrong`, `sha256` of two commits with SHA-256
 /// ids, and `bytes` that are no layer, and with the folder `chain`.
-pub(super) fn graphs(alloc: Global) -> Result<Memory, AllocError> {
+pub(super) fn graphs(rt: &impl Abort, alloc: Global) -> Memory {
     let mut memory = Memory::new(alloc);
     let rows = [
         ("file", Kind::Sha1, FILE),
@@ -171,26 +193,35 @@ pub(super) fn graphs(alloc: Global) -> Result<Memory, AllocError> {
         ("wrong", Kind::Sha1, WRONG),
     ];
     for (path, kind, rows) in rows {
-        let file = built(alloc, kind, &[], rows)?;
-        put(alloc, &mut memory, path, file)?;
+        let file = built(rt, alloc, kind, &[], rows);
+        put(rt, alloc, &mut memory, path, file);
     }
-    let bytes = Vec::from_slice(alloc, b"bytes")?;
-    put(alloc, &mut memory, "bytes", bytes)?;
-    put_chain(alloc, &mut memory)?;
-    Ok(memory)
+    let bytes = Vec::from_slice(alloc, b"bytes").expect(rt, "memory");
+    put(rt, alloc, &mut memory, "bytes", bytes);
+    put_chain(rt, alloc, &mut memory);
+    memory
 }
 
 /// Puts the folder `chain`.
-fn put_chain(alloc: Global, memory: &mut Memory) -> Result<(), AllocError> {
-    let lower = built(alloc, Kind::Sha1, &[], LOWER)?;
+fn put_chain(rt: &impl Abort, alloc: Global, memory: &mut Memory) {
+    let lower = built(rt, alloc, Kind::Sha1, &[], LOWER);
     let base = checksum_of(&lower);
-    let upper = built(alloc, Kind::Sha1, &[base], UPPER)?;
+    let upper = built(rt, alloc, Kind::Sha1, &[base], UPPER);
     let top = checksum_of(&upper);
-    memory.put_dir(String::from_str(alloc, "chain")?)?;
-    memory.put_file(format!(in alloc; "chain/graph-{base}.graph")?, lower)?;
-    memory.put_file(format!(in alloc; "chain/graph-{top}.graph")?, upper)?;
-    let lines = format!(in alloc; "{base}\n{top}\n")?.into_bytes();
-    put(alloc, memory, "chain/commit-graph-chain", lines)
+    let folder = String::from_str(alloc, "chain").expect(rt, "memory");
+    memory.put_dir(folder).expect(rt, "memory");
+    for (checksum, bytes) in [(base, lower), (top, upper)] {
+        let path = format!(in alloc; "chain/graph-{checksum}.graph").expect(rt, "memory");
+        memory.put_file(path, bytes).expect(rt, "memory");
+    }
+    let lines = format!(in alloc; "{base}\n{top}\n").expect(rt, "memory");
+    put(
+        rt,
+        alloc,
+        memory,
+        "chain/commit-graph-chain",
+        lines.into_bytes(),
+    );
 }
 
 /// The checksum of a SHA-1 file.

@@ -1,10 +1,9 @@
 //! Merge bases, and how far commits have come apart.
 
 use crate::answers::{CS, CS_OF_SHA256, DS, LARGE_CS, NO_ANSWERS, ONES, ONES_OF_SHA256, TWOS};
-use crate::fixtures::{graphs, merge_base};
+use crate::fixtures::{expect_answer, graphs, merge_base};
 use graph_commands::run::WriteFailed;
 use graph_vectors::Sink;
-use std::test::Fail;
 
 const SIXES: &str = "6666666666666666666666666666666666666666";
 
@@ -58,36 +57,32 @@ const ROWS: &[Row] = &[
 ];
 
 #[test]
-fn tells_merge_bases_and_how_far_commits_have_come_apart(rt: HostRuntime) -> Result<(), Fail> {
+fn tells_merge_bases_and_how_far_commits_have_come_apart(rt: HostRuntime) {
     let alloc = rt.alloc();
-    let mut folder = graphs(alloc)?;
+    let mut folder = graphs(&rt, alloc);
     for (words, status, text) in ROWS {
         let mut out = Sink::new(alloc, usize::MAX, None);
-        let answer = merge_base(alloc, &mut folder, *words, &mut out)?;
-        assert_eq!(rt; answer, Ok(*status), "{words:?}");
-        assert_eq!(rt; out.text(), *text, "{words:?}");
+        let answer = merge_base(&rt, alloc, &mut folder, *words, &mut out);
+        expect_answer(&rt, answer, &out, (*status, text));
     }
     for ((path, first, second), status, text) in NO_ANSWERS {
         let mut out = Sink::new(alloc, usize::MAX, None);
-        let answer = merge_base(alloc, &mut folder, (path, first, &[*second]), &mut out)?;
-        assert_eq!(rt; answer, Ok(*status), "{path} {first} {second}");
-        assert_eq!(rt; out.text(), *text, "{path} {first} {second}");
+        let answer = merge_base(&rt, alloc, &mut folder, (path, first, &[*second]), &mut out);
+        expect_answer(&rt, answer, &out, (*status, text));
     }
-    Ok(())
 }
 
 #[test]
-fn reports_each_write_of_merge_bases_that_fails(rt: HostRuntime) -> Result<(), Fail> {
+fn reports_each_write_of_merge_bases_that_fails(rt: HostRuntime) {
     let alloc = rt.alloc();
-    let mut folder = graphs(alloc)?;
+    let mut folder = graphs(&rt, alloc);
     let words: (&str, &str, &[&str]) = ("criss-cross", SIXES, &[SEVENS]);
     let mut whole = Sink::new(alloc, 20, None);
-    let answer = merge_base(alloc, &mut folder, words, &mut whole)?;
-    assert_eq!(rt; (answer, whole.text()), (Ok(0), TWO_BASES));
+    let answer = merge_base(&rt, alloc, &mut folder, words, &mut whole);
+    expect_answer(&rt, answer, &whole, (0, TWO_BASES));
     for write in 0..whole.writes {
         let mut out = Sink::new(alloc, 20, Some(write));
-        let answer = merge_base(alloc, &mut folder, words, &mut out)?;
-        assert_eq!(rt; answer, Err(WriteFailed));
+        let answer = merge_base(&rt, alloc, &mut folder, words, &mut out);
+        assert!(rt; answer == Err(WriteFailed));
     }
-    Ok(())
 }

@@ -1,6 +1,7 @@
+use crate::fixtures::compare_text;
 use graph_folder::chain::Lines;
 use graph_folder::folder::{Disk, Folder, Memory, ReadError, read_all};
-use std::alloc::{AllocError, Global};
+use std::alloc::Global;
 use std::io::{ErrorKind, Read};
 use std::process::Abort;
 use std::{fs, io};
@@ -41,7 +42,7 @@ fn reads_to_the_end(rt: HostRuntime) {
     let text = b"ten bytes.".as_slice();
     for most in [1, 3, 10, 11] {
         let read = read_all(alloc, &mut reader(text, most, None)).expect(&rt, "all bytes");
-        assert_eq!(rt; read.as_slice(), text);
+        assert!(rt; read.as_slice() == text);
     }
     for read in 0..=4 {
         let failed = read_all(alloc, &mut reader(text, 3, Some(read)));
@@ -66,7 +67,7 @@ fn cuts_lines(rt: HostRuntime) {
     for (text, want) in TEXTS {
         let mut lines = Lines::new(text);
         for line in *want {
-            assert_eq!(rt; lines.next(), Some(*line));
+            assert!(rt; lines.next() == Some(*line));
         }
         assert!(rt; lines.next().is_none());
         assert!(rt; lines.next().is_none());
@@ -74,12 +75,16 @@ fn cuts_lines(rt: HostRuntime) {
 }
 
 /// A folder `a` in memory with the file `a/b`, which was put twice.
-fn old_and_new(alloc: Global) -> Result<Memory, AllocError> {
+fn old_and_new(rt: &impl Abort, alloc: Global) -> Memory {
     let mut memory = Memory::new(alloc);
-    memory.put_dir(String::from_str(alloc, "a")?)?;
-    memory.put_file(String::from_str(alloc, "a/b")?, b"old".to_vec(alloc)?)?;
-    memory.put_file(String::from_str(alloc, "a/b")?, b"new".to_vec(alloc)?)?;
-    Ok(memory)
+    let path = String::from_str(alloc, "a").expect(rt, "memory for a path");
+    memory.put_dir(path).expect(rt, "memory for a folder");
+    for text in [b"old", b"new"] {
+        let path = String::from_str(alloc, "a/b").expect(rt, "memory for a path");
+        let text = text.to_vec(alloc).expect(rt, "memory for a file");
+        memory.put_file(path, text).expect(rt, "memory for a file");
+    }
+    memory
 }
 
 /// Asserts whether a file and whether a folder stands at a path.
@@ -91,9 +96,9 @@ fn expect_kind<T: Folder>(
     (is_file, is_dir): (bool, bool),
 ) {
     let file = folder.is_file(alloc, path).expect(rt, "an answer");
-    assert_eq!(rt; file, is_file);
+    assert!(rt; file == is_file);
     let dir = folder.is_dir(alloc, path).expect(rt, "an answer");
-    assert_eq!(rt; dir, is_dir);
+    assert!(rt; dir == is_dir);
 }
 
 /// Asserts what a read of the folder answers, and how many reads failed so far.
@@ -105,17 +110,17 @@ fn expect_read(
     (want, failures): (Result<&[u8], ReadError>, u64),
 ) {
     match (memory.read(alloc, path), want) {
-        (Ok(bytes), Ok(want)) => assert_eq!(rt; bytes.as_slice(), want),
+        (Ok(bytes), Ok(want)) => assert!(rt; bytes.as_slice() == want),
         (Err(error), Err(want)) => assert!(rt; error == want, "{path}"),
         _ => panic!(rt; "{path}"),
     }
-    assert_eq!(rt; memory.failures(), failures);
+    assert!(rt; memory.failures() == failures);
 }
 
 #[test]
 fn keeps_files_in_memory(rt: HostRuntime) {
     let alloc = rt.alloc();
-    let mut memory = old_and_new(alloc).expect(&rt, "memory for a folder");
+    let mut memory = old_and_new(&rt, alloc);
     expect_kind(&rt, alloc, &mut memory, "a", (false, true));
     expect_kind(&rt, alloc, &mut memory, "a/b", (true, false));
     expect_kind(&rt, alloc, &mut memory, "a/", (false, false));
@@ -140,13 +145,13 @@ fn expect_part<T: Folder>(
     let part = folder.read_part(alloc, path, start, len);
     let part = part.expect(rt, "a read").expect(rt, "a part");
     assert!(rt; part.bytes.as_slice() == bytes, "{path} from {start}");
-    assert_eq!(rt; part.file_len, file_len);
+    assert!(rt; part.file_len == file_len);
 }
 
 #[test]
 fn reads_parts_of_files(rt: HostRuntime) {
     let alloc = rt.alloc();
-    let mut memory = old_and_new(alloc).expect(&rt, "memory for a folder");
+    let mut memory = old_and_new(&rt, alloc);
     expect_part(&rt, alloc, &mut memory, ("a/b", 0, 2), (b"ne", 3));
     expect_part(&rt, alloc, &mut memory, ("a/b", 1, 9), (b"ew", 3));
     expect_part(&rt, alloc, &mut memory, ("a/b", u64::MAX, 1), (b"", 3));
@@ -160,7 +165,7 @@ fn reads_parts_of_files(rt: HostRuntime) {
         let answer = memory.read_part(alloc, path, 0, 1);
         assert!(rt; answer.is_err_and(|e| e == error), "{path}");
     }
-    assert_eq!(rt; memory.failures(), 1);
+    assert!(rt; memory.failures() == 1);
 }
 
 const FOLDER: &str = "graph_folder_test";
@@ -170,12 +175,12 @@ const FILE: &str = "graph_folder_test/file";
 const MISSING: &str = "graph_folder_test/missing";
 
 /// So many bytes, which repeat the numbers from 0 to 250.
-fn numbers(alloc: Global, len: u32) -> Result<Vec<u8>, AllocError> {
+fn numbers(rt: &impl Abort, alloc: Global, len: u32) -> Vec<u8> {
     let mut bytes = Vec::new(alloc);
     for i in 0..len {
-        bytes.push((i % 251) as u8)?;
+        bytes.push((i % 251) as u8).expect(rt, "memory for a file");
     }
-    Ok(bytes)
+    bytes
 }
 
 #[test]
@@ -186,7 +191,7 @@ fn reads_from_disk(rt: HostRuntime) {
     let mut disk = Disk::new(&rt);
     // Each file is written over the one before it.
     for len in [0u32, 1, 3_000_000, 2] {
-        let bytes = numbers(alloc, len).expect(&rt, "memory for a file");
+        let bytes = numbers(&rt, alloc, len);
         fs::write(&rt, FILE, bytes.as_slice()).expect(&rt, "a file");
         let read = disk.read(alloc, FILE).expect(&rt, "a file");
         assert!(rt; read.as_slice() == bytes.as_slice(), "{len} bytes");
@@ -203,7 +208,7 @@ fn reads_from_disk(rt: HostRuntime) {
         let answer = disk.read(alloc, path);
         assert!(rt; matches!(answer, Err(ReadError::NotOpened)));
     }
-    assert_eq!(rt; disk.failures(), 0);
+    assert!(rt; disk.failures() == 0);
     fs::remove_dir_all(&rt, FOLDER).expect(&rt, "no folder");
 }
 
@@ -218,8 +223,8 @@ const ERRORS: &[(ReadError, &str)] = &[
 fn tells_errors_by_their_names(rt: HostRuntime) {
     for (error, want) in ERRORS {
         let text = error.to_string(rt.alloc()).expect(&rt, "memory for a text");
-        assert_eq!(rt; text.as_str(), *want);
+        compare_text(&rt, text.as_str(), want);
         let text = format!(in rt.alloc(); "{error:?}").expect(&rt, "memory for a text");
-        assert_eq!(rt; text.as_str(), *want);
+        compare_text(&rt, text.as_str(), want);
     }
 }

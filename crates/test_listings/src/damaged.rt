@@ -77,7 +77,7 @@ fn try_fronts(rt: &impl Abort, alloc: Global, file: &[u8], rows: &[(usize, FileE
         }
         size = *stop;
     }
-    assert_eq!(rt; size, file.len());
+    assert!(rt; size == file.len());
     assert!(rt; open(rt, alloc, file).is_ok());
 }
 
@@ -93,7 +93,7 @@ fn each_proper_prefix_of_a_file_is_refused(rt: HostRuntime) {
 fn use_layer(rt: &impl Abort, alloc: Global, bytes: &[u8], file: File) {
     let mut out = Sink::new(alloc, usize::MAX, None);
     let status = list(alloc, &mut &*bytes, &mut out);
-    assert_eq!(rt; status.expect(rt, "a status"), 0);
+    assert!(rt; status == Ok(0));
     let files = vec![in alloc; file].expect(rt, "memory for a layer");
     let graph = Graph::new(alloc, files).expect(rt, "a graph");
     for id in graph.iter_ids() {

@@ -16,6 +16,17 @@ pub(super) fn list<R: Read>(
     run_list(alloc, input, out)
 }
 
+/// Asserts the status of the command, and what it wrote.
+pub(super) fn expect_answer(
+    rt: &impl Abort,
+    answer: Result<u8, WriteFailed>,
+    out: &Sink,
+    (status, want): (u8, &str),
+) {
+    assert_eq!(rt; answer, Ok(status));
+    assert_eq!(rt; out.text(), want);
+}
+
 /// The bytes of a SHA-1 file of these commits, which has no base layers.
 pub(super) fn built(rt: &impl Abort, alloc: Global, rows: &[Row<'_>]) -> Vec<u8> {
     let plan = LayerPlan::of_rows(alloc, &[], rows).expect(rt, "memory for a plan");

@@ -1,7 +1,7 @@
-use crate::fixtures::list;
+use crate::fixtures::{expect_answer, list};
 use graph_commands::run::WriteFailed;
 use graph_vectors::{Sink, Source, words};
-use std::alloc::{AllocError, Global};
+use std::alloc::Global;
 use std::process::Abort;
 
 /// What a file is to say. An id is one byte, as often as the kind has bytes.
@@ -15,29 +15,40 @@ struct Plan<'a> {
 }
 
 /// The chunks of a file whose commits have the ids 11.., 12.., and so on, and the tree 22...
-fn chunks(alloc: Global, plan: &Plan<'_>) -> Result<Vec<([u8; 4], Vec<u8>)>, AllocError> {
+fn chunks(rt: &impl Abort, alloc: Global, plan: &Plan<'_>) -> Vec<([u8; 4], Vec<u8>)> {
     let mut chunks = Vec::new(alloc);
-    chunks.push((*b"OIDF", fan(alloc, plan.commits.len())?))?;
-    chunks.push((*b"OIDL", ids(alloc, plan)?))?;
-    chunks.push((*b"CDAT", records(alloc, plan)?))?;
+    put_chunk(rt, &mut chunks, b"OIDF", fan(rt, alloc, plan.commits.len()));
+    put_chunk(rt, &mut chunks, b"OIDL", ids(rt, alloc, plan));
+    put_chunk(rt, &mut chunks, b"CDAT", records(rt, alloc, plan));
     if let Some(edges) = plan.edges {
-        chunks.push((*b"EDGE", words(alloc, edges)?))?;
+        let edges = words(alloc, edges).expect(rt, "memory for a chunk");
+        put_chunk(rt, &mut chunks, b"EDGE", edges);
     }
     if !plan.bases.is_empty() {
-        chunks.push((*b"BASE", bases(alloc, plan)?))?;
+        put_chunk(rt, &mut chunks, b"BASE", bases(rt, alloc, plan));
     }
-    Ok(chunks)
+    chunks
+}
+
+/// Adds a chunk to others.
+fn put_chunk(rt: &impl Abort, chunks: &mut Vec<([u8; 4], Vec<u8>)>, id: &[u8; 4], bytes: Vec<u8>) {
+    chunks.push((*id, bytes)).expect(rt, "memory for a chunk");
 }
 
 /// The bytes of a file with these chunks, and a checksum of zeros.
-fn file(alloc: Global, plan: &Plan<'_>) -> Result<Vec<u8>, AllocError> {
-    let chunks = chunks(alloc, plan)?;
+fn file(rt: &impl Abort, alloc: Global, plan: &Plan<'_>) -> Vec<u8> {
+    let chunks = chunks(rt, alloc, plan);
     let base_count = plan.bases.len().min(255) as u8;
-    let mut bytes = b"CGPH".to_vec(alloc)?;
-    bytes.extend_from_slice(&[1, plan.hash, chunks.len().min(255) as u8, base_count])?;
-    push_chunks(&mut bytes, &chunks)?;
-    push_id(&mut bytes, 0, id_len(plan))?;
-    Ok(bytes)
+    let mut bytes = Vec::new(alloc);
+    put(rt, &mut bytes, b"CGPH");
+    put(
+        rt,
+        &mut bytes,
+        &[1, plan.hash, chunks.len().min(255) as u8, base_count],
+    );
+    put_chunks(rt, &mut bytes, &chunks);
+    put_id(rt, &mut bytes, 0, id_len(plan));
+    bytes
 }
 
 fn id_len(plan: &Plan<'_>) -> usize {
@@ -45,63 +56,68 @@ fn id_len(plan: &Plan<'_>) -> usize {
 }
 
 /// The fan of so many commits, whose ids begin with the bytes 11, 12, and so on.
-fn fan(alloc: Global, commits: usize) -> Result<Vec<u8>, AllocError> {
+fn fan(rt: &impl Abort, alloc: Global, commits: usize) -> Vec<u8> {
     let mut bytes = Vec::new(alloc);
     for byte in 0..256usize {
         let count = byte.saturating_sub(0x10).min(commits) as u32;
-        bytes.extend_from_slice(&count.to_be_bytes())?;
+        put(rt, &mut bytes, &count.to_be_bytes());
     }
-    Ok(bytes)
+    bytes
 }
 
-fn ids(alloc: Global, plan: &Plan<'_>) -> Result<Vec<u8>, AllocError> {
+fn ids(rt: &impl Abort, alloc: Global, plan: &Plan<'_>) -> Vec<u8> {
     let mut bytes = Vec::new(alloc);
     for (id, _) in (0x11u8..).zip(plan.commits) {
-        push_id(&mut bytes, id, id_len(plan))?;
+        put_id(rt, &mut bytes, id, id_len(plan));
     }
-    Ok(bytes)
+    bytes
 }
 
-fn records(alloc: Global, plan: &Plan<'_>) -> Result<Vec<u8>, AllocError> {
+fn records(rt: &impl Abort, alloc: Global, plan: &Plan<'_>) -> Vec<u8> {
     let mut bytes = Vec::new(alloc);
     for (first, second, dates) in plan.commits {
-        push_id(&mut bytes, 0x22, id_len(plan))?;
-        bytes.extend_from_slice(&first.to_be_bytes())?;
-        bytes.extend_from_slice(&second.to_be_bytes())?;
-        bytes.extend_from_slice(&dates.to_be_bytes())?;
+        put_id(rt, &mut bytes, 0x22, id_len(plan));
+        put(rt, &mut bytes, &first.to_be_bytes());
+        put(rt, &mut bytes, &second.to_be_bytes());
+        put(rt, &mut bytes, &dates.to_be_bytes());
     }
-    Ok(bytes)
+    bytes
 }
 
-fn bases(alloc: Global, plan: &Plan<'_>) -> Result<Vec<u8>, AllocError> {
+fn bases(rt: &impl Abort, alloc: Global, plan: &Plan<'_>) -> Vec<u8> {
     let mut bytes = Vec::new(alloc);
     for base in plan.bases {
-        push_id(&mut bytes, *base, id_len(plan))?;
+        put_id(rt, &mut bytes, *base, id_len(plan));
     }
-    Ok(bytes)
+    bytes
 }
 
 /// Adds the table of these chunks to a header, and the chunks.
-fn push_chunks(bytes: &mut Vec<u8>, chunks: &[([u8; 4], Vec<u8>)]) -> Result<(), AllocError> {
+fn put_chunks(rt: &impl Abort, bytes: &mut Vec<u8>, chunks: &[([u8; 4], Vec<u8>)]) {
     let mut offset = 20 + 12 * chunks.len() as u64;
     for (id, chunk) in chunks {
-        bytes.extend_from_slice(id)?;
-        bytes.extend_from_slice(&offset.to_be_bytes())?;
+        put(rt, bytes, id);
+        put(rt, bytes, &offset.to_be_bytes());
         offset = offset.saturating_add(chunk.len() as u64);
     }
-    bytes.extend_from_slice(&[0; 4])?;
-    bytes.extend_from_slice(&offset.to_be_bytes())?;
+    put(rt, bytes, &[0; 4]);
+    put(rt, bytes, &offset.to_be_bytes());
     for (_, chunk) in chunks {
-        bytes.extend_from_slice(chunk)?;
+        put(rt, bytes, chunk);
     }
-    Ok(())
 }
 
-fn push_id(bytes: &mut Vec<u8>, id: u8, len: usize) -> Result<(), AllocError> {
+fn put_id(rt: &impl Abort, bytes: &mut Vec<u8>, id: u8, len: usize) {
     for _ in 0..len {
-        bytes.push(id)?;
+        put(rt, bytes, &[id]);
     }
-    Ok(())
+}
+
+/// Adds bytes to a file.
+fn put(rt: &impl Abort, bytes: &mut Vec<u8>, more: &[u8]) {
+    bytes
+        .extend_from_slice(more)
+        .expect(rt, "memory for a file");
 }
 
 const NONE: u32 = 0x7000_0000;
@@ -209,37 +225,33 @@ const LAYERS: &[(Plan<'_>, usize, &str)] = &[
 fn lists_layers(rt: HostRuntime) {
     let alloc = rt.alloc();
     for (plan, size, want) in LAYERS {
-        let bytes = file(alloc, plan).expect(&rt, "memory for a file");
-        assert_eq!(rt; bytes.len(), *size);
+        let bytes = file(&rt, alloc, plan);
+        assert!(rt; bytes.len() == *size);
         let mut out = Sink::new(alloc, usize::MAX, None);
-        let status = list(alloc, &mut Source::new(&bytes, usize::MAX, None), &mut out);
-        assert_eq!(rt; status.expect(&rt, "a status"), 0);
-        assert_eq!(rt; out.text(), *want);
+        let answer = list(alloc, &mut Source::new(&bytes, usize::MAX, None), &mut out);
+        expect_answer(&rt, answer, &out, (0, want));
     }
 }
 
 #[test]
 fn lists_the_empty_input(rt: HostRuntime) {
     let mut out = Sink::new(rt.alloc(), usize::MAX, None);
-    let status = list(rt.alloc(), &mut Source::new(b"", 1, None), &mut out);
-    assert_eq!(rt; status.expect(&rt, "a status"), 1);
-    assert_eq!(rt; out.text(), "refused file 1\n");
+    let answer = list(rt.alloc(), &mut Source::new(b"", 1, None), &mut out);
+    expect_answer(&rt, answer, &out, (1, "refused file 1\n"));
 }
 
 #[test]
 fn reports_each_read_that_fails(rt: HostRuntime) {
     let alloc = rt.alloc();
-    let bytes = file(alloc, &ONE).expect(&rt, "memory for a file");
+    let bytes = file(&rt, alloc, &ONE);
     let mut whole = Source::new(&bytes, 100, None);
     let mut out = Sink::new(alloc, usize::MAX, None);
-    let status = list(alloc, &mut whole, &mut out);
-    assert_eq!(rt; status.expect(&rt, "a status"), 0);
-    assert_eq!(rt; whole.reads, 13);
+    let answer = list(alloc, &mut whole, &mut out);
+    assert!(rt; answer == Ok(0) && whole.reads == 13);
     for read in 0..whole.reads {
         let mut out = Sink::new(alloc, usize::MAX, None);
-        let status = list(alloc, &mut Source::new(&bytes, 100, Some(read)), &mut out);
-        assert_eq!(rt; status.expect(&rt, "a status"), 1);
-        assert_eq!(rt; out.text(), "refused read 2\n");
+        let answer = list(alloc, &mut Source::new(&bytes, 100, Some(read)), &mut out);
+        expect_answer(&rt, answer, &out, (1, "refused read 2\n"));
     }
 }
 
@@ -248,56 +260,54 @@ fn reports_each_read_that_fails(rt: HostRuntime) {
 fn try_writes(rt: &impl Abort, alloc: Global, input: &[u8], want: &str, status: u8) {
     let mut whole = Sink::new(alloc, 10, None);
     let answer = list(alloc, &mut Source::new(input, 1, None), &mut whole);
-    assert_eq!(rt; answer.expect(rt, "a status"), status);
-    assert_eq!(rt; whole.text(), want);
+    expect_answer(rt, answer, &whole, (status, want));
     for write in 0..whole.writes {
         let mut out = Sink::new(alloc, 10, Some(write));
         let answer = list(alloc, &mut Source::new(input, 1, None), &mut out);
-        assert!(rt; matches!(answer, Err(WriteFailed)));
+        assert!(rt; answer == Err(WriteFailed));
     }
     let mut out = Sink::new(alloc, 10, Some(whole.writes));
     let answer = list(alloc, &mut Source::new(input, 1, None), &mut out);
-    assert_eq!(rt; answer.expect(rt, "a status"), status);
+    assert!(rt; answer == Ok(status));
 }
 
 #[test]
 fn reports_each_write_that_fails(rt: HostRuntime) {
-    let bytes = file(rt.alloc(), &ONE).expect(&rt, "memory for a file");
+    let bytes = file(&rt, rt.alloc(), &ONE);
     try_writes(&rt, rt.alloc(), &bytes, ONE_LISTING, 0);
     try_writes(&rt, rt.alloc(), &[0; 1099], "refused file 1\n", 1);
 }
 
 /// The bytes of a file of one commit whose parents are position 0, over and over.
-fn many_parents(alloc: Global) -> Result<Vec<u8>, AllocError> {
-    let mut edges = vec![in alloc; 0; 40_000]?;
-    edges.push(0x8000_0000)?;
+fn many_parents(rt: &impl Abort, alloc: Global) -> Vec<u8> {
+    let mut edges = vec![in alloc; 0; 40_000].expect(rt, "memory for a list");
+    edges.push(0x8000_0000).expect(rt, "memory for a list");
     let plan = Plan {
         hash: 1,
         bases: &[],
         commits: &[(0, 0x8000_0000, FIRST)],
         edges: Some(&edges),
     };
-    file(alloc, &plan)
+    file(rt, alloc, &plan)
 }
 
 /// A listing that is longer than a block is written in two parts, either of which may fail.
 #[test]
 fn lists_in_blocks(rt: HostRuntime) {
     let alloc = rt.alloc();
-    let bytes = many_parents(alloc).expect(&rt, "memory for a file");
+    let bytes = many_parents(&rt, alloc);
     let mut whole = Sink::new(alloc, usize::MAX, None);
-    let status = list(
+    let answer = list(
         alloc,
         &mut Source::new(&bytes, usize::MAX, None),
         &mut whole,
     );
-    assert_eq!(rt; status.expect(&rt, "a status"), 0);
-    assert_eq!(rt; whole.bytes.len(), 29 + 88 + 80_003 + 1);
+    assert!(rt; answer == Ok(0) && whole.writes == 2);
+    assert!(rt; whole.bytes.len() == 29 + 88 + 80_003 + 1);
     assert!(rt; whole.bytes.ends_with(b",0,0\n"));
-    assert_eq!(rt; whole.writes, 2);
     for write in 0..2 {
         let mut out = Sink::new(alloc, usize::MAX, Some(write));
-        let status = list(alloc, &mut Source::new(&bytes, usize::MAX, None), &mut out);
-        assert!(rt; matches!(status, Err(WriteFailed)));
+        let answer = list(alloc, &mut Source::new(&bytes, usize::MAX, None), &mut out);
+        assert!(rt; answer == Err(WriteFailed));
     }
 }

@@ -1,4 +1,4 @@
-use crate::fixtures::graph;
+use crate::fixtures::{graph, right};
 use gix_commitgraph::{GENERATION_NUMBER_MAX, Graph, Position};
 use graph_history::{Checked, Reached};
 use graph_vectors::{DIAMOND, OCTOPUS, Row, TEN};
@@ -9,8 +9,8 @@ const MAX: u32 = GENERATION_NUMBER_MAX;
 
 /// What a right graph answers to a query for a walk between two of its positions.
 fn reached(rt: &impl Abort, alloc: Global, graph: &Graph, from: u32, to: u32) -> Reached {
-    let checked = Checked::new(alloc, graph).expect(rt, "a right graph");
-    let commits = graph.num_commits();
+    let checked = right(rt, alloc, graph);
+    let commits = checked.num_commits();
     assert!(rt; from < commits && to < commits);
     checked
         .ancestor_walk(alloc, Position(from), Position(to))
@@ -100,19 +100,31 @@ fn the_only_shortest_walk_is_answered(rt: HostRuntime) {
     compare_answers(&rt, rt.alloc(), QUERIES);
 }
 
+/// Compares the answers of one searcher to a query that is asked three times.
+fn compare_repeated(
+    rt: &impl Abort,
+    alloc: Global,
+    checked: &Checked<'_>,
+    (from, to): (u32, u32),
+    walk: Option<&[Position]>,
+) {
+    let from = checked.position(from).expect(rt, "a commit");
+    let to = checked.position(to).expect(rt, "a commit");
+    let mut searcher = checked.searcher(alloc);
+    let first = searcher.ancestor_walk(from, to).expect(rt, "memory");
+    let found = searcher.is_ancestor(from, to).expect(rt, "memory");
+    let again = searcher.ancestor_walk(from, to).expect(rt, "memory");
+    assert!(rt; first.walk.as_deref() == walk && again.walk.as_deref() == walk);
+    assert!(rt; first.visits == again.visits && found == walk.is_some());
+}
+
 #[test]
 fn a_searcher_answers_one_query_after_another(rt: HostRuntime) {
+    let alloc = rt.alloc();
     for (commits, from, to, walk, ..) in QUERIES {
-        let graph = graph(&rt, rt.alloc(), &[*commits]);
-        let checked = Checked::new(rt.alloc(), &graph).expect(&rt, "a right graph");
-        let from = checked.position(*from).expect(&rt, "a commit");
-        let to = checked.position(*to).expect(&rt, "a commit");
-        let mut searcher = checked.searcher(rt.alloc());
-        let first = searcher.ancestor_walk(from, to).expect(&rt, "memory");
-        let found = searcher.is_ancestor(from, to).expect(&rt, "memory");
-        let again = searcher.ancestor_walk(from, to).expect(&rt, "memory");
-        assert!(rt; first.walk.as_deref() == *walk && again.walk.as_deref() == *walk);
-        assert!(rt; first.visits == again.visits && found == walk.is_some());
+        let graph = graph(&rt, alloc, &[*commits]);
+        let checked = right(&rt, alloc, &graph);
+        compare_repeated(&rt, alloc, &checked, (*from, *to), *walk);
     }
 }
 

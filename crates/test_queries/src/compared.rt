@@ -1,12 +1,13 @@
 //! The bases and the counts are those that Git 2.39.5 names for the same commits, but for the
 //! cycles, which no repository has. On a cycle a commit is its own proper ancestor, and so no base.
 
-use crate::fixtures::graph;
+use crate::fixtures::{compared, graph, right};
 use gix_commitgraph::{GENERATION_NUMBER_MAX, Position};
 use gix_hash_core::ObjectId;
-use graph_history::{Checked, Comparer, Comparison};
+use graph_history::{Checked, Comparer, Comparison, Divergence};
 use graph_uses::comparing::merge_bases;
 use graph_vectors::Row;
+use std::alloc::Global;
 use std::process::Abort;
 
 const MAX: u32 = GENERATION_NUMBER_MAX;
@@ -140,56 +141,76 @@ fn compare_answer(rt: &impl Abort, answer: &Comparison, bases: &[u32], ahead: u3
     assert!(rt; answer.divergence.ahead == ahead && answer.divergence.behind == behind);
 }
 
+/// What is answered of a commit and some others of a graph.
+fn answer_of(
+    rt: &impl Abort,
+    alloc: Global,
+    checked: &Checked<'_>,
+    first: u32,
+    others: &[u32],
+) -> Comparison {
+    let first = checked.position(first).expect(rt, "a commit");
+    let commits = checked.num_commits();
+    let others: Result<Vec<Position>, _> = others
+        .iter()
+        .map(|other| Position(*other))
+        .collect(alloc);
+    let others = others.expect(rt, "memory");
+    assert!(rt; others.iter().all(|other| other.0 < commits));
+    checked.compare(alloc, first, &others).expect(rt, "memory")
+}
+
+/// Compares what is answered of a row.
+fn compare_row(rt: &impl Abort, alloc: Global, row: &Query) {
+    let (layers, first, others, bases, ahead, behind) = row;
+    let graph = graph(rt, alloc, layers);
+    let checked = right(rt, alloc, &graph);
+    let answer = answer_of(rt, alloc, &checked, *first, others);
+    compare_answer(rt, &answer, bases, *ahead, *behind);
+}
+
 #[test]
 fn bases_and_counts_are_those_of_git(rt: HostRuntime) {
-    let alloc = rt.alloc();
-    for (layers, first, others, bases, ahead, behind) in QUERIES {
-        let graph = graph(&rt, alloc, layers);
-        let checked = Checked::new(alloc, &graph).expect(&rt, "a right graph");
-        let first = checked.position(*first).expect(&rt, "a commit");
-        let positions: Result<Vec<Position>, _> = others
-            .iter()
-            .map(|other| Position(*other))
-            .collect(alloc);
-        let positions = positions.expect(&rt, "memory");
-        let commits = checked.num_commits();
-        assert!(rt; positions.iter().all(|other| other.0 < commits));
-        let answer = checked
-            .compare(alloc, first, &positions)
-            .expect(&rt, "memory");
-        compare_answer(&rt, &answer, bases, *ahead, *behind);
+    for row in QUERIES {
+        compare_row(&rt, rt.alloc(), row);
     }
+}
+
+/// Two commits of `CRISS_CROSS`, their merge bases, and how many commits are ahead and behind.
+type Pair = (u32, u32, &'static [Position], u32, u32);
+
+const PAIRS: &[Pair] = &[
+    (3, 6, &[Position(1), Position(2)], 1, 2),
+    (6, 3, &[Position(1), Position(2)], 2, 1),
+    (3, 3, &[Position(3)], 0, 0),
+];
+
+/// Asserts the merge bases of two commits, and how many commits are ahead and behind.
+fn compare_pair(rt: &impl Abort, alloc: Global, checked: &Checked<'_>, pair: &Pair) {
+    let (first, other, want, ahead, behind) = pair;
+    let first = checked.position(*first).expect(rt, "a commit");
+    let others = [checked.position(*other).expect(rt, "a commit")];
+    let apart = checked.divergence(alloc, first, &others);
+    let want_apart = Divergence {
+        ahead: *ahead,
+        behind: *behind,
+    };
+    assert!(rt; apart.expect(rt, "memory") == want_apart);
+    let bases = checked.merge_bases(alloc, first, &others);
+    let bases = bases.expect(rt, "memory");
+    assert!(rt; bases.positions.as_slice() == *want);
+    // Of a commit and itself nothing else is visited.
+    assert!(rt; first != others[0] || bases.visits == 1);
 }
 
 #[test]
 fn two_commits_turned_round_have_the_same_bases(rt: HostRuntime) {
     let alloc = rt.alloc();
     let graph = graph(&rt, alloc, CRISS_CROSS);
-    let checked = Checked::new(alloc, &graph).expect(&rt, "a right graph");
-    let three = checked.position(3).expect(&rt, "a commit");
-    let six = checked.position(6).expect(&rt, "a commit");
-    let bases = checked
-        .merge_bases(alloc, three, &[six])
-        .expect(&rt, "memory");
-    let turned = checked
-        .merge_bases(alloc, six, &[three])
-        .expect(&rt, "memory");
-    assert!(rt; bases.positions.as_slice() == [Position(1), Position(2)].as_slice());
-    assert!(rt; turned.positions.as_slice() == bases.positions.as_slice());
-    let apart = checked
-        .divergence(alloc, three, &[six])
-        .expect(&rt, "memory");
-    assert!(rt; apart.ahead == 1 && apart.behind == 2);
-    let turned = checked
-        .divergence(alloc, six, &[three])
-        .expect(&rt, "memory");
-    assert!(rt; turned.ahead == 2 && turned.behind == 1);
-
-    // Of a commit and itself nothing else is visited.
-    let same = checked
-        .merge_bases(alloc, three, &[three])
-        .expect(&rt, "memory");
-    assert!(rt; same.visits == 1);
+    let checked = right(&rt, alloc, &graph);
+    for pair in PAIRS {
+        compare_pair(&rt, alloc, &checked, pair);
+    }
 }
 
 /// What a search marks in the memory that is kept is gone before the next one.
@@ -197,29 +218,23 @@ fn two_commits_turned_round_have_the_same_bases(rt: HostRuntime) {
 fn a_comparer_keeps_nothing_of_a_question_for_the_next(rt: HostRuntime) {
     let alloc = rt.alloc();
     let graph = graph(&rt, alloc, CRISS_CROSS);
-    let checked = Checked::new(alloc, &graph).expect(&rt, "a right graph");
-    let root = checked.position(0).expect(&rt, "a commit");
-    let three = checked.position(3).expect(&rt, "a commit");
-    let four = checked.position(4).expect(&rt, "a commit");
-    let five = checked.position(5).expect(&rt, "a commit");
-    let six = checked.position(6).expect(&rt, "a commit");
+    let checked = right(&rt, alloc, &graph);
     let mut comparer = Comparer::new(alloc, &checked);
-    let far = comparer.compare(five, &[six]).expect(&rt, "memory");
-    compare_answer(&rt, &far, &[1, 2], 2, 2);
-    let down = comparer.compare(five, &[root]).expect(&rt, "memory");
+    let visits = compared(&rt, &mut comparer, 5, 6).bases.visits;
+    let down = compared(&rt, &mut comparer, 5, 0);
     compare_answer(&rt, &down, &[0], 4, 0);
-    let near = comparer.compare(three, &[four]).expect(&rt, "memory");
+    let near = compared(&rt, &mut comparer, 3, 4);
     compare_answer(&rt, &near, &[1, 2], 1, 1);
-    let again = comparer.compare(five, &[six]).expect(&rt, "memory");
-    compare_answer(&rt, &again, &[1, 2], 2, 2);
-    assert!(rt; again.bases.visits == far.bases.visits);
+    let far = compared(&rt, &mut comparer, 5, 6);
+    compare_answer(&rt, &far, &[1, 2], 2, 2);
+    assert!(rt; far.bases.visits == visits);
 }
 
 #[test]
 fn the_ids_of_merge_bases_are_told(rt: HostRuntime) {
     let alloc = rt.alloc();
     let graph = graph(&rt, alloc, CRISS_CROSS);
-    let checked = Checked::new(alloc, &graph).expect(&rt, "a right graph");
+    let checked = right(&rt, alloc, &graph);
     let sixth = ObjectId::from([0x66; 20]);
     let seventh = ObjectId::from([0x77; 20]);
     let bases = merge_bases(alloc, &checked, sixth.as_oid(), seventh.as_oid());

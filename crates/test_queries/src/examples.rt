@@ -3,7 +3,7 @@ use gix_commitgraph::opening::OpenError;
 use gix_commitgraph::verify::{CommitFault, VerifyError, VerifyOptions};
 use gix_commitgraph::{FileError, Graph, Position};
 use gix_hash_core::{IdError, ObjectId};
-use graph_history::CheckedGraph;
+use graph_history::{Checked, CheckedGraph};
 use graph_uses::checked::open_checked;
 use graph_uses::finding::{find, only_position, time_of};
 use graph_uses::in_memory::open_bytes;
@@ -59,7 +59,7 @@ fn id(byte: u8) -> ObjectId {
 fn opens_bytes_in_memory(rt: HostRuntime) {
     let alloc = rt.alloc();
     let graph = graph_of(&rt, alloc, DIAMOND);
-    assert_eq!(rt; graph.num_commits(), 4);
+    assert!(rt; graph.num_commits() == 4);
     let refused = open_bytes(alloc, Vec::new(alloc));
     assert!(rt;
         matches!(
@@ -78,9 +78,9 @@ fn checks_a_graph(rt: HostRuntime) {
     let right = right_graph(&rt, alloc, DIAMOND);
     let checked = right.as_checked();
     let outcome = checked.outcome();
-    assert_eq!(rt; outcome.num_commits, 4);
-    assert_eq!(rt; outcome.longest_path_length, Some(2));
-    assert_eq!(rt; outcome.parent_counts.get(&1), Some(&2));
+    assert!(rt; outcome.num_commits == 4);
+    assert!(rt; outcome.longest_path_length == Some(2));
+    assert!(rt; outcome.parent_counts.get(&1) == Some(&2));
     let wrong = graph_of(&rt, alloc, TWICE);
     let answer = CheckedGraph::new(alloc, wrong);
     assert!(rt;
@@ -98,22 +98,30 @@ const RIGHT: &str = "graph_uses_test_right";
 
 const WRONG: &str = "graph_uses_test_wrong";
 
+/// Asserts what is found in the diamond.
+fn compare_found(rt: &impl Abort, checked: &Checked<'_>) {
+    assert!(rt; matches!(find(checked, THREES), Ok(Some(Position(2)))));
+    assert!(rt; matches!(find(checked, FIVES), Ok(None)));
+    assert!(rt; matches!(find(checked, "33"), Err(IdError::Length)));
+    assert!(rt; time_of(checked, id(0x33).as_oid()) == Some(1700000000));
+    assert!(rt; time_of(checked, id(0x55).as_oid()).is_none());
+}
+
+/// Asserts the parents of a commit of the graph on disk.
+fn compare_parents<R: Files + Abort>(rt: &R, alloc: Global, text: &str, want: &[ObjectId]) {
+    let parents = parents_at_path(rt, alloc, RIGHT, text).expect(rt, "an answer");
+    assert!(rt; parents.as_slice() == want);
+}
+
 #[test]
 fn asks_a_graph_on_disk(rt: HostRuntime) {
     let alloc = rt.alloc();
     let bytes = file_of(&rt, alloc, DIAMOND);
     fs::write(&rt, RIGHT, bytes.as_slice()).expect(&rt, "a file");
     let graph = open_checked(&rt, alloc, RIGHT).expect(&rt, "a right graph");
-    let checked = graph.as_checked();
-    assert!(rt; matches!(find(&checked, THREES), Ok(Some(Position(2)))));
-    assert!(rt; matches!(find(&checked, FIVES), Ok(None)));
-    assert!(rt; matches!(find(&checked, "33"), Err(IdError::Length)));
-    assert_eq!(rt; time_of(&checked, id(0x33).as_oid()), Some(1700000000));
-    assert_eq!(rt; time_of(&checked, id(0x55).as_oid()), None);
-    let parents = parents_at_path(&rt, alloc, RIGHT, FOURS).expect(&rt, "an answer");
-    assert_eq!(rt; parents.as_slice(), [id(0x22), id(0x33)].as_slice());
-    let parents = parents_at_path(&rt, alloc, RIGHT, FIVES).expect(&rt, "an answer");
-    assert!(rt; parents.is_empty());
+    compare_found(&rt, &graph.as_checked());
+    compare_parents(&rt, alloc, FOURS, &[id(0x22), id(0x33)]);
+    compare_parents(&rt, alloc, FIVES, &[]);
     fs::remove_file(&rt, RIGHT).expect(&rt, "no file");
 }
 
@@ -136,8 +144,8 @@ fn an_id_has_one_position_where_that_was_asked(rt: HostRuntime) {
         let graph = CheckedGraph::new_with(alloc, options, graph_of(&rt, alloc, DIAMOND));
         let graph = graph.expect(&rt, "a right graph");
         let checked = graph.as_checked();
-        assert_eq!(rt; only_position(&checked, id(0x33).as_oid()), position);
-        assert_eq!(rt; only_position(&checked, id(0x55).as_oid()), None);
+        assert!(rt; only_position(&checked, id(0x33).as_oid()) == position);
+        assert!(rt; only_position(&checked, id(0x55).as_oid()).is_none());
     }
 }
 
@@ -167,9 +175,26 @@ fn gives_parents(rt: HostRuntime) {
     for (number, want) in PARENTS {
         let pos = checked.position(*number).expect(&rt, "a commit");
         let parents = parents_of(alloc, &checked, pos).expect(&rt, "parents");
-        assert_eq!(rt; parents.as_slice(), *want, "at {number}");
+        assert!(rt; parents.as_slice() == *want, "at {number}");
     }
     assert!(rt; checked.position(4).is_none());
+}
+
+/// Whether a commit leads to another.
+fn leads(rt: &impl Abort, alloc: Global, checked: &Checked<'_>, from: u32, to: u32) -> bool {
+    let from = checked.position(from).expect(rt, "a commit");
+    let to = checked.position(to).expect(rt, "a commit");
+    reaches(alloc, checked, from, to).expect(rt, "an answer")
+}
+
+/// Asserts which commits are merged into the second, and all ancestors of the last.
+fn compare_ancestors(rt: &impl Abort, alloc: Global, checked: &Checked<'_>) {
+    let commits = [id(0x11), id(0x33), id(0x22), id(0x55)];
+    let found = merged(alloc, checked, id(0x22).as_oid(), &commits).expect(rt, "an answer");
+    assert!(rt; found.as_slice() == [id(0x11), id(0x22)].as_slice());
+    let all = ancestors(alloc, checked, id(0x44).as_oid()).expect(rt, "an answer");
+    let want = [id(0x44), id(0x33), id(0x22), id(0x11)];
+    assert!(rt; all.as_slice() == want.as_slice());
 }
 
 #[test]
@@ -178,15 +203,8 @@ fn asks_for_ancestors(rt: HostRuntime) {
     let graph = right_graph(&rt, alloc, DIAMOND);
     let checked = graph.as_checked();
     for (from, to, want) in [(3, 0, true), (1, 2, false), (2, 2, true), (0, 3, false)] {
-        let start = checked.position(from).expect(&rt, "a commit");
-        let end = checked.position(to).expect(&rt, "a commit");
-        let found = reaches(alloc, &checked, start, end);
-        assert_eq!(rt; found.expect(&rt, "an answer"), want, "from {from} to {to}");
+        let found = leads(&rt, alloc, &checked, from, to);
+        assert!(rt; found == want, "from {from} to {to}");
     }
-    let commits = [id(0x11), id(0x33), id(0x22), id(0x55)];
-    let found = merged(alloc, &checked, id(0x22).as_oid(), &commits).expect(&rt, "an answer");
-    assert_eq!(rt; found.as_slice(), [id(0x11), id(0x22)].as_slice());
-    let all = ancestors(alloc, &checked, id(0x44).as_oid()).expect(&rt, "an answer");
-    let want = [id(0x44), id(0x33), id(0x22), id(0x11)];
-    assert_eq!(rt; all.as_slice(), want.as_slice());
+    compare_ancestors(&rt, alloc, &checked);
 }

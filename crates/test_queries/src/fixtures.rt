@@ -3,6 +3,7 @@
 
 use gix_commitgraph::{File, Graph};
 use gix_hash_core::{Kind, ObjectId};
+use graph_history::{Checked, Comparer, Comparison};
 use graph_vectors::{LayerPlan, Row, build};
 use std::alloc::Global;
 use std::process::Abort;
@@ -49,6 +50,23 @@ pub fn graph(rt: &impl Abort, alloc: Global, layers: &[&[Row<'_>]]) -> Graph {
 pub fn graph_of<const N: usize>(rt: &impl Abort, alloc: Global, files: [File; N]) -> Graph {
     let files = Vec::from_array(alloc, files).expect(rt, "memory");
     Graph::new(alloc, files).expect(rt, "a graph")
+}
+
+/// A graph that is right, checked.
+pub fn right<'g>(rt: &impl Abort, alloc: Global, graph: &'g Graph) -> Checked<'g> {
+    Checked::new(alloc, graph).expect(rt, "a right graph")
+}
+
+/// What a comparer answers of two commits.
+pub fn compared(
+    rt: &impl Abort,
+    comparer: &mut Comparer<'_, '_>,
+    first: u32,
+    other: u32,
+) -> Comparison {
+    let first = comparer.graph().position(first).expect(rt, "a commit");
+    let other = comparer.graph().position(other).expect(rt, "a commit");
+    comparer.compare(first, &[other]).expect(rt, "memory")
 }
 
 /// The graph of the one layer of these bytes.

@@ -1,4 +1,4 @@
-use crate::fixtures::{empty_layer, graph, graph_of, layer};
+use crate::fixtures::{empty_layer, graph, graph_of, layer, right};
 use gix_commitgraph::verify::{CommitFault, VerifyError, VerifyOptions};
 use gix_commitgraph::{File, Graph, GraphError, Position};
 use gix_hash_core::{Kind, ObjectId};
@@ -24,25 +24,44 @@ fn top(rt: &impl Abort, graph: &Graph) -> ObjectId {
     file.checksum().to_owned()
 }
 
+/// Puts the layer of these commits on top.
+fn push_layer(
+    rt: &impl Abort,
+    alloc: Global,
+    lower: &mut CheckedGraph,
+    bases: &[ObjectId],
+    rows: &[Row<'_>],
+) -> Result<(), PushError> {
+    lower.push(alloc, layer(rt, alloc, bases, rows))
+}
+
+/// Whether no id may stand at two positions of a graph.
+fn asks_for_distinct_ids(graph: &CheckedGraph) -> bool {
+    graph.as_checked().options().distinct_ids
+}
+
 /// The layer of three more commits, the first of which has the number of three others below it.
 const RIGHT: &[Row<'static>] = &[(0x33, &[1], 3), (0x44, &[2, 0, 1], 4), (0x55, &[], 1)];
 
 #[test]
 fn a_right_layer_is_put_on_top(rt: HostRuntime) {
     let alloc = rt.alloc();
-    let mut pushed = checked(&rt, alloc, true);
-    let base = top(&rt, pushed.as_checked().graph());
-    let answer = pushed.push(alloc, layer(&rt, alloc, &[base], RIGHT));
+    let mut lower = checked(&rt, alloc, true);
+    let base = top(&rt, lower.as_checked().graph());
+    let answer = push_layer(&rt, alloc, &mut lower, &[base], RIGHT);
     assert!(&rt; answer == Ok(()));
     let whole = graph(&rt, alloc, &[LOWER, RIGHT]);
-    let whole = CheckedGraph::new(alloc, whole).expect(&rt, "a right graph");
-    let (pushed, whole) = (pushed.as_checked(), whole.as_checked());
-    assert!(&rt; pushed.outcome() == whole.outcome());
-    assert!(&rt; pushed.num_commits() == 5 && pushed.outcome().longest_path_length == Some(3));
-    let merge = pushed.position(3).expect(&rt, "the merge");
-    let root = pushed.position(0).expect(&rt, "the root");
-    let found = pushed.is_ancestor(alloc, merge, root);
-    assert!(&rt; found.expect(&rt, "memory"));
+    compare_right(&rt, alloc, &lower.as_checked(), &right(&rt, alloc, &whole));
+}
+
+/// Compares a graph of five commits with the same graph that was checked as a whole.
+fn compare_right(rt: &impl Abort, alloc: Global, graph: &Checked<'_>, whole: &Checked<'_>) {
+    assert!(rt; graph.outcome() == whole.outcome());
+    assert!(rt; graph.num_commits() == 5 && graph.outcome().longest_path_length == Some(3));
+    let merge = graph.position(3).expect(rt, "the merge");
+    let root = graph.position(0).expect(rt, "the root");
+    let found = graph.is_ancestor(alloc, merge, root);
+    assert!(rt; found.expect(rt, "memory"));
 }
 
 /// The commits of a layer, and why it is refused on two commits whose ids are to be distinct.
@@ -114,6 +133,12 @@ fn a_wrong_graph_that_is_owned_is_refused_by_its_first_fault(rt: HostRuntime) {
     }
 }
 
+/// Why a graph is refused whose ids are to be distinct.
+fn refusal_of(rt: &impl Abort, alloc: Global, graph: Graph) -> VerifyError<NoFault> {
+    let answer = CheckedGraph::new_with(alloc, VerifyOptions { distinct_ids: true }, graph);
+    answer.err().expect(rt, "a wrong graph")
+}
+
 #[test]
 fn a_wrong_layer_is_refused_as_the_whole_graph(rt: HostRuntime) {
     let alloc = rt.alloc();
@@ -121,11 +146,8 @@ fn a_wrong_layer_is_refused_as_the_whole_graph(rt: HostRuntime) {
     let base = top(&rt, lower.as_checked().graph());
     for (rows, want) in REFUSED {
         let whole = graph(&rt, alloc, &[LOWER, *rows]);
-        let answer = CheckedGraph::new_with(alloc, VerifyOptions { distinct_ids: true }, whole);
-        assert!(&rt; matches!(&answer, Err(error) if error == want));
-        let Err(error) = answer else {
-            panic!(&rt; "a wrong graph")
-        };
+        let error = refusal_of(&rt, alloc, whole);
+        assert!(&rt; error == *want);
         let file = layer(&rt, alloc, &[base], rows);
         compare_refused(&rt, alloc, &mut lower, file, &PushError::Check(error));
     }
@@ -142,11 +164,11 @@ fn a_repeated_id_is_put_on_top_where_none_was_asked_about(rt: HostRuntime) {
     let alloc = rt.alloc();
     let mut lower = checked(&rt, alloc, false);
     let base = top(&rt, lower.as_checked().graph());
-    let answer = lower.push(alloc, layer(&rt, alloc, &[base], RIGHT));
-    assert!(&rt; answer == Ok(()) && !lower.as_checked().options().distinct_ids);
+    let answer = push_layer(&rt, alloc, &mut lower, &[base], RIGHT);
+    assert!(&rt; answer == Ok(()) && !asks_for_distinct_ids(&lower));
     let bases = [base, top(&rt, lower.as_checked().graph())];
-    let answer = lower.push(alloc, layer(&rt, alloc, &bases, &[(0x22, &[], 1)]));
-    assert!(&rt; answer == Ok(()) && !lower.as_checked().options().distinct_ids);
+    let answer = push_layer(&rt, alloc, &mut lower, &bases, &[(0x22, &[], 1)]);
+    assert!(&rt; answer == Ok(()) && !asks_for_distinct_ids(&lower));
 }
 
 #[test]
@@ -158,24 +180,24 @@ fn a_checked_graph_says_what_was_asked(rt: HostRuntime) {
         let lent = Checked::new_with(alloc, options, &lower).expect(&rt, "a right graph");
         assert!(&rt; lent.options().distinct_ids == distinct_ids);
         let owned = checked(&rt, alloc, distinct_ids);
-        assert!(&rt; owned.as_checked().options().distinct_ids == distinct_ids);
+        assert!(&rt; asks_for_distinct_ids(&owned) == distinct_ids);
     }
 }
 
 #[test]
 fn what_was_asked_is_asked_of_each_layer(rt: HostRuntime) {
     let alloc = rt.alloc();
-    let mut pushed = checked(&rt, alloc, true);
-    let base = top(&rt, pushed.as_checked().graph());
-    let answer = pushed.push(alloc, layer(&rt, alloc, &[base], RIGHT));
-    assert!(&rt; answer == Ok(()) && pushed.as_checked().options().distinct_ids);
-    let bases = [base, top(&rt, pushed.as_checked().graph())];
+    let mut lower = checked(&rt, alloc, true);
+    let base = top(&rt, lower.as_checked().graph());
+    let answer = push_layer(&rt, alloc, &mut lower, &[base], RIGHT);
+    assert!(&rt; answer == Ok(()) && asks_for_distinct_ids(&lower));
+    let bases = [base, top(&rt, lower.as_checked().graph())];
     let (pos, earlier) = (Position(5), Position(1));
     for _ in [0, 1] {
-        let answer = pushed.push(alloc, layer(&rt, alloc, &bases, &[(0x22, &[], 1)]));
+        let answer = push_layer(&rt, alloc, &mut lower, &bases, &[(0x22, &[], 1)]);
         let want = PushError::Check(VerifyError::DuplicateId { pos, earlier });
         assert!(&rt; matches!(&answer, Err(error) if *error == want));
-        assert!(&rt; pushed.as_checked().options().distinct_ids);
+        assert!(&rt; asks_for_distinct_ids(&lower));
     }
 }
 

@@ -1,10 +1,10 @@
 //! Two lines of commits that share one long extra edge list. A search for merge bases that goes
 //! over the list once for each of them takes longer than a test may.
 
-use crate::fixtures::graph_of_one;
-use gix_commitgraph::Graph;
+use crate::fixtures::{compared, graph_of_one, right};
+use gix_commitgraph::{Graph, Position};
 use gix_hash_core::Kind;
-use graph_history::{Checked, Comparer, Comparison};
+use graph_history::{Comparer, Comparison};
 use graph_vectors::{END, file_of_parts, reseal, words};
 use std::alloc::Global;
 use std::process::Abort;
@@ -114,12 +114,7 @@ fn compare_apart(rt: &impl Abort, answer: &Comparison) {
 /// this is.
 fn compare_near(rt: &impl Abort, answer: &Comparison, before: u32) {
     let positions = answer.bases.positions.as_slice();
-    assert!(rt;
-        positions
-            .iter()
-            .map(|pos| pos.0)
-            .eq(before..before.saturating_add(1))
-    );
+    assert!(rt; positions == [Position(before)].as_slice());
     assert!(rt; answer.divergence.ahead == 1 && answer.divergence.behind == 0);
 }
 
@@ -127,16 +122,14 @@ fn compare_near(rt: &impl Abort, answer: &Comparison, before: u32) {
 fn merge_bases_of_a_shared_list_are_found_in_time(rt: HostRuntime) {
     let alloc = rt.alloc();
     let graph = graph(&rt, alloc);
-    let checked = Checked::new(alloc, &graph).expect(&rt, "a right graph");
-    let first = checked.position(COMMITS - 1).expect(&rt, "a commit");
-    let second = checked.position(COMMITS - 2).expect(&rt, "a commit");
-    let before = checked.position(COMMITS - 3).expect(&rt, "a commit");
+    let checked = right(&rt, alloc, &graph);
     let mut comparer = Comparer::new(alloc, &checked);
-    let apart = comparer.compare(first, &[second]).expect(&rt, "memory");
+    let (first, second, before) = (COMMITS - 1, COMMITS - 2, COMMITS - 3);
+    let apart = compared(&rt, &mut comparer, first, second);
     compare_apart(&rt, &apart);
     // Nothing that was passed on is left for the next question.
-    let near = comparer.compare(first, &[before]).expect(&rt, "memory");
-    compare_near(&rt, &near, before.0);
-    let again = comparer.compare(second, &[first]).expect(&rt, "memory");
+    let near = compared(&rt, &mut comparer, first, before);
+    compare_near(&rt, &near, before);
+    let again = compared(&rt, &mut comparer, second, first);
     compare_apart(&rt, &again);
 }

@@ -1,11 +1,10 @@
 //! A layer whose commits share one long extra edge list. A check or a query that goes over the list
 //! once for each of them takes longer than a test may.
 
-use crate::fixtures::{graph_of, opened};
+use crate::fixtures::{graph_of, opened, right};
 use gix_commitgraph::file::Commit;
 use gix_commitgraph::{File, Graph};
 use gix_hash_core::Kind;
-use graph_history::Checked;
 use graph_vectors::{END, file_of_parts, reseal, words};
 use std::alloc::Global;
 use std::convert::Infallible;
@@ -105,7 +104,7 @@ fn compare_verified(rt: &impl Abort, alloc: Global, graph: &Graph) {
 
 /// The walk from the last commit to the second, which goes through all commits between them.
 fn compare_queries(rt: &impl Abort, alloc: Global, graph: &Graph) {
-    let checked = Checked::new(alloc, graph).expect(rt, "a right graph");
+    let checked = right(rt, alloc, graph);
     let last = checked.position(COMMITS - 1).expect(rt, "the last commit");
     let second = checked.position(1).expect(rt, "the second commit");
     let reached = checked.ancestor_walk(alloc, last, second);
