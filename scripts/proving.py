@@ -21,6 +21,7 @@ LISTED = (line.partition(":") for line in (TOP / "crates.txt").read_text().split
 USES = {crate.split()[0]: used.split() for crate, _, used in LISTED}
 """For each crate, those that crates.txt lists for it."""
 STATIC = "commitgraph_c"
+PROCESSORS = len(os.sched_getaffinity(0))
 MEMORY = 3 * 2**30
 """As many bytes of memory has to be there for each job of a check."""
 
@@ -75,10 +76,11 @@ def is_current(crate):
 
 
 def most_jobs():
-    """How many jobs all checks get together: one for each processor, as far as there is memory for them."""
+    """How many jobs all checks get together, as far as there is memory for them: half as many again as there are
+    processors, since the first and the last seconds of a check are those of one job."""
     lines = pathlib.Path("/proc/meminfo").read_text().splitlines()
     free = next(int(line.split()[1]) for line in lines if line.startswith("MemAvailable:"))
-    return max(1, min(len(os.sched_getaffinity(0)), free * 1024 // MEMORY))
+    return max(1, min(PROCESSORS * 3 // 2, free * 1024 // MEMORY))
 
 
 def build_words(crate, jobs):
@@ -135,14 +137,16 @@ def prove(crate, jobs, date=None):
 
 
 def prove_all(crates, date):
-    """Proves crates, each as soon as those that it uses are proved, with the jobs that are free, and dates them."""
-    left, running, idle = list(crates), {}, most_jobs()
+    """Proves crates, each as soon as those that it uses are proved, with the jobs that are free, and dates them. Of those that
+    are ready, the one on which most others rest comes first."""
+    left = sorted(crates, key=lambda crate: -sum(crate in below(other) for other in crates))
+    running, idle = {}, most_jobs()
     with concurrent.futures.ThreadPoolExecutor(len(crates) + 1) as pool:
         while left or running:
             waited_for = {*left, *(crate for crate, _ in running.values())}
             ready = [crate for crate in left if waited_for.isdisjoint(below(crate))]
             while ready and (idle or not running):
-                crate, jobs = ready[0], max(1, idle // len(ready))
+                crate, jobs = ready[0], min(PROCESSORS, max(1, -(-idle // len(ready))))
                 ready.remove(crate)
                 left.remove(crate)
                 running[pool.submit(prove, crate, jobs, date)] = crate, jobs
