@@ -43,6 +43,16 @@ fn asks_for_distinct_ids(graph: &CheckedGraph) -> bool {
 /// The layer of three more commits, the first of which has the number of three others below it.
 const RIGHT: &[Row<'static>] = &[(0x33, &[1], 3), (0x44, &[2, 0, 1], 4), (0x55, &[], 1)];
 
+/// Compares a graph of five commits with the same graph that was checked as a whole.
+fn compare_right(rt: &impl Abort, alloc: Global, graph: &Checked<'_>, whole: &Checked<'_>) {
+    assert!(rt; graph.outcome() == whole.outcome());
+    assert!(rt; graph.num_commits() == 5 && graph.outcome().longest_path_length == Some(3));
+    let merge = graph.position(3).expect(rt, "the merge");
+    let root = graph.position(0).expect(rt, "the root");
+    let found = graph.is_ancestor(alloc, merge, root);
+    assert!(rt; found.expect(rt, "memory"));
+}
+
 #[test]
 fn a_right_layer_is_put_on_top(rt: HostRuntime) {
     let alloc = rt.alloc();
@@ -52,16 +62,6 @@ fn a_right_layer_is_put_on_top(rt: HostRuntime) {
     assert!(&rt; answer == Ok(()));
     let whole = graph(&rt, alloc, &[LOWER, RIGHT]);
     compare_right(&rt, alloc, &lower.as_checked(), &right(&rt, alloc, &whole));
-}
-
-/// Compares a graph of five commits with the same graph that was checked as a whole.
-fn compare_right(rt: &impl Abort, alloc: Global, graph: &Checked<'_>, whole: &Checked<'_>) {
-    assert!(rt; graph.outcome() == whole.outcome());
-    assert!(rt; graph.num_commits() == 5 && graph.outcome().longest_path_length == Some(3));
-    let merge = graph.position(3).expect(rt, "the merge");
-    let root = graph.position(0).expect(rt, "the root");
-    let found = graph.is_ancestor(alloc, merge, root);
-    assert!(rt; found.expect(rt, "memory"));
 }
 
 /// The commits of a layer, and why it is refused on two commits whose ids are to be distinct.
