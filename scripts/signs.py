@@ -6,8 +6,14 @@ from documents import LINK, QUOTED, README, used_crates
 
 MAP = "docs/DEFINITIONS.md"
 LONGEST = 60
-MOST_WORDS = 16000
+README_WORDS, GUIDE_WORDS = 1400, 1800
+"""How many words the README and each page of docs/ may have, blocks of code aside."""
+
+UNLIMITED = ("docs/MANUAL.md", "docs/REFUSALS.md")
+"""The pages of docs/ that have as many words as there are commands and refusals to speak of."""
+
 CODE = re.compile(r"^```.*?^```|^    .*?$", re.MULTILINE | re.DOTALL)
+GUIDE = re.compile(r"docs/\w+\.md")
 WORD = re.compile(r"\S*[^\W_]\S*")
 STANDS_ON = re.compile(r"^Stands on:? (.*?)\.(?: |$)", re.MULTILINE | re.DOTALL)
 
@@ -28,11 +34,13 @@ def long_ones(texts):
             yield "%s has %d lines" % (path, text.count("\n"))
 
 
-def too_many_words(texts):
-    """How many words all documents have together, blocks of code aside, where that is too many."""
-    words = sum(len(WORD.findall(CODE.sub("", text))) for path, text in texts.items() if path.endswith(".md"))
-    if words > MOST_WORDS:
-        yield "%d words" % words
+def too_long_guides(texts):
+    """The documents that have too many words for their kind."""
+    for path, text in texts.items():
+        most = README_WORDS if path == "README.md" else GUIDE_WORDS
+        words = len(WORD.findall(CODE.sub("", text)))
+        if words > most and (path == "README.md" or GUIDE.fullmatch(path)) and path not in UNLIMITED:
+            yield "%s has %d words, and may have %d" % (path, words, most)
 
 
 def wrong_grounds(texts):

@@ -147,7 +147,7 @@ def check_version(tally):
     """The number of the version stands in VERSION; the changes and the program, which name it too, agree with it."""
     version = read("VERSION")
     number = version.split(",")[0]
-    news = re.findall(r"^## (\S+)", read("CHANGELOG.md"), re.MULTILINE)[0]
+    news = [title for title in re.findall(r"^## (\S+)", read("CHANGELOG.md"), re.MULTILINE) if title != "Unreleased"][0]
     tally.check("the newest changes are those of the version", None if news == number else "they are of " + news)
     kit = KIT.search(read("README.md")).group(1)
     right = version == "%s, proved with %s\n" % (number, kit)
