@@ -6,6 +6,7 @@ import tempfile
 from typing import Dict, List, NamedTuple, Tuple
 
 import refusals
+import version
 from wrappers.clone import TOP, Clone, exactly
 
 
@@ -124,8 +125,8 @@ def check_passing(tally, wrapper, clone):
 
 def check_told(tally, wrapper, clone):
     """Help and version, alone and after each command."""
-    name, usage, version = wrapper.name, usage_of(wrapper.name), "%s %s" % (wrapper.name, read("VERSION"))
-    clone.put_program("historytool", told_by_historytool(version))
+    name, usage, told = wrapper.name, usage_of(wrapper.name), "%s %s" % (wrapper.name, read("VERSION"))
+    clone.put_program("historytool", told_by_historytool(told))
     for before in ([], *([command] for command in wrapper.commands)):
         for word in ("--help", "-h"):
             answer = clone.run([name, *before, word])
@@ -134,24 +135,21 @@ def check_told(tally, wrapper, clone):
             complaint = None if right and not missing else "it is %r" % (answer,)
             tally.check(" ".join([name, *before, word]), complaint)
         answer = clone.run([name, *before, "--version"])
-        tally.check(" ".join([name, *before, "--version"]), exactly(answer, 0, version))
+        tally.check(" ".join([name, *before, "--version"]), exactly(answer, 0, told))
 
 
-def told_by_historytool(version):
-    """A program that tells of itself as `historytool` does."""
+def told_by_historytool(told):
+    """A program that tells of itself as `historytool` does, with this line for its version."""
     usage = usage_of("historytool")
-    return "case $# in 1) ;; *) exit 2 ;; esac\ncase $1 in\n--help) echo '%s' ;;\n*) printf '%s' ;;\nesac\n" % (usage, version)
+    return "case $# in 1) ;; *) exit 2 ;; esac\ncase $1 in\n--help) echo '%s' ;;\n*) printf '%s' ;;\nesac\n" % (usage, told)
 
 
 def check_version(tally):
-    """The number of the version stands in VERSION; the changes and the program, which name it too, agree with it."""
-    version = read("VERSION")
-    number = version.split(",")[0]
-    news = [title for title in re.findall(r"^## (\S+)", read("CHANGELOG.md"), re.MULTILINE) if title != "Unreleased"][0]
-    tally.check("the newest changes are those of the version", None if news == number else "they are of " + news)
+    """The number of the version stands in VERSION; the changes and all that names it agree with it."""
+    tally.check("each place that names the version has its number", next(version.wrong_places(), None))
     kit = KIT.search(read("README.md")).group(1)
-    right = version == "%s, proved with %s\n" % (number, kit)
-    tally.check("the kit of the version is the one that is needed", None if right else "it is %r" % version)
-    line = 'const VERSION: &str = "historytool %s";' % version.strip()
+    right = read("VERSION") == "%s, proved with %s\n" % (version.number(), kit)
+    tally.check("the kit of the version is the one that is needed", None if right else "it is %r" % read("VERSION"))
+    line = 'const VERSION: &str = "historytool %s";' % read("VERSION").strip()
     there = line in read("crates", "historytool", "src", "main.rt").split("\n")
     tally.check("historytool has the version", None if there else "its source has no line " + line)
