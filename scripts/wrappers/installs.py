@@ -17,6 +17,8 @@ INSTALLED = {
     *("lib/git-cgraph/programs/graphtool", "lib/git-cgraph/programs/historytool"),
     *("lib/git-cgraph/docs/MANUAL.md", "lib/git-cgraph/docs/REFUSALS.md"),
     *("lib/git-cgraph/scripts/answers.sh", "lib/git-cgraph/scripts/explain.awk", "lib/git-cgraph/scripts/manual.awk"),
+    *("include/commitgraph.h", "lib/libcommitgraph.a"),
+    *("share/doc/git-cgraph/LICENSE-MIT", "share/doc/git-cgraph/LICENSE-APACHE"),
 }
 COMPLETIONS = ("/usr/share/bash-completion/completions/git", "/etc/bash_completion.d/git", "/usr/share/git/completion/git-completion.bash")
 """Where Git's own completion mostly is."""
@@ -39,6 +41,7 @@ def check_all(tally):
         clone = Clone(folder)
         for name in PROGRAMS:
             clone.put_program(name, "printf '<%s>' \"$@\"\n")
+        clone.put("crates/commitgraph_c/out/libcommitgraph.a", "the library\n")
         repository = make_repository(clone, os.path.join(folder, "repository").encode())
         check_words(tally, clone)
         check_fresh(tally, clone, os.path.join(folder, ODD_PREFIX))
