@@ -14,6 +14,8 @@ PATH = re.compile(r"(crates|docs|scripts|bench|src|specs|proofs|edits|must-fail)
 ANY_NAME = re.compile(r"\b[A-Z]+\b")
 """A name in capitals within a path, as in crates/NAME/src, stands for any name."""
 
+MODULES = (".py", ".rs")
+KNOWN_TO_GIT = (".gitignore",)
 CODE = re.compile(r"[A-Za-z_]\w*(::\w+)*")
 LINK = re.compile(r"\]\(([^)#:]+)\)")
 README = re.compile(r"crates/(\w+)/README\.md")
@@ -49,6 +51,17 @@ def missing_paths(texts):
     for place, _, _, name in quotations(texts, documents(texts)):
         if PATH.fullmatch(name) and not is_end(name.rstrip("/"), paths):
             yield "%s names %s" % (place, name)
+
+
+def unnamed_files(texts):
+    """The files outside of the crates that no other of these names: a module by its name alone, and a command by its path."""
+    ours = {path: text for path, text in texts.items() if not path.startswith("crates/")}
+    for path in ours:
+        stem, ending = os.path.splitext(os.path.basename(path))
+        name = path if not ending else stem if ending in MODULES else stem + ending
+        word = re.compile(r"(?<![\w-])%s(?![\w-])" % re.escape(name))
+        if path not in KNOWN_TO_GIT and not any(word.search(text) for other, text in ours.items() if other != path):
+            yield path
 
 
 def with_folders(path):
