@@ -26,6 +26,7 @@ END {
     if (best[line] == 0) exit
     if (ENVIRON["COMMIT"] != "") say("the commit at position " value["P"] " is " ENVIRON["COMMIT"])
     if (line ~ /^unknown /) say("id " value["N"] " is " nth_id(value["N"]))
+    if (line ~ /^refused id / && no_id() != "") say("`" no_id() "` is not an id")
     if (best[detail]) {
         sub(/; [^;]* is explained under .*/, "", happened[line])
         happened[line] = happened[line] ": " happened[detail]
@@ -117,6 +118,15 @@ function in_folder(text,    usual, at, whole) {
 function nth_id(number,    ids) {
     split(ENVIRON["IDS"], ids, " ")
     return ids[number]
+}
+
+# The first of the ids that were asked about which is none, or nothing.
+function no_id(    ids, count, number) {
+    count = split(ENVIRON["IDS"], ids, " ")
+    for (number = 1; number <= count; number++) {
+        if (ids[number] ~ /[^0-9A-Fa-f]/ || (length(ids[number]) != 40 && length(ids[number]) != 64)) return ids[number]
+    }
+    return ""
 }
 
 function say(text) {

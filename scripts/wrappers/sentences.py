@@ -28,6 +28,7 @@ def check_all(tally):
             title = "the sentences of %r from %s" % (line, command)
             tally.check(title, right(answer, line, command, said))
         check_unknown(tally, clone, rows)
+        check_no_id(tally, clone, rows)
         check_other_line(tally, clone)
         tally.check("sentences, nothing is left over", clone.left_over())
 
@@ -64,6 +65,18 @@ def check_unknown(tally, clone, rows):
     answer = clone.run(["historytool", "merge-base", ".", "aa", "bb", "cc"])
     said = ["id 2 is bb", *refusals.sentences(rows, "unknown 2")]
     tally.check("an unknown id is named", right(answer, "unknown 2", "merge-base", said))
+
+
+def check_no_id(tally, clone, rows):
+    """The first text that is no id is named."""
+    ids = ["aB" * 20, "0" * 64, "a" * 41, "HEAD"]
+    for line, no_id in (("refused id 1", ids[2]), ("refused id 2", "g" * 40)):
+        clone.put_program("historytool", "echo '%s'\nexit 2\n" % line)
+        given = [*ids[:2], no_id, ids[3]]
+        answer = clone.run(["historytool", "merge-base", ".", *given])
+        said = ["'%s' is not an id" % no_id, *refusals.sentences(rows, line)]
+        err = "".join("historytool: %s\n" % sentence for sentence in said)
+        tally.check("a text that is no id is named, %s" % line, exactly(answer, 2, line + "\n", err))
 
 
 def check_other_line(tally, clone):
