@@ -1,16 +1,16 @@
 //! The file system as a folder.
 
-ghost use Rattle.std.specs.Prelude.{◌≡◌, ◌-◌, None, IsOk, min, length};
+ghost use Rattle.std.specs.Prelude.{◌≡◌, ◌-◌, None, IsOk, IfOk, min, length};
 ghost use Rattle.graph_folder.specs.Failures.{failures_after};
 ghost use Rattle.graph_folder.specs.Parts.{IfPart};
+ghost use Rattle.graph_folder.specs.Reads.{AreAllOfFile, AreOfFileFrom};
 
-use super::exact::read_exactly;
+use super::exact::read_part_from;
 use super::whole::read_expected;
 use super::{Folder, Part, ReadError};
 use std::alloc::{AllocError, Global};
 use std::fs;
 use std::fs::OpenFile;
-use std::io::{Seek, SeekFrom};
 use std::rt::Files;
 
 /// The file system of a host. What stands in it is not known.
@@ -29,7 +29,9 @@ impl<'r, R: Files> Disk<'r, R> {
     }
 
     /// All bytes of the file at the path. A host may open a folder as it opens a file.
-    fn read_file(&self, alloc: Global, path: &str) -> Result<Vec<u8>, ReadError> {
+    fn read_file(&self, alloc: Global, path: &str) -> Result<Vec<u8>, ReadError>
+        ensures { IfOk result (λ bytes. AreAllOfFile R.File.remaining bytes.items) }
+    {
         let mut file = fs::open(self.rt, path).map_err(|_| ReadError::NotOpened)?;
         let expected = match file.metadata() {
             Ok(metadata) if metadata.is_dir() => return Err(ReadError::NotOpened),
@@ -47,7 +49,9 @@ impl<'r, R: Files> Disk<'r, R> {
         start: u64,
         len: usize,
     ) -> Result<Option<Part>, ReadError>
-        ensures { IfPart result (λ part.
+        ensures bytes { IfPart result (λ part. AreOfFileFrom R.File.stream_position
+            R.File.stream_bytes R.File.remaining start part.bytes.items) }
+        ensures size { IfPart result (λ part.
             length part.bytes.items ≡ min len (part.file_len - start)) }
     {
         let file_len = match fs::metadata(self.rt, path) {
@@ -58,14 +62,7 @@ impl<'r, R: Files> Disk<'r, R> {
             return Ok(None);
         }
         let mut file = fs::open(self.rt, path).map_err(|_| ReadError::NotOpened)?;
-        if file.seek(SeekFrom::Start(start)).is_err() {
-            return Ok(None);
-        }
-        let count = min_len(len, file_len.saturating_sub(start));
-        match read_exactly(alloc, &mut file, count)? {
-            Some(bytes) => Ok(Some(Part { bytes, file_len })),
-            None => Ok(None),
-        }
+        read_part_from(alloc, &mut file, file_len, start, len)
     }
 
     /// Counts a read with this answer, if it is one that the device failed.
@@ -80,18 +77,7 @@ impl<'r, R: Files> Disk<'r, R> {
     }
 }
 
-/// The lesser of the two.
-fn min_len(len: usize, left: u64) -> usize
-    ensures { result ≡ min len left }
-{
-    if left < len as u64 {
-        left as usize
-    } else {
-        len
-    }
-}
-
-impl<R: Files> Folder for Disk<'_, R> {
+impl<'r, R: Files> Folder for Disk<'r, R> {
     ghost tree = { λ _. None };
 
     ghost failure_count = { λ disk. disk.failures };
@@ -122,21 +108,33 @@ impl<R: Files> Folder for Disk<'_, R> {
     /// All bytes of the file at the path. `NotOpened` comes where the host does not open it or
     /// calls it a folder, `Device` where a later read fails, and `OutOfMemory` where there is no
     /// memory for the bytes.
-    fn read(&mut self, alloc: Global, path: &str) -> Result<Vec<u8>, ReadError> {
+    fn read(&mut self, alloc: Global, path: &str) -> Result<Vec<u8>, ReadError>
+        ensures bytes { IfOk result (λ bytes. AreAllOfFile R.File.remaining bytes.items) }
+        ensures failures { ⟦<Disk<'r, R> as Folder>⟧.failure_count self.new
+            ≡ failures_after result (⟦<Disk<'r, R> as Folder>⟧.failure_count self.old) }
+    {
         let answer = self.read_file(alloc, path);
         self.count_failure(&answer);
         answer
     }
 
     /// These bytes of the file at the path, and its length as the host says it. `None` where the
-    /// host calls it no regular file, or empty, or where the file ends before that length.
+    /// host calls it no regular file, or empty, where it cannot be set to `start`, or where the
+    /// file ends before that length.
     fn read_part(
         &mut self,
         alloc: Global,
         path: &str,
         start: u64,
         len: usize,
-    ) -> Result<Option<Part>, ReadError> {
+    ) -> Result<Option<Part>, ReadError>
+        ensures bytes { IfPart result (λ part. AreOfFileFrom R.File.stream_position
+            R.File.stream_bytes R.File.remaining start part.bytes.items) }
+        ensures size { IfPart result (λ part.
+            length part.bytes.items ≡ min len (part.file_len - start)) }
+        ensures failures { ⟦<Disk<'r, R> as Folder>⟧.failure_count self.new
+            ≡ failures_after result (⟦<Disk<'r, R> as Folder>⟧.failure_count self.old) }
+    {
         let answer = self.read_part_of(alloc, path, start, len);
         self.count_failure(&answer);
         answer

@@ -7,3 +7,20 @@ is_file-tells g c = record { answer = λ t known. absurd (grind (arith, known));
 
 pub is_dir-tells : goal.is_dir-tells
 is_dir-tells g c = record { answer = λ t known. absurd (grind (arith, known)); tree = search; failures = search }
+
+pub read-tells : goal.read-tells
+read-tells g c = record {
+  bytes = λ t known. absurd (grind (arith, known));
+  not_opened = λ t known. absurd (grind (arith, known));
+  tree = search;
+  failures = search;
+}
+
+pub read_part-tells : goal.read_part-tells
+read_part-tells g c = record {
+  part = λ t known. absurd (grind (arith, known));
+  size = search;
+  not_opened = λ t known. absurd (grind (arith, known));
+  tree = search;
+  failures = search;
+}
