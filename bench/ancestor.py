@@ -19,17 +19,15 @@ bench/ancestor/baseline.rs, by `rustc -O` for the same processor. The status is 
 
 import os
 import random
-import shutil
-import subprocess
 import sys
 import tempfile
-import time
 
+import common
 import lookup
 from topics import NEWEST, PAIRS, Made
 
-SOURCES = os.path.join(lookup.TOP, "bench", "ancestor")
-PROGRAM_LIBRARIES = ["gix_hash_core", "gix_commitgraph", "graph_history", "anyhow"]
+NAME = "ancestor"
+LIBRARIES = ["gix_hash_core", "gix_commitgraph", "graph_history", "anyhow"]
 FIRST_PAIRS = 50
 """So many pairs of each kind are asked of Git."""
 ROUNDS = 2
@@ -43,8 +41,8 @@ def main(folder=None):
         os.makedirs(folder, exist_ok=True)
         present, _, _, _, _, layer, *chain = lookup.written_files(folder)
         line, topics = pairs_files(folder, present), Made(folder)
-        programs = our_program(folder), baseline_program(folder)
-        print("load     %.2f" % os.getloadavg()[0])
+        programs = our_program(folder), common.baseline_program(folder, NAME)
+        common.print_load()
         print("%-24s %10s %10s %7s %10s" % ("figure", "ours us", "rust us", "ratio", "visits"))
         graphs = [("layer", line, [layer]), ("chain", line, chain), ("topics", topics.pairs[:2], topics.layer())]
         agreed = [report(programs, *graph) for graph in graphs]
@@ -52,18 +50,20 @@ def main(folder=None):
         return 0 if all(agreed) else 1
 
 
+def our_program(folder):
+    """The path of our program, proved and built."""
+    return common.our_program(folder, NAME, LIBRARIES)
+
+
 def report(programs, name, pairs, layers):
     """Prints a line a figure, and answers whether the two programs agreed."""
-    rounds = [[figures(program, pairs + layers) for program in programs] for _ in range(ROUNDS)]
     agreed = True
-    for kind in rounds[0][0]:
-        pairs_of_kind = PAIRS[kind.partition("-")[0]]
-        best, other = (min(run[at][kind][0] for run in rounds) / pairs_of_kind / 1000 for at in range(2))
-        visits = rounds[0][1][kind][-1] / pairs_of_kind
-        print("%-24s %10.2f %10.2f %7.3f %10.1f" % (name + " " + kind, best, other, best / other, visits), flush=True)
-        answers = {run[at][kind][1:] for run in rounds for at in range(2)}
-        if len(answers) != 1:
-            print("%-24s the answers differ: %s" % (name + " " + kind, answers))
+    for kind, figure in common.compared(programs, pairs + layers, ROUNDS).items():
+        asked = PAIRS[kind.partition("-")[0]]
+        best, other, visits = (number / asked for number in (figure.ours, figure.other, max(figure.numbers)[-1]))
+        print("%-24s %10.2f %10.2f %7.3f %10.1f" % (name + " " + kind, best / 1000, other / 1000, best / other, visits), flush=True)
+        if len(figure.numbers) != 1:
+            print("%-24s the answers differ: %s" % (name + " " + kind, figure.numbers))
             agreed = False
     return agreed
 
@@ -71,32 +71,17 @@ def report(programs, name, pairs, layers):
 def report_git(topics, at, baseline):
     """Prints what Git takes for the first pairs of a kind, and answers whether it says yes as often."""
     kind = ("any", "newest")[at]
-    with open(topics.pairs[at], "rb") as file:
-        asked = file.read(2 * 20 * FIRST_PAIRS)
-    ids = [asked[start : start + 20].hex() for start in range(0, len(asked), 20)]
-    is_ancestor = ["git", "-C", topics.folder, "merge-base", "--is-ancestor"]
-    started = time.perf_counter()
-    yes = sum(subprocess.call(is_ancestor + [second, first]) == 0 for first, second in zip(ids[::2], ids[1::2]))
-    taken = time.perf_counter() - started
-    started = time.perf_counter()
-    for _ in range(FIRST_PAIRS):
-        subprocess.check_call(["git", "-C", topics.folder, "rev-parse", "--git-dir"], stdout=subprocess.DEVNULL)
-    idle = time.perf_counter() - started
+    asked, pairs = common.first_pairs(topics.pairs[at], FIRST_PAIRS)
+    commands = [["merge-base", "--is-ancestor", second, first] for first, second in pairs]
+    yes, _, taken, idle = common.asked_of_git(topics.folder, commands)
     first = os.path.join(os.path.dirname(topics.folder), "first")
     with open(first, "wb") as file:
         file.write(asked)
-    found = figures(baseline, [first, first] + topics.layer())["any-yes"][1]
-    times = (kind, (taken - idle) * 1e6 / FIRST_PAIRS, idle * 1e6 / FIRST_PAIRS)
-    print("git %-20s %10.1f us a query, and %.1f to start" % times)
+    found = dict(common.lines(baseline, [first, first] + topics.layer()))["any-yes"][1]
+    print("git %-20s %10.1f us a query, and %.1f to start" % (kind, taken, idle))
     if yes != found:
         print("git says yes %d times, and there are %d walks" % (yes, found))
     return yes == found
-
-
-def figures(program, files):
-    """What one run of a program prints: for each figure its time, and the numbers of its answers."""
-    lines = subprocess.check_output([program] + files, text=True).splitlines()
-    return {name: tuple(map(int, numbers)) for name, *numbers in map(str.split, lines)}
 
 
 def pairs_files(folder, present):
@@ -108,40 +93,6 @@ def pairs_files(folder, present):
     with open(paths[1], "wb") as target:
         target.write(b"".join(lookup.digest("commit", place) for place in chance.choices(newest, k=2 * PAIRS["newest"])))
     return paths
-
-
-def baseline_program(folder, sources=SOURCES):
-    """The path of the baseline in a folder of sources, built."""
-    program = os.path.join(folder, os.path.basename(sources) + "_baseline")
-    flags = ["--edition", "2024", "-O", "-C", "target-cpu=x86-64-v2", "-C", "codegen-units=1"]
-    subprocess.check_call(["rustc"] + flags + [os.path.join(sources, "baseline.rs"), "-o", program])
-    return program
-
-
-def our_program(folder, sources=SOURCES, libraries=PROGRAM_LIBRARIES):
-    """The path of our program in a folder of sources, proved and built in a repository of its own over copies of crates."""
-    name = os.path.basename(sources)
-    repository, program = os.path.join(folder, name + "_repository"), name + "_bench"
-    crate = os.path.join(repository, "crates", program)
-    os.makedirs(os.path.join(crate, "src"), exist_ok=True)
-    if not os.path.exists(os.path.join(repository, ".git")):
-        subprocess.check_call(["git", "init", "--quiet", repository])
-    needed = lookup.needed(libraries, lookup.crates())
-    with open(os.path.join(repository, "crates.txt"), "w") as file:
-        for name, uses in [*needed.items(), (program, libraries)]:
-            file.write("%s: %s\n" % (name, " ".join(uses)))
-    for library in needed:
-        lookup.copy_crate(library, repository)
-    shutil.copyfile(os.path.join(sources, "main.rt.txt"), os.path.join(crate, "src", "main.rt"))
-    built = os.path.join(crate, "out", program)
-    if os.path.exists(built):
-        os.remove(built)
-    # With no arguments the program says how it is called, and fails.
-    pipes = {"stdin": subprocess.DEVNULL, "stdout": subprocess.PIPE, "stderr": subprocess.STDOUT}
-    run = subprocess.run(["rt", "run"], cwd=crate, check=False, **pipes)
-    if not os.path.exists(built):
-        raise RuntimeError(run.stdout.decode())
-    return built
 
 
 if __name__ == "__main__":

@@ -19,16 +19,14 @@ is bench/bases/baseline.rs, by `rustc -O` for the same processor. The status is 
 """
 
 import os
-import subprocess
 import sys
 import tempfile
-import time
 
-import ancestor
-import lookup
+import common
 from topics import PAIRS, Made
 
-SOURCES = os.path.join(lookup.TOP, "bench", "bases")
+NAME = "bases"
+LIBRARIES = ["gix_hash_core", "gix_commitgraph", "graph_history", "anyhow"]
 FIRST_PAIRS = 20
 """So many pairs of each kind are asked of Git."""
 ROUNDS = 2
@@ -41,8 +39,8 @@ def main(folder=None):
         folder = os.path.abspath(folder or scratch)
         os.makedirs(folder, exist_ok=True)
         made = Made(folder)
-        programs = (ancestor.our_program(folder, SOURCES), ancestor.baseline_program(folder, SOURCES))
-        print("load     %.2f" % os.getloadavg()[0])
+        programs = common.our_program(folder, NAME, LIBRARIES), common.baseline_program(folder, NAME)
+        common.print_load()
         print("%-16s %10s %10s %7s %10s" % ("figure", "ours us", "rust us", "ratio", "visits"))
         graphs = {"layer": made.layer(), "chain": made.chain()}
         agreed = [report(programs, name, made.pairs, paths) for name, paths in graphs.items()]
@@ -52,14 +50,12 @@ def main(folder=None):
 
 def report(programs, name, pairs, layers):
     """Prints a line a figure, and answers whether the two programs agreed."""
-    rounds = [[ancestor.figures(program, pairs + layers) for program in programs] for _ in range(ROUNDS)]
-    agreed = True
-    for kind in rounds[0][0]:
-        pairs_of_kind = PAIRS["same" if kind == "anew" else kind]
-        best, other = (min(run[at][kind][0] for run in rounds) / pairs_of_kind / 1000 for at in range(2))
-        visits = rounds[0][1][kind][-1] / pairs_of_kind
-        print("%-16s %10.1f %10.1f %7.3f %10.1f" % (name + " " + kind, best, other, best / other, visits), flush=True)
-        agreed = agreed and len({run[at][kind][1:] for run in rounds for at in range(2)}) == 1
+    figures = common.compared(programs, pairs + layers, ROUNDS)
+    for kind, figure in figures.items():
+        asked = PAIRS["same" if kind == "anew" else kind]
+        best, other, visits = (number / asked for number in (figure.ours, figure.other, max(figure.numbers)[-1]))
+        print("%-16s %10.1f %10.1f %7.3f %10.1f" % (name + " " + kind, best / 1000, other / 1000, best / other, visits), flush=True)
+    agreed = all(len(figure.numbers) == 1 for figure in figures.values())
     if not agreed:
         print("%-16s the answers differ" % name)
     return agreed
@@ -67,23 +63,13 @@ def report(programs, name, pairs, layers):
 
 def report_git(made, kind, baseline):
     """Prints what Git takes for the first pairs of a kind, and answers whether it found as many bases."""
-    with open(made.pairs[("any", "newest").index(kind)], "rb") as file:
-        asked = file.read(2 * 20 * FIRST_PAIRS)
-    ids = [asked[at : at + 20].hex() for at in range(0, len(asked), 20)]
-    started, bases = time.perf_counter(), 0
-    for first, second in zip(ids[::2], ids[1::2]):
-        command = ["git", "-C", made.folder, "merge-base", "--all", first, second]
-        bases += len(subprocess.run(command, stdout=subprocess.PIPE, check=False).stdout.split())
-    taken = time.perf_counter() - started
-    started = time.perf_counter()
-    for _ in range(FIRST_PAIRS):
-        subprocess.check_call(["git", "-C", made.folder, "rev-parse", "--git-dir"], stdout=subprocess.DEVNULL)
-    idle = time.perf_counter() - started
+    asked, pairs = common.first_pairs(made.pairs[("any", "newest").index(kind)], FIRST_PAIRS)
+    _, bases, taken, idle = common.asked_of_git(made.folder, [["merge-base", "--all", *pair] for pair in pairs])
     first = os.path.join(os.path.dirname(made.folder), "first")
     with open(first, "wb") as file:
         file.write(asked)
-    nanoseconds, found, *_ = ancestor.figures(baseline, [first] * 3 + made.layer())["any"]
-    figures = (kind, (taken - idle) * 1e6 / FIRST_PAIRS, idle * 1e6 / FIRST_PAIRS, nanoseconds / FIRST_PAIRS / 1000)
+    nanoseconds, found, *_ = dict(common.lines(baseline, [first] * 3 + made.layer()))["any"]
+    figures = (kind, taken, idle, nanoseconds / FIRST_PAIRS / 1000)
     print("git %-12s %10.1f us a pair, and %.1f to start; plain Rust %.1f" % figures)
     if bases != found:
         print("git names %d bases, and there are %d" % (bases, found))

@@ -17,15 +17,14 @@ bench/dates/baseline.rs, by `rustc -O` for the same processor. The status is 1 w
 import os
 import random
 import struct
-import subprocess
 import sys
 import tempfile
 
-import ancestor
+import common
 import lookup
 import processes
 
-SOURCES = os.path.join(lookup.TOP, "bench", "dates")
+NAME = "dates"
 LIBRARIES = "gix_commitgraph graph_layer changed_paths corrected_dates graph_chunks anyhow".split()
 ROUNDS = 7
 """How often each program is run. They take turns."""
@@ -45,8 +44,8 @@ def main(folder=None, commits="1000000"):
             if not os.path.exists(path):
                 with open(path, "wb") as file:
                     file.write(layer(int(commits), paths[path]))
-        programs = ancestor.our_program(folder, SOURCES, LIBRARIES), ancestor.baseline_program(folder, SOURCES)
-        print("load     %.2f" % os.getloadavg()[0])
+        programs = common.our_program(folder, NAME, LIBRARIES), common.baseline_program(folder, NAME)
+        common.print_load()
         return 0 if all([report(programs, path, int(commits)) for path in paths]) else 1
 
 
@@ -79,23 +78,20 @@ def layer(commits, farthest):
 
 def report(programs, path, commits):
     """Prints the figures of a layer, and answers whether the two programs agreed."""
-    rounds = [[ancestor.figures(program, [path]) for program in programs] for _ in range(ROUNDS)]
-    sums, name = {}, os.path.basename(path)
-    best = {figure: [min(run[at][figure][0] for run in rounds) / commits for at in range(2)] for figure in rounds[0][0]}
-    for figure, (ours, other) in best.items():
-        print("%-20s %-10s %9.2f %9.2f %7.3f" % (name, figure, ours, other, ours / other), flush=True)
-        sums[figure] = {run[at][figure][1:] for run in rounds for at in range(2)}
+    figures, name = common.compared(programs, [path], ROUNDS), os.path.basename(path)
+    best = {kind: (figure.ours / commits, figure.other / commits) for kind, figure in figures.items()}
+    for kind, (ours, other) in best.items():
+        print("%-20s %-10s %9.2f %9.2f %7.3f" % (name, kind, ours, other, ours / other), flush=True)
     part = [(best["compare"][at] + best["index"][at]) / best["checksum"][at] for at in range(2)]
     print("%-20s %-10s %9.3f %9.3f" % (name, "part", *part))
     print_processes(name, path)
-    return all(len(found) == 1 for found in sums.values())
+    return all(len(figure.numbers) == 1 for figure in figures.values())
 
 
 def print_processes(name, path):
     """Prints the least times of processor that a check and `verify` take."""
-    script = os.path.join(lookup.TOP, "scripts", "program")
     words = {"historytool": "check", "graphtool": "verify"}
-    commands = [[subprocess.check_output([script, tool], text=True).strip(), words[tool], path] for tool in words]
+    commands = [[common.program(tool), word, path] for tool, word in words.items()]
     runs = [[processes.measured(command, None) for command in commands] for _ in range(ROUNDS)]
     check, verify = (processes.best_of(tries).processor for tries in zip(*runs))
     print("%-20s %-10s %9.3f %9.3f %7.3f" % (name, "processes", check, verify, check / verify))

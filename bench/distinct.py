@@ -12,9 +12,9 @@ over the first, and the peak of the memory of `distinct`.
 import multiprocessing
 import os
 import struct
-import subprocess
 import sys
 
+import common
 import lookup
 import processes
 
@@ -32,9 +32,8 @@ SHAPES = [
 def main(folder, *others):
     """Prints the figures."""
     os.makedirs(folder, exist_ok=True)
-    ours = subprocess.check_output([os.path.join(lookup.TOP, "scripts", "program")], text=True).strip()
-    programs = {"ours": ours, **dict(other.split("=", 1) for other in others)}
-    print("load     %.2f" % os.getloadavg()[0])
+    programs = {"ours": common.program(), **dict(other.split("=", 1) for other in others)}
+    common.print_load()
     print("%-22s %-10s %9s %9s %7s %10s" % ("chain", "program", "verify s", "distinct", "ratio", "memory MB"))
     for number, (title, sizes, alike) in enumerate(SHAPES):
         chain = processes.chain_folder(folder, "distinct-%d" % number, paths(folder, number, sizes, alike))

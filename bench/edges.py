@@ -19,9 +19,7 @@ import subprocess
 import sys
 import tempfile
 
-TOP = os.path.dirname(os.path.dirname(os.path.abspath(__file__)))
-sys.path.insert(0, os.path.join(TOP, "bench"))
-
+import common
 from lookup import NO_PARENT, ROOTS, TOP_BIT, digest, layer_of, shared_layer
 
 COMMITS = (50_000, 100_000, 200_000)
@@ -33,7 +31,7 @@ NO_WALK = 1
 
 def main(program=None):
     """Prints the figures, and answers the exit status."""
-    program = program or subprocess.check_output([os.path.join(TOP, "scripts", "program")], text=True).strip()
+    program = program or common.program()
     with tempfile.TemporaryDirectory() as folder:
         checks = [seconds([program, "verify", shared(folder, commits)], 0) for commits in COMMITS]
         walks = [seconds([program, "ancestor", *line(folder, commits)], NO_WALK) for commits in COMMITS]

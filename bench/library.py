@@ -22,11 +22,12 @@ import sys
 import tempfile
 
 import ancestor
+import common
 import lookup
 from topics import PAIRS
 
-SOURCES = os.path.join(lookup.TOP, "bench", "library")
-LIBRARY = os.path.join(lookup.TOP, "crates", "commitgraph_c", "out")
+SOURCES = common.sources("library")
+LIBRARY = os.path.join(common.TOP, "crates", "commitgraph_c", "out")
 FEW = 30
 """Of the pairs at random so many are asked about."""
 CALLS = 100_000_000
@@ -51,7 +52,7 @@ def main(folder=None):
         inputs = [present, absent, positions, *pairs, *layers]
         ours, queries = lookup.our_program(folder), ancestor.our_program(folder)
         programs = [c_program(folder), rust_program(folder)]
-        print("load     %.2f" % os.getloadavg()[0])
+        common.print_load()
         rounds = []
         for _ in range(lookup.ROUNDS):
             own = figures(ours, [present, absent, positions, once, twice, *layers])
@@ -71,8 +72,7 @@ def few_pairs(folder, pairs, near):
 
 def figures(program, words, prefix=""):
     """What one run of a program prints: for each figure its time, and the numbers that came out."""
-    lines = subprocess.check_output([program] + words, text=True).splitlines()
-    return {prefix + name: (int(time), tuple(numbers)) for name, time, *numbers in map(str.split, lines)}
+    return {prefix + name: (time, numbers) for name, (time, *numbers) in common.lines(program, words)}
 
 
 def report(rounds):
@@ -89,7 +89,7 @@ def report(rounds):
         cells = ["%10.2f" % time for time in times] + [" " * 10] * (3 - len(times))
         cells += ["%7.3f" % ratio for ratio in ratios] + [" " * 7] * (2 - len(ratios))
         print("%-18s %s %7s" % (name, " ".join(cells), BOUNDS.get(figure, "1.1" if ratios else "")), flush=True)
-        if len({numbers for runs in found for _, numbers in runs}) != 1:
+        if len({tuple(numbers) for runs in found for _, numbers in runs}) != 1:
             print("%-18s the sums differ" % name)
             agreed = False
     return 0 if agreed else 1
@@ -105,7 +105,7 @@ def c_program(folder):
     """The path of the program in C, built."""
     program = os.path.join(folder, "library_c")
     library, heap = archives()
-    flags = ["-std=c11", "-D_GNU_SOURCE", "-O2", "-I" + os.path.join(lookup.TOP, "bindings", "c")]
+    flags = ["-std=c11", "-D_GNU_SOURCE", "-O2", "-I" + os.path.join(common.TOP, "bindings", "c")]
     linked = [os.path.join(library, "libcommitgraph_c.a"), os.path.join(heap, "liblibc_c.a")]
     subprocess.check_call(["cc", *flags, os.path.join(SOURCES, "measure.c"), *linked, "-o", program])
     return program
@@ -114,7 +114,7 @@ def c_program(folder):
 def rust_program(folder):
     """The path of the program in Rust, built over the crate."""
     program, crate = os.path.join(folder, "library_rust"), os.path.join(folder, "libcommitgraph.rlib")
-    source = os.path.join(lookup.TOP, "bindings", "rust", "src", "lib.rs")
+    source = os.path.join(common.TOP, "bindings", "rust", "src", "lib.rs")
     found = [word for path in archives() for word in ("-L", "native=" + path)]
     rustc = ["rustc", "--edition", "2021", "-O", "-C", "codegen-units=1", *found]
     linked = ["-l", "static=commitgraph_c", "-l", "static=libc_c"]

@@ -23,14 +23,13 @@ where the two disagree.
 
 import hashlib
 import os
-import shutil
 import struct
-import subprocess
 import sys
 import tempfile
 
-TOP = os.path.dirname(os.path.dirname(os.path.abspath(__file__)))
-SOURCES = os.path.join(TOP, "bench", "lookup")
+import common
+
+NAME = "lookup"
 
 COMMITS = 1_000_000
 LAYERS = 10
@@ -44,8 +43,7 @@ SHARED_WORDS = 14
 ROOTS = 16
 """How many commits of such a layer have no parents. The others have these."""
 
-PROGRAM = "lookup_bench"
-PROGRAM_LIBRARIES = ["gix_hash_core", "gix_commitgraph", "anyhow"]
+LIBRARIES = ["gix_hash_core", "gix_commitgraph", "anyhow"]
 
 NAMES = ["present", "absent", "positions", "once", "twice", "layer"] + ["chain-%d" % layer for layer in range(LAYERS)]
 """The names of the inputs, in the order in which the programs take them."""
@@ -60,8 +58,8 @@ def main(folder=None):
         folder = os.path.abspath(folder or scratch)
         os.makedirs(folder, exist_ok=True)
         files = written_files(folder)
-        ours, baseline = our_program(folder), baseline_program(folder)
-        print("load     %.2f" % os.getloadavg()[0])
+        ours, baseline = our_program(folder), common.baseline_program(folder, NAME)
+        common.print_load()
         rounds = [(figures(ours, files), figures(baseline, files)) for _ in range(ROUNDS)]
         return report([first for first, _ in rounds], [second for _, second in rounds])
 
@@ -107,72 +105,14 @@ def best_and_sums(name, runs):
 def figures(program, files):
     """What one run of a program prints: for each figure its times, each with its sums."""
     found = {}
-    for line in subprocess.check_output([program] + files, text=True).splitlines():
-        name, time, count, total = line.split()
-        found.setdefault(name, []).append((int(time), (int(count), int(total))))
+    for name, (time, *sums) in common.lines(program, files):
+        found.setdefault(name, []).append((time, tuple(sums)))
     return found
-
-
-def baseline_program(folder):
-    """The path of the baseline, built."""
-    program = os.path.join(folder, "baseline")
-    source = os.path.join(SOURCES, "baseline.rs")
-    flags = ["--edition", "2024", "-O", "-C", "target-cpu=x86-64-v2", "-C", "codegen-units=1"]
-    subprocess.check_call(["rustc"] + flags + [source, "-o", program])
-    return program
 
 
 def our_program(folder):
-    """The path of our program, proved and built in a repository of its own over copies of the crates."""
-    repository = os.path.join(folder, "repository")
-    crate = os.path.join(repository, "crates", PROGRAM)
-    os.makedirs(os.path.join(crate, "src"), exist_ok=True)
-    if not os.path.exists(os.path.join(repository, ".git")):
-        subprocess.check_call(["git", "init", "--quiet", repository])
-    libraries = needed(PROGRAM_LIBRARIES, crates())
-    with open(os.path.join(repository, "crates.txt"), "w") as file:
-        for name, uses in [*libraries.items(), (PROGRAM, PROGRAM_LIBRARIES)]:
-            file.write("%s: %s\n" % (name, " ".join(uses)))
-    for library in libraries:
-        copy_crate(library, repository)
-    shutil.copyfile(os.path.join(SOURCES, "main.rt.txt"), os.path.join(crate, "src", "main.rt"))
-    built = os.path.join(crate, "out", PROGRAM)
-    if os.path.exists(built):
-        os.remove(built)
-    # With no arguments the program says how it is called, and fails.
-    run = subprocess.run(["rt", "run"], cwd=crate, stdin=subprocess.DEVNULL, stdout=subprocess.PIPE, stderr=subprocess.STDOUT)
-    if not os.path.exists(built):
-        raise RuntimeError(run.stdout.decode())
-    return built
-
-
-def crates():
-    """The crates of this repository, each with the libraries that it uses."""
-    with open(os.path.join(TOP, "crates.txt")) as file:
-        lines = [line.split(":") for line in file if ":" in line and not line.startswith("#")]
-    return {name: uses.split() for name, uses in lines}
-
-
-def needed(names, known):
-    """The known ones of some crates, and of all that they use."""
-    found = {}
-    for name in names:
-        if name in known:
-            found.update(needed(known[name], known))
-            found[name] = known[name]
-    return found
-
-
-def copy_crate(library, repository):
-    """Copies a crate's files, and at first what earlier proofs of it have kept."""
-    source = os.path.join(TOP, "crates", library)
-    target = os.path.join(repository, "crates", library)
-    for part in ("src", "specs", "proofs"):
-        shutil.rmtree(os.path.join(target, part), ignore_errors=True)
-        shutil.copytree(os.path.join(source, part), os.path.join(target, part))
-    kept = os.path.join(source, "out")
-    if os.path.isdir(kept) and not os.path.isdir(os.path.join(target, "out")):
-        shutil.copytree(kept, os.path.join(target, "out"), symlinks=True)
+    """The path of our program, proved and built."""
+    return common.our_program(folder, NAME, LIBRARIES)
 
 
 def written_files(folder):

@@ -22,9 +22,7 @@ import sys
 import time
 from typing import NamedTuple
 
-TOP = os.path.dirname(os.path.dirname(os.path.abspath(__file__)))
-sys.path.insert(0, os.path.join(TOP, "bench"))
-
+import common
 import lookup
 
 RUNS = 7
@@ -45,10 +43,9 @@ def main(folder, *others):
     """Prints the figures."""
     folder = os.path.abspath(folder)
     os.makedirs(folder, exist_ok=True)
-    ours = subprocess.check_output([os.path.join(TOP, "scripts", "program")], text=True).strip()
-    programs = {"ours": ours, "rust": lookup.baseline_program(folder)}
+    programs = {"ours": common.program(), "rust": common.baseline_program(folder, lookup.NAME)}
     programs.update(other.split("=", 1) for other in others)
-    print("load     %.2f" % os.getloadavg()[0])
+    common.print_load()
     print("%-22s %-10s %11s %11s %9s %10s" % ("figure", "program", "processor s", "elapsed s", "memory MB", "ours of it"))
     files = lookup.written_files(folder)
     layer = files[lookup.NAMES.index("layer")]
@@ -128,7 +125,7 @@ def random_layer(folder, commits):
     path = os.path.join(folder, "random-%d" % commits)
     if not os.path.exists(path):
         program = os.path.join(folder, "random_layer")
-        source = os.path.join(TOP, "bench", "processes", "random_layer.rs")
+        source = os.path.join(common.TOP, "bench", "processes", "random_layer.rs")
         subprocess.check_call(["rustc", "--edition", "2024", "-O", source, "-o", program])
         subprocess.check_call([program, str(commits), path])
     return path
