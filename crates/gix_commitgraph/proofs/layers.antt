@@ -1,4 +1,5 @@
 pub mod LayerListLemmas
+pub mod PushedLayerLemmas
 pub mod LayerStartLemmas
 pub mod LayerSpanLemmas
 pub mod PositionLemmas

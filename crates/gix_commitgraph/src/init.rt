@@ -46,23 +46,31 @@ impl Graph {
     ///
     /// # Errors
     ///
-    /// Those of [`Graph::new`] for the files of the layers and this one, or `OutOfMemory` where an
-    /// allocation failed. The file is then dropped, and the graph is as it was.
+    /// The first of these that holds; the file is then dropped, and the graph is as it was:
+    ///
+    /// 1. `TooManyCommits`: with the file there are more than [`MAX_COMMITS`] commits, and this is
+    ///    their number.
+    /// 2. `HashMismatch`: the file is of another kind than the layers before it.
+    /// 3. `OutOfMemory`: an allocation failed.
     pub fn push(&mut self, file: File) -> Result<(), GraphError>
         ensures pushed { OnOk result (self.new ≡ self.old ++ file ∷ []) }
         ensures kept { OnErr result (self.new ≡ self.old) }
         ensures graph { IsGraph self.new }
         ensures refusal { MatchResult result
             (λ _. graph_refusal (self.old ++ file ∷ []) ≡ None)
-            (λ e. (graph_refusal (self.old ++ file ∷ []) ≡ Some e) ⊎ (e ≡ GraphError.OutOfMemory)) }
+            (λ e. (graph_refusal (self.old ++ file ∷ []) ≡ Some e)
+            ⊎ ((e ≡ GraphError.OutOfMemory) × (graph_refusal (self.old ++ file ∷ []) ≡ None))) }
     {
         let start = self.num_commits();
+        if let Err(error) = check_above(self, &file) {
+            return Err(error);
+        }
         if self.starts.push(start).is_err() {
             return Err(GraphError::OutOfMemory);
         }
-        if let Err(error) = push_checked(&mut self.files, file) {
+        if self.files.push(file).is_err() {
             self.starts.pop();
-            return Err(error);
+            return Err(GraphError::OutOfMemory);
         }
         Ok(())
     }
@@ -80,22 +88,19 @@ impl Graph {
     }
 }
 
-/// Puts a file after others, unless they make no graph with it.
-fn push_checked(files: &mut Vec<File>, file: File) -> Result<(), GraphError>
-    ensures pushed { OnOk result (files.new.items ≡ files.old.items ++ file ∷ []) }
-    ensures kept { OnErr result (files.new.items ≡ files.old.items) }
-    ensures opened { OnOk result (All IsOpened files.new.items) }
-    ensures refusal { MatchResult result
-        (λ _. graph_refusal (files.old.items ++ file ∷ []) ≡ None)
-        (λ e. (graph_refusal (files.old.items ++ file ∷ []) ≡ Some e)
-        ⊎ (e ≡ GraphError.OutOfMemory)) }
+/// Refuses a file that makes no graph on top of the layers of this one.
+fn check_above(graph: &Graph, file: &File) -> Result<(), GraphError>
+    ensures refusal { Reports result (graph_refusal (graph.now ++ file.now ∷ [])) }
+    ensures opened { All IsOpened (graph.now ++ file.now ∷ []) }
 {
-    if files.push(file).is_err() {
-        return Err(GraphError::OutOfMemory);
+    let commits = graph.num_commits() as u128 + file.num_commits() as u128;
+    if commits > MAX_COMMITS as u128 {
+        return Err(GraphError::TooManyCommits(commits));
     }
-    if let Err(error) = check(files) {
-        files.pop();
-        return Err(error);
+    if graph.object_hash() != file.object_hash() {
+        return Err(GraphError::HashMismatch {
+            layer: graph.layers().len(),
+        });
     }
     Ok(())
 }
