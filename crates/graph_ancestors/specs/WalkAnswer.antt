@@ -1,5 +1,6 @@
 -- what a query for a walk along parents, from one commit of a history to another, answers
-use Rattle.std.specs.Prelude.{ℕ, ◌+◌, ◌<◌, ◌≤◌, List, map, length, IfSome, IfNone}
+use Rattle.std.specs.Prelude.{◌≡◌, ◌≢◌, ℕ, ◌<◌, ◌≤◌, List, map, length, IfSome, IfNone}
+use Rattle.graph_walks.specs.declared.TheConstants.{GENERATION_NUMBER_MAX}
 use Rattle.graph_walks.specs.History.{Node, generation_at}
 use Rattle.graph_walks.specs.Walks.{IsWalkBetween, Reaches}
 use Rattle.graph_format.specs.declared.Position.{Position}
@@ -30,6 +31,9 @@ pub record IsAnswer (history : List Node) (from to : ℕ) (reached : Reached) : 
   pub none : IfNone reached.walk (¬ Reaches history from to)
   -- no more commits are visited than there are at or above the generation number of to
   pub visits : AtLeast reached.visits (IsAtOrAbove history from to)
-  -- no fewer are visited than the walk has before its end, and where there is no walk, than there are above that number
-  pub walk_visits : IfSome reached.walk (λ walk. length walk.items ≤ reached.visits + 1)
+  -- no fewer are visited than the walk has, and where there is no walk, than there are above that number
+  pub walk_visits : IfSome reached.walk (λ walk. length walk.items ≤ reached.visits)
   pub none_visits : IfNone reached.walk (AtMost reached.visits (IsAbove history from to))
+  -- none is visited where the generation numbers allow no walk from one commit to another
+  pub no_visits : from ≢ to → generation_at history from ≤ generation_at history to
+      → generation_at history from < GENERATION_NUMBER_MAX → reached.visits ≡ 0

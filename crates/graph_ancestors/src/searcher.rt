@@ -66,8 +66,8 @@ impl<'g> Searcher<'g> {
     ///
     /// The search goes breadth first. It visits no commit twice, and none whose generation number
     /// is below that of `to`, and goes over no word of an extra edge list twice. Which of several
-    /// shortest walks it answers is left open. Where the two commits are one, or the generation
-    /// numbers allow no walk, nothing is searched.
+    /// shortest walks it answers is left open. Where the two commits are one, it visits that one
+    /// alone, and where the generation numbers allow no walk, none.
     ///
     /// # Errors
     ///
@@ -166,6 +166,9 @@ fn least_number(graph: &Graph, from: Position, to: Position) -> Option<u32>
     requires apart { from.0 ≢ to.0 }
     ensures number { IfSome result (λ least. least ≡ generation_at (history_of graph.now) to.0) }
     ensures above { IfSome result (λ least. least ≤ generation_at (history_of graph.now) from.0) }
+    ensures allowed { IfSome result (λ _. generation_at (history_of graph.now) from.0
+        ≤ generation_at (history_of graph.now) to.0
+        → GENERATION_NUMBER_MAX ≤ generation_at (history_of graph.now) from.0) }
     ensures none { IfNone result (¬ Reaches (history_of graph.now) from.0 to.0) }
     ensures below { IfNone result (generation_at (history_of graph.now) from.0
         ≤ generation_at (history_of graph.now) to.0) }

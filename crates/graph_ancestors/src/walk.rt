@@ -12,13 +12,13 @@ ghost use Rattle.graph_ancestors.specs.Search.{queued_by, IsIdle, IsSearching};
 use crate::Reached;
 use crate::ahead::Ahead;
 use crate::search::Search;
-use gix_commitgraph::Position;
 use gix_commitgraph::law::walk::generations_never_rise_along_walks;
+use gix_commitgraph::{GENERATION_NUMBER_MAX, Position};
 use std::alloc::AllocError;
 
 impl<'g> Search<'g> {
-    /// A shortest walk from one commit to another, whose generation number is not above that of the
-    /// first.
+    /// A shortest walk from one commit to another, whose generation number is below that of the
+    /// first, or at the cap as that is.
     pub(crate) fn shortest_walk(
         &mut self,
         from: Position,
@@ -30,6 +30,9 @@ impl<'g> Search<'g> {
         requires to { to.0 < total self.old.graph.now }
         requires least { least ≡ generation_at (history_of self.old.graph.now) to.0 }
         requires above { least ≤ generation_at (history_of self.old.graph.now) from.0 }
+        requires allowed { generation_at (history_of self.old.graph.now) from.0
+            ≤ generation_at (history_of self.old.graph.now) to.0
+            → GENERATION_NUMBER_MAX ≤ generation_at (history_of self.old.graph.now) from.0 }
         ensures graph { self.new.graph.now ≡ self.old.graph.now }
         ensures answer { IfOk result (IsAnswer (history_of self.old.graph.now) from.0 to.0) }
     {

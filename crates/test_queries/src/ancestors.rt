@@ -56,7 +56,8 @@ const TEN_TO_ONE: &[Position] = &[
 
 /// The commits of a graph of one layer, two positions, the only shortest walk between them, and the
 /// least and the greatest number of commits that a search takes from its queue, breadth first and
-/// the end of the walk included, in whatever order it goes over the parents of a commit.
+/// the end of the walk included, in whatever order it goes over the parents of a commit. Where the
+/// generation numbers allow no walk, as between the diamond's siblings, it takes none.
 type Query = (
     &'static [Row<'static>],
     u32,
@@ -80,7 +81,7 @@ const QUERIES: &[Query] = &[
         3,
         3,
     ),
-    (DIAMOND, 1, 2, None, 0, 1),
+    (DIAMOND, 1, 2, None, 0, 0),
     (DIAMOND, 0, 3, None, 0, 0),
     (APART, 3, 0, None, 2, 3),
 ];

@@ -1,4 +1,4 @@
-use Rattle.std.proofs.Common.{◌≡◌, ◌<◌, ℕ, List, ◌∷◌, [], length, sym, ap, subst, eqb-true, arith}
+use Rattle.std.proofs.Common.{◌≡◌, ◌<◌, ℕ, List, ◌∷◌, [], length, refl, sym, ap, subst, eqb-true, arith}
 use Rattle.graph_format.specs.StoredHistory.{history_of}
 use Rattle.graph_ancestors.specs.WalkAnswer.{IsShortestWalk, IsAtOrAbove, numbers_of}
 use Rattle.graph_ancestors.specs.Cardinality.{AtLeast}
@@ -21,6 +21,7 @@ returns-then-eq-clause-answer c =
       visits = subst (λ (q : ℕ). AtLeast 1 (IsAtOrAbove h p q)) same (one_is_visited h p within);
       walk_visits = omega (arith, ap length c.in_ok-walk.ensures.items);
       none_visits = tt;
+      no_visits = λ apart low below. absurd (apart same);
     }
 
 pub returns-in_default-clause-answer : goal.returns-in_default-clause-answer
@@ -34,4 +35,5 @@ returns-in_default-clause-answer c =
       visits = none_is_visited (IsAtOrAbove h c.args.from.0 c.args.to.0);
       walk_visits = tt;
       none_visits = none_is_above h c.args.from.0 c.args.to.0 never_rises c.in_default.ensures.below;
+      no_visits = λ apart low below. refl;
     }

@@ -82,6 +82,7 @@ returns-then-eq-clause-answer c =
       visits = all_at_or_above h c.args.from.0 c.args.to.0 s l.visits query never_rises (l.visits + 1) (omega (arith, here));
       walk_visits = omega (arith, steps, walk.steps.2);
       none_visits = tt;
+      no_visits = λ apart low below. absurd (omega (arith, c.requires.allowed low, below));
     }
 
 pub returns-clause-answer : goal.returns-clause-answer
@@ -98,4 +99,5 @@ returns-clause-answer c =
       visits = all_at_or_above h c.args.from.0 c.args.to.0 l.self l.visits query never_rises l.visits query.taken;
       walk_visits = tt;
       none_visits = all_were_visited h c.args.from.0 c.args.to.0 l.self l.visits query never_rises all;
+      no_visits = λ apart low below. absurd (omega (arith, c.requires.allowed low, below));
     }
