@@ -1,8 +1,8 @@
 -- what is told of the changed-path filters of a graph, which are asked for a path
-use Rattle.std.specs.Prelude.{◌≡◌, ◌≢◌, ◌↔◌, ◌≤◌, ℕ, List, length, slice_get, Some}
+use Rattle.std.specs.Prelude.{◌≡◌, ◌↔◌, ◌≤◌, ℕ, List, length, slice_get, Some}
 use Rattle.graph_format.specs.Layer.{Layer}
 use Rattle.graph_chunks.specs.GraphFilters.{FiltersOfGraph, IsPossibleBy, IsAbsentBy}
-use Rattle.graph_chunks.specs.GraphFilters.{settings_of, graph_filters, graph_filters_refusal}
+use Rattle.graph_chunks.specs.GraphFilters.{settings_of, graph_filters, MayRefuseGraphFilters}
 use Rattle.graph_chunks.specs.declared.filters.FiltersError.{FiltersError}
 use Rattle.graph_chunks.specs.declared.filters.FiltersError.TheVariants as fault
 use Rattle.commitgraph_c.specs.declared.probes.CgProbed.{CgProbed}
@@ -39,8 +39,8 @@ told_filter_fault (fault.LeftOver layer) = without_probes 8 0 layer 0
 told_filter_fault (fault.Settings layer) = without_probes 9 0 layer 0
 told_filter_fault fault.OutOfMemory = without_probes 10 0 0 0
 
--- The first condition that refuses the filters of a graph is told; or memory ran out.
+-- The first condition that refuses the filters of a graph is told; or, where none does, that memory ran out.
 pub record RefusesFilters (layers : List Layer) (told : CgProbed) : Type 0 where
   pub error : FiltersError
-  pub may : error ≢ fault.OutOfMemory → graph_filters_refusal layers ≡ Some error
+  pub may : MayRefuseGraphFilters layers error
   pub told_as : told ≡ told_filter_fault error

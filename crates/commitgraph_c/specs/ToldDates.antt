@@ -1,11 +1,11 @@
 -- what is told of the corrected commit dates of a graph
-use Rattle.std.specs.Prelude.{◌≡◌, ◌≢◌, ℕ, List, Some, None, All}
+use Rattle.std.specs.Prelude.{◌≡◌, ℕ, List, None, All}
 use Rattle.graph_walks.specs.Dates.{AreRight}
 use Rattle.graph_format.specs.Layer.{Layer}
 use Rattle.graph_format.specs.StoredHistory.{history_of}
 use Rattle.gix_commitgraph.specs.Graph.{total}
 use Rattle.graph_chunks.specs.GraphStoredDates.{HasDates, times_of, dates_of}
-use Rattle.graph_chunks.specs.GraphDates.{graph_dates_refusal}
+use Rattle.graph_chunks.specs.GraphDates.{graph_dates_refusal, MayRefuseGraphDates}
 use Rattle.graph_chunks.specs.declared.dates.DatesError.{DatesError}
 use Rattle.graph_chunks.specs.declared.dates.DatesError.TheVariants as fault
 use Rattle.commitgraph_c.specs.Answers.{written}
@@ -33,9 +33,10 @@ pub record TellsDates (layers : List Layer) (told : CgDates) (old new : List ℕ
   pub count : told ≡ record { code = 0; position = 0; layer = 0; expected = 0; length = total layers }
   pub room : new ≡ written (dates_of layers) old
 
--- Each layer of a graph has dates, and the first condition that refuses them is told; or memory ran out.
+-- Each layer of a graph has dates, and the first condition that refuses them is told; or memory ran out, where all of
+-- them can be read.
 pub record RefusesDates (layers : List Layer) (told : CgDates) : Type 0 where
   pub error : DatesError
   pub all : All HasDates layers
-  pub may : error ≢ fault.OutOfMemory → graph_dates_refusal layers ≡ Some error
+  pub may : MayRefuseGraphDates layers error
   pub told_as : told ≡ told_date_fault error

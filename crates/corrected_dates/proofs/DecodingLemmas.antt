@@ -37,12 +37,6 @@ unfolding dates_below stored_dates
 dates-all offsets overflow times old now n same all =
     same ∙ ap (λ (m : ℕ). old ++ map (date_of offsets overflow times) (range_with_len 0 m)) all
 
-pub date-found : (offsets overflow times : List ℕ) (p : ℕ) (fault : LayerDatesError)
-    → first_below (date_fault offsets overflow times) p ≡ None → date_fault offsets overflow times p ≡ Some fault
-    → p < length times → first_below (date_fault offsets overflow times) (length times) ≡ Some fault
-date-found offsets overflow times p fault none here below =
-    first_below-found (date_fault offsets overflow times) p (length times) fault none here below
-
 pub date-fine : (offsets overflow times : List ℕ) (p : ℕ) → first_below (date_fault offsets overflow times) p ≡ None
     → date_fault offsets overflow times p ≡ None → first_below (date_fault offsets overflow times) (p + 1) ≡ None
 date-fine offsets overflow times p none here = first_below-none_more (date_fault offsets overflow times) p none here
@@ -50,15 +44,27 @@ date-fine offsets overflow times p none here = first_below-none_more (date_fault
 pub date-first : (offsets overflow times : List ℕ) → first_below (date_fault offsets overflow times) 0 ≡ None
 date-first offsets overflow times = first_below-none (date_fault offsets overflow times)
 
-pub refused : (offsets overflow times : List ℕ) (fault : LayerDatesError) → length offsets ≡ 4 * length times
-    → length overflow % 8 ≡ 0 → first_below (date_fault offsets overflow times) (length times) ≡ Some fault
-    → dates_refusal offsets overflow times ≡ Some fault
+-- chunks of right sizes are refused for their dates
+sized : (offsets overflow times : List ℕ) → length offsets ≡ 4 * length times → length overflow % 8 ≡ 0
+    → dates_refusal offsets overflow times ≡ first_below (date_fault offsets overflow times) (length times)
 unfolding dates_refusal
-refused offsets overflow times fault size whole here =
+sized offsets overflow times size whole =
     ap (λ (b : Bool). option_or (then_some (not b) DataSize) (option_or (then_some (not (length overflow % 8 == 0)) OverflowSize)
     (first_below (date_fault offsets overflow times) (length times)))) (eq-eqb _ _ size)
     ∙ ap (λ (b : Bool). option_or (then_some (not b) OverflowSize)
     (first_below (date_fault offsets overflow times) (length times))) (eq-eqb _ _ whole)
-    ∙ here
 
-pub ruleset decoding_laws = (dates-none, dates-more, date-found, date-fine, date-first)
+pub refused : (offsets overflow times : List ℕ) (p : ℕ) (fault : LayerDatesError) → length offsets ≡ 4 * length times
+    → length overflow % 8 ≡ 0 → first_below (date_fault offsets overflow times) p ≡ None
+    → date_fault offsets overflow times p ≡ Some fault → p < length times
+    → dates_refusal offsets overflow times ≡ Some fault
+refused offsets overflow times p fault size whole none here below =
+    sized offsets overflow times size whole
+    ∙ first_below-found (date_fault offsets overflow times) p (length times) fault none here below
+
+pub not_refused : (offsets overflow times : List ℕ) (n : ℕ) → length offsets ≡ 4 * length times → length overflow % 8 ≡ 0
+    → first_below (date_fault offsets overflow times) n ≡ None → n ≡ length times → dates_refusal offsets overflow times ≡ None
+not_refused offsets overflow times n size whole none all =
+    sized offsets overflow times size whole ∙ ap (first_below (date_fault offsets overflow times)) (sym all) ∙ none
+
+pub ruleset decoding_laws = (dates-none, dates-more, date-fine, date-first, not_refused)

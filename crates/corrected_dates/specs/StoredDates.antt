@@ -1,13 +1,14 @@
 -- The corrected commit dates that a layer stores ("Generation Data", "Generation Data Overflow"), and why its chunks are refused.
 -- Where the second chunk is missing, it is taken for an empty one.
-use Rattle.std.specs.Prelude.{◌==◌, ⊤, ℕ, ◌+◌, ◌-◌, ◌*◌, ◌/◌, ◌%◌, ◌^◌, ◌<◌, not, List, map, length, slice_index, Option, Some}
-use Rattle.std.specs.Prelude.{None, is_none, unwrap_or, nat_lt, if◌then◌else◌}
+use Rattle.std.specs.Prelude.{◌≡◌, ◌==◌, ◌⊎◌, ⊤, ℕ, ◌+◌, ◌-◌, ◌*◌, ◌/◌, ◌%◌, ◌^◌, ◌<◌, not, List, map, length, slice_index}
+use Rattle.std.specs.Prelude.{Option, Some, None, is_none, unwrap_or, nat_lt, if◌then◌else◌}
 use Rattle.std.specs.List.{range_with_len}
 use Rattle.first_faults.specs.First.{◌when◌, ◌otherwise◌, first_below}
 use Rattle.graph_format.specs.declared.file.Position.{Position}
 use Rattle.graph_format.specs.Numbers.{word_in, long_in}
 use Rattle.corrected_dates.specs.declared.LayerDatesError.{LayerDatesError}
 use Rattle.corrected_dates.specs.declared.LayerDatesError.TheVariants.{DataSize, OverflowSize, OverflowIndex, TooLarge}
+use Rattle.corrected_dates.specs.declared.LayerDatesError.TheVariants.{OutOfMemory}
 
 -- the offset of commit p: its word; or, where the word's top bit is set, the number of the overflow list that the other bits name
 abbrev pub offset_of : List ℕ → List ℕ → ℕ → Option ℕ
@@ -40,6 +41,12 @@ dates_refusal offsets overflow times =
     DataSize when not (length offsets == 4 * length times)
     otherwise OverflowSize when not (length overflow % 8 == 0)
     otherwise first_below (date_fault offsets overflow times) (length times)
+
+-- the errors that decoding may answer: the first condition that refuses the chunks, and out of memory where none does
+abbrev pub MayRefuseLayerDates : List ℕ → List ℕ → List ℕ → LayerDatesError → Type 0
+MayRefuseLayerDates offsets overflow times error =
+    (dates_refusal offsets overflow times ≡ Some error)
+    ⊎ ((error ≡ OutOfMemory) × (dates_refusal offsets overflow times ≡ None))
 
 -- the commit that the error names, if it names one, is one of so many
 abbrev pub NamesOneOf : ℕ → LayerDatesError → Type 0

@@ -2,12 +2,11 @@
 //! Data Overflow" of Git's commit-graph format).
 #![tactic(auto)]
 
-ghost use Rattle.std.specs.Prelude.{◌≡◌, ◌≢◌, ◌+◌, ◌*◌, ◌<◌, ◌≤◌, ◌^◌, ◌++◌, All, length, Some};
-ghost use Rattle.std.specs.Prelude.{None, IfOk, IfErr, ℕ, List};
+ghost use Rattle.std.specs.Prelude.{◌≡◌, ◌+◌, ◌*◌, ◌%◌, ◌<◌, ◌≤◌, ◌^◌, ◌++◌, All, length, Some};
+ghost use Rattle.std.specs.Prelude.{None, IfOk, IfErr, IfSome, ℕ, List};
 ghost use Rattle.graph_format.specs.Reports.{Reports};
 ghost use Rattle.corrected_dates.specs.StoredDates.{offset_of, date_of, date_fault, dates_refusal};
-ghost use Rattle.corrected_dates.specs.StoredDates.{stored_dates, NamesOneOf};
-ghost use Rattle.corrected_dates.specs.declared.LayerDatesError.TheVariants.{OutOfMemory};
+ghost use Rattle.corrected_dates.specs.StoredDates.{stored_dates, MayRefuseLayerDates, NamesOneOf};
 
 use graph_format::file::Position;
 use graph_format::numbers::{long_at, word_at};
@@ -20,8 +19,8 @@ const OVERFLOW_BIT: u32 = 1 << 31;
 const DATE_LIMIT: u64 = 1 << 63;
 
 /// Why the chunks `GDA2` and `GDO2` of a layer are refused: the first of these that holds, where
-/// `OverflowIndex` and `TooLarge` are looked for together, commit by commit. Its text is the name
-/// of the variant alone.
+/// `OverflowIndex` and `TooLarge` are looked for together, commit by commit, and `OutOfMemory` only
+/// where no other does. Its text is the name of the variant alone.
 #[derive(Clone, Copy, Debug, PartialEq, Eq, Error)]
 pub enum LayerDatesError {
     /// `GDA2` has not four bytes for each commit ("Generation Data").
@@ -76,15 +75,64 @@ fn date_of(offsets: &[u8], overflow: &[u8], times: &[u64], pos: u32) -> Result<u
     }
 }
 
+/// Refuses chunks of a wrong size.
+#[tactic(auto, unfolding(crate::specs::StoredDates::dates_refusal))]
+fn check_sizes(offsets: &[u8], overflow: &[u8], times: &[u64]) -> Result<(), LayerDatesError>
+    ensures offsets { IfOk result (λ _. length offsets.now ≡ 4 * length times.now) }
+    ensures overflow { IfOk result (λ _. length overflow.now % 8 ≡ 0) }
+    ensures fault { IfErr result (λ fault.
+        dates_refusal offsets.now overflow.now times.now ≡ Some fault) }
+    ensures place { IfErr result (NamesOneOf (length times.now)) }
+{
+    if offsets.len() != 4 * times.len() {
+        return Err(LayerDatesError::DataSize);
+    }
+    if overflow.len() % 8 != 0 {
+        return Err(LayerDatesError::OverflowSize);
+    }
+    Ok(())
+}
+
+/// Why [`decode_dates`] refuses the chunks `GDA2` and `GDO2` of a layer, if it does: the first of
+/// [`LayerDatesError`] that holds. It takes no memory.
+#[tactic(auto, using(crate::proofs::DecodingLemmas::decoding_laws))]
+pub fn refusal_of(offsets: &[u8], overflow: &[u8], times: &[u64]) -> Option<LayerDatesError>
+    requires { length times.now < 2 ^ 32 }
+    ensures refusal { result ≡ dates_refusal offsets.now overflow.now times.now }
+    ensures place { IfSome result (NamesOneOf (length times.now)) }
+{
+    if let Err(fault) = check_sizes(offsets, overflow, times) {
+        return Some(fault);
+    }
+    for pos in 0..times.len() as u32 {
+        if let Err(fault) = date_of(offsets, overflow, times, pos) {
+            return Some(fault);
+        }
+    }
+    None
+}
+
+/// What is answered where there is no memory: the refusal of the chunks, if there is one.
+fn refusal_without_memory(offsets: &[u8], overflow: &[u8], times: &[u64]) -> LayerDatesError
+    requires { length times.now < 2 ^ 32 }
+    ensures fault { MayRefuseLayerDates offsets.now overflow.now times.now result }
+    ensures place { NamesOneOf (length times.now) result }
+{
+    match refusal_of(offsets, overflow, times) {
+        Some(fault) => fault,
+        None => LayerDatesError::OutOfMemory,
+    }
+}
+
 /// Puts the dates of a layer, in seconds since 1970-01-01 00:00:00 UTC, after those of the layers
 /// below it. They come from the chunks `GDA2` and `GDO2` (empty where the layer has none) and from
 /// the times of its commits, each in the order of the commits.
 ///
 /// # Errors
 ///
-/// The first of [`LayerDatesError`] that holds, or `OutOfMemory`. Dates of some commits may then
-/// stand after those of the layers below, which are as they were.
-#[tactic(auto, using(crate::proofs::DecodingLemmas::decoding_laws), unfolding(crate::specs::StoredDates::dates_refusal))]
+/// The first of [`LayerDatesError`] that holds, and `OutOfMemory` only where no other does. Dates
+/// of some commits may then stand after those of the layers below, which are as they were.
+#[tactic(auto, using(crate::proofs::DecodingLemmas::decoding_laws))]
 pub fn decode_dates(
     dates: &mut Vec<u64>,
     offsets: &[u8],
@@ -97,25 +145,19 @@ pub fn decode_dates(
     ensures small { IfOk result (λ _. All (λ date. date < 2 ^ 63) dates.old.items
         → All (λ date. date < 2 ^ 63) dates.new.items) }
     ensures none { IfOk result (λ _. dates_refusal offsets.now overflow.now times.now ≡ None) }
-    ensures fault { IfErr result (λ fault. fault ≢ OutOfMemory
-        → dates_refusal offsets.now overflow.now times.now ≡ Some fault) }
+    ensures fault { IfErr result (MayRefuseLayerDates offsets.now overflow.now times.now) }
     ensures place { IfErr result (NamesOneOf (length times.now)) }
     ensures kept { (more : List ℕ) × (dates.new.items ≡ dates.old.items ++ more) }
 {
-    if offsets.len() != 4 * times.len() {
-        return Err(LayerDatesError::DataSize);
-    }
-    if overflow.len() % 8 != 0 {
-        return Err(LayerDatesError::OverflowSize);
-    }
+    check_sizes(offsets, overflow, times)?;
     for pos in 0..times.len() as u32 {
         let date = match date_of(offsets, overflow, times, pos) {
             Ok(date) => date,
             Err(fault) => return Err(fault),
         };
-        let Ok(()) = dates.push(date) else {
-            return Err(LayerDatesError::OutOfMemory);
-        };
+        if dates.push(date).is_err() {
+            return Err(refusal_without_memory(offsets, overflow, times));
+        }
     }
     Ok(())
 }

@@ -4,23 +4,27 @@ use Rattle.std.proofs.Common.{option_map, get_or, slice_get, refl, sym, ap, subs
 use Rattle.std.specs.Bool.{then_some}
 use Rattle.std.specs.Option.{option_or}
 use Rattle.std.proofs.lemmas.Bool.{eqb-true, eq-eqb, ne_eqb}
-use Rattle.std.proofs.lemmas.Option.{slice_get-map, get_or_from_slice_get}
+use Rattle.std.proofs.lemmas.Option.{slice_get-map, slice_get_within, get_or_from_slice_get}
 use Rattle.first_faults.specs.First.{first_below}
 use Rattle.first_faults.proofs.FirstLemmas.{first_below-none_more, first_below-found, first_below-none_at, then_some-none}
 use Rattle.first_faults.proofs.FirstLemmas.{then_some-false}
 use Rattle.graph_walks.specs.Counts.{greatest}
+use Rattle.graph_walks.specs.History.{parents_at}
 use Rattle.graph_walks.specs.Dates.{number_at, expected_date, AreRight}
 use Rattle.graph_format.specs.Layer.{Layer, IsOpened, record_at}
-use Rattle.graph_format.specs.Parents.{position_of}
+use Rattle.graph_format.specs.Parents.{position_of, parents_of}
 use Rattle.graph_format.specs.StoredHistory.{history_of}
 use Rattle.gix_commitgraph.specs.Graph.{graph_commits, start, stop, total}
+use Rattle.gix_commitgraph.specs.Sound.{Sound}
 use Rattle.gix_commitgraph.proofs.history.HistoryLemmas.{parents-at, length-history}
+use Rattle.gix_commitgraph.proofs.history.KnownParentLemmas.{known-decoded, known-within}
+use Rattle.gix_commitgraph.proofs.layers.PositionLemmas.{length-graph_commits}
 use Rattle.gix_commitgraph.proofs.layers.LayerListLemmas.{graph_commits-counted, start-all, start-more, start-fits}
 use Rattle.gix_commitgraph.proofs.layers.LayerStartLemmas.{layer-kept}
 use Rattle.graph_layer.specs.Commit.{commit_layer, commit_pos, commit_record, commit_parents}
 use Rattle.graph_layer.specs.declared.file.commit.Commit.{Commit}
 use Rattle.graph_chunks.specs.GraphStoredDates.{times_of, dates_of}
-use Rattle.graph_chunks.specs.GraphDates.{reading_fault, wrong_date, graph_dates_refusal}
+use Rattle.graph_chunks.specs.GraphDates.{reading_fault, wrong_date, graph_dates_refusal, FollowAllParents}
 use Rattle.graph_chunks.specs.declared.dates.DatesError.{DatesError}
 use Rattle.graph_chunks.specs.Latest.{latest_of}
 use Rattle.graph_chunks.specs.declared.dates.DatesError.TheVariants.{Date}
@@ -114,6 +118,30 @@ expected-of layers dates p place expected layer commit opened there in_layer at 
     let told = parents-at layers p (commit_pos commit) (commit_layer commit) opened here in
     let latest = ap (λ (ps : List ℕ). greatest (map (number_at dates) ps)) told in
     omega (arith, is, time, latest)
+
+-- in a right graph the dates follow from all parents
+pub follow-all : (layers : List Layer) (dates : List ℕ) → All IsOpened layers → Sound layers
+    → AreRight (history_of layers) (times_of layers) dates → FollowAllParents layers dates
+unfolding expected_date
+follow-all layers dates opened sound right p j layer here =
+    let parents = (parents_of (record_at layer j) layer.edges).positions in
+    let told = parents-at layers p j layer opened here in
+    let many : total layers ≡ length dates = sym (right.as_many ∙ length-history layers opened) in
+    let within : p < length (history_of layers) =
+    omega (
+      arith,
+      slice_get_within (graph_commits layers) p (layer, j) here,
+      length-graph_commits layers,
+      length-history layers opened,
+    ) in
+    let time = time-at layers p j layer here in
+    let latest = ap (λ (ps : List ℕ). greatest (map (number_at dates) ps)) told in
+    record {
+      decoded = known-decoded layers p j layer opened sound here;
+      dated = subst (λ (ps : List ℕ). All (λ q. q < length dates) ps) told
+          (subst (λ (n : ℕ). All (λ q. q < n) (parents_at (history_of layers) p)) many (known-within layers p opened sound));
+      follows = omega (arith, right.expected p within, time, latest);
+    }
 
 pub refusal-reading : (layers : List Layer) (error : DatesError)
     → first_below (reading_fault layers) (length layers) ≡ Some error → graph_dates_refusal layers ≡ Some error

@@ -1,5 +1,5 @@
 -- The changed-path filters of a graph ("Bloom Filter Index", "Bloom Filter Data"), and the first condition that refuses them.
-use Rattle.std.specs.Prelude.{◌==◌, ◌||◌, ℕ, ◌+◌, not, Bool, true, false, List, [], ◌∷◌, length, map, slice_get}
+use Rattle.std.specs.Prelude.{◌≡◌, ◌==◌, ◌||◌, ◌⊎◌, ℕ, ◌+◌, not, Bool, true, false, List, [], ◌∷◌, length, map, slice_get}
 use Rattle.std.specs.Prelude.{Option, Some, None, option_map, count_by}
 use Rattle.std.specs.Option.{option_and_then, option_or}
 use Rattle.first_faults.specs.First.{◌when◌, ◌otherwise◌, first_below}
@@ -88,6 +88,11 @@ filters_fault layers i = option_and_then (fault_in i (start layers i) (settings_
 -- what refuses the filters of the lowest layer whose filters are refused
 unfoldable pub graph_filters_refusal : List Layer → Option FiltersError
 graph_filters_refusal layers = first_below (filters_fault layers) (length layers)
+
+-- the errors that may be answered for filters: what refuses them, and out of memory where nothing does
+abbrev pub MayRefuseGraphFilters : List Layer → FiltersError → Type 0
+MayRefuseGraphFilters layers fault =
+    (graph_filters_refusal layers ≡ Some fault) ⊎ ((fault ≡ error.OutOfMemory) × (graph_filters_refusal layers ≡ None))
 
 -- the filters of a graph's commits, in their order, with the settings to ask them by, which are not there where no layer has
 -- filters

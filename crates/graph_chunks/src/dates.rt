@@ -1,19 +1,20 @@
 //! The corrected commit dates of a graph.
 
-ghost use Rattle.std.specs.Prelude.{◌≡◌, ◌≢◌, ◌<◌, All, Some, None, length};
+ghost use Rattle.std.specs.Prelude.{◌≡◌, ◌<◌, All, None, length};
 ghost use Rattle.std.specs.Prelude.{IfOk, IfErr, IfSome, IfNone};
-ghost use Rattle.graph_walks.specs.Dates.{number_at, AreRight};
-ghost use Rattle.graph_format.specs.StoredHistory.{history_of};
+ghost use Rattle.graph_walks.specs.Dates.{number_at};
 ghost use Rattle.gix_commitgraph.specs.Graph.{total};
-ghost use Rattle.graph_chunks.specs.GraphStoredDates.{HasDates, times_of, dates_of};
-ghost use Rattle.graph_chunks.specs.GraphDates.{graph_dates_refusal};
-ghost use Rattle.graph_chunks.specs.declared.dates.DatesError.TheVariants.{OutOfMemory};
+ghost use Rattle.gix_commitgraph.specs.Sound.{Sound};
+ghost use Rattle.graph_chunks.specs.GraphStoredDates.{HasDates, dates_of};
+ghost use Rattle.graph_chunks.specs.GraphDates.{graph_dates_refusal, MayRefuseGraphDates};
+ghost use Rattle.graph_chunks.specs.GraphDates.{AreRightByDecodedParents, FollowAllParents};
 
 mod check;
 mod latest;
 mod stored;
 
 use crate::dates::check::check_dates;
+use crate::dates::latest::room_for_lists;
 use crate::dates::stored::{has_dates, read_dates};
 use gix_commitgraph::{Graph, Position};
 use std::alloc::Global;
@@ -67,27 +68,30 @@ impl CorrectedDates {
     /// reads none then.
     ///
     /// The dates are right: each is the commit's time, or one second after the latest date of its
-    /// parents, whichever is later. In a graph that was not checked, the parents are those that can
-    /// be decoded.
+    /// parents, whichever is later. In a right graph all parents count. In one that was not
+    /// checked, a parent that cannot be decoded is left out, with those listed after it, and one
+    /// that is no commit of the graph counts as one with the date 0.
     ///
     /// # Errors
     ///
-    /// The first of [`DatesError`] that holds, layer by layer, and then commit by commit; or
-    /// `OutOfMemory`. A graph of which a layer has no dates is never refused.
+    /// The first of [`DatesError`] that holds, layer by layer, and then commit by commit.
+    /// `OutOfMemory` comes only where all dates can be read: they are compared once they stand in
+    /// memory. A graph of which a layer has no dates is never refused.
     #[tactic(auto, using(crate::proofs::DateCheckLemmas::refusal_laws))]
     pub fn of_graph(alloc: Global, graph: &Graph) -> Result<Option<CorrectedDates>, DatesError>
         ensures none { IfOk result (λ found. IfNone found (¬ All HasDates graph.now)) }
         ensures some { IfOk result (λ found. IfSome found (λ _. All HasDates graph.now)) }
         ensures stored { IfOk result (λ found. IfSome found (λ dates. dates ≡ dates_of graph.now)) }
         ensures right { IfOk result (λ found. IfSome found
-            (AreRight (history_of graph.now) (times_of graph.now))) }
+            (AreRightByDecodedParents graph.now)) }
+        ensures sound { IfOk result (λ found. IfSome found (λ dates.
+            Sound graph.now → FollowAllParents graph.now dates)) }
         ensures commits { IfOk result (λ found. IfSome found
             (λ dates. length dates ≡ total graph.now)) }
         ensures accepted { IfOk result (λ found. IfSome found
             (λ _. graph_dates_refusal graph.now ≡ None)) }
         ensures all { IfErr result (λ _. All HasDates graph.now) }
-        ensures refusal { IfErr result (λ error. error ≢ OutOfMemory
-            → graph_dates_refusal graph.now ≡ Some error) }
+        ensures refusal { IfErr result (MayRefuseGraphDates graph.now) }
     {
         if !has_dates(graph) {
             return Ok(None);
@@ -97,7 +101,10 @@ impl CorrectedDates {
             Ok(dates) => dates,
             Err(error) => return Err(error),
         };
-        match check_dates(alloc, graph, &dates) {
+        let Ok(mut room) = room_for_lists(alloc, graph) else {
+            return Err(DatesError::OutOfMemory);
+        };
+        match check_dates(graph, &dates, &mut room) {
             Ok(()) => Ok(Some(CorrectedDates { dates })),
             Err(error) => Err(error),
         }

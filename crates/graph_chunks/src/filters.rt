@@ -11,9 +11,9 @@ ghost use Rattle.gix_commitgraph.specs.Graph.{total};
 ghost use Rattle.graph_chunks.specs.StoredFilters.{index_in, data_in, layer_filters_refusal};
 ghost use Rattle.graph_chunks.specs.GraphFilters.{settings_in, settings_of, graph_filters};
 ghost use Rattle.graph_chunks.specs.GraphFilters.{is_computed, filters_in_graph, differ, fault_in};
-ghost use Rattle.graph_chunks.specs.GraphFilters.{graph_filters_refusal, IsPossibleBy, IsAbsentBy};
+ghost use Rattle.graph_chunks.specs.GraphFilters.{graph_filters_refusal, MayRefuseGraphFilters};
+ghost use Rattle.graph_chunks.specs.GraphFilters.{IsPossibleBy, IsAbsentBy};
 ghost use Rattle.graph_chunks.specs.KeptFilters.{NamesFilterOf, settings_by, IsKept, IsFilterAt};
-ghost use Rattle.graph_chunks.specs.declared.filters.FiltersError.TheVariants.{OutOfMemory};
 
 use changed_paths::filters::{Answer, HashVersion, LayerFiltersError, PathFilters};
 use changed_paths::key::PathKey;
@@ -225,18 +225,19 @@ impl<'g> GraphFilters<'g> {
     ///
     /// # Errors
     ///
-    /// The first of [`FiltersError`] that holds, layer by layer; or `OutOfMemory`.
+    /// The first of [`FiltersError`] that holds, layer by layer; and `OutOfMemory` only where no
+    /// other does.
     pub fn of_graph(alloc: Global, graph: &'g Graph) -> Result<GraphFilters<'g>, FiltersError>
         ensures accepted { IfOk result (λ _. graph_filters_refusal graph.now ≡ None) }
         ensures settings { IfOk result (λ found. found.settings ≡ settings_of graph.now) }
         ensures filters { IfOk result (λ found. found.filters ≡ graph_filters graph.now) }
         ensures commits { IfOk result (λ found. length found.filters ≡ total graph.now) }
-        ensures refusal { IfErr result (λ error. error ≢ OutOfMemory
-            → graph_filters_refusal graph.now ≡ Some error) }
+        ensures refusal { IfErr result (MayRefuseGraphFilters graph.now) }
     {
         let mut layers = Vec::new(alloc);
         let mut settings = None;
         let mut before = 0;
+        let mut kept_all = true;
         let _commits = graph.num_commits();
         for layer in 0..graph.layers().len() {
             let file = &graph.layers()[layer];
@@ -245,10 +246,11 @@ impl<'g> GraphFilters<'g> {
                 Err(error) => return Err(error),
             };
             settings = settings.or(settings_by(&kept.filters));
-            if layers.push(kept).is_err() {
-                return Err(FiltersError::OutOfMemory);
-            }
+            kept_all &= layers.push(kept).is_ok();
             before += file.num_commits();
+        }
+        if !kept_all {
+            return Err(FiltersError::OutOfMemory);
         }
         Ok(GraphFilters {
             graph,

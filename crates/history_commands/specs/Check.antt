@@ -1,5 +1,5 @@
 -- the answers of `check`, their texts and their exit statuses
-use Rattle.std.specs.Prelude.{◌≡◌, ◌≢◌, ℕ, List, Option, Some, None, Result, Ok, Err, All, codes, decimal, option_map}
+use Rattle.std.specs.Prelude.{◌≡◌, ℕ, List, Option, Some, None, Result, Ok, Err, All, codes, decimal, option_map}
 use Rattle.std.specs.BTreeMap.{IsOrdered}
 use Rattle.std.specs.Ordering.{nat_cmp}
 use Rattle.graph_walks.specs.Dates.{AreRight}
@@ -12,8 +12,8 @@ use Rattle.gix_commitgraph.specs.Sound.{Sound}
 use Rattle.gix_commitgraph.specs.declared.verify.Outcome.{Outcome}
 use Rattle.graph_ancestors.specs.RefusedGraph.{MayRefuseGraph}
 use Rattle.graph_chunks.specs.GraphStoredDates.{HasDates, times_of, dates_of}
-use Rattle.graph_chunks.specs.GraphDates.{graph_dates_refusal}
-use Rattle.graph_chunks.specs.GraphFilters.{settings_of, computed_in, graph_filters_refusal}
+use Rattle.graph_chunks.specs.GraphDates.{graph_dates_refusal, MayRefuseGraphDates}
+use Rattle.graph_chunks.specs.GraphFilters.{settings_of, computed_in, graph_filters_refusal, MayRefuseGraphFilters}
 use Rattle.graph_chunks.specs.declared.dates.DatesError.{DatesError}
 use Rattle.graph_chunks.specs.declared.dates.DatesError.TheVariants as date_error
 use Rattle.graph_chunks.specs.declared.filters.FiltersError.{FiltersError}
@@ -53,14 +53,14 @@ pub record AreFindings (layers : List Layer) (findings : Findings) : Type 0 wher
   pub dates : AreDatesFound layers findings.dates
   pub filters : AreFiltersFound layers findings.filters
 
--- dates may be refused so: the first condition that refuses them, where each layer has some; or memory ran out
+-- dates may be refused so, where each layer has some
 abbrev pub MayRefuseDates : List Layer → DatesError → Type 0
 MayRefuseDates layers error =
-    All HasDates layers × (error ≢ date_error.OutOfMemory → graph_dates_refusal layers ≡ Some error)
+    All HasDates layers × MayRefuseGraphDates layers error
 
 -- filters may be refused so
 abbrev pub MayRefuseFilters : List Layer → FiltersError → Type 0
-MayRefuseFilters layers error = error ≢ filter_error.OutOfMemory → graph_filters_refusal layers ≡ Some error
+MayRefuseFilters layers error = MayRefuseGraphFilters layers error
 
 -- why no right graph is found, as `verify` may say: the path opens none, or the one that it opens fails its check
 abbrev pub MayRefuseToStart : (Result (List Layer) OpenError → Type 0) → Refusal → Type 0

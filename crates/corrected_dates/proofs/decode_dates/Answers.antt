@@ -1,6 +1,6 @@
-use Rattle.std.proofs.Common.{◌<◌, ◌^◌, ◌∷◌, [], ℕ, List, All, arith, subst, sym}
+use Rattle.std.proofs.Common.{◌≡◌, ◌<◌, ◌^◌, ◌++◌, ◌∷◌, [], ℕ, List, All, arith, subst, sym, inl}
 use Rattle.std.proofs.lemmas.List.Elements.{All-append, All-cons, All-nil}
-use Rattle.corrected_dates.proofs.DecodingLemmas.{refused, date-found, date-fine, dates-more, dates-all}
+use Rattle.corrected_dates.proofs.DecodingLemmas.{refused, date-fine, dates-more, dates-all}
 use Rattle.corrected_dates.proofs.decode_dates.Goals as goal
 
 pub loop-pos-preserved : goal.loop-pos-preserved
@@ -9,7 +9,8 @@ loop-pos-preserved c =
     let overflow = c.args.overflow.now in
     let times = c.args.times.now in
     let pos = c.loop-pos.pos in
-    let items = c.in-Ok-push.ensures.items in
+    let items : c.push.new.self.items ≡ c.loop-pos.dates.items ++ c.in-Ok.date ∷ [] =
+    rw c.if-is_err.ensures.negation at c.push.ensures.items in
     let date = c.in-Ok.ensures.date in
     let more = dates-more offsets overflow times c.args.dates.now.items c.loop-pos.dates.items pos c.loop-pos.invariant.1 in (
       date-fine offsets overflow times pos c.loop-pos.invariant.0 c.in-Ok.ensures.fault,
@@ -26,11 +27,8 @@ returns-clause-dates c =
     c.loop-pos.invariant.1 (omega (arith, c.loop-pos-test.false, c.loop-pos.auto.pos-end))
 
 pub returns-in-Err-clause-fault : goal.returns-in-Err-clause-fault
-returns-in-Err-clause-fault c _ =
-    let offsets = c.args.offsets.now in
-    let overflow = c.args.overflow.now in
-    let times = c.args.times.now in
-    refused offsets overflow times c.in-Err.fault (omega (arith, c.if-offsets-times.false))
-    (omega (arith, c.if-overflow-ne0.false))
-    (date-found offsets overflow times c.loop-pos.pos c.in-Err.fault c.loop-pos.invariant.0 c.in-Err.ensures.fault
-    (omega (arith, c.loop-pos-test.true, c.loop-pos.auto.pos-end)))
+returns-in-Err-clause-fault c =
+    inl
+    (refused c.args.offsets.now c.args.overflow.now c.args.times.now c.loop-pos.pos c.in-Err.fault
+    c.in_ok-check_sizes.ensures.offsets c.in_ok-check_sizes.ensures.overflow c.loop-pos.invariant.0 c.in-Err.ensures.fault
+    c.loop-pos-test.true)

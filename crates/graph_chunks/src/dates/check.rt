@@ -1,6 +1,6 @@
 //! Whether corrected dates are right.
 
-ghost use Rattle.std.specs.Prelude.{◌≡◌, ◌≢◌, ◌+◌, ◌<◌, ◌^◌, ℕ, None, Some, IfOk, IfErr, length};
+ghost use Rattle.std.specs.Prelude.{◌≡◌, ◌+◌, ◌<◌, ◌^◌, ℕ, None, Some, IfOk, IfErr, length};
 ghost use Rattle.std.specs.Prelude.{max};
 ghost use Rattle.first_faults.specs.First.{first_below};
 ghost use Rattle.graph_format.specs.StoredHistory.{history_of};
@@ -9,14 +9,12 @@ ghost use Rattle.graph_layer.specs.Commit.{commit_layer, commit_record, commit_p
 ghost use Rattle.gix_commitgraph.specs.Graph.{IsGraph, start, stop, total};
 ghost use Rattle.graph_chunks.specs.GraphStoredDates.{times_of};
 ghost use Rattle.graph_chunks.specs.GraphDates.{wrong_date};
-ghost use Rattle.graph_chunks.specs.Latest.{latest_of, AreLatest};
-ghost use Rattle.graph_chunks.specs.declared.dates.DatesError.TheVariants.{OutOfMemory};
+ghost use Rattle.graph_chunks.specs.Latest.{latest_of, AreLatest, HasRoomForLists};
 
 use crate::dates::DatesError;
-use crate::dates::latest::{latest_listed, latest_of_parents};
+use crate::dates::latest::{latest_of_parents, put_latest, words_of};
 use gix_commitgraph::file::Commit;
 use gix_commitgraph::{Graph, Position, file};
-use std::alloc::Global;
 
 /// The date that a commit's time and the dates of its parents give.
 #[tactic(auto, using(crate::proofs::LatestLemmas::small_laws))]
@@ -33,9 +31,9 @@ fn expected_date(dates: &[u64], latest: &[u64], commit: &Commit<'_>) -> u64
 /// Whether the dates of the commits of a layer are the expected ones, before which so many commits
 /// stand.
 fn check_layer(
-    alloc: Global,
     graph: &Graph,
     dates: &[u64],
+    room: &mut [u64],
     layer: usize,
     before: u32,
 ) -> Result<(), DatesError>
@@ -44,22 +42,23 @@ fn check_layer(
     requires before { before ≡ start graph.now layer }
     requires dates { length dates.now ≡ total graph.now }
     requires small { (p : ℕ) → number_at dates.now p < 2 ^ 63 }
+    requires room { HasRoomForLists graph.now room.old }
     requires right { first_below (wrong_date (history_of graph.now) (times_of graph.now) dates.now)
         (start graph.now layer) ≡ None }
     ensures right { IfOk result (λ _.
         first_below (wrong_date (history_of graph.now) (times_of graph.now) dates.now)
         (stop graph.now layer) ≡ None) }
-    ensures fault { IfErr result (λ fault. fault ≢ OutOfMemory
-        → first_below (wrong_date (history_of graph.now) (times_of graph.now) dates.now)
+    ensures fault { IfErr result (λ fault.
+        first_below (wrong_date (history_of graph.now) (times_of graph.now) dates.now)
         (total graph.now) ≡ Some fault) }
 {
     let file = &graph.layers()[layer];
-    let Ok(latest) = latest_listed(alloc, dates, file) else {
-        return Err(DatesError::OutOfMemory);
-    };
+    let words = words_of(file).len();
+    put_latest(&mut room[..words], dates, file);
+    let latest = &room[..words];
     for place in 0..file.num_commits() {
         let commit = file.commit_at(file::Position(place));
-        let expected = expected_date(dates, &latest, &commit);
+        let expected = expected_date(dates, latest, &commit);
         let pos = Position(before + place);
         if dates[pos.0 as usize] != expected {
             return Err(DatesError::Date { pos, expected });
@@ -69,22 +68,23 @@ fn check_layer(
 }
 
 /// Whether each date is the expected one.
-pub(super) fn check_dates(alloc: Global, graph: &Graph, dates: &[u64]) -> Result<(), DatesError>
+pub(super) fn check_dates(graph: &Graph, dates: &[u64], room: &mut [u64]) -> Result<(), DatesError>
     requires dates { length dates.now ≡ total graph.now }
     requires small { (p : ℕ) → number_at dates.now p < 2 ^ 63 }
+    requires room { HasRoomForLists graph.now room.old }
     ensures right { IfOk result (λ _.
         AreRight (history_of graph.now) (times_of graph.now) dates.now) }
     ensures none { IfOk result (λ _.
         first_below (wrong_date (history_of graph.now) (times_of graph.now) dates.now)
         (total graph.now) ≡ None) }
-    ensures fault { IfErr result (λ fault. fault ≢ OutOfMemory
-        → first_below (wrong_date (history_of graph.now) (times_of graph.now) dates.now)
+    ensures fault { IfErr result (λ fault.
+        first_below (wrong_date (history_of graph.now) (times_of graph.now) dates.now)
         (total graph.now) ≡ Some fault) }
 {
     let _commits = graph.num_commits();
     let mut before = 0;
     for layer in 0..graph.layers().len() {
-        check_layer(alloc, graph, dates, layer, before)?;
+        check_layer(graph, dates, room, layer, before)?;
         before += graph.layers()[layer].num_commits();
     }
     Ok(())

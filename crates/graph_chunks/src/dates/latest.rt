@@ -1,19 +1,18 @@
 //! The latest corrected date of the parents of a commit.
 //!
 //! Commits may share an extra edge list, or the end of one. So a list is gone over once for all of
-//! them.
+//! them. The memory for that is taken before any dates are compared.
 
-ghost use Rattle.std.specs.Prelude.{◌≡◌, [], IfOk, option_map, unwrap_or};
-ghost use Rattle.graph_format.specs.Format.{words};
+ghost use Rattle.std.specs.Prelude.{◌≡◌, IfOk, length};
 ghost use Rattle.graph_format.specs.Parents.{extra_edge_of, extra_parent, second_parents};
 ghost use Rattle.graph_format.specs.Parents.{DecodedParents};
 ghost use Rattle.graph_layer.specs.Commit.{commit_layer, commit_parents};
 ghost use Rattle.graph_walks.specs.Dates.{number_at};
-ghost use Rattle.graph_chunks.specs.Latest.{latest_of, AreLatest};
+ghost use Rattle.graph_chunks.specs.Latest.{latest_of, AreLatest, words_in, HasRoomForLists};
 
-use gix_commitgraph::Position;
 use gix_commitgraph::file::commit::{ExtraEdge, ParentEdge};
 use gix_commitgraph::file::{Commit, File};
+use gix_commitgraph::{Graph, Position};
 use graph_layer::check::{extra_edges, parent_edges};
 use std::alloc::{AllocError, Global};
 
@@ -38,31 +37,36 @@ fn latest_from(dates: &[u64], word: u32, rest: u64) -> u64
 }
 
 /// The words of a layer's extra edge list, none where it has no such list.
-fn list_of(file: &File) -> &[u32]
-    ensures { result.now ≡ unwrap_or (option_map words file.now.edges) [] }
+pub(super) fn words_of(file: &File) -> &[u32]
+    ensures { result.now ≡ words_in file.now }
 {
     extra_edges(file).unwrap_or(&[])
 }
 
-/// For each word of a layer's extra edge list, the latest date of the parents that are listed from
-/// it on.
-pub(super) fn latest_listed(
-    alloc: Global,
-    dates: &[u64],
-    file: &File,
-) -> Result<Vec<u64>, AllocError>
-    ensures { IfOk result (λ latest. AreLatest dates.now file.now.edges latest.items) }
+/// Room for one number for each word of the extra edge list of any one layer.
+pub(super) fn room_for_lists(alloc: Global, graph: &Graph) -> Result<Vec<u64>, AllocError>
+    ensures { IfOk result (λ room. HasRoomForLists graph.now room.items) }
 {
-    let words = list_of(file);
-    let mut latest = Vec::new(alloc);
-    latest.reserve(words.len())?;
-    let mut listed = 0;
-    for word in words.iter().rev() {
-        listed = latest_from(dates, *word, listed);
-        latest.push(listed)?;
+    let layers = graph.layers();
+    let mut longest = 0;
+    for layer in 0..layers.len() {
+        longest = words_of(&layers[layer]).len().max(longest);
     }
-    latest.reverse();
-    Ok(latest)
+    vec![in alloc; 0; longest]
+}
+
+/// Puts in, for each word of a layer's extra edge list, the latest date of the parents that are
+/// listed from it on.
+pub(super) fn put_latest(latest: &mut [u64], dates: &[u64], file: &File)
+    requires { length latest.old ≡ length (words_in file.now) }
+    ensures { AreLatest dates.now file.now.edges latest.new }
+{
+    let words = words_of(file);
+    let mut listed = 0;
+    for index in (0..words.len()).rev() {
+        listed = latest_from(dates, words[index], listed);
+        latest[index] = listed;
+    }
 }
 
 /// The latest date of the parents that the second field of a commit gives.

@@ -1,10 +1,13 @@
-use Rattle.std.proofs.Common.{◌≡◌, ◌+◌, ℕ, length, None, ap, ◌∙◌, subst, arith}
+use Rattle.std.proofs.Common.{◌≡◌, ◌+◌, ◌++◌, ℕ, List, length, take, drop, None, sym, ap, ◌∙◌, subst, arith}
+use Rattle.std.proofs.Math.Seq.{take-append_seam}
+use Rattle.std.proofs.lemmas.List.{length-take-le}
 use Rattle.first_faults.specs.First.{first_below}
 use Rattle.graph_walks.specs.Dates.{number_at, expected_date}
 use Rattle.graph_format.specs.StoredHistory.{history_of}
 use Rattle.graph_chunks.specs.GraphStoredDates.{times_of}
 use Rattle.graph_chunks.specs.GraphDates.{wrong_date}
 use Rattle.graph_chunks.proofs.DateCheckLemmas.{IsPlace, date-fine, date-found, is_place, stop-is, expected-of}
+use Rattle.graph_chunks.proofs.LatestLemmas.{room-for}
 use Rattle.graph_chunks.proofs.dates.check.check_layer.Goals as goal
 use Rattle.graph_chunks.proofs.dates.check.check_layer.Goals.{After-expected_date-expected}
 
@@ -37,7 +40,7 @@ bounds-dates-pos c =
     omega (arith, place.below, c.requires.dates)
 
 pub returns-then-dates-pos-clause-fault : goal.returns-then-dates-pos-clause-fault
-returns-then-dates-pos-clause-fault c _ =
+returns-then-dates-pos-clause-fault c =
     let shared = (goal.at.returns-then-dates-pos-clause-fault c).After-expected_date-expected in
     let date = number_at c.args.dates.now (c.args.before + c.loop-place.place) in
     let apart : date ≡ c.expected_date-expected.result → ⊥ = λ same. absurd (omega (arith, same, c.if-dates-pos.true)) in
@@ -64,3 +67,18 @@ returns-clause-right c =
     let fault = wrong_date (history_of c.args.graph.now) (times_of c.args.graph.now) c.args.dates.now in
     subst (λ (n : ℕ). first_below fault n ≡ None)
     (ap (λ (n : ℕ). c.args.before + n) all ∙ end) c.loop-place.invariant
+
+pub expected_date-expected-requires-clause-latest : goal.expected_date-expected-requires-clause-latest
+expected_date-expected-requires-clause-latest c =
+    let words = length c.words_of-words.result.now in
+    let told = c.put_latest.new.latest in
+    let room = c.args.room.now in
+    let same = ap (λ (ws : List ℕ). length ws) c.words_of-words.ensures in
+    let fits =
+    room-for c.args.graph.now c.layers.result.now c.args.layer c.index-layers-layer.result room c.layers.ensures.same
+    c.requires.layer c.index-layers-layer.is c.requires.room in
+    let many : length told ≡ words =
+    omega (arith, c.put_latest.auto.latest, length-take-le words room (omega (arith, fits, same))) in
+    let first : take words (told ++ drop words room) ≡ told =
+    ap (λ (n : ℕ). take n (told ++ drop words room)) (sym many) ∙ take-append_seam told (drop words room) in
+    rw (c.commit_at-commit.ensures.layer, first) c.put_latest.ensures

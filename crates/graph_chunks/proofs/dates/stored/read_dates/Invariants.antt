@@ -1,6 +1,5 @@
 use Rattle.std.proofs.Common.{◌≡◌, ◌<◌, ◌^◌, All, None}
 use Rattle.first_faults.specs.First.{first_below}
-use Rattle.gix_commitgraph.specs.Graph.{start}
 use Rattle.graph_chunks.specs.GraphDates.{reading_fault}
 use Rattle.graph_chunks.proofs.StoredDateLemmas.{dates_below}
 use Rattle.graph_chunks.proofs.dates.stored.read_dates.Given as goal
@@ -10,5 +9,4 @@ invariant-loop-layer l = record {
   dates : l.dates.items ≡ dates_below l.layers l.layer;
   small : All (λ date. date < 2 ^ 63) l.dates.items;
   read : first_below (reading_fault l.layers) l.layer ≡ None;
-  counted : l.before ≡ start l.layers l.layer;
 }

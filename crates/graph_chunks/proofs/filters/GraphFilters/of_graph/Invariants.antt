@@ -1,5 +1,5 @@
--- The layers so far are not refused, and are kept.
-use Rattle.std.proofs.Common.{◌≡◌, None, take}
+-- The layers so far are not refused, and are kept where there was memory.
+use Rattle.std.proofs.Common.{◌≡◌, true, None, take}
 use Rattle.first_faults.specs.First.{first_below}
 use Rattle.gix_commitgraph.specs.Graph.{start}
 use Rattle.graph_chunks.specs.GraphFilters.{filters_fault, settings_of}
@@ -11,5 +11,5 @@ invariant-loop-layer l = record {
   counted : l.before ≡ start l.graph l.layer;
   lowest : l.settings ≡ settings_of (take l.layer l.graph);
   read : first_below (filters_fault l.graph) l.layer ≡ None;
-  kept : AreKept l.graph (settings_of l.graph) l.layer l.layers.items;
+  kept : l.kept_all ≡ true → AreKept l.graph (settings_of l.graph) l.layer l.layers.items;
 }
