@@ -7,4 +7,4 @@ use Rattle.commitgraph_c.specs.declared.opened.State.TheVariants as state
 -- the layers, and whether a check has found them right
 abbrev pub content_of : State → List Layer × Bool
 content_of (state.Unchecked layers) = (layers, false)
-content_of (state.Checked layers) = (layers, true)
+content_of (state.Checked checked) = (checked.layers, true)

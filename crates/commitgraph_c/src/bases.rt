@@ -71,9 +71,10 @@ pub extern "C" fn cg_merge_bases(
 /// out.
 fn positions_of(alloc: Global, graph: &Checked<'_>, numbers: &[u32]) -> Result<Vec<Position>, u32>
     ensures exact { IfOk result (λ found. numbers_of found.items ≡ numbers.now) }
-    ensures within { IfOk result (λ found. All (λ pos. pos.0 < total graph.now) found.items) }
+    ensures within { IfOk result (λ found.
+        All (λ pos. pos.0 < total graph.now.layers) found.items) }
     ensures refused { IfErr result (λ code. (code ≡ 3)
-        ⊎ ((code ≡ 1) × Any (λ number. total graph.now ≤ number) numbers.now)) }
+        ⊎ ((code ≡ 1) × Any (λ number. total graph.now.layers ≤ number) numbers.now)) }
 {
     let mut found = Vec::new(alloc);
     for number in numbers {

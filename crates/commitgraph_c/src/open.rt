@@ -121,9 +121,9 @@ fn hand_out(
     counts: &mut [CgCount],
     out: &mut CgOwner,
 ) -> CgError
-    ensures opened { result.code ≡ 0 → out.new.address.held ≡ Some (graph, true) }
-    ensures stats { result.code ≡ 0 → TellsStats graph verdict.new }
-    ensures counts { result.code ≡ 0 → TellsCounts graph verdict.new counts.old counts.new }
+    ensures opened { result.code ≡ 0 → out.new.address.held ≡ Some (graph.layers, true) }
+    ensures stats { result.code ≡ 0 → TellsStats graph.layers verdict.new }
+    ensures counts { result.code ≡ 0 → TellsCounts graph.layers verdict.new counts.old counts.new }
     ensures refused { result.code ≢ 0 → result ≡ told_graph GraphError.OutOfMemory }
     ensures kept { result.code ≢ 0 → (out.new ≡ out.old) × ((verdict.new ≡ verdict.old)
         × (counts.new ≡ counts.old)) }

@@ -45,7 +45,7 @@ impl Opened {
 
     /// A graph that a check has found right.
     pub fn checked(graph: CheckedGraph) -> Opened
-        ensures { result ≡ (graph, true) }
+        ensures { result ≡ (graph.layers, true) }
     {
         Opened {
             state: State::Checked(graph),
@@ -65,7 +65,7 @@ impl Opened {
 
     /// The graph for queries, if it was checked.
     pub fn as_checked(&self) -> Option<Checked<'_>>
-        ensures graph { IfSome result (λ checked. checked ≡ self.now.0) }
+        ensures graph { IfSome result (λ checked. checked.layers ≡ self.now.0) }
         ensures right { IfSome result (λ _. Sound self.now.0) }
         ensures some { is_some result ≡ self.now.1 }
     {

@@ -72,14 +72,14 @@ pub extern "C" fn cg_are_ancestors(
 /// Answers pairs of commits of a right graph, one after another, by one searcher.
 #[tactic(auto, using(crate::proofs::ManyRoom::none_answered, crate::proofs::ManyRoom::next_answered))]
 fn answer_pairs(alloc: Global, graph: &Checked<'_>, pairs: &[CgPair], out: &mut [u8]) -> CgAnswered
-    ensures answers { AnswersFirst (AnswersPair graph.now) pairs.now result.answered out.old
+    ensures answers { AnswersFirst (AnswersPair graph.now.layers) pairs.now result.answered out.old
         out.new }
     ensures all { result.code ≡ 0
         → result.answered ≡ min (length pairs.now) (length out.old) }
     ensures left { (result.code ≡ 1) ⊎ (result.code ≡ 3)
         → result.answered < min (length pairs.now) (length out.old) }
     ensures nowhere { result.code ≡ 1
-        → IsSomeAnd (slice_get pairs.now result.answered) (IsNoPair graph.now) }
+        → IsSomeAnd (slice_get pairs.now result.answered) (IsNoPair graph.now.layers) }
     ensures codes { (result.code ≡ 0) ⊎ ((result.code ≡ 1) ⊎ (result.code ≡ 3)) }
 {
     let places = pairs.len().min(out.len());

@@ -120,17 +120,17 @@ work coats queue = 2 * sum_by (λ coat. unknown coat.paint) coats + length queue
 
 -- The state of a painting.
 pub record IsPainting (s : Painting) : Type 0 where
-  pub graph : IsGraph s.graph.now
-  pub sound : Sound s.graph.now
-  pub commits : total s.graph.now ≡ length (history_of s.graph.now)
+  pub graph : IsGraph s.graph.now.layers
+  pub sound : Sound s.graph.now.layers
+  pub commits : total s.graph.now.layers ≡ length (history_of s.graph.now.layers)
   pub few : length s.coats.all.items < 2 ^ 31
   pub counted : IsCounted s.coats
-  pub paint : IsPaint (history_of s.graph.now) s.first.0 (numbers_of s.others.now) s.coats.all.items
-  pub waiting : IsWaiting (history_of s.graph.now) s.coats.all.items (heap_items s.queue)
+  pub paint : IsPaint (history_of s.graph.now.layers) s.first.0 (numbers_of s.others.now) s.coats.all.items
+  pub waiting : IsWaiting (history_of s.graph.now.layers) s.coats.all.items (heap_items s.queue)
   pub gathered : AreBasesGathered s.coats.all.items s.gathered.items
   pub touched : AreTouched s.coats.all.items s.taken.items (heap_items s.queue)
-  pub visiting : AreBelowCap (history_of s.graph.now) s.first.0 (numbers_of s.others.now)
-      → IsVisiting (history_of s.graph.now) s.first.0 (numbers_of s.others.now) s.coats.all.items s.visits
+  pub visiting : AreBelowCap (history_of s.graph.now.layers) s.first.0 (numbers_of s.others.now)
+      → IsVisiting (history_of s.graph.now.layers) s.first.0 (numbers_of s.others.now) s.coats.all.items s.visits
 
 -- Of an extra edge list: each word was passed with no more paint than the commit that it names has, and, unless it names the
 -- last parent, than the word after it.
@@ -141,21 +141,22 @@ pub record IsPassed (coats : List Coat) (list : List ℕ) (trail : List Paint) :
 
 -- so of the lists of all layers
 abbrev pub ArePassed : Painting → Type 0
-ArePassed s = (l : ℕ) → IsPassed s.coats.all.items (list_in s.graph.now l) (trail_in s.coats.trails.layers.items l)
+ArePassed s = (l : ℕ) → IsPassed s.coats.all.items (list_in s.graph.now.layers l) (trail_in s.coats.trails.layers.items l)
 
 -- A commit that was taken from the queue passes on what this paint says of it.
 pub record PassesPaint (s : Painting) (commit : ℕ) (paint : Paint) : Type 0 where
   pub painting : IsPainting s
-  pub within : commit < length (history_of s.graph.now)
-  pub so : IsSo (history_of s.graph.now) s.first.0 (numbers_of s.others.now) commit paint
-  pub uncapped : AreBelowCap (history_of s.graph.now) s.first.0 (numbers_of s.others.now)
-      → generation_at (history_of s.graph.now) commit < GENERATION_NUMBER_MAX
-  pub painted : AreBelowCap (history_of s.graph.now) s.first.0 (numbers_of s.others.now) → is_painted paint ≡ true
-  pub own : AreBelowCap (history_of s.graph.now) s.first.0 (numbers_of s.others.now) → is_queued s.coats.all.items commit ≡ false
+  pub within : commit < length (history_of s.graph.now.layers)
+  pub so : IsSo (history_of s.graph.now.layers) s.first.0 (numbers_of s.others.now) commit paint
+  pub uncapped : AreBelowCap (history_of s.graph.now.layers) s.first.0 (numbers_of s.others.now)
+      → generation_at (history_of s.graph.now.layers) commit < GENERATION_NUMBER_MAX
+  pub painted : AreBelowCap (history_of s.graph.now.layers) s.first.0 (numbers_of s.others.now) → is_painted paint ≡ true
+  pub own : AreBelowCap (history_of s.graph.now.layers) s.first.0 (numbers_of s.others.now)
+      → is_queued s.coats.all.items commit ≡ false
   pub same : is_queued s.coats.all.items commit ≡ false → paint_at s.coats.all.items commit ≡ paint
-  pub spread : IsSpreadBut (history_of s.graph.now) s.first.0 (numbers_of s.others.now) s.coats.all.items commit
-  pub level : IsLevel (history_of s.graph.now) s.coats.all.items (heap_items s.queue)
-      (generation_at (history_of s.graph.now) commit)
+  pub spread : IsSpreadBut (history_of s.graph.now.layers) s.first.0 (numbers_of s.others.now) s.coats.all.items commit
+  pub level : IsLevel (history_of s.graph.now.layers) s.coats.all.items (heap_items s.queue)
+      (generation_at (history_of s.graph.now.layers) commit)
 
 -- Paint was passed on.
 pub record PassesOn (old new : Painting) : Type 0 where

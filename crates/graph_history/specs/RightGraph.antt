@@ -1,5 +1,5 @@
 -- What a graph that was checked is kept with, and what its commits say.
-use Rattle.std.specs.Prelude.{ℕ, List, [], ◌∷◌, Option, Result, Ok, Err, option_map, slice_get}
+use Rattle.std.specs.Prelude.{ℕ, List, [], ◌∷◌, false, Option, Result, Ok, Err, option_map, slice_get}
 use Rattle.graph_format.specs.Format.{Record}
 use Rattle.graph_format.specs.Layer.{Layer, record_at}
 use Rattle.graph_format.specs.StoredHistory.{history_of}
@@ -11,6 +11,15 @@ use Rattle.gix_commitgraph.specs.Headline.{Stats}
 use Rattle.gix_commitgraph.specs.Verify.{Summarizes}
 use Rattle.gix_commitgraph.specs.declared.verify.Outcome.{Outcome}
 use Rattle.gix_commitgraph.specs.declared.verify.VerifyOptions.{VerifyOptions}
+
+-- A graph that was checked: its layers, and what its check was asked for besides what every right graph keeps.
+pub record CheckedLayers : Type 0 where
+  pub layers : List Layer
+  pub options : VerifyOptions
+
+-- the options that ask for nothing
+abbrev pub plain_options : VerifyOptions
+plain_options = record { distinct_ids = false }
 
 -- The layers keep the rules that the options ask for, and these are their statistics.
 pub record IsRight (options : VerifyOptions) (layers : List Layer) (outcome : Outcome) : Type 0 where

@@ -25,17 +25,17 @@ use gix_hash_core::oid;
 impl<'g> Checked<'g> {
     /// The number of commits. Their positions are those below it.
     pub fn num_commits(&self) -> u32
-        ensures commits { result ≡ total self.now }
-        ensures right { Sound self.now }
-        ensures graph { IsGraph self.now }
+        ensures commits { result ≡ total self.now.layers }
+        ensures right { Sound self.now.layers }
+        ensures graph { IsGraph self.now.layers }
     {
         self.graph().num_commits()
     }
 
     /// The position of this number, or `None` where it is not below `num_commits()`.
     pub fn position(&self, number: u32) -> Option<Position>
-        ensures some { IfSome result (λ pos. (pos.0 ≡ number) × (pos.0 < total self.now)) }
-        ensures none { IfNone result (total self.now ≤ number) }
+        ensures some { IfSome result (λ pos. (pos.0 ≡ number) × (pos.0 < total self.now.layers)) }
+        ensures none { IfNone result (total self.now.layers ≤ number) }
     {
         (number < self.num_commits()).then_some(Position(number))
     }
@@ -43,21 +43,22 @@ impl<'g> Checked<'g> {
     /// The least position of an id, or `None` where the graph does not have it: what a scan of all
     /// ids answers ("OID Lookup"). Where the check asked for distinct ids, it is the only position.
     pub fn find(&self, id: oid<'_>) -> Option<Position>
-        ensures scanned { position_number result ≡ scan (graph_ids self.now) (oid_bytes id.entry) }
-        ensures within { IfSome result (λ pos. pos.0 < total self.now) }
+        ensures scanned { position_number result
+            ≡ scan (graph_ids self.now.layers) (oid_bytes id.entry) }
+        ensures within { IfSome result (λ pos. pos.0 < total self.now.layers) }
 
         // With distinct ids, a position is answered exactly where it holds the id.
-        ensures exact { AreDistinct self.now → (p : ℕ) → (position_number result ≡ Some p)
-            ↔ ((p < total self.now)
-            × (slice_get (graph_ids self.now) p ≡ Some (oid_bytes id.entry))) }
+        ensures exact { AreDistinct self.now.layers → (p : ℕ) → (position_number result ≡ Some p)
+            ↔ ((p < total self.now.layers)
+            × (slice_get (graph_ids self.now.layers) p ≡ Some (oid_bytes id.entry))) }
     {
         least_position(self.graph(), id)
     }
 
     /// The id of the commit at a position ("OID Lookup").
     pub fn id(&self, pos: Position) -> oid<'g>
-        requires { pos.0 < total self.now }
-        ensures { slice_get (graph_ids self.now) pos.0 ≡ Some (oid_bytes result) }
+        requires { pos.0 < total self.now.layers }
+        ensures { slice_get (graph_ids self.now.layers) pos.0 ≡ Some (oid_bytes result) }
     {
         self.graph().id_at(pos)
     }
@@ -65,8 +66,8 @@ impl<'g> Checked<'g> {
     /// The generation number of the commit at a position: the number of commits on the longest walk
     /// along parents that begins with it, at most 1073741823 ("Commit Data").
     pub fn generation(&self, pos: Position) -> u32
-        requires { pos.0 < total self.now }
-        ensures { result ≡ generation_at (history_of self.now) pos.0 }
+        requires { pos.0 < total self.now.layers }
+        ensures { result ≡ generation_at (history_of self.now.layers) pos.0 }
     {
         the_history_of_a_graph_says_what_its_records_say();
         prove!(pos.0 < self.num_commits());
@@ -76,16 +77,17 @@ impl<'g> Checked<'g> {
     /// When the commit at a position was made: the committer's time, in seconds since 1970-01-01
     /// 00:00:00 UTC, at most 17179869183 ("Commit Data").
     pub fn committer_time(&self, pos: Position) -> u64
-        requires { pos.0 < total self.now }
-        ensures { option_map (λ r. r.time) (record_in self.now pos.0) ≡ Some result }
+        requires { pos.0 < total self.now.layers }
+        ensures { option_map (λ r. r.time) (record_in self.now.layers pos.0) ≡ Some result }
     {
         self.graph().commit_at(pos).committer_timestamp()
     }
 
     /// The id of the root tree of the commit at a position ("Commit Data").
     pub fn root_tree(&self, pos: Position) -> oid<'g>
-        requires { pos.0 < total self.now }
-        ensures { option_map (λ r. r.tree) (record_in self.now pos.0) ≡ Some (oid_bytes result) }
+        requires { pos.0 < total self.now.layers }
+        ensures { option_map (λ r. r.tree) (record_in self.now.layers pos.0)
+            ≡ Some (oid_bytes result) }
     {
         self.graph().commit_at(pos).root_tree_id()
     }
@@ -93,9 +95,9 @@ impl<'g> Checked<'g> {
     /// The positions of the parents of the commit at a position, first parent first ("Commit Data",
     /// "Extra Edge List"). In a right graph all of them are there.
     pub fn parents(&self, pos: Position) -> ParentPositions<'g>
-        requires { pos.0 < total self.now }
-        ensures exact { map (λ q. q.0) result ≡ parents_at (history_of self.now) pos.0 }
-        ensures within { All (λ q. q.0 < total self.now) result }
+        requires { pos.0 < total self.now.layers }
+        ensures exact { map (λ q. q.0) result ≡ parents_at (history_of self.now.layers) pos.0 }
+        ensures within { All (λ q. q.0 < total self.now.layers) result }
     {
         ParentPositions::new(self.graph(), pos)
     }

@@ -64,14 +64,14 @@ impl<'g> Checked<'g> {
         first: Position,
         others: &[Position],
     ) -> Result<Bases, AllocError>
-        requires first { first.0 < total self.now }
-        requires others { All (λ other. other.0 < total self.now) others.now }
-        ensures exact { IfOk result (λ bases. AreMergeBases (history_of self.now) first.0
+        requires first { first.0 < total self.now.layers }
+        requires others { All (λ other. other.0 < total self.now.layers) others.now }
+        ensures exact { IfOk result (λ bases. AreMergeBases (history_of self.now.layers) first.0
             (numbers_of others.now) (numbers_of bases.positions.items)) }
         ensures within { IfOk result (λ bases.
-            All (λ base. base.0 < total self.now) bases.positions.items) }
-        ensures visits { IfOk result (λ bases. AreBelowCap (history_of self.now) first.0
-            (numbers_of others.now) → AreVisits (history_of self.now) first.0
+            All (λ base. base.0 < total self.now.layers) bases.positions.items) }
+        ensures visits { IfOk result (λ bases. AreBelowCap (history_of self.now.layers) first.0
+            (numbers_of others.now) → AreVisits (history_of self.now.layers) first.0
             (numbers_of others.now) bases.visits) }
     {
         Ok(self.compare(alloc, first, others)?.bases)
@@ -90,12 +90,12 @@ impl<'g> Checked<'g> {
         first: Position,
         others: &[Position],
     ) -> Result<Divergence, AllocError>
-        requires first { first.0 < total self.now }
-        requires others { All (λ other. other.0 < total self.now) others.now }
+        requires first { first.0 < total self.now.layers }
+        requires others { All (λ other. other.0 < total self.now.layers) others.now }
         ensures ahead { IfOk result (λ d. IsNumberOf d.ahead
-            (IsAhead (history_of self.now) first.0 (numbers_of others.now))) }
+            (IsAhead (history_of self.now.layers) first.0 (numbers_of others.now))) }
         ensures behind { IfOk result (λ d. IsNumberOf d.behind
-            (IsBehind (history_of self.now) first.0 (numbers_of others.now))) }
+            (IsBehind (history_of self.now.layers) first.0 (numbers_of others.now))) }
     {
         Ok(self.compare(alloc, first, others)?.divergence)
     }
@@ -111,19 +111,19 @@ impl<'g> Checked<'g> {
         first: Position,
         others: &[Position],
     ) -> Result<Comparison, AllocError>
-        requires first { first.0 < total self.now }
-        requires others { All (λ other. other.0 < total self.now) others.now }
-        ensures bases { IfOk result (λ c. AreMergeBases (history_of self.now) first.0
+        requires first { first.0 < total self.now.layers }
+        requires others { All (λ other. other.0 < total self.now.layers) others.now }
+        ensures bases { IfOk result (λ c. AreMergeBases (history_of self.now.layers) first.0
             (numbers_of others.now) (numbers_of c.bases.positions.items)) }
         ensures within { IfOk result (λ c.
-            All (λ base. base.0 < total self.now) c.bases.positions.items) }
-        ensures visits { IfOk result (λ c. AreBelowCap (history_of self.now) first.0
-            (numbers_of others.now) → AreVisits (history_of self.now) first.0
+            All (λ base. base.0 < total self.now.layers) c.bases.positions.items) }
+        ensures visits { IfOk result (λ c. AreBelowCap (history_of self.now.layers) first.0
+            (numbers_of others.now) → AreVisits (history_of self.now.layers) first.0
             (numbers_of others.now) c.bases.visits) }
         ensures ahead { IfOk result (λ c. IsNumberOf c.divergence.ahead
-            (IsAhead (history_of self.now) first.0 (numbers_of others.now))) }
+            (IsAhead (history_of self.now.layers) first.0 (numbers_of others.now))) }
         ensures behind { IfOk result (λ c. IsNumberOf c.divergence.behind
-            (IsBehind (history_of self.now) first.0 (numbers_of others.now))) }
+            (IsBehind (history_of self.now.layers) first.0 (numbers_of others.now))) }
     {
         Comparer::new(alloc, self).compare(first, others)
     }
@@ -134,7 +134,7 @@ impl<'g> Checked<'g> {
 /// edge lists a call has read, a byte for each word of the list and a few for each commit with more
 /// than two parents. What a call marks there is cleared after it, and no more than that.
 ///
-/// A contract sees it as the list of the graph's layers.
+/// A contract sees it as the checked graph: its layers and the options of the check.
 #[derive(Drop)]
 pub struct Comparer<'c, 'g> {
     alloc: Global,
@@ -144,16 +144,16 @@ pub struct Comparer<'c, 'g> {
 }
 
 impl<'c, 'g> Model for Comparer<'c, 'g> {
-    ghost use Rattle.std.specs.Prelude.{List, IfSome};
-    ghost use Rattle.graph_format.specs.Layer.{Layer};
+    ghost use Rattle.std.specs.Prelude.{IfSome};
     ghost use Rattle.gix_commitgraph.specs.Graph.{total};
     ghost use Rattle.graph_history.specs.Paint.{AreIdle};
+    ghost use Rattle.graph_history.specs.RightGraph.{CheckedLayers};
 
-    ghost Value = { List Layer };
+    ghost Value = { CheckedLayers };
 
     ghost view = { λ a. a.graph.now };
 
-    ghost invariant = { λ a. IfSome a.coats (AreIdle (total a.graph.now)) };
+    ghost invariant = { λ a. IfSome a.coats (AreIdle (total a.graph.now.layers)) };
 }
 
 impl<'c, 'g> Comparer<'c, 'g> {
@@ -186,10 +186,11 @@ impl<'c, 'g> Comparer<'c, 'g> {
         first: Position,
         others: &[Position],
     ) -> Result<Comparison, AllocError>
-        requires first { first.0 < total self.old }
-        requires others { All (λ other. other.0 < total self.old) others.now }
+        requires first { first.0 < total self.old.layers }
+        requires others { All (λ other. other.0 < total self.old.layers) others.now }
         ensures graph { self.new ≡ self.old }
-        ensures exact { IfOk result (IsComparisonOf self.old first.0 (numbers_of others.now)) }
+        ensures exact { IfOk result (IsComparisonOf self.old.layers first.0
+            (numbers_of others.now)) }
     {
         let coats = match self.coats.take() {
             Some(coats) => coats,
@@ -210,12 +211,12 @@ fn compared(
     first: Position,
     others: &[Position],
 ) -> Result<(Comparison, Coats), AllocError>
-    requires idle { AreIdle (total graph.now) coats }
-    requires first { first.0 < total graph.now }
-    requires others { All (λ other. other.0 < total graph.now) others.now }
+    requires idle { AreIdle (total graph.now.layers) coats }
+    requires first { first.0 < total graph.now.layers }
+    requires others { All (λ other. other.0 < total graph.now.layers) others.now }
     ensures exact { IfOk result (λ answer.
-        IsComparisonOf graph.now first.0 (numbers_of others.now) answer.0) }
-    ensures idle { IfOk result (λ answer. AreIdle (total graph.now) answer.1) }
+        IsComparisonOf graph.now.layers first.0 (numbers_of others.now) answer.0) }
+    ensures idle { IfOk result (λ answer. AreIdle (total graph.now.layers) answer.1) }
 {
     let mut painting = paint_from(alloc, coats, graph, first, others)?;
     let divergence = painting.divergence();

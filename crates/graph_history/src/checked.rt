@@ -10,6 +10,7 @@ ghost use Rattle.gix_commitgraph.specs.Sound.{Sound};
 ghost use Rattle.graph_ancestors.specs.WalkAnswer.{IsAnswer};
 ghost use Rattle.graph_ancestors.specs.RefusedGraph.{MayRefuseGraph};
 ghost use Rattle.graph_history.specs.Checked.{MayRefuseWith};
+ghost use Rattle.graph_history.specs.RightGraph.{plain_options};
 
 use gix_commitgraph::file::Commit;
 use gix_commitgraph::verify::{Outcome, VerifyError, VerifyOptions};
@@ -25,8 +26,8 @@ pub(crate) const PLAIN: VerifyOptions = VerifyOptions {
 };
 
 /// A graph that was checked and is right, with its statistics. It borrows the graph, and a
-/// [`CheckedGraph`](crate::CheckedGraph) owns one. A contract sees it as the list of the graph's
-/// layers.
+/// [`CheckedGraph`](crate::CheckedGraph) owns one. A contract sees it as the graph's layers and the
+/// options of the check.
 #[derive(Drop)]
 pub struct Checked<'g> {
     pub(crate) graph: &'g Graph,
@@ -36,13 +37,11 @@ pub struct Checked<'g> {
 
 impl<'g> Model for Checked<'g> {
     ghost use Rattle.std.specs.Cow.{cow_value};
-    ghost use Rattle.std.specs.Prelude.{List};
-    ghost use Rattle.graph_format.specs.Layer.{Layer};
-    ghost use Rattle.graph_history.specs.RightGraph.{IsRight};
+    ghost use Rattle.graph_history.specs.RightGraph.{CheckedLayers, IsRight};
 
-    ghost Value = { List Layer };
+    ghost Value = { CheckedLayers };
 
-    ghost view = { λ a. a.graph.now };
+    ghost view = { λ a. record { layers = a.graph.now; options = a.options } };
 
     ghost invariant = { λ a. IsRight a.options a.graph.now (cow_value a.outcome) };
 }
@@ -55,7 +54,8 @@ impl<'g> Checked<'g> {
     /// The first check that fails, in the order of [`Graph::verify_integrity`], or `OutOfMemory`
     /// where an allocation failed; never `Processor`.
     pub fn new(alloc: Global, graph: &'g Graph) -> Result<Checked<'g>, VerifyError<NoFault>>
-        ensures graph { IfOk result (λ checked. checked ≡ graph.now) }
+        ensures graph { IfOk result (λ checked. checked.layers ≡ graph.now) }
+        ensures options { IfOk result (λ checked. checked.options ≡ plain_options) }
 
         // Only a graph that is right is accepted. It is refused only where an allocation failed.
         ensures sound { IfOk result (λ _. Sound graph.now) }
@@ -81,7 +81,8 @@ impl<'g> Checked<'g> {
         options: VerifyOptions,
         graph: &'g Graph,
     ) -> Result<Checked<'g>, VerifyError<NoFault>>
-        ensures graph { IfOk result (λ checked. checked ≡ graph.now) }
+        ensures graph { IfOk result (λ checked. checked.layers ≡ graph.now) }
+        ensures options { IfOk result (λ checked. checked.options ≡ options) }
         ensures sound { IfOk result (λ _. IsSoundWith options graph.now) }
         ensures refusal { IfErr result (MayRefuseWith options graph.now) }
     {
@@ -95,15 +96,15 @@ impl<'g> Checked<'g> {
 
     /// The graph.
     pub fn graph(&self) -> &'g Graph
-        ensures same { result.now ≡ self.now }
-        ensures right { Sound self.now }
+        ensures same { result.now ≡ self.now.layers }
+        ensures right { IsSoundWith self.now.options self.now.layers }
     {
         self.graph
     }
 
     /// The statistics of the graph.
     pub fn outcome(&self) -> &Outcome
-        ensures { Stats self.now result.now }
+        ensures { Stats self.now.layers result.now }
     {
         match &self.outcome {
             Cow::Borrowed(outcome) => outcome,
@@ -114,14 +115,15 @@ impl<'g> Checked<'g> {
     /// The options of the check: what the graph keeps besides what every right graph keeps. Where
     /// they ask for distinct ids, [`Checked::find`] answers the only position of an id.
     pub fn options(&self) -> VerifyOptions
-        ensures kept { IsSoundWith result self.now }
+        ensures same { result ≡ self.now.options }
+        ensures kept { IsSoundWith result self.now.layers }
     {
         self.options
     }
 
     /// A searcher over the graph, for several queries one after another. Nothing is allocated yet.
     pub fn searcher(&self, alloc: Global) -> Searcher<'g>
-        ensures { result ≡ self.now }
+        ensures { result ≡ self.now.layers }
     {
         Searcher::new(alloc, self.graph)
     }
@@ -138,10 +140,10 @@ impl<'g> Checked<'g> {
         from: Position,
         to: Position,
     ) -> Result<bool, AllocError>
-        requires from { from.0 < total self.now }
-        requires to { to.0 < total self.now }
+        requires from { from.0 < total self.now.layers }
+        requires to { to.0 < total self.now.layers }
         ensures { IfOk result (λ found.
-            IsTrue found ↔ Reaches (history_of self.now) from.0 to.0) }
+            IsTrue found ↔ Reaches (history_of self.now.layers) from.0 to.0) }
     {
         self.searcher(alloc).is_ancestor(from, to)
     }
@@ -161,9 +163,9 @@ impl<'g> Checked<'g> {
         from: Position,
         to: Position,
     ) -> Result<Reached, AllocError>
-        requires from { from.0 < total self.now }
-        requires to { to.0 < total self.now }
-        ensures { IfOk result (IsAnswer (history_of self.now) from.0 to.0) }
+        requires from { from.0 < total self.now.layers }
+        requires to { to.0 < total self.now.layers }
+        ensures { IfOk result (IsAnswer (history_of self.now.layers) from.0 to.0) }
     {
         self.searcher(alloc).ancestor_walk(from, to)
     }

@@ -4,7 +4,8 @@ ghost use Rattle.std.specs.Prelude.{◌≡◌, ◌∷◌, ◌++◌, [], IfErr, I
 ghost use Rattle.gix_commitgraph.specs.Distinct.{IsSoundWith};
 ghost use Rattle.gix_commitgraph.specs.Sound.{Sound};
 ghost use Rattle.graph_ancestors.specs.RefusedGraph.{MayRefuseGraph};
-ghost use Rattle.graph_history.specs.Checked.{MayRefusePush, MayRefuseWith};
+ghost use Rattle.graph_history.specs.Checked.{MayRefuseLayers, MayRefuseWith};
+ghost use Rattle.graph_history.specs.RightGraph.{plain_options};
 
 use crate::checked::{Checked, PLAIN};
 use gix_commitgraph::file::Commit;
@@ -29,8 +30,8 @@ pub enum PushError {
 }
 
 /// A graph that was checked and is right, with its statistics. It owns the graph, and lends it as a
-/// [`Checked`], which answers what is asked of it. A contract sees it as the list of the graph's
-/// layers.
+/// [`Checked`], which answers what is asked of it. A contract sees it as the graph's layers and the
+/// options of the check.
 #[derive(Drop)]
 pub struct CheckedGraph {
     graph: Graph,
@@ -39,13 +40,11 @@ pub struct CheckedGraph {
 }
 
 impl Model for CheckedGraph {
-    ghost use Rattle.std.specs.Prelude.{List};
-    ghost use Rattle.graph_format.specs.Layer.{Layer};
-    ghost use Rattle.graph_history.specs.RightGraph.{IsRight};
+    ghost use Rattle.graph_history.specs.RightGraph.{CheckedLayers, IsRight};
 
-    ghost Value = { List Layer };
+    ghost Value = { CheckedLayers };
 
-    ghost view = { λ a. a.graph };
+    ghost view = { λ a. record { layers = a.graph; options = a.options } };
 
     ghost invariant = { λ a. IsRight a.options a.graph a.outcome };
 }
@@ -57,7 +56,8 @@ impl CheckedGraph {
     ///
     /// Those of [`Checked::new`]. The graph is dropped then.
     pub fn new(alloc: Global, graph: Graph) -> Result<CheckedGraph, VerifyError<NoFault>>
-        ensures graph { IfOk result (λ checked. checked ≡ graph) }
+        ensures graph { IfOk result (λ checked. checked.layers ≡ graph) }
+        ensures options { IfOk result (λ checked. checked.options ≡ plain_options) }
         ensures sound { IfOk result (λ _. Sound graph) }
         ensures refusal { IfErr result (MayRefuseGraph graph) }
     {
@@ -79,7 +79,8 @@ impl CheckedGraph {
         options: VerifyOptions,
         graph: Graph,
     ) -> Result<CheckedGraph, VerifyError<NoFault>>
-        ensures graph { IfOk result (λ checked. checked ≡ graph) }
+        ensures graph { IfOk result (λ checked. checked.layers ≡ graph) }
+        ensures options { IfOk result (λ checked. checked.options ≡ options) }
         ensures sound { IfOk result (λ _. IsSoundWith options graph) }
         ensures refusal { IfErr result (MayRefuseWith options graph) }
     {
@@ -94,7 +95,7 @@ impl CheckedGraph {
     /// The checked graph, lent.
     pub fn as_checked(&self) -> Checked<'_>
         ensures same { result ≡ self.now }
-        ensures right { Sound self.now }
+        ensures right { IsSoundWith self.now.options self.now.layers }
     {
         Checked {
             graph: &self.graph,
@@ -113,10 +114,12 @@ impl CheckedGraph {
     /// of all of them with the options of the graph's check: the first check of all that fails. The
     /// file is then dropped, and the graph is as it was.
     pub fn push(&mut self, alloc: Global, file: File) -> Result<(), PushError>
-        ensures pushed { OnOk result (self.new ≡ self.old ++ file ∷ []) }
-        ensures kept { OnErr result (self.new ≡ self.old) }
-        ensures right { Sound self.new }
-        ensures refusal { IfErr result (MayRefusePush self.old (self.old ++ file ∷ [])) }
+        ensures pushed { OnOk result (self.new.layers ≡ self.old.layers ++ file ∷ []) }
+        ensures kept { OnErr result (self.new.layers ≡ self.old.layers) }
+        ensures options { self.new.options ≡ self.old.options }
+        ensures right { IsSoundWith self.new.options self.new.layers }
+        ensures refusal { IfErr result
+            (MayRefuseLayers self.old.options (self.old.layers ++ file ∷ [])) }
     {
         let layer = self.graph.layers().len();
         if let Err(error) = self.graph.push(file) {
@@ -144,8 +147,8 @@ impl CheckedGraph {
 
     /// The graph.
     pub fn into_graph(self) -> Graph
-        ensures same { result ≡ self }
-        ensures right { Sound self }
+        ensures same { result ≡ self.layers }
+        ensures right { IsSoundWith self.options self.layers }
     {
         let CheckedGraph { graph, .. } = self;
         graph

@@ -57,7 +57,7 @@ impl<'p, 'g> Painting<'p, 'g> {
         first: Position,
         others: &'p [Position],
     ) -> Painting<'p, 'g>
-        requires idle { AreIdle (total graph.now) coats }
+        requires idle { AreIdle (total graph.now.layers) coats }
         ensures graph { result.graph.now ≡ graph.now }
         ensures first { result.first ≡ first }
         ensures others { result.others.now ≡ others.now }
@@ -84,7 +84,7 @@ impl<'p, 'g> Painting<'p, 'g> {
     /// Puts a commit into the queue, where it is not there.
     fn enqueue(&mut self, commit: Position) -> Result<(), AllocError>
         requires painting { IsPainting self.old }
-        requires within { commit.0 < total self.old.graph.now }
+        requires within { commit.0 < total self.old.graph.now.layers }
         ensures graph { self.new.graph.now ≡ self.old.graph.now }
         ensures first { self.new.first ≡ self.old.first }
         ensures others { self.new.others.now ≡ self.old.others.now }
@@ -95,7 +95,7 @@ impl<'p, 'g> Painting<'p, 'g> {
         ensures len { OnOk result (length (heap_items self.new.queue)
             ≡ length (heap_items self.old.queue)
             + cond (is_queued self.old.coats.all.items commit.0) 0 1) }
-        ensures joins { OnOk result (Joins (history_of self.old.graph.now) commit.0
+        ensures joins { OnOk result (Joins (history_of self.old.graph.now.layers) commit.0
             (heap_items self.old.queue) (heap_items self.new.queue)) }
     {
         if !self.coats.at(commit).queued {
@@ -127,16 +127,16 @@ impl<'p, 'g> Painting<'p, 'g> {
     /// Adds paint to a commit, and puts it into the queue where that says more than was known.
     pub(crate) fn add(&mut self, commit: Position, paint: Paint) -> Result<(), AllocError>
         requires painting { IsPainting self.old }
-        requires within { commit.0 < total self.old.graph.now }
-        requires so { IsSo (history_of self.old.graph.now) self.old.first.0
+        requires within { commit.0 < total self.old.graph.now.layers }
+        requires so { IsSo (history_of self.old.graph.now.layers) self.old.first.0
             (numbers_of self.old.others.now) commit.0 paint }
-        requires waits { AreBelowCap (history_of self.old.graph.now)
+        requires waits { AreBelowCap (history_of self.old.graph.now.layers)
             self.old.first.0 (numbers_of self.old.others.now)
             → is_painted (paint_at self.old.coats.all.items commit.0) ≡ true
             → is_queued self.old.coats.all.items commit.0 ≡ true }
-        requires edge { AreBelowCap (history_of self.old.graph.now)
+        requires edge { AreBelowCap (history_of self.old.graph.now.layers)
             self.old.first.0 (numbers_of self.old.others.now)
-            → is_stale paint ≡ false → IsKnownEdge (history_of self.old.graph.now)
+            → is_stale paint ≡ false → IsKnownEdge (history_of self.old.graph.now.layers)
             self.old.first.0 (numbers_of self.old.others.now) self.old.coats.all.items commit.0 }
         ensures graph { self.new.graph.now ≡ self.old.graph.now }
         ensures first { self.new.first ≡ self.old.first }
@@ -146,10 +146,10 @@ impl<'p, 'g> Painting<'p, 'g> {
         ensures adds { OnOk result (Adds commit.0 paint self.old.coats.all.items
             self.new.coats.all.items) }
         ensures level { OnOk result ((level : ℕ)
-            → generation_at (history_of self.old.graph.now) commit.0 ≤ level
-            → IsLevel (history_of self.old.graph.now) self.old.coats.all.items
+            → generation_at (history_of self.old.graph.now.layers) commit.0 ≤ level
+            → IsLevel (history_of self.old.graph.now.layers) self.old.coats.all.items
             (heap_items self.old.queue) level
-            → IsLevel (history_of self.old.graph.now) self.new.coats.all.items
+            → IsLevel (history_of self.old.graph.now.layers) self.new.coats.all.items
             (heap_items self.new.queue) level) }
         ensures work { OnOk result (work self.new.coats.all.items (heap_items self.new.queue)
             ≤ work self.old.coats.all.items (heap_items self.old.queue)) }
@@ -170,9 +170,9 @@ impl<'p, 'g> Painting<'p, 'g> {
     /// can lead to a base.
     fn run(&mut self) -> Result<(), AllocError>
         requires painting { IsPainting self.old }
-        requires spread { IsSpread (history_of self.old.graph.now) self.old.first.0
+        requires spread { IsSpread (history_of self.old.graph.now.layers) self.old.first.0
             (numbers_of self.old.others.now) self.old.coats.all.items }
-        requires level { (level : ℕ) × IsLevel (history_of self.old.graph.now)
+        requires level { (level : ℕ) × IsLevel (history_of self.old.graph.now.layers)
             self.old.coats.all.items (heap_items self.old.queue) level }
         requires lists { ArePassed self.old }
         ensures graph { self.new.graph.now ≡ self.old.graph.now }
@@ -183,15 +183,15 @@ impl<'p, 'g> Painting<'p, 'g> {
             (heap_items self.new.queue)) }
         ensures gathered { OnOk result (AreBasesGathered self.new.coats.all.items
             self.new.gathered.items) }
-        ensures paint { OnOk result (IsPaint (history_of self.old.graph.now) self.old.first.0
+        ensures paint { OnOk result (IsPaint (history_of self.old.graph.now.layers) self.old.first.0
             (numbers_of self.old.others.now) self.new.coats.all.items) }
-        ensures spread { OnOk result (IsSpread (history_of self.old.graph.now) self.old.first.0
-            (numbers_of self.old.others.now) self.new.coats.all.items) }
-        ensures visiting { OnOk result (AreBelowCap (history_of self.old.graph.now)
+        ensures spread { OnOk result (IsSpread (history_of self.old.graph.now.layers)
+            self.old.first.0 (numbers_of self.old.others.now) self.new.coats.all.items) }
+        ensures visiting { OnOk result (AreBelowCap (history_of self.old.graph.now.layers)
             self.old.first.0 (numbers_of self.old.others.now)
-            → IsVisiting (history_of self.old.graph.now) self.old.first.0
+            → IsVisiting (history_of self.old.graph.now.layers) self.old.first.0
             (numbers_of self.old.others.now) self.new.coats.all.items self.new.visits) }
-        ensures done { OnOk result (IsDone (history_of self.old.graph.now)
+        ensures done { OnOk result (IsDone (history_of self.old.graph.now.layers)
             self.new.coats.all.items) }
     {
         generations_never_rise_along_walks();
@@ -282,18 +282,19 @@ pub(crate) fn paint_from<'p, 'g>(
     first: Position,
     others: &'p [Position],
 ) -> Result<Painting<'p, 'g>, AllocError>
-    requires idle { AreIdle (total graph.now) coats }
-    requires first { first.0 < total graph.now }
-    requires others { All (λ other. other.0 < total graph.now) others.now }
-    ensures commits { IfOk result (λ _. total graph.now ≡ length (history_of graph.now)) }
+    requires idle { AreIdle (total graph.now.layers) coats }
+    requires first { first.0 < total graph.now.layers }
+    requires others { All (λ other. other.0 < total graph.now.layers) others.now }
+    ensures commits { IfOk result (λ _. total graph.now.layers
+        ≡ length (history_of graph.now.layers)) }
     ensures counted { IfOk result (λ s. IsCounted s.coats) }
     ensures touched { IfOk result (λ s. AreTouched s.coats.all.items s.taken.items
         (heap_items s.queue)) }
     ensures gathered { IfOk result (λ s. AreBasesGathered s.coats.all.items s.gathered.items) }
-    ensures painted { IfOk result (λ s. IsPainted (history_of graph.now) first.0
+    ensures painted { IfOk result (λ s. IsPainted (history_of graph.now.layers) first.0
         (numbers_of others.now) s.coats.all.items) }
-    ensures visits { IfOk result (λ s. AreBelowCap (history_of graph.now) first.0
-        (numbers_of others.now) → AreVisits (history_of graph.now) first.0
+    ensures visits { IfOk result (λ s. AreBelowCap (history_of graph.now.layers) first.0
+        (numbers_of others.now) → AreVisits (history_of graph.now.layers) first.0
         (numbers_of others.now) s.visits) }
 {
     generations_never_rise_along_walks();

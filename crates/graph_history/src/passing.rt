@@ -28,30 +28,31 @@ impl<'p, 'g> Painting<'p, 'g> {
     pub(crate) fn visit(&mut self, commit: Position, paint: Paint) -> Result<(), AllocError>
         requires painting { IsPainting self.old }
         requires lists { ArePassed self.old }
-        requires within { commit.0 < total self.old.graph.now }
+        requires within { commit.0 < total self.old.graph.now.layers }
         requires paint { paint_at self.old.coats.all.items commit.0 ≡ paint }
         requires taken { is_queued self.old.coats.all.items commit.0 ≡ false }
-        requires uncapped { AreBelowCap (history_of self.old.graph.now)
+        requires uncapped { AreBelowCap (history_of self.old.graph.now.layers)
             self.old.first.0 (numbers_of self.old.others.now)
-            → generation_at (history_of self.old.graph.now) commit.0 < GENERATION_NUMBER_MAX }
-        requires painted { AreBelowCap (history_of self.old.graph.now)
+            → generation_at (history_of self.old.graph.now.layers) commit.0
+            < GENERATION_NUMBER_MAX }
+        requires painted { AreBelowCap (history_of self.old.graph.now.layers)
             self.old.first.0 (numbers_of self.old.others.now)
             → is_painted paint ≡ true }
-        requires spread { IsSpreadBut (history_of self.old.graph.now) self.old.first.0
+        requires spread { IsSpreadBut (history_of self.old.graph.now.layers) self.old.first.0
             (numbers_of self.old.others.now) self.old.coats.all.items commit.0 }
-        requires level { IsLevel (history_of self.old.graph.now) self.old.coats.all.items
+        requires level { IsLevel (history_of self.old.graph.now.layers) self.old.coats.all.items
             (heap_items self.old.queue)
-            (generation_at (history_of self.old.graph.now) commit.0) }
+            (generation_at (history_of self.old.graph.now.layers) commit.0) }
         ensures graph { self.new.graph.now ≡ self.old.graph.now }
         ensures first { self.new.first ≡ self.old.first }
         ensures others { self.new.others.now ≡ self.old.others.now }
         ensures painting { OnOk result (IsPainting self.new) }
         ensures lists { OnOk result (ArePassed self.new) }
-        ensures spread { OnOk result (IsSpread (history_of self.old.graph.now) self.old.first.0
-            (numbers_of self.old.others.now) self.new.coats.all.items) }
-        ensures level { OnOk result (IsLevel (history_of self.old.graph.now)
+        ensures spread { OnOk result (IsSpread (history_of self.old.graph.now.layers)
+            self.old.first.0 (numbers_of self.old.others.now) self.new.coats.all.items) }
+        ensures level { OnOk result (IsLevel (history_of self.old.graph.now.layers)
             self.new.coats.all.items (heap_items self.new.queue)
-            (generation_at (history_of self.old.graph.now) commit.0)) }
+            (generation_at (history_of self.old.graph.now.layers) commit.0)) }
         ensures work { OnOk result (work self.new.coats.all.items (heap_items self.new.queue)
             ≤ work self.old.coats.all.items (heap_items self.old.queue)) }
     {
@@ -70,14 +71,14 @@ impl<'p, 'g> Painting<'p, 'g> {
     ) -> Result<(), AllocError>
         requires passes { PassesPaint self.old commit.0 paint }
         requires lists { ArePassed self.old }
-        requires field { NamesParents self.old.graph.now commit.0 field }
+        requires field { NamesParents self.old.graph.now.layers commit.0 field }
         ensures graph { self.new.graph.now ≡ self.old.graph.now }
         ensures first { self.new.first ≡ self.old.first }
         ensures others { self.new.others.now ≡ self.old.others.now }
         ensures passes { OnOk result (PassesPaint self.new commit.0 paint) }
         ensures lists { OnOk result (ArePassed self.new) }
         ensures on { OnOk result (PassesOn self.old self.new) }
-        ensures named { OnOk result ((q : ℕ) → Names self.old.graph.now commit.0 field q
+        ensures named { OnOk result ((q : ℕ) → Names self.old.graph.now.layers commit.0 field q
             → Grows (passed paint) (paint_at self.new.coats.all.items q)) }
     {
         match field {
@@ -105,9 +106,9 @@ impl<'p, 'g> Painting<'p, 'g> {
     ) -> Result<(), AllocError>
         requires passes { PassesPaint self.old commit.0 paint }
         requires lists { ArePassed self.old }
-        requires layer { layer < length self.old.graph.now }
-        requires reading { IsReading (history_of self.old.graph.now)
-            (list_in self.old.graph.now layer) commit.0 index }
+        requires layer { layer < length self.old.graph.now.layers }
+        requires reading { IsReading (history_of self.old.graph.now.layers)
+            (list_in self.old.graph.now.layers layer) commit.0 index }
         ensures graph { self.new.graph.now ≡ self.old.graph.now }
         ensures first { self.new.first ≡ self.old.first }
         ensures others { self.new.others.now ≡ self.old.others.now }
@@ -115,7 +116,7 @@ impl<'p, 'g> Painting<'p, 'g> {
         ensures lists { OnOk result (ArePassed self.new) }
         ensures on { OnOk result (PassesOn self.old self.new) }
         ensures named { OnOk result ((q : ℕ)
-            → Contains (named_from (list_in self.old.graph.now layer) index) q
+            → Contains (named_from (list_in self.old.graph.now.layers layer) index) q
             → Grows (passed paint) (paint_at self.new.coats.all.items q)) }
     {
         let words = list_of(self.graph.graph(), layer);
@@ -137,7 +138,7 @@ impl<'p, 'g> Painting<'p, 'g> {
     /// Passes on what is known of a commit to one of its parents.
     fn pass(&mut self, commit: Position, paint: Paint, parent: Position) -> Result<(), AllocError>
         requires passes { PassesPaint self.old commit.0 paint }
-        requires parent { IsParent (history_of self.old.graph.now) commit.0 parent.0 }
+        requires parent { IsParent (history_of self.old.graph.now.layers) commit.0 parent.0 }
         ensures graph { self.new.graph.now ≡ self.old.graph.now }
         ensures first { self.new.first ≡ self.old.first }
         ensures others { self.new.others.now ≡ self.old.others.now }

@@ -17,8 +17,8 @@ use graph_history::Checked;
 /// The error says why the text spells no id.
 pub fn find(graph: &Checked<'_>, id: &str) -> Result<Option<Position>, IdError>
     ensures scanned { IfOk result (λ pos. (bytes : List ℕ) × SpellsId id.now bytes
-        × (position_number pos ≡ scan (graph_ids graph.now) bytes)) }
-    ensures within { IfOk result (λ found. IfSome found (λ pos. pos.0 < total graph.now)) }
+        × (position_number pos ≡ scan (graph_ids graph.now.layers) bytes)) }
+    ensures within { IfOk result (λ found. IfSome found (λ pos. pos.0 < total graph.now.layers)) }
     ensures refused { IfErr result (SpellsNone id.now) }
 {
     let id = ObjectId::from_hex(id.as_bytes())?;
@@ -28,8 +28,8 @@ pub fn find(graph: &Checked<'_>, id: &str) -> Result<Option<Position>, IdError>
 /// The position of the commit with an id, where the check of the graph has found that no other
 /// position holds the id. `None` where that was not asked, or the graph has no such commit.
 pub fn only_position(graph: &Checked<'_>, id: oid<'_>) -> Option<Position>
-    ensures { IfSome result (λ pos. (p : ℕ) → p < total graph.now
-        → slice_get (graph_ids graph.now) p ≡ Some (oid_bytes id.entry) → pos.0 ≡ p) }
+    ensures { IfSome result (λ pos. (p : ℕ) → p < total graph.now.layers
+        → slice_get (graph_ids graph.now.layers) p ≡ Some (oid_bytes id.entry) → pos.0 ≡ p) }
 {
     if graph.options().distinct_ids {
         graph.find(id)

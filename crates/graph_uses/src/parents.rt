@@ -17,9 +17,9 @@ pub fn parents_of(
     graph: &Checked<'_>,
     pos: Position,
 ) -> Result<Vec<Position>, AllocError>
-    requires { pos.0 < total graph.now }
+    requires { pos.0 < total graph.now.layers }
     ensures { IfOk result (λ parents.
-        map (λ parent. parent.0) parents.items ≡ parents_at (history_of graph.now) pos.0) }
+        map (λ parent. parent.0) parents.items ≡ parents_at (history_of graph.now.layers) pos.0) }
 {
     graph.parents(pos).collect(alloc)
 }

@@ -18,9 +18,10 @@ pub fn reaches(
     from: Position,
     to: Position,
 ) -> Result<bool, AllocError>
-    requires from { from.0 < total graph.now }
-    requires to { to.0 < total graph.now }
-    ensures { IfOk result (λ found. IsTrue found ↔ Reaches (history_of graph.now) from.0 to.0) }
+    requires from { from.0 < total graph.now.layers }
+    requires to { to.0 < total graph.now.layers }
+    ensures { IfOk result (λ found.
+        IsTrue found ↔ Reaches (history_of graph.now.layers) from.0 to.0) }
 {
     let reached = graph.ancestor_walk(alloc, from, to)?;
     Ok(reached.walk.is_some())

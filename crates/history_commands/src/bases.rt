@@ -98,8 +98,8 @@ fn prepare<T: Folder>(
         (folder.new ≡ folder.old)
         (MayOpen (T.tree folder.old) path.now (T.failure_count folder.old)
         (T.failure_count folder.new))
-        (Ok (prepared.0, prepared.1))) }
-    ensures within { IfOk result (λ prepared. AreBasesWithin prepared.0 prepared.1) }
+        (Ok (prepared.0.layers, prepared.1))) }
+    ensures within { IfOk result (λ prepared. AreBasesWithin prepared.0.layers prepared.1) }
     ensures block { IfOk result (λ prepared. prepared.2 ≡ []) }
     ensures refused { IfErr result (MayRefuseAll (first.now ∷ map string_bytes others.now)
         (folder.new ≡ folder.old)
@@ -127,7 +127,7 @@ fn ask_of_all<T: Folder>(
     ensures asked { IfOk result (λ asked. MayBeAskedOfAll (first.now ∷ map string_bytes others.now)
         (MayOpen (T.tree folder.old) path.now (T.failure_count folder.old)
         (T.failure_count folder.new))
-        asked.0 (asked.1 ∷ asked.2.items)) }
+        asked.0.layers (asked.1 ∷ asked.2.items)) }
     ensures refused { IfErr result (MayRefuseAll (first.now ∷ map string_bytes others.now)
         (folder.new ≡ folder.old)
         (MayOpen (T.tree folder.old) path.now (T.failure_count folder.old)
@@ -166,8 +166,9 @@ fn compare_in(
     first: oid<'_>,
     others: &[ObjectId],
 ) -> Result<Compared, Refusal>
-    ensures found { IfOk result (MayFindOfAll graph.now (oid_bytes first.entry ∷ others.now)) }
-    ensures within { IfOk result (AreBasesWithin graph.now) }
+    ensures found { IfOk result
+        (MayFindOfAll graph.now.layers (oid_bytes first.entry ∷ others.now)) }
+    ensures within { IfOk result (AreBasesWithin graph.now.layers) }
     ensures refused { IfErr result (λ refusal. refusal ≡ Refusal.Walk) }
 {
     let Some(first) = graph.find(first) else {
@@ -186,10 +187,11 @@ fn compare_in(
 /// The positions of the commits with these ids, in a graph that was checked.
 fn find_all(alloc: Global, graph: &Checked<'_>, ids: &[ObjectId]) -> Result<Vec<Position>, NotFound>
     ensures found { IfOk result (λ found.
-        AllZip (IsIdAt graph.now) ids.now (numbers_of found.items)) }
-    ensures within { IfOk result (λ found. All (λ pos. pos.0 < total graph.now) found.items) }
+        AllZip (IsIdAt graph.now.layers) ids.now (numbers_of found.items)) }
+    ensures within { IfOk result (λ found.
+        All (λ pos. pos.0 < total graph.now.layers) found.items) }
     ensures unknown { IfErr result (OnUnknown (λ place. (place < length ids.now)
-        × IsFirstUnknown graph.now ids.now place)) }
+        × IsFirstUnknown graph.now.layers ids.now place)) }
 {
     let mut found = Vec::new(alloc);
     let mut place = 0;
@@ -226,9 +228,9 @@ fn write_compared<W: Write>(
     compared: &Compared,
 ) -> Result<(), WriteFailed>
     requires empty { block.old ≡ [] }
-    requires within { AreBasesWithin graph.now compared.now }
+    requires within { AreBasesWithin graph.now.layers compared.now }
     ensures { OnOk result (Appends (W.contents writer.old) (W.contents writer.new)
-        (compared_text graph.now compared.now)) }
+        (compared_text graph.now.layers compared.now)) }
 {
     match compared {
         Compared::Unknown(number) => write_line(writer, format_args!("unknown {number}")),
@@ -244,9 +246,9 @@ fn write_comparison<W: Write>(
     comparison: &Comparison,
 ) -> Result<(), WriteFailed>
     requires empty { block.old ≡ [] }
-    requires within { AreBasesWithin graph.now (Compared.Known comparison.now) }
+    requires within { AreBasesWithin graph.now.layers (Compared.Known comparison.now) }
     ensures { OnOk result (Appends (W.contents writer.old) (W.contents writer.new)
-        (compared_text graph.now (Compared.Known comparison.now))) }
+        (compared_text graph.now.layers (Compared.Known comparison.now))) }
 {
     write_bases(block, writer, graph, &comparison.bases.positions)?;
     let Divergence { ahead, behind } = comparison.divergence;
@@ -263,9 +265,9 @@ fn write_bases<W: Write>(
     bases: &[Position],
 ) -> Result<(), WriteFailed>
     requires empty { block.old ≡ [] }
-    requires within { All (λ base. base.0 < total graph.now) bases.now }
+    requires within { All (λ base. base.0 < total graph.now.layers) bases.now }
     ensures { OnOk result (Appends (W.contents writer.old) (W.contents writer.new)
-        (bases_text graph.now bases.now)) }
+        (bases_text graph.now.layers bases.now)) }
 {
     if bases.is_empty() {
         return write_line(writer, "none");
@@ -283,9 +285,9 @@ fn push_base<W: Write>(
     graph: &Checked<'_>,
     base: Position,
 ) -> Result<(), WriteFailed>
-    requires { base.0 < total graph.now }
+    requires { base.0 < total graph.now.layers }
     ensures { OnOk result (Appends (with_block (W.contents writer.old) block.old)
-        (with_block (W.contents writer.new) block.new) (merge_base_line graph.now base)) }
+        (with_block (W.contents writer.new) block.new) (merge_base_line graph.now.layers base)) }
 {
     block.push_text(writer, "base ")?;
     block.push_decimal(writer, base.0 as u64)?;

@@ -208,9 +208,9 @@ fn check<T: Folder>(
 ) -> Result<(CheckedGraph, Option<u32>, Option<u32>), CheckRefusal>
     ensures opened { IfOk result (λ checked.
         MayOpen (T.tree folder.old) path.now (T.failure_count folder.old)
-        (T.failure_count folder.new) (Ok checked.0)) }
-    ensures dates { IfOk result (λ checked. AreDatesFound checked.0 checked.1) }
-    ensures filters { IfOk result (λ checked. AreFiltersFound checked.0 checked.2) }
+        (T.failure_count folder.new) (Ok checked.0.layers)) }
+    ensures dates { IfOk result (λ checked. AreDatesFound checked.0.layers checked.1) }
+    ensures filters { IfOk result (λ checked. AreFiltersFound checked.0.layers checked.2) }
     ensures refused { IfErr result (MayRefuseToCheck
         (MayOpen (T.tree folder.old) path.now (T.failure_count folder.old)
         (T.failure_count folder.new))) }
@@ -230,7 +230,7 @@ fn open_checked<T: Folder>(
 ) -> Result<CheckedGraph, Refusal>
     ensures opened { IfOk result (λ graph.
         MayOpen (T.tree folder.old) path.now (T.failure_count folder.old)
-        (T.failure_count folder.new) (Ok graph)) }
+        (T.failure_count folder.new) (Ok graph.layers)) }
     ensures refused { IfErr result (MayRefuseToStart
         (MayOpen (T.tree folder.old) path.now (T.failure_count folder.old)
         (T.failure_count folder.new))) }

@@ -42,7 +42,7 @@ pub(crate) fn ask<T: Folder>(
     ensures asked { IfOk result (λ question. MayBeAsked first.now second.now
         (MayOpen (T.tree folder.old) path.now (T.failure_count folder.old)
         (T.failure_count folder.new))
-        question.graph question.first question.second) }
+        question.graph.layers question.first question.second) }
     ensures refused { IfErr result (MayBeRefused first.now second.now (folder.new ≡ folder.old)
         (MayOpen (T.tree folder.old) path.now (T.failure_count folder.old)
         (T.failure_count folder.new))) }

@@ -80,7 +80,7 @@ fn told_in(
     second: oid<'_>,
 ) -> Result<Answer<bool>, Refusal>
     ensures found { IfOk result (MayFindBoth IsTold
-        graph.now (oid_bytes first.entry) (oid_bytes second.entry)) }
+        graph.now.layers (oid_bytes first.entry) (oid_bytes second.entry)) }
     ensures refused { IfErr result (λ refusal. refusal ≡ Refusal.Walk) }
 {
     let Some(first) = graph.find(first) else {

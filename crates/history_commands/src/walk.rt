@@ -74,8 +74,8 @@ fn prepare<T: Folder>(
         (folder.new ≡ folder.old)
         (MayOpen (T.tree folder.old) path.now (T.failure_count folder.old)
         (T.failure_count folder.new))
-        (Ok (with_ids prepared.0.graph prepared.1))) }
-    ensures within { IfOk result (λ prepared. AreInGraph prepared.0.graph prepared.1) }
+        (Ok (with_ids prepared.0.graph.layers prepared.1))) }
+    ensures within { IfOk result (λ prepared. AreInGraph prepared.0.graph.layers prepared.1) }
     ensures block { IfOk result (λ prepared. prepared.2 ≡ []) }
     ensures refused { IfErr result (MayBeRefused first.now second.now (folder.new ≡ folder.old)
         (MayOpen (T.tree folder.old) path.now (T.failure_count folder.old)
@@ -100,10 +100,11 @@ fn walk_in(
     first: oid<'_>,
     second: oid<'_>,
 ) -> Result<Found, Refusal>
-    requires { IsGraph graph.now }
+    requires { IsGraph graph.now.layers }
     ensures found { IfOk result (λ found. MayFindBoth IsWalkOfIds
-        graph.now (oid_bytes first.entry) (oid_bytes second.entry) (with_ids graph.now found)) }
-    ensures within { IfOk result (AreInGraph graph.now) }
+        graph.now.layers (oid_bytes first.entry) (oid_bytes second.entry)
+        (with_ids graph.now.layers found)) }
+    ensures within { IfOk result (AreInGraph graph.now.layers) }
     ensures refused { IfErr result (λ refusal. refusal ≡ Refusal.Walk) }
 {
     let Some(first) = graph.find(first) else {
@@ -138,9 +139,9 @@ fn write_found<W: Write>(
     found: &Found,
 ) -> Result<(), WriteFailed>
     requires empty { block.old ≡ [] }
-    requires within { AreInGraph graph.now found.now }
+    requires within { AreInGraph graph.now.layers found.now }
     ensures { OnOk result (Appends (W.contents writer.old) (W.contents writer.new)
-        (walk_found_text (with_ids graph.now found.now))) }
+        (walk_found_text (with_ids graph.now.layers found.now))) }
 {
     match found {
         Answer::FirstUnknown => write_line(writer, "unknown 1"),
@@ -157,9 +158,9 @@ fn write_reached<W: Write>(
     reached: &Option<Vec<Position>>,
 ) -> Result<(), WriteFailed>
     requires empty { block.old ≡ [] }
-    requires within { AreInGraph graph.now (Answer.Known reached.now) }
+    requires within { AreInGraph graph.now.layers (Answer.Known reached.now) }
     ensures { OnOk result (Appends (W.contents writer.old) (W.contents writer.new)
-        (walk_found_text (with_ids graph.now (Answer.Known reached.now)))) }
+        (walk_found_text (with_ids graph.now.layers (Answer.Known reached.now)))) }
 {
     match reached {
         Some(walk) => write_ids(block, writer, graph, walk),
@@ -175,9 +176,9 @@ fn write_ids<W: Write>(
     walk: &[Position],
 ) -> Result<(), WriteFailed>
     requires empty { block.old ≡ [] }
-    requires within { All (λ pos. pos.0 < total graph.now) walk.now }
+    requires within { All (λ pos. pos.0 < total graph.now.layers) walk.now }
     ensures { OnOk result (Appends (W.contents writer.old) (W.contents writer.new)
-        (flat_map (λ pos. id_line (id_in graph.now pos.0)) walk.now)) }
+        (flat_map (λ pos. id_line (id_in graph.now.layers pos.0)) walk.now)) }
 {
     for pos in walk {
         block.push_id(writer, graph.id(*pos))?;

@@ -9,12 +9,12 @@ use Rattle.commitgraph_c.proofs.bases.cg_merge_bases.Goals as goal
 pub returns-in-Ok-compare-clause-answer : goal.returns-in-Ok-compare-clause-answer
 returns-in-Ok-compare-clause-answer c =
     let held : c.args.graph.address.held ≡ Some c.in-Some.opened.now = c.in-Some.ensures in
-    let layers : c.in-Some-as_checked.checked ≡ c.in-Some.opened.now.0 = c.in-Some-as_checked.ensures.graph in
+    let layers : c.in-Some-as_checked.checked.layers ≡ c.in-Some.opened.now.0 = c.in-Some-as_checked.ensures.graph in
     let first : c.in-Some-position.first.0 ≡ c.args.first = c.in-Some-position.ensures.some.0 in
     let others : numbers_of c.deref.result.now ≡ c.args.others.now =
     ap numbers_of c.deref.ensures.value ∙ c.in-Ok.ensures.exact in
     let told = c.in-Ok-compare.ensures in
-    let is : IsComparisonOf c.in-Some-as_checked.checked c.in-Some-position.first.0 (numbers_of c.deref.result.now)
+    let is : IsComparisonOf c.in-Some-as_checked.checked.layers c.in-Some-position.first.0 (numbers_of c.deref.result.now)
     c.in-Ok-compare.comparison =
     record { bases = told.bases; within = told.within; visits = told.visits; ahead = told.ahead; behind = told.behind } in
     λ zero. rw held (record {
@@ -26,9 +26,9 @@ returns-in-Ok-compare-clause-answer c =
 pub returns-in-Ok-compare-clause-within : goal.returns-in-Ok-compare-clause-within
 returns-in-Ok-compare-clause-within c =
     let held : c.args.graph.address.held ≡ Some c.in-Some.opened.now = c.in-Some.ensures in
-    let layers : c.in-Some-as_checked.checked ≡ c.in-Some.opened.now.0 = c.in-Some-as_checked.ensures.graph in
+    let layers : c.in-Some-as_checked.checked.layers ≡ c.in-Some.opened.now.0 = c.in-Some-as_checked.ensures.graph in
     let first : c.in-Some-position.first.0 ≡ c.args.first = c.in-Some-position.ensures.some.0 in
-    let limit = total c.in-Some-as_checked.checked in
+    let limit = total c.in-Some-as_checked.checked.layers in
     let others : All (λ other. other < limit) c.args.others.now =
     subst (λ ns. All (λ other. other < limit) ns) c.in-Ok.ensures.exact
     (All-map (λ other. other < limit) (λ (pos : Position). pos.0) c.in-Ok.others.items c.in-Ok.ensures.within) in

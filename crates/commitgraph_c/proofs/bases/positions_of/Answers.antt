@@ -13,7 +13,7 @@ pub returns-in_default-clause-refused : goal.returns-in_default-clause-refused
 returns-in_default-clause-refused c =
     inr (
       refl,
-      some_at (λ number. total c.args.graph.now ≤ number) c.args.numbers.now c.loop-number.number-index
+      some_at (λ number. total c.args.graph.now.layers ≤ number) c.args.numbers.now c.loop-number.number-index
           c.loop-number-test.true c.in_default.ensures.none,
     )
 
@@ -24,7 +24,7 @@ loop-number-preserved c =
     rw (c.push.ensures.items, c.if-is_err.ensures.negation) (record {
       exact = next_found found c.in-Some.pos c.args.numbers.now c.loop-number.number-index before.exact
           c.in-Some.ensures.some.0 c.loop-number-test.true;
-      within = All-push (λ (p : Position). p.0 < total c.args.graph.now) found c.in-Some.pos before.within
+      within = All-push (λ (p : Position). p.0 < total c.args.graph.now.layers) found c.in-Some.pos before.within
           c.in-Some.ensures.some.1;
     })
 

@@ -8,5 +8,5 @@ use Rattle.commitgraph_c.proofs.bases.positions_of.Given as goal
 abbrev pub invariant-loop-number : goal.invariant-loop-number
 invariant-loop-number l = record {
   exact : numbers_of l.found.items ≡ take l.number-index l.numbers;
-  within : All (λ (pos : Position). pos.0 < total l.graph) l.found.items;
+  within : All (λ (pos : Position). pos.0 < total l.graph.layers) l.found.items;
 }

@@ -13,6 +13,6 @@ loop-place-preserved c =
     record {
       graph = c.in-Ok.ensures.graph ∙ c.loop-place.invariant.graph;
       answers =
-          next_answered (AnswersPair c.args.graph.now) pairs c.args.out.now c.loop-place.out place _ c.in-Ok.answer lt read
+          next_answered (AnswersPair c.args.graph.now.layers) pairs c.args.out.now c.loop-place.out place _ c.in-Ok.answer lt read
           (omega arith) (rw c.loop-place.invariant.graph at c.in-Ok.ensures.answer) c.loop-place.invariant.answers;
     }

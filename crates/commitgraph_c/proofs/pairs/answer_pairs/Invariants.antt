@@ -5,6 +5,6 @@ use Rattle.commitgraph_c.proofs.pairs.answer_pairs.Given as goal
 
 abbrev pub invariant-loop-place : goal.invariant-loop-place
 invariant-loop-place l = record {
-  graph : l.searcher ≡ l.graph;
-  answers : AnswersFirst (AnswersPair l.graph) l.pairs l.place l.initial.out l.out;
+  graph : l.searcher ≡ l.graph.layers;
+  answers : AnswersFirst (AnswersPair l.graph.layers) l.pairs l.place l.initial.out l.out;
 }

@@ -6,7 +6,7 @@ use Rattle.graph_history.proofs.bases.compared.Goals as goal
 
 pub returns-clause-exact : goal.returns-clause-exact
 returns-clause-exact c =
-    let layers = c.args.graph.now in
+    let layers = c.args.graph.now.layers in
     let h = history_of layers in
     let a = c.args.first.0 in
     let bs = numbers_of c.args.others.now in

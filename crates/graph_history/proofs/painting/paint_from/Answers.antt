@@ -16,15 +16,15 @@ pub add-requires-clause-so : goal.add-requires-clause-so
 add-requires-clause-so c =
     let p = c.new-painting.ensures in
     let commits = rw p.graph at p.painting.commits in
-    let within : c.args.first.0 < length (history_of c.args.graph.now) = omega (arith, commits, c.requires.first) in
+    let within : c.args.first.0 < length (history_of c.args.graph.now.layers) = omega (arith, commits, c.requires.first) in
     rw (p.graph, p.first)
-    (so_first (history_of c.args.graph.now) c.args.first.0 (numbers_of c.new-painting.result.others.now) within)
+    (so_first (history_of c.args.graph.now.layers) c.args.first.0 (numbers_of c.new-painting.result.others.now) within)
 
 pub loop-other-init : goal.loop-other-init
 loop-other-init c =
     let p = c.new-painting.ensures in
     let s = c.new-painting.result in
-    let h = history_of c.args.graph.now in
+    let h = history_of c.args.graph.now.layers in
     let commits = rw p.graph at p.painting.commits in
     let sound = rw p.graph at p.painting.sound in
     let within : c.args.first.0 < length h = omega (arith, commits, c.requires.first) in
@@ -50,7 +50,7 @@ pub add-requires-in-loop-other-clause-so : goal.add-requires-in-loop-other-claus
 add-requires-in-loop-other-clause-so c =
     let l = c.loop-other in
     let i = l.invariant in
-    let h = history_of c.args.graph.now in
+    let h = history_of c.args.graph.now.layers in
     let commits = rw i.graph at i.painting.commits in
     let below = c.requires.others l.other-index (record { 0 = 0 }) c.loop-other-test.true in
     let other = get_or c.args.others.now l.other-index (record { 0 = 0 }) in
@@ -63,7 +63,7 @@ pub loop-other-preserved : goal.loop-other-preserved
 loop-other-preserved c =
     let l = c.loop-other in
     let i = l.invariant in
-    let h = history_of c.args.graph.now in
+    let h = history_of c.args.graph.now.layers in
     let commits = rw i.graph at i.painting.commits in
     let below = c.requires.others l.other-index (record { 0 = 0 }) c.loop-other-test.true in
     let other = get_or c.args.others.now l.other-index (record { 0 = 0 }) in
@@ -92,7 +92,7 @@ run-requires-clause-spread c =
     let l = c.loop-other in
     let i = l.invariant in
     rw (i.graph, i.first, i.others)
-    (begun_all (history_of c.args.graph.now) c.args.first.0 (numbers_of c.args.others.now) l.other-index
+    (begun_all (history_of c.args.graph.now.layers) c.args.first.0 (numbers_of c.args.others.now) l.other-index
     l.painting.coats.all.items i.begun
     (omega (arith, c.loop-other-test.false, c.loop-other.auto, length-map c.args.others.now (λ (p : Position). p.0))))
 
@@ -103,7 +103,7 @@ run-requires-clause-level c =
 
 pub returns-clause-painted : goal.returns-clause-painted
 returns-clause-painted c =
-    let h = history_of c.args.graph.now in
+    let h = history_of c.args.graph.now.layers in
     let i = c.loop-other.invariant in
     let e = c.in_ok-run.ensures in
     let sound = rw i.graph at i.painting.sound in
@@ -116,7 +116,7 @@ pub add-requires-in-loop-other-clause-waits : goal.add-requires-in-loop-other-cl
 add-requires-in-loop-other-clause-waits c =
     let l = c.loop-other in
     let i = l.invariant in
-    let h = history_of c.args.graph.now in
+    let h = history_of c.args.graph.now.layers in
     let other = get_or c.args.others.now l.other-index (record { 0 = 0 }) in
     rw (i.graph, i.first, i.others)
     (λ below painted.
@@ -125,7 +125,7 @@ add-requires-in-loop-other-clause-waits c =
 
 pub returns-clause-visits : goal.returns-clause-visits
 returns-clause-visits c =
-    let h = history_of c.args.graph.now in
+    let h = history_of c.args.graph.now.layers in
     let a = c.args.first.0 in
     let bs = numbers_of c.args.others.now in
     let coats = c.run.new.self.coats.all.items in

@@ -14,6 +14,6 @@ invariant-loop-other l = record {
   others : l.painting.others.now ≡ l.fn.others;
   painting : IsPainting l.painting;
   lists : ArePassed l.painting;
-  begun : IsBegun (history_of l.fn.graph) l.fn.first.0 (numbers_of l.fn.others) l.other-index l.painting.coats.all.items;
-  level : IsLevel (history_of l.fn.graph) l.painting.coats.all.items (heap_items l.painting.queue) GENERATION_NUMBER_MAX;
+  begun : IsBegun (history_of l.fn.graph.layers) l.fn.first.0 (numbers_of l.fn.others) l.other-index l.painting.coats.all.items;
+  level : IsLevel (history_of l.fn.graph.layers) l.painting.coats.all.items (heap_items l.painting.queue) GENERATION_NUMBER_MAX;
 }

@@ -7,5 +7,5 @@ pub returns-in-Err-Unknown-clause-found : goal.returns-in-Err-Unknown-clause-fou
 returns-in-Err-Unknown-clause-found c =
     let unknown = rw c.in-Err-Unknown.field-0-is at c.in-Err-Unknown.ensures.unknown in
     rw c.in-Err-Unknown.place-is
-    (unknown_later c.args.graph.now (oid_bytes c.args.first) c.args.others.now c.in-Some.first.0 c.in-Err-Unknown.place
+    (unknown_later c.args.graph.now.layers (oid_bytes c.args.first) c.args.others.now c.in-Some.first.0 c.in-Err-Unknown.place
     (sym c.in-Some.ensures.scanned) unknown.1)

@@ -13,12 +13,12 @@ returns-in_default-clause-unknown c =
     slice_get_read ids (length ids) at c.id-item.result refl (omega arith) c.id-item.is in
     let none = rw c.as_oid.ensures at c.in_default.ensures.scanned in
     rw c.loop-id.invariant.place
-    (first_unknown c.args.graph.now ids (numbers_of c.loop-id.found.items) at c.id-item.result c.loop-id.invariant.found here
-    (sym none))
+    (first_unknown c.args.graph.now.layers ids (numbers_of c.loop-id.found.items) at c.id-item.result c.loop-id.invariant.found
+    here (sym none))
 
 pub loop-id-preserved : goal.loop-id-preserved
 loop-id-preserved c =
-    let layers = c.args.graph.now in
+    let layers = c.args.graph.now.layers in
     let ids = c.args.ids.now in
     let at = c.loop-id.id-index in
     let here : slice_get ids at ≡ Some c.id-item.result =

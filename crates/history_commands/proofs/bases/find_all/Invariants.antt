@@ -10,6 +10,6 @@ use Rattle.history_commands.proofs.bases.find_all.Given as goal
 abbrev pub invariant-loop-id : goal.invariant-loop-id
 invariant-loop-id l = record {
   place : l.place ≡ l.id-index;
-  found : AllZip (IsIdAt l.graph) (take l.id-index l.ids) (numbers_of l.found.items);
-  within : All (λ (pos : Position). pos.0 < total l.graph) l.found.items;
+  found : AllZip (IsIdAt l.graph.layers) (take l.id-index l.ids) (numbers_of l.found.items);
+  within : All (λ (pos : Position). pos.0 < total l.graph.layers) l.found.items;
 }

@@ -7,7 +7,7 @@ pub returns-in_err-compared-clause-refused : goal.returns-in_err-compared-clause
 returns-in_err-compared-clause-refused g c =
     let answered = err_from_is_err_and c.from_residual-in_err-compared.result c.from_residual-in_err-compared.ensures.1 in
     rw (answered.1, answered.2, c.in_err-compared.ensures.refused)
-    (inr (c.in_ok-graph.first ∷ c.in_ok-graph.others.items, c.in_ok-graph.graph, c.in_ok-graph.ensures.asked))
+    (inr (c.in_ok-graph.first ∷ c.in_ok-graph.others.items, c.in_ok-graph.graph.layers, c.in_ok-graph.ensures.asked))
 
 pub returns-in-Ok-clause-found : goal.returns-in-Ok-clause-found
 returns-in-Ok-clause-found g c =
@@ -16,4 +16,4 @@ returns-in-Ok-clause-found g c =
 
 pub returns-in-Err-clause-refused : goal.returns-in-Err-clause-refused
 returns-in-Err-clause-refused g c =
-    inr (c.in_ok-graph.first ∷ c.in_ok-graph.others.items, c.in_ok-graph.graph, c.in_ok-graph.ensures.asked)
+    inr (c.in_ok-graph.first ∷ c.in_ok-graph.others.items, c.in_ok-graph.graph.layers, c.in_ok-graph.ensures.asked)

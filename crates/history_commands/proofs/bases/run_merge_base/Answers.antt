@@ -5,7 +5,7 @@ use Rattle.history_commands.proofs.bases.run_merge_base.Goals as goal
 
 pub returns-in_ok-write_compared-in-Ok-clause-written : goal.returns-in_ok-write_compared-in-Ok-clause-written
 returns-in_ok-write_compared-in-Ok-clause-written g c = (
-  Ok (c.in-Ok.graph, c.in-Ok.compared),
+  Ok (c.in-Ok.graph.layers, c.in-Ok.compared),
   c.in-Ok.ensures.found,
   rw c.as_checked.ensures.same at c.in_ok-write_compared-in-Ok.ensures,
   c.status.ensures,

@@ -9,4 +9,4 @@ use Rattle.history_commands.proofs.bases.write_bases.Given as goal
 abbrev pub invariant-loop-base : goal.invariant-loop-base
 invariant-loop-base g l =
     Appends (with_block (g.W.Write.contents l.fn.writer) l.fn.block) (with_block (g.W.Write.contents l.writer) l.block)
-    (flat_map (merge_base_line l.graph) (take l.base-index l.bases))
+    (flat_map (merge_base_line l.graph.layers) (take l.base-index l.bases))

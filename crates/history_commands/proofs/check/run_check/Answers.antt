@@ -7,12 +7,12 @@ use Rattle.history_commands.proofs.check.run_check.Goals as goal
 
 pub returns-in_ok-write_findings-in-Ok-clause-written : goal.returns-in_ok-write_findings-in-Ok-clause-written
 returns-in_ok-write_findings-in-Ok-clause-written g c =
-    let layers = c.in-Ok.graph in
+    let layers = c.in-Ok.graph.layers in
     let outcome = c.outcome-in-Ok.result.now in
     let statistics : Stats layers outcome = rw c.as_checked.ensures.same at c.outcome-in-Ok.ensures in
     let findings : Findings = record { outcome = outcome; dates = c.in-Ok.dates; filters = c.in-Ok.filters } in
     let are : AreFindings layers findings = record {
-      right = c.as_checked.ensures.right;
+      right = c.as_checked.ensures.right.sound;
       statistics = statistics;
       ascending = c.in_ok-write_findings-in-Ok.ensures.ascending;
       dates = c.in-Ok.ensures.dates;

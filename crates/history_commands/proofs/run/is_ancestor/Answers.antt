@@ -12,4 +12,4 @@ returns-clause-may g c =
     answers IsTold c.args.first.now c.args.second.now q.first q.second (c.ask.new.folder ≡ c.args.folder.now)
     (MayOpen (g.T.Folder.tree c.args.folder.now) c.args.path.now (g.T.Folder.failure_count c.args.folder.now)
     (g.T.Folder.failure_count c.ask.new.folder))
-    q.graph c.told_in-2.result c.in_ok-question.ensures.asked found c.told_in-2.ensures.refused
+    q.graph.layers c.told_in-2.result c.in_ok-question.ensures.asked found c.told_in-2.ensures.refused

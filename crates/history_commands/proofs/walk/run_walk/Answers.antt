@@ -7,7 +7,7 @@ use Rattle.history_commands.proofs.walk.run_walk.Goals as goal
 
 pub returns-in_ok-write_found-in-Ok-clause-written : goal.returns-in_ok-write_found-in-Ok-clause-written
 returns-in_ok-write_found-in-Ok-clause-written g c =
-    let layers = c.in-Ok.question.graph in (
+    let layers = c.in-Ok.question.graph.layers in (
       Ok (with_ids layers c.in-Ok.found),
       c.in-Ok.ensures.found,
       rw c.as_checked.ensures.same at c.in_ok-write_found-in-Ok.ensures,

@@ -10,4 +10,4 @@ use Rattle.history_commands.proofs.walk.write_ids.Given as goal
 abbrev pub invariant-loop-pos : goal.invariant-loop-pos
 invariant-loop-pos g l =
     Appends (with_block (g.W.Write.contents l.fn.writer) l.fn.block) (with_block (g.W.Write.contents l.writer) l.block)
-    (flat_map (λ (pos : Position). id_line (id_in l.graph pos.0)) (take l.pos-index l.walk))
+    (flat_map (λ (pos : Position). id_line (id_in l.graph.layers pos.0)) (take l.pos-index l.walk))

@@ -11,7 +11,7 @@ use Rattle.history_commands.proofs.walk.write_reached.Goals as goal
 pub returns-in-Some : goal.returns-in-Some
 returns-in-Some g c =
     let found = ap (λ (w : Option (Vec Position Global)). Known w) c.in-Some.is in
-    let text = ids_text c.args.graph.now (Known c.args.reached.now) c.in-Some.walk found in
+    let text = ids_text c.args.graph.now.layers (Known c.args.reached.now) c.in-Some.walk found in
     subst
     (λ (written : List ℕ). OnOk c.write_ids.result
     (Appends (g.W.Write.contents c.args.writer.now) (g.W.Write.contents c.write_ids.new.writer) written))

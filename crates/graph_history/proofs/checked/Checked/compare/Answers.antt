@@ -8,7 +8,7 @@ use Rattle.graph_history.proofs.checked.Checked.compare.Goals as goal
 
 pub returns-clause-visits : goal.returns-clause-visits
 returns-clause-visits c =
-    let layers = c.args.self.now in
+    let layers = c.args.self.now.layers in
     let h = history_of layers in
     let a = c.args.first.0 in
     let bs = numbers_of c.args.others.now in

@@ -3,7 +3,8 @@ use Rattle.std.proofs.Math.Seq.{take-append_seam}
 use Rattle.std.proofs.lemmas.List.{length_push}
 use Rattle.gix_commitgraph.specs.Distinct.{IsSoundWith}
 use Rattle.gix_commitgraph.specs.Verify.{points_from}
-use Rattle.graph_history.specs.Checked.{MayRefusePush, MayRefuseWith}
+use Rattle.graph_history.specs.Checked.{MayRefuseLayers, MayRefuseWith}
+use Rattle.graph_history.specs.RightGraph.{CheckedLayers}
 use Rattle.graph_history.specs.declared.owned.PushError.TheVariants as push
 use Rattle.graph_history.proofs.PushLemmas.{popped, refused_as_whole}
 use Rattle.graph_history.proofs.owned.CheckedGraph.push.Goals.{Joined-pop}
@@ -19,10 +20,10 @@ pub invariant_of-self-in-Err-checked : goal.invariant_of-self-in-Err-checked
 invariant_of-self-in-Err-checked c = rw (left_over c) c.self.invariant
 
 pub returns-in-Err-checked-clause-kept : goal.returns-in-Err-checked-clause-kept
-returns-in-Err-checked-clause-kept c = left_over c ∙ c.self.view_is
+returns-in-Err-checked-clause-kept c = left_over c ∙ ap (λ (v : CheckedLayers). v.layers) c.self.view_is
 
 pub returns-in-Err-checked-clause-right : goal.returns-in-Err-checked-clause-right
-returns-in-Err-checked-clause-right c = rw (left_over c) c.self.invariant.sound.sound
+returns-in-Err-checked-clause-right c = rw (left_over c) c.self.invariant.sound
 
 pub returns-in-Err-checked-clause-refusal : goal.returns-in-Err-checked-clause-refusal
 returns-in-Err-checked-clause-refusal c =
@@ -40,9 +41,6 @@ returns-in-Err-checked-clause-refusal c =
     refused_as_whole _ options layers (points_from options layers (length below)) whole _ _
     (λ h k p e called. search rules) c.in-Err-checked.error (rw c.layers-layer.ensures.same at c.in-Err-checked.ensures.agrees)
     c.in-Err-checked.ensures.sound in
-    let refusal : MayRefusePush below (below ++ c.args.file ∷ []) (push.Check c.in-Err-checked.error) = record {
-      options = options;
-      right = c.self.invariant.sound;
-      refused = (c.in_default.ensures.refusal, rw c.in_default.ensures.pushed at refused);
-    } in
-    rw c.self.view_is at refusal
+    let refusal : MayRefuseLayers options (below ++ c.args.file ∷ []) (push.Check c.in-Err-checked.error) =
+    (c.in_default.ensures.refusal, rw c.in_default.ensures.pushed at refused) in
+    rw (sym c.self.view_is) refusal

@@ -20,7 +20,7 @@ pub returns : goal.returns
 returns c =
     let s = c.args.self.now in
     let r = c.requires in
-    let h = history_of s.graph.now in
+    let h = history_of s.graph.now.layers in
     let x = c.args.paint in
     let p = c.args.commit.0 in
     let new = coat_with c.join-paint.result true in

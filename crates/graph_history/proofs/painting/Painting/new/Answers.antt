@@ -10,14 +10,14 @@ use Rattle.graph_history.proofs.painting.Painting.new.Goals as goal
 
 pub returns-clause-painting : goal.returns-clause-painting
 returns-clause-painting c =
-    let h = history_of c.args.graph.now in
+    let h = history_of c.args.graph.now.layers in
     let a = c.args.first.0 in
     let bs = numbers_of c.args.others.now in
     let coats = c.args.coats.all.items in
     let e = c.requires.idle in
     let made = c.num_commits-commits.ensures.graph in
-    let commits : total c.args.graph.now ≡ length h =
-    sym (c.the_history_of_a_graph_is_that_of_its_layers.ensures.counted c.args.graph.now made.opened) in
+    let commits : total c.args.graph.now.layers ≡ length h =
+    sym (c.the_history_of_a_graph_is_that_of_its_layers.ensures.counted c.args.graph.now.layers made.opened) in
     record {
       graph = made;
       sound = c.num_commits-commits.ensures.right;

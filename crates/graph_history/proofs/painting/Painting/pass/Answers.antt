@@ -18,13 +18,13 @@ pub add-requires-clause-so : goal.add-requires-clause-so
 add-requires-clause-so c =
     let s = c.args.self.now in
     rw c.passed.ensures
-    (so_passed (history_of s.graph.now) s.first.0 (numbers_of s.others.now) c.args.commit.0 c.args.parent.0 c.args.paint
+    (so_passed (history_of s.graph.now.layers) s.first.0 (numbers_of s.others.now) c.args.commit.0 c.args.parent.0 c.args.paint
     c.requires.passes.so c.requires.parent)
 
 pub add-requires-clause-waits : goal.add-requires-clause-waits
 add-requires-clause-waits c = λ below painted.
     let s = c.args.self.now in
-    let h = history_of s.graph.now in
+    let h = history_of s.graph.now.layers in
     let r = c.requires.passes in
     let p = c.args.commit.0 in
     let q = c.args.parent.0 in
@@ -51,7 +51,7 @@ add-requires-clause-edge c =
 pub returns-clause-passes : goal.returns-clause-passes
 returns-clause-passes c =
     let s = c.args.self.now in
-    let h = history_of s.graph.now in
+    let h = history_of s.graph.now.layers in
     let r = c.requires.passes in
     let p = c.args.commit.0 in
     let q = c.args.parent.0 in

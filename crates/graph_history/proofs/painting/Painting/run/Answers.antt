@@ -1,13 +1,13 @@
-use Rattle.std.proofs.Common.{◌≡◌, ◌+◌, ◌≤◌, ℕ, count_by, ◌<◌, List, false, length, refl, sym, ap, ◌∙◌, subst, lt_of_le_of_lt}
+use Rattle.std.proofs.Common.{◌≡◌, ◌+◌, ◌≤◌, ℕ, count_by, ◌<◌, false, length, refl, sym, ap, ◌∙◌, subst, lt_of_le_of_lt}
 use Rattle.std.proofs.Common.{heap_items, arith}
 use Rattle.std.proofs.lemmas.List.{length-set}
 use Rattle.std.proofs.lemmas.List.Sums.{count_by-le-length}
 use Rattle.graph_walks.specs.declared.TheConstants.{GENERATION_NUMBER_MAX}
-use Rattle.graph_format.specs.Layer.{Layer}
 use Rattle.graph_format.specs.StoredHistory.{history_of}
 use Rattle.graph_ancestors.specs.WalkAnswer.{numbers_of}
 use Rattle.graph_history.specs.declared.paint.Coat.{Coat}
 use Rattle.graph_history.specs.Painting.{IsSpread, IsLevel, IsDone}
+use Rattle.graph_history.specs.RightGraph.{CheckedLayers}
 use Rattle.graph_walks.specs.History.{generation_at}
 use Rattle.graph_walks.specs.Walks.{Reaches}
 use Rattle.graph_history.specs.Paint.{is_painted, is_fresh, is_visited, paint_at, Grows}
@@ -24,7 +24,7 @@ pub at-paint-requires : goal.at-paint-requires
 at-paint-requires c =
     let l = c.loop-next in
     let s = l.self in
-    let h = history_of s.graph.now in
+    let h = history_of s.graph.now.layers in
     let a = s.first.0 in
     let bs = numbers_of s.others.now in
     let coats = s.coats.all.items in
@@ -41,7 +41,7 @@ pub set-requires-clause-within : goal.set-requires-clause-within
 set-requires-clause-within c =
     let l = c.loop-next in
     let s = l.self in
-    let h = history_of s.graph.now in
+    let h = history_of s.graph.now.layers in
     let a = s.first.0 in
     let bs = numbers_of s.others.now in
     let coats = s.coats.all.items in
@@ -58,7 +58,7 @@ pub visit-requires : goal.visit-requires
 visit-requires c =
     let l = c.loop-next in
     let s = l.self in
-    let h = history_of s.graph.now in
+    let h = history_of s.graph.now.layers in
     let a = s.first.0 in
     let bs = numbers_of s.others.now in
     let coats = s.coats.all.items in
@@ -138,7 +138,7 @@ pub loop-next-smaller : goal.loop-next-smaller
 loop-next-smaller c =
     let l = c.loop-next in
     let s = l.self in
-    let h = history_of s.graph.now in
+    let h = history_of s.graph.now.layers in
     let a = s.first.0 in
     let bs = numbers_of s.others.now in
     let coats = s.coats.all.items in
@@ -161,7 +161,7 @@ pub returns-then-is_below_cap-clause-done : goal.returns-then-is_below_cap-claus
 returns-then-is_below_cap-clause-done c =
     let l = c.loop-next in
     let s = l.self in
-    let h = history_of s.graph.now in
+    let h = history_of s.graph.now.layers in
     let a = s.first.0 in
     let bs = numbers_of s.others.now in
     let coats = s.coats.all.items in
@@ -173,7 +173,7 @@ returns-then-is_below_cap-clause-done c =
     let stale =
     none_fresh h coats (heap_items s.queue) i.painting.waiting i.painting.paint.coats_len
     (sym i.painting.counted.fresh ∙ c.if-self-eq0.true) in
-    subst (λ (layers : List Layer). IsDone (history_of layers) coats) i.graph
+    subst (λ (graph : CheckedLayers). IsDone (history_of graph.layers) coats) i.graph
     (stops h a bs coats (heap_items s.queue) (heap_items c.pop.new.self) c.in-Some.next i.painting.paint spread i.painting.waiting
     i.level.0 level c.in-Some.ensures.permutation greatest stale
     below)

@@ -11,8 +11,9 @@ invariant-loop-next l = record {
   others : l.self.others.now ≡ l.fn.self.others.now;
   painting : IsPainting l.self;
   lists : ArePassed l.self;
-  spread : IsSpread (history_of l.fn.self.graph.now) l.fn.self.first.0 (numbers_of l.fn.self.others.now) l.self.coats.all.items;
-  level : (level : ℕ) × IsLevel (history_of l.fn.self.graph.now) l.self.coats.all.items (heap_items l.self.queue) level;
+  spread : IsSpread (history_of l.fn.self.graph.now.layers) l.fn.self.first.0 (numbers_of l.fn.self.others.now)
+      l.self.coats.all.items;
+  level : (level : ℕ) × IsLevel (history_of l.fn.self.graph.now.layers) l.self.coats.all.items (heap_items l.self.queue) level;
 }
 
 abbrev pub decreases-loop-next : goal.decreases-loop-next

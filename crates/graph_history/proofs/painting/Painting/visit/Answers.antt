@@ -15,6 +15,6 @@ returns-clause-spread c =
     let others = c.visit_field-2.ensures.others ∙ c.visit_field.ensures.others in
     let all = rw c.graph.ensures.same at c.parent_fields_of-first.ensures.named.all in
     let named = rw c.visit_field.ensures.graph at two.named in
-    spread_ends (history_of s.graph.now) s.first.0 (numbers_of s.others.now) c.args.commit.0 c.args.paint
+    spread_ends (history_of s.graph.now.layers) s.first.0 (numbers_of s.others.now) c.args.commit.0 c.args.paint
     c.visit_field-2.new.self.coats.all.items (rw (graph, first, others) at two.passes.spread) two.passes.same
     (λ q parent. ⊎_elim (λ x. grows_trans _ _ _ (one.named q x) (two.on.grows q)) (λ y. named q y) (all q parent))

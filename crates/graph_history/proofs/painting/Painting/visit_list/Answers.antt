@@ -17,8 +17,9 @@ pub loop-words-init : goal.loop-words-init
 loop-words-init c =
     let s = c.args.self.now in
     let r = c.requires in
-    let same : (i : ℕ) → IsPassed s.coats.all.items (list_in s.graph.now i) (trail_in c.grow_to.new.self.layers.items i) = λ i.
-    passed_same s.coats.all.items (list_in s.graph.now i) (trail_in s.coats.trails.layers.items i)
+    let same : (i : ℕ)
+    → IsPassed s.coats.all.items (list_in s.graph.now.layers i) (trail_in c.grow_to.new.self.layers.items i) = λ i.
+    passed_same s.coats.all.items (list_in s.graph.now.layers i) (trail_in s.coats.trails.layers.items i)
     (trail_in c.grow_to.new.self.layers.items i) (c.grow_to.ensures.same i) (r.lists i) in
     record {
       graph = refl;
@@ -29,7 +30,7 @@ loop-words-init c =
       list = rw (sym c.graph.ensures.same) c.list_of-words.ensures;
       room = c.in_ok-grow_to.ensures.room;
       apart = λ i apart. same i;
-      here = passed_begins s.coats.all.items (list_in s.graph.now c.args.layer)
+      here = passed_begins s.coats.all.items (list_in s.graph.now.layers c.args.layer)
           (trail_in c.grow_to.new.self.layers.items c.args.layer) c.args.index c.passed-passed.result (same c.args.layer);
       reading = r.reading;
       begun = inr refl;
@@ -40,10 +41,10 @@ pass-requires-clause-parent c =
     let s = c.args.self.now in
     let l = c.loop-words in
     let inv = l.invariant in
-    let list = list_in s.graph.now c.args.layer in
+    let list = list_in s.graph.now.layers c.args.layer in
     let edge = sym (c.from_raw-edge.ensures ∙ ap (λ (xs : List ℕ). extra_edge_of (get_or xs l.next 0)) inv.list) in
     rw (inv.graph, c.parent_of.ensures)
-    (next_is_parent (history_of s.graph.now) list c.args.commit.0 l.next inv.reading c.from_raw-edge.result edge)
+    (next_is_parent (history_of s.graph.now.layers) list c.args.commit.0 l.next inv.reading c.from_raw-edge.result edge)
 
 pub overflow_add-next : goal.overflow_add-next
 overflow_add-next c =
@@ -51,7 +52,7 @@ overflow_add-next c =
     omega (
       arith,
       reading_within _ _ _ _ inv.reading,
-      few_words c.args.self.now.graph.now c.args.layer c.requires.passes.painting.graph.opened,
+      few_words c.args.self.now.graph.now.layers c.args.layer c.requires.passes.painting.graph.opened,
     )
 
 pub loop-words-preserved : goal.loop-words-preserved
@@ -59,11 +60,11 @@ loop-words-preserved c =
     let s = c.args.self.now in
     let l = c.loop-words in
     let inv = l.invariant in
-    let h = history_of s.graph.now in
+    let h = history_of s.graph.now.layers in
     let e = c.in_ok-pass.ensures in
     let t = c.in_ok-add.ensures in
     let after = c.pass.new.self in
-    let list = list_in s.graph.now c.args.layer in
+    let list = list_in s.graph.now.layers c.args.layer in
     let x = c.passed-passed.result in
     let was = trail_in l.self.coats.trails.layers.items c.args.layer in
     let now = trail_in c.add.new.self.layers.items c.args.layer in
@@ -98,7 +99,7 @@ returns-in-Last-clause-lists c =
     let e = c.in_ok-pass.ensures in
     let t = c.in_ok-add.ensures in
     let after = c.pass.new.self in
-    let list = list_in s.graph.now c.args.layer in
+    let list = list_in s.graph.now.layers c.args.layer in
     let x = c.passed-passed.result in
     let was = trail_in l.self.coats.trails.layers.items c.args.layer in
     let now = trail_in c.add.new.self.layers.items c.args.layer in
@@ -109,7 +110,7 @@ returns-in-Last-clause-lists c =
     let here : trail_at now l.next ≡ _ = rw same at t.here in
     let there : (w : ℕ) → w ≢ l.next → trail_at now w ≡ trail_at was w = rw same at t.there in
     rw (c.pass.ensures.graph ∙ inv.graph)
-    (are_passed_from after.coats.all.items s.graph.now c.add.new.self.layers.items c.args.layer
+    (are_passed_from after.coats.all.items s.graph.now.layers c.add.new.self.layers.items c.args.layer
     (λ i apart.
     rw (t.others i apart, c.pass.ensures.trails)
     (passed_kept l.self.coats.all.items _ _ after.coats.all.items e.on.grows (inv.apart i apart)))
@@ -130,7 +131,7 @@ returns-in-Last-clause-named c =
     let e = c.in_ok-pass.ensures in
     let t = c.in_ok-add.ensures in
     let after = c.pass.new.self in
-    let list = list_in s.graph.now c.args.layer in
+    let list = list_in s.graph.now.layers c.args.layer in
     let x = c.passed-passed.result in
     let was = trail_in l.self.coats.trails.layers.items c.args.layer in
     let now = trail_in c.add.new.self.layers.items c.args.layer in
@@ -154,7 +155,7 @@ returns-clause-lists c =
     let inv = l.invariant in
     let x = c.passed-passed.result in
     rw inv.graph
-    (are_passed_from l.self.coats.all.items s.graph.now l.self.coats.trails.layers.items c.args.layer inv.apart
+    (are_passed_from l.self.coats.all.items s.graph.now.layers l.self.coats.trails.layers.items c.args.layer inv.apart
     (passed_stops _ _ _ l.next x inv.here
     (ap (λ (p : Paint). covers p x) (sym c.at.ensures) ∙ sym c.covers.ensures ∙ c.loop-words-test.false)))
 
@@ -168,7 +169,7 @@ returns-clause-named c =
     let covered : covers (trail_at trail l.next) x ≡ _ =
     ap (λ (p : Paint). covers p x) (sym c.at.ensures) ∙ sym c.covers.ensures ∙ c.loop-words-test.false in
     rw (sym c.passed-passed.ensures)
-    (named_heard l.self.coats.all.items (list_in s.graph.now c.args.layer) trail
+    (named_heard l.self.coats.all.items (list_in s.graph.now.layers c.args.layer) trail
     (passed_stops _ _ _ l.next x inv.here covered) x c.args.index
     (⊎_elim
     (λ (was : Grows x (trail_at trail c.args.index)). was)

@@ -15,13 +15,13 @@ invariant-loop-words l = record {
   others : l.self.others.now ≡ l.fn.self.others.now;
   passes : PassesPaint l.self l.commit.0 l.paint;
   on : PassesOn l.fn.self l.self;
-  list : l.words ≡ list_in l.fn.self.graph.now l.layer;
+  list : l.words ≡ list_in l.fn.self.graph.now.layers l.layer;
   room : length l.words ≤ length (trail_in l.self.coats.trails.layers.items l.layer);
   apart : (i : ℕ) → i ≢ l.layer
-      → IsPassed l.self.coats.all.items (list_in l.fn.self.graph.now i) (trail_in l.self.coats.trails.layers.items i);
-  here : IsPassedTo l.self.coats.all.items (list_in l.fn.self.graph.now l.layer)
+      → IsPassed l.self.coats.all.items (list_in l.fn.self.graph.now.layers i) (trail_in l.self.coats.trails.layers.items i);
+  here : IsPassedTo l.self.coats.all.items (list_in l.fn.self.graph.now.layers l.layer)
       (trail_in l.self.coats.trails.layers.items l.layer) l.next l.passed;
-  reading : IsReading (history_of l.fn.self.graph.now) (list_in l.fn.self.graph.now l.layer) l.commit.0 l.next;
+  reading : IsReading (history_of l.fn.self.graph.now.layers) (list_in l.fn.self.graph.now.layers l.layer) l.commit.0 l.next;
   begun : Grows l.passed (trail_at (trail_in l.self.coats.trails.layers.items l.layer) l.index) ⊎ (l.index ≡ l.next);
 }
 
