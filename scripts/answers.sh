@@ -117,13 +117,13 @@ take_apart() {
 
 # After `ask`, says on standard error what the program said there, and, unless the status is 0, what `line` means
 # and what to do, by the tables of docs/REFUSALS.md: report COMMAND PATH [ID..], as the program was asked. `folder`
-# is the info folder of the repository, or empty.
+# is the info folder of the repository, or empty. `beside` is the line of another row, which has to be said too, or empty.
 report() {
     printf %s "$said" >&2
-    [ "$status" -ne 0 ] || return 0
+    [ "$status,$beside" != 0, ] || return 0
     command=$1 path=$2
     shift 2
-    NAME=$name LINE=$line COMMAND=$command IDS=$* COMMIT=$(commit_at "$path") FOLDER=$folder LC_ALL=C \
+    NAME=$name LINE=$line COMMAND=$command IDS=$* COMMIT=$(commit_at "$path") FOLDER=$folder BESIDE=$beside LC_ALL=C \
         awk -f "$top/scripts/explain.awk" "$top/docs/REFUSALS.md" >&2
 }
 
@@ -138,10 +138,16 @@ commit_at() {
     esac
 }
 
-# Lists the layers of the graph at a path, in their order, if the program `graphtool` is there.
-list_layers() {
+# Sets `lister` to the program `graphtool`, if it is there. Nothing is built for that.
+find_lister() {
     lister=$top/programs/graphtool
     [ -x "$lister" ] || lister=$top/crates/graphtool/out/graphtool
+    [ -x "$lister" ]
+}
+
+# Lists the layers of the graph at a path, in their order, if the program `graphtool` is there.
+list_layers() {
+    find_lister || return
     if [ -f "$1" ]; then
         "$lister" list <"$1"
     elif [ -f "$1/commit-graph-chain" ]; then

@@ -1,7 +1,8 @@
 # Says in sentences what a line of an answer means and what to do, by the tables of docs/REFUSALS.md, which it
 # reads. The surroundings give LINE, COMMAND, the word by which the program was asked, NAME, the name to speak
 # by, and, each of them empty where it is not known, IDS, the ids that were asked about, COMMIT, the id of the
-# commit at the position that the line names, and FOLDER, the info folder of the repository.
+# commit at the position that the line names, FOLDER, the info folder of the repository, and BESIDE, the line of another
+# row, which is said too: what to do is then as that row has it.
 #
 # A row is that of the line if a text in backquotes in its first cell has the line's words, where a capital
 # letter stands for any number, and the line may have more words at its end. Of several such rows the one with
@@ -13,6 +14,7 @@ BEGIN {
     line = ENVIRON["LINE"]
     command = ENVIRON["COMMAND"]
     detail = detail_of(line)
+    beside = ENVIRON["BESIDE"]
 }
 
 /^\| / {
@@ -23,7 +25,7 @@ BEGIN {
 }
 
 END {
-    if (best[line] == 0) exit
+    if (best[line] == 0 && beside == "") exit
     if (ENVIRON["COMMIT"] != "") say("the commit at position " value["P"] " is " ENVIRON["COMMIT"])
     if (line ~ /^unknown /) say("id " value["N"] " is " nth_id(value["N"]))
     if (line ~ /^refused id / && no_id() != "") say("`" no_id() "` is not an id")
@@ -31,7 +33,12 @@ END {
         sub(/; [^;]* is explained under .*/, "", happened[line])
         happened[line] = happened[line] ": " happened[detail]
     }
-    say(with_values(happened[line]))
+    if (best[line]) say(with_values(happened[line]))
+    if (beside != "") {
+        say(beside)
+        say(happened[beside])
+        cure[line] = cure[beside]
+    }
     anew = in_folder(happened["write it anew"])
     if (cure[line] == "write it anew") say("what to do: " anew)
     else {
@@ -51,6 +58,7 @@ function detail_of(line) {
 function look(text) {
     keep(text, line)
     if (detail != "") keep(text, detail)
+    if (beside != "") keep(text, beside)
     keep(text, "write it anew")
 }
 

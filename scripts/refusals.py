@@ -64,14 +64,22 @@ def filled(sentence, numbers):
     return LETTER.sub(lambda match: numbers.get(match.group(), match.group()), sentence).replace("`", "'")
 
 
-def sentences(rows, line, command=None, folder=".git/objects/info"):
-    """What has to be said of a line, in a repository with such an info folder, beside the ids that it speaks of."""
+def sentences(rows, line, command=None, folder=".git/objects/info", beside=None):
+    """What has to be said of a line, in a repository with such an info folder, beside the ids that it speaks of.
+
+    The line of another row may have to be said too; what to do is then as that row has it. The first one may have no row.
+    """
     row = row_of(rows, line, command)
-    happened, numbers, detail = row.happened, values(row.text, line), detail_of(line)
-    if detail:
-        happened = "%s: %s" % (happened.split("; ")[0], row_of(rows, detail).happened)
+    said, numbers, detail = [], {}, detail_of(line)
+    if row:
+        happened, numbers = row.happened, values(row.text, line)
+        if detail:
+            happened = "%s: %s" % (happened.split("; ")[0], row_of(rows, detail).happened)
+        said = [filled(happened, numbers)]
+    if beside:
+        row = row_of(rows, beside)
+        said += [beside, filled(row.happened, {})]
     anew = filled(row_of(rows, ANEW).happened.replace(".git/objects/info", folder), {})
-    said = [filled(happened, numbers)]
     if row.to_do == ANEW:
         return said + ["what to do: " + anew]
     said += ["what to do: " + filled(row.to_do, numbers)] if row.to_do else []

@@ -13,6 +13,8 @@ usage: python3 scripts/real_data GRAPHTOOL HISTORYTOOL TEST_FILTERS [every-value
 - `merge-base`: the bases that `git merge-base --all` names, and how many commits are ahead and behind by the
   parents that Git lists; where times are in order, also as `git rev-list --left-right --count` counts them.
   Also of long histories, in a file and in a chain, and of small ones with cycles, beside all walks.
+- chains in which commits stand in several layers: the same questions beside all walks, which answers are not Git's, and
+  what `git cgraph` says beside them. And a chain file with the line ends 0d 0a, which Git does not load.
 - `check`: the lines of `verify`, and those of the corrected dates and changed-path filters that Git writes; damaged
   ones by a plain reading, and beside what Git then answers of ancestors and of paths. Each filter has the bits of
   the paths that `git diff-tree` names and of the folders that lead there, and no others. Also of five commits in every
@@ -54,6 +56,7 @@ from checks import (
     path_checks,
     question_checks,
     random_checks,
+    repeated_checks,
     row_checks,
     surroundings_checks,
     sweep_checks,
@@ -96,6 +99,7 @@ def check_kind(paths, object_format):
         path_checks.check_all(program, tally, new, differences)
         ancestor_checks.check_all((program, histories), tally, new)
         base_checks.check_long(histories, tally, new)
+        repeated_checks.check_all((program, histories), tally, new)
         distinct_checks.check_all(program, tally, new, differences)
         disk_checks.check_all((program, histories), tally, new, differences)
         further_checks.check_all((histories, asker), tally, new)
@@ -112,6 +116,7 @@ def check_others(paths, tally, every_value):
     sweep_checks.check_all(program, tally, every_value)
     with tempfile.TemporaryDirectory() as folder:
         cgraph_checks.check_all((program, histories), tally, folder, partial(new_repository, folder))
+        repeated_checks.check_told((program, histories), tally, folder, partial(new_repository, folder))
         further_checks.check_shared_list(histories, tally, folder)
         date_checks.check_all(histories, tally, folder)
     cycle_checks.check_all(histories, tally)

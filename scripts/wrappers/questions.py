@@ -64,6 +64,7 @@ def check_all(tally):
             if shutil.which(shell[0]):
                 check_questions(tally, clone, repository, shell)
         check_statuses(tally, clone, repository)
+        check_repeated(tally, clone, repository)
         check_revisions(tally, clone, repository)
         check_ends(tally, clone, repository)
         tally.check("git cgraph, nothing is left over", clone.left_over())
@@ -178,6 +179,38 @@ def check_statuses(tally, clone, repository):
     answer = ask(clone, ["check"], repository)
     err = "usage: other words\n" + said(["the program does not take these words"])
     tally.check("git cgraph check, of a program without it", exactly(answer, 128, "", err))
+
+
+def check_repeated(tally, clone, repository):
+    """After some answers of a chain of two layers or more, what is said where `distinct` finds a commit in two of them."""
+    info = os.path.join(repository, b".git/objects/info")
+    os.rename(os.path.join(info, b"commit-graph"), os.path.join(info, b"aside"))
+    os.mkdir(os.path.join(info, b"commit-graphs"))
+    chain = os.path.join(info, b"commit-graphs", b"commit-graph-chain")
+    folder, rows = info.decode("utf-8", "surrogateescape"), refusals.read_rows()
+    differs = "the answer may differ from Git's"
+    twice, right = "echo 'refused verify 11 position 3 earlier 1'\nexit 1\n", "echo 'ok commits 4 longest 2'\n"
+    for word, line, layers, distinct, is_said in (
+        *((word, line, "aa\nbb\n", twice, True) for word, line in (("is-ancestor", "no"), ("walk", "none"), ("merge-base", "none"))),
+        *(("merge-base", "base 3 ab", "aa\nbb\n", twice, True), ("merge-base", "base 3 ab", "aa\nbb", twice, True)),
+        *(("is-ancestor", "no", "aa\n", twice, False), ("is-ancestor", "no", "aa", twice, False)),
+        *(("walk", "none", "aa\nbb\n", right, False), ("merge-base", "none", "aa\nbb\n", "exit 3\n", False)),
+        *(("is-ancestor", "yes", "aa\nbb\n", twice, False), ("walk", "refused verify 10", "aa\nbb\n", twice, False)),
+    ):
+        with open(chain, "w", encoding="ascii") as file:
+            file.write(layers)
+        status = int(line.startswith(("no", "refused")))
+        clone.put_program("historytool", "echo '%s'\nexit %d\n" % (line, status))
+        clone.put_program("graphtool", '[ "$*" = "distinct info" ] || exit 9\n' + distinct)
+        answer = ask(clone, [word, *WORDS[word][1]], repository)
+        beside = differs if is_said else None
+        err = said(refusals.sentences(rows, line, word, folder, beside)) if status or is_said else ""
+        out = line.replace("base 3 ", "") + "\n"
+        wanted = (128 if line.startswith("refused") else status, out, err)
+        title = "git cgraph %s, answered %r of the chain %r, where distinct runs %r" % (word, line, layers, distinct)
+        tally.check(title, exactly(answer, *wanted))
+    shutil.rmtree(os.path.join(info, b"commit-graphs"))
+    os.rename(os.path.join(info, b"aside"), os.path.join(info, b"commit-graph"))
 
 
 def check_revisions(tally, clone, repository):

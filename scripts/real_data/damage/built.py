@@ -11,12 +11,13 @@ TOP_BIT = 0x80000000
 
 
 class Commit(NamedTuple):
-    """A commit of a file: its id, the positions of its parents, its generation number and its time."""
+    """A commit of a file: its id, the positions of its parents, its generation number, its time and, or any, its tree."""
 
     id: bytes
     parents: Tuple[int, ...]
     generation: int
     time: int = 7
+    tree: bytes = b""
 
 
 def row(byte, size, parents, generation):
@@ -47,7 +48,7 @@ def record(commit, words):
     if len(others) > 1:
         second = TOP_BIT + len(words)
         words += [*others[:-1], TOP_BIT + others[-1]]
-    tree = b"\x99" * len(commit.id)
+    tree = commit.tree or b"\x99" * len(commit.id)
     return tree + big_endian(first, 4) + big_endian(second, 4) + big_endian(commit.generation * 2**34 + commit.time, 8)
 
 
