@@ -9,11 +9,6 @@ say() {
     printf '%s: %s\n' "$name" "$1" >&2
 }
 
-# The line of the version, for a name.
-version_of() {
-    printf '%s %s\n' "$1" "$(cat "$top/VERSION")"
-}
-
 # The path of a proved program. Where this is no installed copy it is built first if a source is newer.
 program_path() {
     if [ -x "$top/programs/$1" ]; then
@@ -31,34 +26,6 @@ find_program() {
     said="$name: $line$newline"
     report "$1" ''
     return 1
-}
-
-# Whether the words after the first one are `--help`, `-h` or `--version`, alone or after one of the commands that
-# the first word lists. Sets `wish` to `--help` or `--version` then.
-wishes() {
-    commands=" $1 "
-    shift
-    case $#,$commands in
-    1,* | 2,*" ${1-} "*) shift $(($# - 1)) ;;
-    *) return 1 ;;
-    esac
-    case $1 in
-    -h | --help) wish=--help ;;
-    --version) wish=--version ;;
-    *) return 1 ;;
-    esac
-}
-
-# Ends with the usage text of the program `name` and status 2, as the program does for such words. In a clone the
-# text is that of the program's source, so that nothing is built for it.
-refuse_words() {
-    if [ -x "$top/programs/$name" ]; then
-        exec "$top/programs/$name" "$@"
-    fi
-    sed -n '/^const USAGE/,/";$/ { s/^const USAGE: &str = "//; s/^ *//; s/\\$//; s/";$//; p; }' \
-        "$top/crates/$name/src/main.rt" | tr -d '\n' >&2
-    echo >&2
-    exit 2
 }
 
 # Runs a program with some words, and passes on what it writes, through the command `filter` where that is not

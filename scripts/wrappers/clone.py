@@ -11,7 +11,8 @@ MORE_TOOLS = ("sed", "sleep", "touch", "tr")
 PROGRAMS = ("graphtool", "historytool")
 COPIED = (
     *("git-cgraph", "graphtool", "historytool", "VERSION", "docs/MANUAL.md", "docs/REFUSALS.md"),
-    *("scripts/answers.sh", "scripts/explain.awk", "scripts/manual.awk", "scripts/git-cgraph.bash"),
+    *("scripts/answers.sh", "scripts/usage.sh", "scripts/commands", "scripts/explain.awk", "scripts/manual.awk"),
+    "scripts/git-cgraph.bash",
     *("scripts/install", "scripts/program", "scripts/library", "scripts/package", "bindings/c/commitgraph.h"),
     *("crates/graphtool/src/main.rt", "crates/historytool/src/main.rt", "LICENSE-MIT", "LICENSE-APACHE"),
 )

@@ -6,7 +6,8 @@ import tempfile
 
 from wrappers.clone import PROGRAMS, Clone, exactly, run
 from wrappers.questions import make_repository
-from wrappers.tools import read
+from wrappers.table import commands
+from wrappers.tools import read, usage_of
 
 ODD_PREFIX = "a prefix's \"$(name)\" *\n;"
 USAGE = "usage: scripts/install PREFIX | --remove PREFIX\n"
@@ -16,7 +17,8 @@ INSTALLED = {
     *("lib/git-cgraph/git-cgraph", "lib/git-cgraph/graphtool", "lib/git-cgraph/historytool"),
     *("lib/git-cgraph/programs/graphtool", "lib/git-cgraph/programs/historytool"),
     *("lib/git-cgraph/docs/MANUAL.md", "lib/git-cgraph/docs/REFUSALS.md"),
-    *("lib/git-cgraph/scripts/answers.sh", "lib/git-cgraph/scripts/explain.awk", "lib/git-cgraph/scripts/manual.awk"),
+    *("lib/git-cgraph/scripts/answers.sh", "lib/git-cgraph/scripts/usage.sh", "lib/git-cgraph/scripts/commands"),
+    *("lib/git-cgraph/scripts/explain.awk", "lib/git-cgraph/scripts/manual.awk"),
     *("include/commitgraph.h", "lib/libcommitgraph.a"),
     *("share/doc/git-cgraph/LICENSE-MIT", "share/doc/git-cgraph/LICENSE-APACHE"),
 }
@@ -138,7 +140,7 @@ def check_completion(tally, clone, repository):
     ours = os.path.join(clone.folder, "scripts", "git-cgraph.bash")
     for words, offered in {
         ("ver",): {"verify"},
-        ("",): {"verify", "check", "distinct", "list", "find", "is-ancestor", "walk", "merge-base"},
+        ("",): {command.word for command in commands() if command.by_git},
         ("--h",): {"--help"},
         ("find", "anno"): {"annotated"},
         ("-C", "..", "walk", "HEAD", "HE"): {"HEAD"},
@@ -162,18 +164,18 @@ def check_away(tally, clone, folder, repository):
     variables["PATH"] = os.path.join(prefix, "bin") + ":" + variables["PATH"].replace(clone.folder, folder + "/away")
     os.rename(clone.folder, folder + "/away")
     asked = "<verify><info/commit-graph>"
-    for command, status, out in (
+    for command, *wanted in (
         (["git", "cgraph", "verify"], 0, asked),
         (["git-cgraph", "verify"], 0, asked),
         (["graphtool", "verify", "."], 0, "<verify><.>"),
         (["historytool", "walk", ".", "0", "1"], 0, "<walk><.><0><1>"),
-        (["historytool", "bogus"], 0, "<bogus>"),
+        (["historytool", "bogus"], 2, "", usage_of("historytool")),
         (["graphtool", "--version"], 0, "graphtool " + read("VERSION")),
         (["git-cgraph", "--version"], 0, "git-cgraph " + read("VERSION")),
     ):
         path = shutil.which(command[0], path=variables["PATH"])
         answer = run([path, *command[1:]], variables, cwd=repository)
-        tally.check("installed, without the clone: " + " ".join(command), exactly(answer, status, out))
+        tally.check("installed, without the clone: " + " ".join(command), exactly(answer, *wanted))
     os.rename(folder + "/away", clone.folder)
     for name in PROGRAMS:
         os.remove(os.path.join(clone.folder, "crates", name, "out", name))

@@ -1,6 +1,7 @@
 """Checks `git cgraph`: its words, what it asks the programs, its statuses, and how it ends."""
 
 import os
+import re
 import shutil
 import signal
 import subprocess
@@ -9,6 +10,7 @@ import time
 
 import refusals
 from wrappers.clone import Clone, exactly, run
+from wrappers.table import commands
 from wrappers.tools import read
 
 SHELLS = (("sh",), ("dash",), ("bash",), ("bash", "--posix"), ("busybox", "sh"))
@@ -19,14 +21,11 @@ ECHO = "printf '<%s>' \"$@\"\npwd -P >&2\n"
 """A program that writes its words, and says in which folder it is."""
 
 USAGE = "usage: git cgraph [-C DIR] verify | check | distinct | list\n   or: git cgraph [-C DIR] find REV\n"
+REVISIONS = ("HEAD", "HEAD~1", "HEAD")
 WORDS = {
-    "verify": ("graphtool", ()),
-    "check": ("historytool", ()),
-    "distinct": ("graphtool", ()),
-    "find": ("graphtool", ("HEAD",)),
-    "is-ancestor": ("historytool", ("HEAD~1", "HEAD")),
-    "walk": ("historytool", ("HEAD", "HEAD~1")),
-    "merge-base": ("historytool", ("HEAD", "HEAD~1", "HEAD")),
+    command.word: (command.program, REVISIONS[: command.least() + command.takes_more()])
+    for command in commands()
+    if command.by_git and command.word != "list"
 }
 """The program that answers each word, and revisions after the word; `list` is by itself."""
 
@@ -60,6 +59,7 @@ def check_all(tally):
         repository = make_repository(clone, os.path.join(folder.encode(), ODD_NAME))
         check_words(tally, clone)
         check_told(tally, clone)
+        check_manual(tally)
         for shell in SHELLS:
             if shutil.which(shell[0]):
                 check_questions(tally, clone, repository, shell)
@@ -115,6 +115,21 @@ def check_words(tally, clone):
         answer = ask(clone, words, clone.folder)
         right = answer[:2] == (129, "") and answer.err.startswith(said([sentence]) + USAGE)
         tally.check("git cgraph %s: %s" % (" ".join(words), sentence), None if right else "it is %r" % (answer,))
+
+
+def check_manual(tally):
+    """The synopsis of the manual has the commands of the table, with as many revisions, and each has an item."""
+    manual = read("docs", "MANUAL.md")
+    synopsis = re.findall(r"^    git cgraph \[-C DIR\] (.*)$", manual, re.MULTILINE)
+    said = {}
+    for line in synopsis:
+        words = re.sub(r"\[.*?\]", "", line).replace("|", " ").split()
+        said.update({word: words.count("REV") + words.count("REV..") for word in words if "REV" not in word})
+    listed = {command.word: command.least() for command in commands() if command.by_git}
+    tally.check("the synopsis of the manual is that of the table", None if said == listed else "it has %s" % said)
+    items = {word.split()[0] for word in re.findall(r"^- `([^`]*)`: ", manual, re.MULTILINE)}
+    missing = sorted(set(listed) - items)
+    tally.check("each command has an item in the manual", "there is none on %s" % missing if missing else None)
 
 
 def check_told(tally, clone):

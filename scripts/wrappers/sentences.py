@@ -4,17 +4,13 @@ import tempfile
 
 import refusals
 from wrappers.clone import Clone, exactly
+from wrappers.table import commands
 
 NUMBERS = {letter: str(7 * place + 3) for place, letter in enumerate("ABCDEFGHIJKLMOPQRSTUVWXYZ")}
 """A number for each letter but N."""
 
-COMMANDS = {
-    **dict.fromkeys(["is-ancestor", "walk", "merge-base"], ["historytool", "{}", ".", "0", "1"]),
-    "check": ["historytool", "check", "."],
-    "find": ["graphtool", "find", ".", "0"],
-    "list": ["graphtool", "list"],
-    **dict.fromkeys(["verify", "distinct"], ["graphtool", "{}", "."]),
-}
+COMMANDS = {command.word: [command.program, command.word, *command.operands()] for command in commands()}
+"""The words by which each command is run."""
 
 
 def check_all(tally):
@@ -47,7 +43,7 @@ def examples(rows):
 
 def ask(clone, line, command):
     """The answer of a command whose program answers a line with status 1."""
-    words = [word.format(command) for word in COMMANDS[command]]
+    words = COMMANDS[command]
     clone.put_program(words[0], "echo '%s'\nexit 1\n" % line)
     return clone.run(words)
 

@@ -3,11 +3,12 @@
 import os
 import re
 import tempfile
-from typing import Dict, List, NamedTuple, Tuple
+from typing import Dict, List, NamedTuple
 
 import refusals
 import version
-from wrappers.clone import TOP, Clone, exactly
+from wrappers.clone import PROGRAMS, TOP, Clone, exactly
+from wrappers.table import commands, usage
 
 
 class Wrapper(NamedTuple):
@@ -15,32 +16,19 @@ class Wrapper(NamedTuple):
 
     name: str
     no_command: List[List[str]]
-    commands: Dict[str, Tuple[str, ...]]
+    commands: Dict[str, List[str]]
 
 
-GRAPHTOOL = Wrapper(
-    "graphtool",
-    [
-        *([], ["help"], ["list", "."], ["verify"], ["verify", ".", "."], ["find", "."], ["find", ".", "0", "1"]),
-        *(["ancestor", ".", "0"], ["ancestor", ".", "0", "1", "2"], ["distinct"], ["distinct", ".", "."]),
-        *(["--help", "."], ["help", "--help"], ["--version", "--help"], ["find", ".", "--help", "0"]),
-    ],
-    {"list": (), "verify": (".",), "find": (".", "0"), "ancestor": (".", "0", "1"), "distinct": (".",)},
-)
-HISTORYTOOL = Wrapper(
-    "historytool",
-    [
-        *([], ["help"], ["--help", "."], ["--version", "."], ["-v"], ["ancestor", ".", "0", "1"]),
-        *(["walk"], ["walk", ".", "0"], ["walk", ".", "0", "1", "2"], ["is-ancestor", ".", "0"], ["-h", "."]),
-        *(["merge-base", "."], ["merge-base", ".", "0"], ["merge-bases", ".", "0", "1"], ["check"], ["check", ".", "."]),
-    ],
-    {
-        "is-ancestor": (".", "0", "1"),
-        "merge-base": (".", "0", "1", "2"),
-        "walk": (".", "0", "1"),
-        "check": (".",),
-    },
-)
+def wrapper_of(name):
+    """The wrapper of a program. Words that are no command have too few or too many operands, or are none of its own."""
+    own = commands(name)
+    wrong = [[], ["help"], ["help", "--help"], ["--version", "--help"], ["--help", "."], [own[-1].word, ".", "--help", "0"]]
+    wrong += [[command.word, *command.operands()] for command in commands() if command.program != name]
+    wrong += [[command.word, *command.operands()[:-1]] for command in own if command.operands()]
+    wrong += [[command.word, *command.operands(command.least() + 1)] for command in own if not command.takes_more()]
+    return Wrapper(name, wrong, {command.word: command.operands(command.least() + command.takes_more()) for command in own})
+
+
 KIT = re.compile(r"^ {4}(rattle-kit-\S+ logic \w+)$", re.MULTILINE)
 
 BUILD = """#!/bin/sh
@@ -54,7 +42,7 @@ cp built "out/$2"
 
 def check_all(tally):
     """The checks of both wrappers, and of the one version."""
-    for wrapper in (GRAPHTOOL, HISTORYTOOL):
+    for wrapper in map(wrapper_of, PROGRAMS):
         with tempfile.TemporaryDirectory() as folder:
             clone = Clone(folder)
             check_words(tally, wrapper, clone)
@@ -124,24 +112,21 @@ def check_passing(tally, wrapper, clone):
 
 
 def check_told(tally, wrapper, clone):
-    """Help and version, alone and after each command."""
-    name, usage, told = wrapper.name, usage_of(wrapper.name), "%s %s" % (wrapper.name, read("VERSION"))
-    clone.put_program("historytool", told_by_historytool(told))
+    """Help and version, alone and after each command, which build nothing; and the usage text, which is that of the table."""
+    name, told = wrapper.name, "%s %s" % (wrapper.name, read("VERSION"))
+    clone.put_program(name, "exit 7\n")
     for before in ([], *([command] for command in wrapper.commands)):
         for word in ("--help", "-h"):
             answer = clone.run([name, *before, word])
-            right = answer.status == 0 and answer.out.startswith(usage + "\n") and not answer.err
-            missing = [command for command in wrapper.commands if name == "graphtool" and command not in answer.out]
+            right = answer.status == 0 and answer.out.startswith(usage_of(name) + "\n") and not answer.err
+            rows = ["%-11s  %s" % (command.word, command.about) for command in commands(name)]
+            missing = [row for row in rows if row not in answer.out.splitlines()]
             complaint = None if right and not missing else "it is %r" % (answer,)
             tally.check(" ".join([name, *before, word]), complaint)
         answer = clone.run([name, *before, "--version"])
         tally.check(" ".join([name, *before, "--version"]), exactly(answer, 0, told))
-
-
-def told_by_historytool(told):
-    """A program that tells of itself as `historytool` does, with this line for its version."""
-    usage = usage_of("historytool")
-    return "case $# in 1) ;; *) exit 2 ;; esac\ncase $1 in\n--help) echo '%s' ;;\n*) printf '%s' ;;\nesac\n" % (usage, told)
+    own = usage_of(name).strip().replace(" | --help | --version", "")
+    tally.check("%s, its usage is that of the table" % name, None if own == usage(name) else "it is %r" % own)
 
 
 def check_version(tally):

@@ -1,0 +1,47 @@
+"""The commands, as scripts/commands lists them."""
+
+import os
+from typing import List, NamedTuple
+
+from wrappers.clone import TOP
+
+
+class Command(NamedTuple):
+    """A row of the table: a word, its program, what it reads, how many ids it takes, if `git cgraph` has it, what it does."""
+
+    word: str
+    program: str
+    reads: str
+    ids: str
+    by_git: bool
+    about: str
+
+    def least(self) -> int:
+        """How many ids the command takes at least."""
+        return int(self.ids.rstrip("+"))
+
+    def takes_more(self) -> bool:
+        """Whether it takes any number of further ids."""
+        return self.ids.endswith("+")
+
+    def operands(self, number=None) -> List[str]:
+        """A path, if the command reads one, and so many ids, or as few as it takes."""
+        ids = self.least() if number is None else number
+        return ["."] * (self.reads == "path") + [str(number) for number in range(ids)]
+
+
+def commands(program=None):
+    """All commands, or those of a program."""
+    with open(os.path.join(TOP, "scripts", "commands"), encoding="utf-8") as file:
+        rows = [line.split(None, 5) for line in file if not line.startswith("#")]
+    listed = [Command(*row[:4], row[4] == "yes", row[5].strip()) for row in rows]
+    return [command for command in listed if program in (None, command.program)]
+
+
+def usage(program):
+    """The usage text of a program."""
+    parts = []
+    for command in commands(program):
+        path = ["PATH"] if command.reads == "path" else []
+        parts.append(" ".join([command.word, *path, *["HEX"] * command.least()]) + (".." if command.takes_more() else ""))
+    return "usage: %s %s" % (program, " | ".join(parts))
