@@ -2,3 +2,4 @@ pub mod FaultLemmas
 pub mod HeadLemmas
 pub mod RangeLemmas
 pub mod TableLemmas
+pub mod AlikeLemmas

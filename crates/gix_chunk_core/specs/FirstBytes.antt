@@ -1,7 +1,12 @@
 -- Files of which only the first bytes are known, and the length.
-use Rattle.std.specs.Prelude.{ℕ, ◌+◌, ◌-◌, ◌*◌, ◌≤◌, List, ◌++◌, length}
+use Rattle.std.specs.Prelude.{◌≡◌, ℕ, ◌+◌, ◌-◌, ◌*◌, ◌≤◌, List, ◌++◌, length, take}
 use Rattle.std.proofs.Math.ListN.{replicate}
 use Rattle.gix_chunk_core.specs.Table.{Chunks, table_at}
+
+-- A file that has so many bytes begins with these.
+pub record BeginsWith (file front : List ℕ) (len : ℕ) : Type 0 where
+  pub size : length file ≡ len
+  pub starts : take (length front) file ≡ front
 
 -- such a file, whose other bytes are 0
 unfoldable pub filled : List ℕ → ℕ → List ℕ

@@ -1,11 +1,11 @@
 //! Reading the table of chunks.
 
-ghost use Rattle.std.specs.Prelude.{◌≡◌, ◌+◌, ◌*◌, ◌^◌, ◌≤◌, ◌<◌, length, Some, None, IsNone};
-ghost use Rattle.std.specs.Prelude.{min, IfSome, IfOk, OnOk, OnErr, IfErr, option_map};
+ghost use Rattle.std.specs.Prelude.{◌≡◌, ◌+◌, ◌*◌, ◌^◌, ◌≤◌, ◌<◌, ℕ, List, length, Some, None};
+ghost use Rattle.std.specs.Prelude.{IsNone, min, IfSome, IfOk, OnOk, OnErr, IfErr, option_map};
 ghost use Rattle.gix_chunk_core.specs.Entry.{entry_at, end_id};
 ghost use Rattle.gix_chunk_core.specs.Fault.{has_earlier, offset_fault, entry_fault, end_fault};
 ghost use Rattle.gix_chunk_core.specs.Fault.{table_fault};
-ghost use Rattle.gix_chunk_core.specs.FirstBytes.{filled};
+ghost use Rattle.gix_chunk_core.specs.FirstBytes.{filled, BeginsWith};
 ghost use Rattle.gix_chunk_core.specs.Table.{Table, Chunks, range_of};
 
 use crate::ChunkError;
@@ -167,7 +167,7 @@ impl<'a> Index<'a> {
     ///    it has its id; `OutOfFile`: the offset is greater than the number of bytes; `Falling`:
     ///    the offset is less than that of the entry before it.
     /// 4. Of the last entry, `OutOfFile` or `Falling` likewise; `NoEnd`: the id is not 0.
-    #[tactic(auto, using(crate::proofs::HeadLemmas::whole_laws))]
+    #[tactic(auto, using(crate::proofs::AlikeLemmas::whole_laws))]
     pub fn from_bytes(data: &'a [u8], at: usize, count: u32) -> Result<Index<'a>, ChunkError>
         ensures table { IfOk result (Chunks «data».now at count) }
         ensures none { OnOk result (table_fault «data».now at count ≡ None) }
@@ -178,9 +178,8 @@ impl<'a> Index<'a> {
     }
 
     /// Reads the table of chunks of a file that has `len` bytes, of which only the first ones are
-    /// given, at least to the end of the table if the file has so many. The table is read and
-    /// refused as [`Index::from_bytes`] does with all bytes, whatever the others are.
-    #[tactic(auto, using(crate::proofs::TableLemmas::fault_laws))]
+    /// given, at least to the end of the table if the file has so many. Whatever its other bytes
+    /// are, the table is read and refused as [`Index::from_bytes`] does with all bytes.
     pub fn from_head(
         front: &'a [u8],
         len: usize,
@@ -189,12 +188,14 @@ impl<'a> Index<'a> {
     ) -> Result<Index<'a>, ChunkError>
         requires len { length front.now ≤ len }
         requires table { min len (at + 12 * (count + 1)) ≤ length front.now }
-        ensures table { IfOk result (Chunks (filled front.now len) at count) }
-        ensures none { OnOk result (table_fault (filled front.now len) at count ≡ None) }
-        ensures fault { IfErr result (λ fault.
-            table_fault (filled front.now len) at count ≡ Some fault) }
-        ensures refused { OnErr result
-            ((table : Table) → ¬ Chunks (filled front.now len) at count table) }
+        ensures table { IfOk result (λ table. (file : List ℕ) → BeginsWith file front.now len
+            → Chunks file at count table) }
+        ensures none { OnOk result ((file : List ℕ) → BeginsWith file front.now len
+            → table_fault file at count ≡ None) }
+        ensures fault { IfErr result (λ fault. (file : List ℕ) → BeginsWith file front.now len
+            → table_fault file at count ≡ Some fault) }
+        ensures refused { OnErr result ((file : List ℕ) (table : Table)
+            → BeginsWith file front.now len → ¬ Chunks file at count table) }
     {
         let count = count as usize;
         match table_fault(front, len, at, count) {

@@ -1,7 +1,7 @@
 -- bytes that no condition refuses are a file of their layer
 use Rattle.std.proofs.Common.{◌≡◌, ℕ, ◌+◌, ◌-◌, ◌*◌, ◌/◌, ◌%◌, ◌<◌, ◌≤◌, true, false, ◌&&◌, List, [], map, length, take, Option}
 use Rattle.std.proofs.Common.{Some, None, unwrap_or, option_map, is_none, IfSome, IsSomeAnd, MatchOption, slice_index, nat_lt}
-use Rattle.std.proofs.Common.{refl, ⊎_elim, ◌∙◌, arith, length-drop}
+use Rattle.std.proofs.Common.{refl, sym, ⊎_elim, ◌∙◌, arith, length-drop}
 use Rattle.std.proofs.lemmas.Bool.{not-false, ltb-false, eqb-true, and_cases}
 use Rattle.std.proofs.lemmas.Slice.Eq.{bytes_eq-Decides}
 use Rattle.gix_hash_core.specs.declared.kind.Kind.{Kind}
@@ -13,9 +13,11 @@ use Rattle.first_faults.proofs.FirstLemmas.{otherwise-none, then_some-none, firs
 use Rattle.graph_format.specs.Format.{record_of, record_len, commits_of, kind_in, fan_of, signature, least_size, table_of}
 use Rattle.graph_format.specs.Format.{chunk_of, pieces, words, fan_id, ids_id, records_id, edges_id, bases_id}
 use Rattle.graph_format.specs.Layer.{IsLayer, decoded_layer}
-use Rattle.graph_format.specs.Refusal.{header_refusal, bases_refusal, records_refusal, fan_refusal, ids_refusal}
-use Rattle.graph_format.specs.Refusal.{edges_refusal, sizes_refusal, trailer_refusal, counts_refusal}
+use Rattle.graph_format.specs.RefusalGroups.{header_refusal, bases_refusal, records_refusal, fan_refusal, ids_refusal}
+use Rattle.graph_format.specs.RefusalGroups.{edges_refusal, sizes_refusal, trailer_refusal, counts_refusal}
+use Rattle.graph_format.specs.RefusalGroups.{refusal_by_head, refusal_by_fan}
 use Rattle.graph_format.specs.Refusal.{falling_refusal, fall_after, has_other_count, refusal, size_of}
+use Rattle.graph_format.proofs.RefusalGroupLemmas.{refusal-grouped}
 
 option_map-none : {X Y : Type 0} (f : X → Y) (o : Option X) → option_map f o ≡ None → o ≡ None
 option_map-none f None h = refl
@@ -58,13 +60,13 @@ pub record IsAccepted (bytes : List ℕ) : Type 0 where
   pub counts : counts_refusal (kind_in bytes) bytes ≡ None
 
 accepted-parts : (bytes : List ℕ) → refusal bytes ≡ None → IsAccepted bytes
-unfolding refusal sizes_refusal table_of
+unfolding refusal_by_head refusal_by_fan sizes_refusal table_of
 accepted-parts bytes h =
-    let header = otherwise-none _ _ h in
+    let groups = otherwise-none (refusal_by_head bytes) (refusal_by_fan bytes) (sym (refusal-grouped bytes) ∙ h) in
+    let header = otherwise-none _ _ groups.0 in
     let table = otherwise-none _ _ header.1 in
     let sizes = otherwise-none _ _ table.1 in
-    let trailer = otherwise-none _ _ sizes.1 in
-    let falling = otherwise-none _ _ trailer.1 in
+    let falling = otherwise-none _ _ groups.1 in
     let bases = otherwise-none _ _ sizes.0 in
     let records = otherwise-none _ _ bases.1 in
     let fan = otherwise-none _ _ records.1 in
@@ -77,7 +79,7 @@ accepted-parts bytes h =
       fan = fan.0;
       ids = ids.0;
       edges = ids.1;
-      trailer = trailer.0;
+      trailer = sizes.1;
       falling = falling.0;
       counts = falling.1;
     }

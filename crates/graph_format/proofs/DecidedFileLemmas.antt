@@ -13,13 +13,15 @@ use Rattle.graph_format.specs.Format.{Record, record_of, record_len, commits_of,
 use Rattle.graph_format.specs.Format.{words, fan_id, ids_id, records_id, bases_id}
 use Rattle.graph_format.specs.Layer.{Layer, IsLayer, decoded_layer}
 use Rattle.graph_format.specs.FormatLaws.{IsDecided, IsOnlyLayer}
-use Rattle.graph_format.specs.Refusal.{header_refusal, bases_refusal, records_refusal, fan_refusal, ids_refusal}
-use Rattle.graph_format.specs.Refusal.{edges_refusal, sizes_refusal, trailer_refusal, counts_refusal}
+use Rattle.graph_format.specs.RefusalGroups.{header_refusal, bases_refusal, records_refusal, fan_refusal, ids_refusal}
+use Rattle.graph_format.specs.RefusalGroups.{edges_refusal, sizes_refusal, trailer_refusal, counts_refusal}
+use Rattle.graph_format.specs.RefusalGroups.{refusal_by_head, refusal_by_fan}
 use Rattle.graph_format.specs.Refusal.{falling_refusal, fall_after, has_other_count, refusal, size_of}
 use Rattle.graph_format.specs.Opened.{IsAnswered, layer_of, unless_refused}
 use Rattle.graph_format.specs.declared.error.FileError.{FileError}
 use Rattle.graph_format.specs.declared.error.FileError.TheVariants.{Chunks}
 use Rattle.graph_format.proofs.AcceptedFileLemmas.{accepted, pieces-nil}
+use Rattle.graph_format.proofs.RefusalGroupLemmas.{refusal-grouped}
 
 -- sizes that are right
 whole_ids : (kind : Kind) (n c : ℕ) → n ≡ id_len kind * c → (n % id_len kind ≡ 0) × (n / id_len kind ≡ c)
@@ -125,17 +127,26 @@ counts-right bytes path layer h =
     (then_some-false _ _ (ap (λ (n : ℕ). has_other_count n (record_len layer.kind) (size_of bytes records_id)) fan
     ∙ (records-right layer.kind _ _ _ h.records).1))
 
--- a file of a layer is not refused
-pub not_refused : (bytes path : List ℕ) (layer : Layer) → IsLayer bytes path layer → refusal bytes ≡ None
-unfolding refusal
-not_refused bytes path layer h =
+by_head-right : (bytes path : List ℕ) (layer : Layer) → IsLayer bytes path layer → refusal_by_head bytes ≡ None
+unfolding refusal_by_head
+by_head-right bytes path layer h =
     let kind = kind-right bytes path layer h in
     option_or-none _ _ (header-right bytes path layer h)
     (option_or-none _ _ (ap (option_map Chunks) (fault_free bytes 8 (slice_index bytes 6) (table_of bytes) h.table))
     (option_or-none _ _ (ap (λ (k : Kind). sizes_refusal k bytes) kind ∙ sizes-right bytes path layer h)
-    (option_or-none _ _ (ap (λ (k : Kind). trailer_refusal k bytes) kind ∙ trailer-right bytes path layer h)
-    (option_or-none _ _ (falling-right _ (rw (fan_of-right bytes path layer h) h.rising))
-    (ap (λ (k : Kind). counts_refusal k bytes) kind ∙ counts-right bytes path layer h)))))
+    (ap (λ (k : Kind). trailer_refusal k bytes) kind ∙ trailer-right bytes path layer h)))
+
+by_fan-right : (bytes path : List ℕ) (layer : Layer) → IsLayer bytes path layer → refusal_by_fan bytes ≡ None
+unfolding refusal_by_fan
+by_fan-right bytes path layer h =
+    let kind = kind-right bytes path layer h in
+    option_or-none _ _ (falling-right _ (rw (fan_of-right bytes path layer h) h.rising))
+    (ap (λ (k : Kind). counts_refusal k bytes) kind ∙ counts-right bytes path layer h)
+
+-- a file of a layer is not refused
+pub not_refused : (bytes path : List ℕ) (layer : Layer) → IsLayer bytes path layer → refusal bytes ≡ None
+not_refused bytes path layer h =
+    refusal-grouped bytes ∙ option_or-none _ _ (by_head-right bytes path layer h) (by_fan-right bytes path layer h)
 
 make : Kind → List (List ℕ) → List ℕ → List (List ℕ) → List Record → Option (List ℕ) → List ℕ → List ℕ → List ℕ → Layer
 make kind bases fan ids records edges checksum body path =

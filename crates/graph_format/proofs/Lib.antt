@@ -1,3 +1,4 @@
+pub mod RefusalGroupLemmas
 pub mod AcceptedFileLemmas
 pub mod ExtraEdgeLemmas
 pub mod PieceLemmas

@@ -1,5 +1,6 @@
 -- the head of a file: all that opening asks of it before it reads ids and records
 use Rattle.std.specs.Prelude.{◌≡◌, ◌≤◌, ℕ, ◌+◌, ◌*◌, List, length, take, slice_index}
+pub use Rattle.gix_chunk_core.specs.FirstBytes.{BeginsWith}
 use Rattle.graph_format.specs.Format.{fan_of}
 use Rattle.graph_format.specs.Layout.{IsLayout}
 use Rattle.graph_format.specs.declared.layout.Layout.{Layout}
@@ -14,11 +15,6 @@ pub record HaveSameHead (bytes other : List ℕ) : Type 0 where
   pub size : length bytes ≡ length other
   pub front : take (table_end bytes) bytes ≡ take (table_end bytes) other
   pub fan : fan_of bytes ≡ fan_of other
-
--- A file that has so many bytes begins with these.
-pub record BeginsWith (file front : List ℕ) (len : ℕ) : Type 0 where
-  pub size : length file ≡ len
-  pub starts : take (length front) file ≡ front
 
 -- The layout is that of each file that has so many bytes and begins with these, and its fan lies within these.
 pub record IsLayoutOfHead (front : List ℕ) (len : ℕ) (layout : Layout) : Type 0 where

@@ -6,9 +6,11 @@ pub mod Reports
 pub mod Format
 pub mod Layer
 pub mod Refusal
+pub mod RefusalGroups
 pub mod Head
 pub mod ChunkRanges
 pub mod Layout
+pub mod Outline
 pub mod DecodedRecords
 pub mod Numbers
 pub mod ErrorNumbers

@@ -4,7 +4,6 @@ use Rattle.std.specs.Prelude.{ℕ, ◌+◌, ◌-◌, ◌/◌, ◌%◌, Bool, fal
 use Rattle.std.specs.Prelude.{option_map, is_none, nat_lt, ◌==◌, bytes_eq}
 use Rattle.first_faults.specs.First.{◌when◌, ◌otherwise◌, first_below}
 use Rattle.gix_chunk_core.specs.Fault.{table_fault}
-use Rattle.gix_hash_core.specs.declared.kind.Kind.{Kind}
 use Rattle.gix_hash_core.specs.Kind.{id_len, kind_of}
 use Rattle.graph_format.specs.Format.{record_len, signature, least_size, table_of, chunk_of, fan_of, commits_of, kind_in, fan_id}
 use Rattle.graph_format.specs.Format.{ids_id, records_id, edges_id, bases_id}
@@ -38,46 +37,6 @@ abbrev pub has_more : ℕ → ℕ → Option ℕ → Bool
 has_more count piece None = false
 has_more count piece (Some n) = nat_lt count (n / piece)
 
--- "HEADER"
-unfoldable pub header_refusal : List ℕ → Option FileError
-header_refusal bytes =
-    TooSmall when nat_lt (length bytes) least_size
-    otherwise Signature when not (bytes_eq (take 4 bytes) signature)
-    otherwise Version (slice_index bytes 4) when not (slice_index bytes 4 == 1)
-    otherwise Hash (slice_index bytes 5) when is_none (kind_of (slice_index bytes 5))
-
--- "CHUNK DATA": the size of each chunk
-unfoldable pub bases_refusal : Kind → ℕ → Option ℕ → Option FileError
-bases_refusal kind count size =
-    BaseSize when is_cut (id_len kind) size
-    otherwise BaseCount when has_other_count count (id_len kind) size
-
-unfoldable pub records_refusal : Kind → Option ℕ → Option FileError
-records_refusal kind size = NoCommitData when is_none size otherwise CommitDataSize when is_cut (record_len kind) size
-
-unfoldable pub fan_refusal : Option ℕ → Option FileError
-fan_refusal size = NoFan when is_none size otherwise FanSize when has_other_size 1024 size
-
-unfoldable pub ids_refusal : Kind → Option ℕ → Option FileError
-ids_refusal kind size = NoIds when is_none size otherwise IdsSize when is_cut (id_len kind) size
-
-unfoldable pub edges_refusal : Option ℕ → Option FileError
-edges_refusal size = TooManyEdges when has_more 4294967294 4 size
-
-unfoldable pub sizes_refusal : Kind → List ℕ → Option FileError
-sizes_refusal kind bytes =
-    bases_refusal kind (slice_index bytes 7) (size_of bytes bases_id)
-    otherwise records_refusal kind (size_of bytes records_id)
-    otherwise fan_refusal (size_of bytes fan_id)
-    otherwise ids_refusal kind (size_of bytes ids_id)
-    otherwise edges_refusal (size_of bytes edges_id)
-
--- "TRAILER", and base ids that are missing
-unfoldable pub trailer_refusal : Kind → List ℕ → Option FileError
-trailer_refusal kind bytes =
-    Trailer when not (length bytes - (table_of bytes).end == id_len kind)
-    otherwise BaseMissing when (nat_lt 0 (slice_index bytes 7) && is_none (size_of bytes bases_id))
-
 -- the first entry of the fan that is less than the one before it
 abbrev pub fall_after : List ℕ → ℕ → Option FileError
 fall_after fan i = FanFalls (i + 1) when nat_lt (slice_index fan (i + 1)) (slice_index fan i)
@@ -85,18 +44,27 @@ fall_after fan i = FanFalls (i + 1) when nat_lt (slice_index fan (i + 1)) (slice
 unfoldable pub falling_refusal : List ℕ → Option FileError
 falling_refusal fan = first_below (fall_after fan) 255
 
--- the numbers of ids and of records
-unfoldable pub counts_refusal : Kind → List ℕ → Option FileError
-counts_refusal kind bytes =
-    IdCount when has_other_count (commits_of (fan_of bytes)) (id_len kind) (size_of bytes ids_id)
-    otherwise RecordCount when has_other_count (commits_of (fan_of bytes)) (record_len kind) (size_of bytes records_id)
-
 -- the first condition that refuses the bytes, none where they are a file of a layer
 unfoldable pub refusal : List ℕ → Option FileError
 refusal bytes =
-    header_refusal bytes
+    let kind = kind_in bytes in
+    let commits = commits_of (fan_of bytes) in
+    TooSmall when nat_lt (length bytes) least_size
+    otherwise Signature when not (bytes_eq (take 4 bytes) signature)
+    otherwise Version (slice_index bytes 4) when not (slice_index bytes 4 == 1)
+    otherwise Hash (slice_index bytes 5) when is_none (kind_of (slice_index bytes 5))
     otherwise option_map Chunks (table_fault bytes 8 (slice_index bytes 6))
-    otherwise sizes_refusal (kind_in bytes) bytes
-    otherwise trailer_refusal (kind_in bytes) bytes
+    otherwise BaseSize when is_cut (id_len kind) (size_of bytes bases_id)
+    otherwise BaseCount when has_other_count (slice_index bytes 7) (id_len kind) (size_of bytes bases_id)
+    otherwise NoCommitData when is_none (size_of bytes records_id)
+    otherwise CommitDataSize when is_cut (record_len kind) (size_of bytes records_id)
+    otherwise NoFan when is_none (size_of bytes fan_id)
+    otherwise FanSize when has_other_size 1024 (size_of bytes fan_id)
+    otherwise NoIds when is_none (size_of bytes ids_id)
+    otherwise IdsSize when is_cut (id_len kind) (size_of bytes ids_id)
+    otherwise TooManyEdges when has_more 4294967294 4 (size_of bytes edges_id)
+    otherwise Trailer when not (length bytes - (table_of bytes).end == id_len kind)
+    otherwise BaseMissing when (nat_lt 0 (slice_index bytes 7) && is_none (size_of bytes bases_id))
     otherwise falling_refusal (fan_of bytes)
-    otherwise counts_refusal (kind_in bytes) bytes
+    otherwise IdCount when has_other_count commits (id_len kind) (size_of bytes ids_id)
+    otherwise RecordCount when has_other_count commits (record_len kind) (size_of bytes records_id)

@@ -6,8 +6,8 @@ ghost use Rattle.gix_hash_core.specs.Kind.{id_len};
 ghost use Rattle.gix_chunk_core.specs.FirstBytes.{filled};
 ghost use Rattle.gix_chunk_core.specs.Table.{Chunks};
 ghost use Rattle.graph_format.specs.Reports.{Reports};
-ghost use Rattle.graph_format.specs.Refusal.{bases_refusal, records_refusal, fan_refusal};
-ghost use Rattle.graph_format.specs.Refusal.{ids_refusal, edges_refusal, sizes_refusal};
+ghost use Rattle.graph_format.specs.RefusalGroups.{bases_refusal, records_refusal, fan_refusal};
+ghost use Rattle.graph_format.specs.RefusalGroups.{ids_refusal, edges_refusal, sizes_refusal};
 ghost use Rattle.graph_format.specs.ChunkRanges.{IsChunkRange, AreChunkRanges};
 ghost use Rattle.graph_format.specs.ChunkRanges.{size_at, chunk_start};
 
@@ -90,7 +90,7 @@ pub fn record_len(kind: Kind) -> usize
 
 /// Refuses a list of base ids that ends within an id, or has another number of ids than the header
 /// says.
-#[tactic(auto, unfolding(crate::specs::Refusal::bases_refusal))]
+#[tactic(auto, unfolding(crate::specs::RefusalGroups::bases_refusal))]
 fn check_bases(kind: Kind, count: u8, range: Option<ChunkRange>) -> Result<(), FileError>
     requires { IfSome range (λ p. p.start ≤ p.end) }
     ensures { Reports result (bases_refusal kind count (option_map size_at range)) }
@@ -107,7 +107,7 @@ fn check_bases(kind: Kind, count: u8, range: Option<ChunkRange>) -> Result<(), F
 }
 
 /// Refuses records that are missing, or that end within a record.
-#[tactic(auto, unfolding(crate::specs::Refusal::records_refusal))]
+#[tactic(auto, unfolding(crate::specs::RefusalGroups::records_refusal))]
 fn check_records(kind: Kind, range: Option<ChunkRange>) -> Result<ChunkRange, FileError>
     requires { IfSome range (λ p. p.start ≤ p.end) }
     ensures refusal { Reports result (records_refusal kind (option_map size_at range)) }
@@ -121,7 +121,7 @@ fn check_records(kind: Kind, range: Option<ChunkRange>) -> Result<ChunkRange, Fi
 }
 
 /// Refuses a fan that is missing, or that does not have 256 numbers.
-#[tactic(auto, unfolding(crate::specs::Refusal::fan_refusal))]
+#[tactic(auto, unfolding(crate::specs::RefusalGroups::fan_refusal))]
 fn check_fan(range: Option<ChunkRange>) -> Result<ChunkRange, FileError>
     requires { IfSome range (λ p. p.start ≤ p.end) }
     ensures refusal { Reports result (fan_refusal (option_map size_at range)) }
@@ -136,7 +136,7 @@ fn check_fan(range: Option<ChunkRange>) -> Result<ChunkRange, FileError>
 }
 
 /// Refuses ids that are missing, or that end within an id.
-#[tactic(auto, unfolding(crate::specs::Refusal::ids_refusal))]
+#[tactic(auto, unfolding(crate::specs::RefusalGroups::ids_refusal))]
 fn check_ids(kind: Kind, range: Option<ChunkRange>) -> Result<ChunkRange, FileError>
     requires { IfSome range (λ p. p.start ≤ p.end) }
     ensures refusal { Reports result (ids_refusal kind (option_map size_at range)) }
@@ -150,7 +150,7 @@ fn check_ids(kind: Kind, range: Option<ChunkRange>) -> Result<ChunkRange, FileEr
 }
 
 /// Refuses an extra edge list that has too many words.
-#[tactic(auto, unfolding(crate::specs::Refusal::edges_refusal))]
+#[tactic(auto, unfolding(crate::specs::RefusalGroups::edges_refusal))]
 fn check_edges(range: Option<ChunkRange>) -> Result<(), FileError>
     requires { IfSome range (λ p. p.start ≤ p.end) }
     ensures { Reports result (edges_refusal (option_map size_at range)) }
@@ -182,7 +182,7 @@ pub(crate) fn chunk_range(
 }
 
 /// Where the chunks lie, if those that have to be there are there, and each has a right size.
-#[tactic(auto, using(crate::proofs::ChunkLemmas::size_laws, gix_chunk_core::proofs::HeadLemmas::head_laws), unfolding(crate::specs::Refusal::sizes_refusal))]
+#[tactic(auto, using(crate::proofs::ChunkLemmas::size_laws, gix_chunk_core::proofs::HeadLemmas::head_laws), unfolding(crate::specs::RefusalGroups::sizes_refusal))]
 pub(crate) fn chunk_ranges(
     front: &[u8],
     len: usize,

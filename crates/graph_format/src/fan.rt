@@ -24,7 +24,7 @@ pub fn fan_at(bytes: &[u8], fan: ChunkRange, i: usize) -> u32
 
 /// The number at a place of the fan of a file that has `len` bytes, and begins with these.
 #[tactic(auto, using(crate::proofs::FanLemmas::fan_laws, gix_chunk_core::proofs::HeadLemmas::head_laws))]
-pub fn fan_at_head(front: &[u8], len: usize, fan: ChunkRange, i: usize) -> u32
+pub(crate) fn fan_at_head(front: &[u8], len: usize, fan: ChunkRange, i: usize) -> u32
     requires place { IsChunkAt (filled front.now len) fan_id fan }
     requires size { fan.end ≡ fan.start + 1024 }
     requires front { fan.end ≤ length front.now }

@@ -5,7 +5,7 @@ ghost use Rattle.gix_chunk_core.specs.FirstBytes.{filled};
 ghost use Rattle.gix_hash_core.specs.Kind.{kind_of};
 ghost use Rattle.graph_format.specs.Reports.{Reports};
 ghost use Rattle.graph_format.specs.Format.{least_size, kind_in};
-ghost use Rattle.graph_format.specs.Refusal.{header_refusal};
+ghost use Rattle.graph_format.specs.RefusalGroups.{header_refusal};
 
 use crate::error::FileError;
 use gix_hash_core::Kind;
@@ -22,7 +22,7 @@ const MIN_FILE_SIZE: usize = HEADER_LEN + 4 * 12 + 256 * 4 + 20;
 
 /// The kind of a file's ids, where its header is right. The file has `len` bytes, and begins with
 /// these.
-#[tactic(auto, using(gix_chunk_core::proofs::HeadLemmas::head_laws), unfolding(crate::specs::Refusal::header_refusal, crate::specs::Format::kind_in))]
+#[tactic(auto, using(gix_chunk_core::proofs::HeadLemmas::head_laws), unfolding(crate::specs::RefusalGroups::header_refusal, crate::specs::Format::kind_in))]
 pub(crate) fn kind_of_file(front: &[u8], len: usize) -> Result<Kind, FileError>
     requires len { length front.now ≤ len }
     requires header { min len 8 ≤ length front.now }

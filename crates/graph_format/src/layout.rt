@@ -1,15 +1,19 @@
 //! The layout of a file: what its header says, and where its parts lie.
 
-ghost use Rattle.std.specs.Prelude.{◌≡◌, ◌≤◌, length, None, Some, IfOk, IfErr, IfSome, IsSome};
-ghost use Rattle.std.specs.Prelude.{IsTrue, min};
-ghost use Rattle.gix_chunk_core.specs.FirstBytes.{filled};
+ghost use Rattle.std.specs.Prelude.{◌≡◌, ◌≤◌, ℕ, List, length, None, Some, IfOk, IfErr, IfSome};
+ghost use Rattle.std.specs.Prelude.{IsSome, IsTrue, OnOk, min, option_map, slice_index};
+ghost use Rattle.gix_chunk_core.specs.Fault.{table_fault};
+ghost use Rattle.gix_chunk_core.specs.FirstBytes.{filled, BeginsWith};
+ghost use Rattle.gix_chunk_core.specs.Table.{Chunks};
 ghost use Rattle.graph_format.specs.Reports.{Reports};
 ghost use Rattle.graph_format.specs.Format.{table_of, fan_of, commits_of};
 ghost use Rattle.graph_format.specs.Refusal.{refusal};
-ghost use Rattle.graph_format.specs.Refusal.{counts_refusal, trailer_refusal};
+ghost use Rattle.graph_format.specs.RefusalGroups.{counts_refusal, trailer_refusal};
+ghost use Rattle.graph_format.specs.RefusalGroups.{refusal_by_head, refusal_by_fan};
 ghost use Rattle.graph_format.specs.ChunkRanges.{AreChunkRanges, IsChunkRange};
 ghost use Rattle.graph_format.specs.Layout.{IsLayout};
 ghost use Rattle.graph_format.specs.Head.{IsLayoutOfHead, table_end};
+ghost use Rattle.graph_format.specs.Outline.{IsOutline};
 
 use crate::chunks::{ChunkRange, ChunkRanges, chunk_range, chunk_ranges, record_len};
 use crate::error::FileError;
@@ -29,8 +33,16 @@ pub struct Layout {
     pub trailer_start: usize,
 }
 
+/// What the header and the table of chunks of a file say.
+#[derive(Clone, Copy)]
+struct Outline {
+    kind: Kind,
+    chunks: ChunkRanges,
+    trailer_start: usize,
+}
+
 /// Refuses bytes that end with no checksum, or lack the base ids.
-#[tactic(auto, using(crate::proofs::ChunkSizeLemmas::count_laws, gix_chunk_core::proofs::HeadLemmas::head_laws), unfolding(crate::specs::Refusal::trailer_refusal))]
+#[tactic(auto, using(crate::proofs::ChunkSizeLemmas::count_laws, gix_chunk_core::proofs::HeadLemmas::head_laws), unfolding(crate::specs::RefusalGroups::trailer_refusal))]
 fn check_trailer(
     front: &[u8],
     len: usize,
@@ -55,7 +67,7 @@ fn check_trailer(
 }
 
 /// Refuses bytes that have another number of ids or records than the fan counts.
-#[tactic(auto, using(crate::proofs::ChunkSizeLemmas::count_laws), unfolding(crate::specs::Refusal::counts_refusal))]
+#[tactic(auto, using(crate::proofs::ChunkSizeLemmas::count_laws), unfolding(crate::specs::RefusalGroups::counts_refusal))]
 fn check_counts(
     front: &[u8],
     len: usize,
@@ -90,7 +102,7 @@ pub fn find_chunk(bytes: &[u8], id: [u8; 4]) -> Option<ChunkRange>
 }
 
 /// The layout of the bytes, or why they are refused.
-#[tactic(auto, using(gix_chunk_core::proofs::HeadLemmas::whole_laws, crate::proofs::HeadLemmas::begin_laws))]
+#[tactic(auto, using(gix_chunk_core::proofs::AlikeLemmas::whole_laws))]
 pub fn layout_of(bytes: &[u8]) -> Result<Layout, FileError>
     ensures refusal { Reports result (refusal bytes.now) }
     ensures layout { IfOk result (IsLayout bytes.now) }
@@ -101,54 +113,93 @@ pub fn layout_of(bytes: &[u8]) -> Result<Layout, FileError>
     }
 }
 
-/// The layout of a file that has `len` bytes and begins with these, or why it is refused. `None`
-/// where these are not all bytes, and the table of chunks or the fan does not lie within them.
-#[tactic(auto, using(crate::proofs::HeadLemmas::front_laws))]
+/// The layout of a file that has `len` bytes and begins with these, or why each such file is
+/// refused. `None` where these are not all bytes, and the table of chunks or the fan does not lie
+/// within them.
 pub fn layout_of_head(front: &[u8], len: usize) -> Result<Option<Layout>, FileError>
     requires { length front.now ≤ len }
-    ensures refused { IfErr result (λ error. refusal (filled front.now len) ≡ Some error) }
+    ensures refused { IfErr result (λ error. (file : List ℕ) → BeginsWith file front.now len
+        → refusal file ≡ Some error) }
     ensures layout { IfOk result (λ answer. IfSome answer (IsLayoutOfHead front.now len)) }
-    ensures whole { length front.now ≡ len → IfOk result (λ answer. IsSome answer) }
-{
-    layout_of_filled(front, len)
-}
-
-/// The layout of the file that has `len` bytes, begins with these, and has 0 for each other byte.
-#[tactic(auto, using(crate::proofs::ChunkSizeLemmas::layout_laws, gix_chunk_core::proofs::HeadLemmas::head_laws), unfolding(crate::specs::Refusal::refusal))]
-fn layout_of_filled(front: &[u8], len: usize) -> Result<Option<Layout>, FileError>
-    requires { length front.now ≤ len }
-    ensures refused { IfErr result (λ error. refusal (filled front.now len) ≡ Some error) }
-    ensures layout { IfOk result (λ answer. IfSome answer (IsLayout (filled front.now len))) }
-    ensures table { IfOk result (λ answer.
-        IsSome answer → table_end (filled front.now len) ≤ length front.now) }
-    ensures fan { IfOk result (λ answer. IfSome answer (λ layout.
-        layout.chunks.fan.end ≤ length front.now)) }
     ensures whole { length front.now ≡ len → IfOk result (λ answer. IsSome answer) }
 {
     if !holds_table(front, len) {
         return Ok(None);
     }
-    let kind = kind_of_file(front, len)?;
-    let index = match Index::from_head(front, len, HEADER_LEN, front[6] as u32) {
-        Ok(index) => index,
-        Err(fault) => return Err(FileError::Chunks(fault)),
-    };
-    let chunks = chunk_ranges(front, len, &index, kind)?;
-    let end = index.highest_offset();
-    check_trailer(front, len, end, kind, &chunks)?;
-    if chunks.fan.end > front.len() {
+    let outline = outline_of(front, len)?;
+    if outline.chunks.fan.end > front.len() {
         return Ok(None);
     }
+    let layout = layout_by_fan(front, len, outline)?;
+    Ok(Some(layout))
+}
+
+/// The table of chunks of the file that has `len` bytes, begins with these, and has 0 for each
+/// other byte, or why it is refused.
+fn index_of(front: &[u8], len: usize) -> Result<Index<'_>, FileError>
+    requires len { length front.now ≤ len }
+    requires header { 8 ≤ length front.now }
+    requires table { min len (table_end front.now) ≤ length front.now }
+    ensures table { IfOk result
+        (Chunks (filled front.now len) 8 (slice_index (filled front.now len) 6)) }
+    ensures refusal { Reports result (option_map FileError.Chunks
+        (table_fault (filled front.now len) 8 (slice_index (filled front.now len) 6))) }
+{
+    match Index::from_head(front, len, HEADER_LEN, front[6] as u32) {
+        Ok(index) => Ok(index),
+        Err(fault) => Err(FileError::Chunks(fault)),
+    }
+}
+
+/// What the header and the table of chunks say, or why they are refused, for the file that has
+/// `len` bytes, begins with these, and has 0 for each other byte.
+#[tactic(auto, using(crate::proofs::ChunkSizeLemmas::layout_laws, gix_chunk_core::proofs::HeadLemmas::head_laws), unfolding(crate::specs::RefusalGroups::refusal_by_head))]
+fn outline_of(front: &[u8], len: usize) -> Result<Outline, FileError>
+    requires len { length front.now ≤ len }
+    requires table { min len (table_end front.now) ≤ length front.now }
+    ensures refusal { Reports result (refusal_by_head (filled front.now len)) }
+    ensures outline { IfOk result (IsOutline (filled front.now len)) }
+    ensures header { OnOk result (8 ≤ length front.now) }
+{
+    let kind = kind_of_file(front, len)?;
+    let index = index_of(front, len)?;
+    let chunks = chunk_ranges(front, len, &index, kind)?;
+    let trailer_start = index.highest_offset();
+    check_trailer(front, len, trailer_start, kind, &chunks)?;
+    Ok(Outline {
+        kind,
+        chunks,
+        trailer_start,
+    })
+}
+
+/// The layout of that file, where its fan lies within these bytes, or why its fan is refused.
+#[tactic(auto, unfolding(crate::specs::RefusalGroups::refusal_by_fan))]
+fn layout_by_fan(front: &[u8], len: usize, outline: Outline) -> Result<Layout, FileError>
+    requires header { 8 ≤ length front.now }
+    requires len { length front.now ≤ len }
+    requires head { refusal_by_head (filled front.now len) ≡ None }
+    requires outline { IsOutline (filled front.now len) outline }
+    requires fan { outline.chunks.fan.end ≤ length front.now }
+    ensures refusal { Reports result (refusal_by_fan (filled front.now len)) }
+    ensures layout { IfOk result (IsLayout (filled front.now len)) }
+    ensures fan { IfOk result (λ layout. layout.chunks.fan ≡ outline.chunks.fan) }
+{
+    let Outline {
+        kind,
+        chunks,
+        trailer_start,
+    } = outline;
     check_rising(front, len, chunks.fan)?;
     let commits = fan_at_head(front, len, chunks.fan, 255);
     check_counts(front, len, commits, kind, &chunks)?;
-    Ok(Some(Layout {
+    Ok(Layout {
         kind,
         commits,
         base_count: front[7],
         chunks,
-        trailer_start: end,
-    }))
+        trailer_start,
+    })
 }
 
 /// Whether these are all bytes of a file that has so many, or have its table of chunks.

@@ -7,7 +7,7 @@ use Rattle.gix_chunk_core.specs.FirstBytes.{filled}
 use Rattle.gix_chunk_core.proofs.HeadLemmas.{filled-len, filled-take, filled-index}
 use Rattle.gix_hash_core.specs.Kind.{kind_of}
 use Rattle.graph_format.specs.Format.{signature, least_size}
-use Rattle.graph_format.specs.Refusal.{header_refusal}
+use Rattle.graph_format.specs.RefusalGroups.{header_refusal}
 use Rattle.graph_format.specs.declared.error.FileError.TheVariants.{TooSmall, Signature, Version, Hash}
 use Rattle.graph_format.proofs.header.kind_of_file.Goals as goal
 
