@@ -1,6 +1,5 @@
-//! What the check of a graph asks of a layer and of its commits.
-//!
-//! These are functions, so that [`File`] and [`Commit`] have the methods of the Rust crate alone.
+//! The decoded fields of a layer, for the crates above: functions, so that [`File`] and [`Commit`]
+//! have the methods of the Rust crate alone.
 
 ghost use Rattle.std.specs.Prelude.{◌≡◌, ◌<◌, length, map, slice_get, option_map, Some};
 ghost use Rattle.gix_hash_core.specs.Oid.{oid_bytes};
