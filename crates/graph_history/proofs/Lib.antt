@@ -9,3 +9,5 @@ pub mod PassLemmas
 pub mod BaseLemmas
 pub mod FoundLemmas
 pub mod EdgeLemmas
+pub mod BelowLemmas
+pub mod IdLemmas

@@ -1,6 +1,7 @@
 pub mod Checked
 pub mod RightGraph
 pub mod Bases
+pub mod IdAncestors
 pub mod Comparison
 pub mod Trails
 pub mod Paint
