@@ -52,7 +52,8 @@ impl<'g> Checked<'g> {
     /// # Errors
     ///
     /// The first check that fails, in the order of [`Graph::verify_integrity`], or `OutOfMemory`
-    /// where an allocation failed; never `Processor`.
+    /// where an allocation failed; never `Processor`. The check asks for memory as it goes: where
+    /// it gets none, no later fault is told.
     pub fn new(alloc: Global, graph: &'g Graph) -> Result<Checked<'g>, VerifyError<NoFault>>
         ensures graph { IfOk result (λ checked. checked.layers ≡ graph.now) }
         ensures options { IfOk result (λ checked. checked.options ≡ plain_options) }
@@ -75,7 +76,7 @@ impl<'g> Checked<'g> {
     /// # Errors
     ///
     /// The first check that fails, in the order of [`Graph::verify_integrity_with`], or
-    /// `OutOfMemory` where an allocation failed; never `Processor`.
+    /// `OutOfMemory` where an allocation failed, as in [`Checked::new`]; never `Processor`.
     pub fn new_with(
         alloc: Global,
         options: VerifyOptions,

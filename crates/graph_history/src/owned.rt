@@ -110,9 +110,9 @@ impl CheckedGraph {
     ///
     /// # Errors
     ///
-    /// Those of [`Graph::new`] for the files of the layers and this one, and then those of a check
-    /// of all of them with the options of the graph's check: the first check of all that fails. The
-    /// file is then dropped, and the graph is as it was.
+    /// Those of [`Graph::push`], and then those of a check of all layers with the options of the
+    /// graph's check: the first check of all that fails, or `OutOfMemory` as in [`Checked::new`].
+    /// The file is then dropped, and the graph is as it was.
     pub fn push(&mut self, alloc: Global, file: File) -> Result<(), PushError>
         ensures pushed { OnOk result (self.new.layers ≡ self.old.layers ++ file ∷ []) }
         ensures kept { OnErr result (self.new.layers ≡ self.old.layers) }

@@ -3,7 +3,7 @@ use gix_commitgraph::file::Commit;
 use gix_commitgraph::verify::VerifyError;
 use gix_commitgraph::{File, Graph};
 use gix_hash_core::{Kind, ObjectId};
-use graph_history::{Checked, NoFault};
+use graph_history::{Checked, CheckedGraph, NoFault};
 use graph_vectors::changed::{
     Change, FIRST_IS_EDGE_INDEX, NO_EDGE_LIST, NULL_TREE, SECOND_WITHOUT_FIRST, WRONG_FAN,
     WRONG_GENERATIONS, changed_diamond, sharing_file,
@@ -12,18 +12,19 @@ use graph_vectors::{DIAMOND, LayerPlan, Row};
 use std::alloc::Global;
 use std::process::Abort;
 
-/// Compares the refusal of a graph with that of the check alone.
-fn compare_refusal(rt: &impl Abort, alloc: Global, graph: &Graph) {
+/// Compares the refusals of a graph that is lent, and then owned, with that of the check alone.
+fn compare_refusal(rt: &impl Abort, alloc: Global, graph: Graph) {
     let answer = graph.verify_integrity(alloc, &mut |_: &Commit<'_>| Ok::<(), NoFault>(()));
     let want = answer.err().expect(rt, "a wrong graph");
     assert!(rt; !matches!(want, VerifyError::OutOfMemory));
-    assert!(rt; matches!(&Checked::new(alloc, graph), Err(error) if *error == want));
+    assert!(rt; matches!(&Checked::new(alloc, &graph), Err(error) if *error == want));
+    assert!(rt; matches!(&CheckedGraph::new(alloc, graph), Err(error) if *error == want));
 }
 
 /// Compares the refusal of the graph of the one layer of these bytes.
 fn compare_bytes(rt: &impl Abort, alloc: Global, bytes: Option<Vec<u8>>) {
     let bytes = bytes.expect(rt, "places in the file");
-    compare_refusal(rt, alloc, &graph_of_one(rt, alloc, bytes));
+    compare_refusal(rt, alloc, graph_of_one(rt, alloc, bytes));
 }
 
 /// Commits of graphs, layer by layer, with a wrong id, and with a parent in a later layer.
@@ -37,10 +38,10 @@ const WRONG: &[&[&[Row<'static>]]] = &[
 fn no_graph_of_wrong_commits_is_checked(rt: HostRuntime) {
     let alloc = rt.alloc();
     for (commits, ..) in WRONG_GENERATIONS {
-        compare_refusal(&rt, alloc, &graph(&rt, alloc, &[*commits]));
+        compare_refusal(&rt, alloc, graph(&rt, alloc, &[*commits]));
     }
     for layers in WRONG {
-        compare_refusal(&rt, alloc, &graph(&rt, alloc, layers));
+        compare_refusal(&rt, alloc, graph(&rt, alloc, layers));
     }
 }
 
@@ -90,17 +91,17 @@ fn too_many_layers(rt: &impl Abort, alloc: Global) -> Graph {
 #[test]
 fn no_graph_of_wrong_layers_is_checked(rt: HostRuntime) {
     let alloc = rt.alloc();
-    compare_refusal(&rt, alloc, &too_many_layers(&rt, alloc));
+    compare_refusal(&rt, alloc, too_many_layers(&rt, alloc));
     let base = ObjectId::from([0x33; 20]);
     let alone = graph_of(&rt, alloc, [layer(&rt, alloc, &[base], &[])]);
-    compare_refusal(&rt, alloc, &alone);
+    compare_refusal(&rt, alloc, alone);
     let upper = layer(&rt, alloc, &[base], &[]);
     let lower = empty_layer(&rt, alloc, Kind::Sha1);
-    compare_refusal(&rt, alloc, &graph_of(&rt, alloc, [lower, upper]));
+    compare_refusal(&rt, alloc, graph_of(&rt, alloc, [lower, upper]));
 
     let plan = LayerPlan::of_rows(alloc, &[], DIAMOND).expect(&rt, "memory");
     let misnamed = opened(&rt, alloc, built(&rt, alloc, &plan), "graph-.graph");
-    compare_refusal(&rt, alloc, &graph_of(&rt, alloc, [misnamed]));
+    compare_refusal(&rt, alloc, graph_of(&rt, alloc, [misnamed]));
     let mut bytes = built(&rt, alloc, &plan);
     if let Some(last) = bytes.last_mut() {
         *last ^= 1;
