@@ -1,5 +1,5 @@
 -- What the paint says when all that are queued are stale: it has found the best common ancestors.
-use Rattle.std.proofs.Common.{◌≡◌, ◌⊎◌, ℕ, ◌+◌, ◌<◌, ◌≤◌, zero, suc, List, true, false, ap, ◌∙◌, inr, ⊎_elim, arith}
+use Rattle.std.proofs.Common.{◌≡◌, ◌⊎◌, ℕ, ◌+◌, ◌<◌, ◌≤◌, zero, suc, List, true, false, not, ap, ◌∙◌, inr, ⊎_elim, arith}
 use Rattle.std.proofs.lemmas.Bool.{cases_Bool, both_ways, false_from_ne_true, and_from}
 use Rattle.graph_walks.specs.declared.TheConstants.{GENERATION_NUMBER_MAX}
 use Rattle.graph_walks.specs.History.{Node, generation_at}
@@ -7,16 +7,16 @@ use Rattle.graph_walks.specs.Walks.{Reaches, IsProperAncestor}
 use Rattle.graph_history.specs.declared.paint.Coat.{Coat}
 use Rattle.graph_history.specs.declared.paint.Paint.{Paint}
 use Rattle.graph_history.specs.declared.paint.Paint.TheVariants.{First, Others, Both}
-use Rattle.graph_history.specs.Bases.{IsReachedFromSome, IsCommonAncestor, IsMergeBase, IsAhead, IsBehind}
+use Rattle.graph_history.specs.Bases.{IsReachedFromSome, IsCommonAncestor, IsMergeBase, IsAhead, IsBehind, IsReached}
 use Rattle.graph_history.specs.Paint.{is_ahead, is_behind, is_base, first_leads, others_lead, is_stale, is_painted, passed}
-use Rattle.graph_history.specs.Paint.{paint_at, is_queued, IsPaint}
+use Rattle.graph_history.specs.Paint.{coat_at, paint_at, is_queued, is_visited, IsPaint}
 use Rattle.graph_history.specs.Paint.{Grows}
 use Rattle.graph_history.specs.Painting.{IsSpread, IsDone, IsPainted}
 use Rattle.graph_history.proofs.ReachLemmas.{proper_reaches, proper_then, reaches_then, from_some_then, IsBelowQueued, carried}
 use Rattle.graph_history.proofs.ReachLemmas.{first_step}
 use Rattle.graph_history.proofs.PaintLemmas.{stale_first, stale_others, both_of, first_of, others_of, is_both, is_first}
 use Rattle.graph_history.proofs.PaintLemmas.{is_others, passed_first, passed_others}
-use Rattle.graph_history.proofs.PaintLemmas.{passed_stale}
+use Rattle.graph_history.proofs.PaintLemmas.{passed_stale, first_painted, others_painted}
 
 -- what a commit passes on
 module _ (x y : Paint) (grows : Grows (passed x) y) where
@@ -166,6 +166,37 @@ module _ (h : List Node) (a : ℕ) (bs : List ℕ) (coats : List Coat) (paint : 
       (others_come p alone.0))
       (false_from_ne_true (first_leads (paint_at coats p)) (λ (e : first_leads (paint_at coats p) ≡ true).
       alone.1 ((paint.each p).first e)))
+
+  not_capped_below : (p : ℕ) → GENERATION_NUMBER_MAX ≤ generation_at h p → IsBelowQueued h (is_queued coats) p → ⊥
+  not_capped_below p high below =
+      let low = done.uncapped below.0 below.1 in
+      let rise = never_rises below.0 p (proper_reaches h below.0 p below.2) in
+      absurd (omega arith)
+
+  capped_painted : (p : ℕ) → IsReached h a bs p → GENERATION_NUMBER_MAX ≤ generation_at h p → is_painted (paint_at coats p) ≡ true
+  capped_painted p reached high =
+      ⊎_elim
+      (λ (reaches : Reaches h a p).
+      ⊎_elim
+      (λ (e : first_leads (paint_at coats p) ≡ true). first_painted (paint_at coats p) e)
+      (λ (below : IsBelowQueued h (is_queued coats) p). absurd (not_capped_below p high below))
+      (first_comes p reaches))
+      (λ (some : IsReachedFromSome h bs p).
+      ⊎_elim
+      (λ (e : others_lead (paint_at coats p) ≡ true). others_painted (paint_at coats p) e)
+      (λ (below : IsBelowQueued h (is_queued coats) p). absurd (not_capped_below p high below))
+      (others_come p some))
+      reached
+
+  -- one that is reached at the cap was visited
+  pub capped_visited : (p : ℕ) → IsReached h a bs p → GENERATION_NUMBER_MAX ≤ generation_at h p
+      → is_visited (coat_at coats p) ≡ true
+  capped_visited p reached high =
+      ⊎_elim
+      (λ (queued : is_queued coats p ≡ true). let low = done.uncapped p queued in absurd (omega arith))
+      (λ (settled : is_queued coats p ≡ false).
+      and_from (is_painted (paint_at coats p)) (not (is_queued coats p)) (capped_painted p reached high) (ap not settled))
+      (cases_Bool (is_queued coats p))
 
   pub painted_is_exact : IsPainted h a bs coats
   painted_is_exact = record {

@@ -1,5 +1,5 @@
 -- What a painting visits, where no commit that it starts from is at the cap.
-use Rattle.std.proofs.Common.{◌≡◌, ◌≢◌, ◌⊎◌, ℕ, ◌+◌, ◌<◌, ◌≤◌, suc, zero, List, [], ◌∷◌, length, map, Bool, true, false, not}
+use Rattle.std.proofs.Common.{◌≡◌, ◌≢◌, ℕ, ◌+◌, ◌<◌, ◌≤◌, suc, zero, List, [], ◌∷◌, length, map, Bool, true, false, not}
 use Rattle.std.proofs.Common.{cond}
 use Rattle.std.proofs.Common.{◌&&◌, All, Contains, IsPermutation, set, sum_by, count_by, refl, sym, ap, ◌∙◌, subst, inl, inr}
 use Rattle.std.proofs.Common.{⊎_elim}
@@ -7,21 +7,20 @@ use Rattle.std.proofs.Common.{arith}
 use Rattle.std.specs.BinaryHeap.{IsHeap}
 use Rattle.std.proofs.lemmas.Bool.{cases_Bool, cases_eq, cases_lt, both_ways, and_from, and_parts, false≢true}
 use Rattle.std.proofs.lemmas.List.{length-map}
-use Rattle.std.proofs.lemmas.List.Elements.{All-nil, All-weaker, All-contains, All-contains_itself}
+use Rattle.std.proofs.lemmas.List.Elements.{All-nil, All-weaker, All-contains_itself}
 use Rattle.std.proofs.lemmas.List.Sorted.{Contains-permutation, length_permutation}
 use Rattle.std.proofs.lemmas.List.Sums.{sum_by-set}
 use Rattle.graph_walks.specs.declared.TheConstants.{GENERATION_NUMBER_MAX}
 use Rattle.graph_walks.specs.History.{Node, IsParent, generation_at}
 use Rattle.graph_walks.specs.Walks.{Reaches, IsProperAncestor}
-use Rattle.graph_history.specs.Bases.{IsStart, AreBelowCap, IsOnOneSide, IsAtEdge, IsAboveEdge, AreVisits, IsMergeBase}
-use Rattle.graph_ancestors.specs.Cardinality.{IsNumberOf}
+use Rattle.graph_history.specs.Bases.{IsStart, AreBelowCap, IsOnOneSide, IsAtEdge, IsAboveEdge}
+use Rattle.graph_ancestors.specs.Cardinality.{AtLeast}
 use Rattle.graph_history.specs.declared.paint.Coat.{Coat}
 use Rattle.graph_history.specs.declared.paint.Paint.{Paint}
 use Rattle.graph_history.specs.Paint.{is_painted, is_stale, is_fresh, is_visited, is_on_one_side, covers, joined, bare}
 use Rattle.graph_history.specs.Paint.{coat_at, paint_at, is_queued, IsSo, IsPaint}
-use Rattle.graph_history.specs.Painting.{IsLevel, IsEntry, entry_cmp, IsWaiting, IsKnownEdge, IsVisiting, IsPainted, IsDone}
+use Rattle.graph_history.specs.Painting.{IsLevel, IsEntry, entry_cmp, IsWaiting, IsKnownEdge, IsVisiting, IsPainted}
 use Rattle.graph_history.proofs.PaintLemmas.{joined_painted, joined_fresh, one_side_painted, one_side, painted_leads}
-use Rattle.graph_history.proofs.PaintLemmas.{ahead_live, behind_live, base_live}
 use Rattle.graph_history.proofs.ReachLemmas.{proper_step, reaches_itself}
 use Rattle.graph_history.proofs.CoatLemmas.{TakenBy}
 use Rattle.graph_history.proofs.FoundLemmas.{counted_number, some_counted, tested_within}
@@ -134,7 +133,7 @@ module _ (h : List Node) (a : ℕ) (bs : List ℕ) (coats : List Coat) (none : (
     });
   }
 
-unvisited_queued : (m : Coat) → m.queued ≡ true → is_visited m ≡ false
+pub unvisited_queued : (m : Coat) → m.queued ≡ true → is_visited m ≡ false
 unvisited_queued m e = ap (λ (b : Bool). is_painted m.paint && not b) e ∙ and_not (is_painted m.paint) where
   and_not : (b : Bool) → (b && false) ≡ false
   and_not true = refl
@@ -284,7 +283,7 @@ module _ (h : List Node) (a : ℕ) (bs : List ℕ) (coats after : List Coat) (qu
 
 -- What was visited at the end.
 module _ (h : List Node) (a : ℕ) (bs : List ℕ) (coats : List Coat) (visits : ℕ) (painted : IsPainted h a bs coats)
-    (paint : IsPaint h a bs coats) (done : IsDone h coats) (visiting : IsVisiting h a bs coats visits) where
+    (paint : IsPaint h a bs coats) (visiting : IsVisiting h a bs coats visits) where
   is_one_side : (c : ℕ) → is_on_one_side (paint_at coats c) ≡ true → IsOnOneSide h a bs c
   is_one_side c e =
       ⊎_elim
@@ -314,48 +313,14 @@ module _ (h : List Node) (a : ℕ) (bs : List ℕ) (coats : List Coat) (visits :
         not_is true e = absurd (false≢true e)
         not_is false e = refl
 
-  -- one that is not stale is not queued any more
-  live_visited : (p : ℕ) → (is_painted (paint_at coats p) ≡ true) × (is_stale (paint_at coats p) ≡ false)
-      → is_visited (coat_at coats p) ≡ true
-  live_visited p live =
-      ⊎_elim
-      (λ (queued : is_queued coats p ≡ true).
-      absurd (both_ways (is_stale (paint_at coats p)) live.1 (done.queued p queued)))
-      (λ (settled : is_queued coats p ≡ false).
-      and_from (is_painted (paint_at coats p)) (not (is_queued coats p)) live.0 (ap not settled))
-      (cases_Bool (is_queued coats p))
-
-  told_visited : (p : ℕ) → IsOnOneSide h a bs p ⊎ IsMergeBase h a bs p → is_visited (coat_at coats p) ≡ true
-  told_visited p told =
-      ⊎_elim
-      (λ (side : IsOnOneSide h a bs p).
-      ⊎_elim
-      (λ ahead. live_visited p (ahead_live (paint_at coats p) ((painted.ahead p).1 ahead)))
-      (λ behind. live_visited p (behind_live (paint_at coats p) ((painted.behind p).1 behind)))
-      side)
-      (λ (base : IsMergeBase h a bs p). live_visited p (base_live (paint_at coats p) ((painted.base p).1 base)))
-      told
-
-  all_visited : IsNumberOf visits (λ p. is_visited (coat_at coats p) ≡ true)
-  all_visited =
+  pub at_most_once : AtLeast visits (IsAboveEdge h a bs)
+  at_most_once =
+      let all =
       counted_number is_visited coats (λ p. is_visited (coat_at coats p) ≡ true) (λ p. ((λ e. e), (λ e. e)))
-      (λ p e. tested_within is_visited refl coats p e) visits visiting.count
-
-  pub visits_told : AreVisits h a bs visits
-  visits_told =
-      let all = all_visited in record {
-        most = (
-          all.0,
-          all.2,
-          all.1.once,
-          All-weaker (Contains all.0) (IsAboveEdge h a bs)
-              (λ p contained. is_above_edge p ((all.1.those p).0 contained)) all.0 (All-contains_itself all.0),
-        );
-        least = λ ps once told.
-            (let bound =
-            no_more ps all.0 once (λ p contained.
-            (all.1.those p).1
-            (told_visited p (All-contains (λ q. IsOnOneSide h a bs q ⊎ IsMergeBase h a bs q) ps p told contained))) in
-            let len = all.2 in
-            omega arith);
-      }
+      (λ p e. tested_within is_visited refl coats p e) visits visiting.count in (
+        all.0,
+        all.2,
+        all.1.once,
+        All-weaker (Contains all.0) (IsAboveEdge h a bs)
+            (λ p contained. is_above_edge p ((all.1.those p).0 contained)) all.0 (All-contains_itself all.0),
+      )

@@ -11,3 +11,4 @@ pub mod FoundLemmas
 pub mod EdgeLemmas
 pub mod BelowLemmas
 pub mod IdLemmas
+pub mod VisitCountLemmas

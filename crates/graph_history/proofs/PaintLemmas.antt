@@ -167,6 +167,14 @@ painted_leads Others e = inr refl
 painted_leads Both e = inl refl
 painted_leads Stale e = inl refl
 
+pub first_painted : (x : Paint) → first_leads x ≡ true → is_painted x ≡ true
+first_painted Bare e = e
+first_painted _ e = refl
+
+pub others_painted : (x : Paint) → others_lead x ≡ true → is_painted x ≡ true
+others_painted Bare e = e
+others_painted _ e = refl
+
 pub one_side : (x : Paint) → is_on_one_side x ≡ true → (is_ahead x ≡ true) ⊎ (is_behind x ≡ true)
 one_side First e = inl refl
 one_side Others e = inr refl

@@ -237,6 +237,7 @@ passes_with s t p x r = record {
     waiting = r.painting.waiting;
     gathered = r.painting.gathered;
     touched = r.painting.touched;
+    visits = r.painting.visits;
     visiting = r.painting.visiting;
   };
   within = r.within;

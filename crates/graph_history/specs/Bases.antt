@@ -1,6 +1,6 @@
 -- The common ancestors of a commit and some others of a history, and the best of them, which Git calls merge bases ("git
 -- merge-base", DESCRIPTION and DISCUSSION); and how far the commits have come apart ("git for-each-ref", ahead-behind).
-use Rattle.std.specs.Prelude.{◌≡◌, ◌⊎◌, ◌↔◌, ℕ, ◌<◌, ◌≤◌, List, Contains}
+use Rattle.std.specs.Prelude.{◌≡◌, ◌⊎◌, ◌↔◌, ℕ, ◌*◌, ◌<◌, ◌≤◌, List, Contains}
 use Rattle.std.specs.List.Sorted.{IsStrictlyIncreasing}
 use Rattle.graph_walks.specs.declared.TheConstants.{GENERATION_NUMBER_MAX}
 use Rattle.graph_walks.specs.History.{Node, IsParent, generation_at}
@@ -33,12 +33,17 @@ pub record AreMergeBases (history : List Node) (first : ℕ) (others : List ℕ)
   pub ascending : IsStrictlyIncreasing bases
   pub those : (p : ℕ) → Contains bases p ↔ IsMergeBase history first others p
 
--- What a search for them visits, where no generation number of the commits that it starts from is at the cap.
+-- What a search for them visits.
+
+-- p is reached
+abbrev pub IsReached : List Node → ℕ → List ℕ → ℕ → Type 0
+IsReached history first others p = Reaches history first p ⊎ IsReachedFromSome history others p
 
 -- s is the first commit or one of the others
 abbrev pub IsStart : ℕ → List ℕ → ℕ → Type 0
 IsStart first others s = (s ≡ first) ⊎ Contains others s
 
+-- no generation number of the commits that the search starts from is at the cap
 abbrev pub AreBelowCap : List Node → ℕ → List ℕ → Type 0
 AreBelowCap history first others = (s : ℕ) → IsStart first others s → generation_at history s < GENERATION_NUMBER_MAX
 
@@ -54,12 +59,21 @@ IsAtEdge history first others e =
 -- p is reached, and its generation number is at least that of some commit at the edge
 abbrev pub IsAboveEdge : List Node → ℕ → List ℕ → ℕ → Type 0
 IsAboveEdge history first others p =
-    (Reaches history first p ⊎ IsReachedFromSome history others p)
+    IsReached history first others p
     × ((e : ℕ) × IsAtEdge history first others e × (generation_at history e ≤ generation_at history p))
+
+-- p has to be visited: it is on one side alone, or a merge base, or reached and at the cap
+abbrev pub HasToBeVisited : List Node → ℕ → List ℕ → ℕ → Type 0
+HasToBeVisited history first others p =
+    IsOnOneSide history first others p
+    ⊎ (IsMergeBase history first others p
+    ⊎ (IsReached history first others p × (GENERATION_NUMBER_MAX ≤ generation_at history p)))
 
 -- How many commits a search for merge bases visits.
 pub record AreVisits (history : List Node) (first : ℕ) (others : List ℕ) (visits : ℕ) : Type 0 where
-  -- no more than are reached at or above the edge
-  pub most : AtLeast visits (IsAboveEdge history first others)
-  -- no fewer than there are on one side alone, and merge bases
-  pub least : AtMost visits (λ p. IsOnOneSide history first others p ⊎ IsMergeBase history first others p)
+  -- no more than three times as many as are reached
+  pub most : (n : ℕ) × AtLeast n (IsReached history first others) × (visits ≤ 3 * n)
+  -- no fewer than have to be visited
+  pub least : AtMost visits (HasToBeVisited history first others)
+  -- below the cap each is visited once at most, and only those that are reached at or above the edge
+  pub below_cap : AreBelowCap history first others → AtLeast visits (IsAboveEdge history first others)

@@ -4,7 +4,7 @@ use Rattle.graph_format.specs.Layer.{Layer}
 use Rattle.graph_format.specs.StoredHistory.{history_of}
 use Rattle.gix_commitgraph.specs.Graph.{total}
 use Rattle.graph_ancestors.specs.WalkAnswer.{numbers_of}
-use Rattle.graph_history.specs.Bases.{AreMergeBases, IsAhead, IsBehind, AreBelowCap, AreVisits}
+use Rattle.graph_history.specs.Bases.{AreMergeBases, IsAhead, IsBehind, AreVisits}
 use Rattle.graph_ancestors.specs.Cardinality.{IsNumberOf}
 use Rattle.graph_history.specs.declared.bases.Comparison.{Comparison}
 
@@ -12,6 +12,6 @@ use Rattle.graph_history.specs.declared.bases.Comparison.{Comparison}
 pub record IsComparisonOf (layers : List Layer) (first : ℕ) (others : List ℕ) (comparison : Comparison) : Type 0 where
   pub bases : AreMergeBases (history_of layers) first others (numbers_of comparison.bases.positions.items)
   pub within : All (λ base. base.0 < total layers) comparison.bases.positions.items
-  pub visits : AreBelowCap (history_of layers) first others → AreVisits (history_of layers) first others comparison.bases.visits
+  pub visits : AreVisits (history_of layers) first others comparison.bases.visits
   pub ahead : IsNumberOf comparison.divergence.ahead (IsAhead (history_of layers) first others)
   pub behind : IsNumberOf comparison.divergence.behind (IsBehind (history_of layers) first others)

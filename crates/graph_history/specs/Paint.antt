@@ -96,6 +96,14 @@ unknown Others = 2
 unknown Both = 1
 unknown Stale = 0
 
+-- how many times it has come to say more
+abbrev pub known : Paint → ℕ
+known Bare = 0
+known First = 1
+known Others = 1
+known Both = 2
+known Stale = 3
+
 -- q is a proper ancestor of some common ancestor
 abbrev pub IsBelowCommon : List Node → ℕ → List ℕ → ℕ → Type 0
 IsBelowCommon history first others q = (c : ℕ) × IsCommonAncestor history first others c × IsProperAncestor history c q

@@ -20,7 +20,7 @@ use Rattle.graph_history.specs.Bases.{IsMergeBase, IsAhead, IsBehind, IsStart, A
 use Rattle.graph_ancestors.specs.Commits.{named_by, list_in}
 use Rattle.graph_history.specs.Paint.{is_on_one_side, is_visited, IsSo}
 use Rattle.graph_history.specs.Paint.{first_leads, others_lead, is_stale, is_painted, is_ahead, is_behind, is_base, passed}
-use Rattle.graph_history.specs.Paint.{unknown, bare}
+use Rattle.graph_history.specs.Paint.{known, unknown, bare}
 use Rattle.graph_history.specs.Paint.{paint_at, coat_at, is_queued, Grows, IsCounted, IsPaint}
 use Rattle.graph_history.specs.Trails.{trail_at, trail_in}
 use Rattle.graph_history.specs.declared.paint.Coat.{Coat}
@@ -107,6 +107,12 @@ pub record IsVisiting (history : List Node) (start : ℕ) (starts : List ℕ) (c
       → (e : ℕ) × IsKnownEdge history start starts coats e × (generation_at history e ≤ generation_at history p)
   pub count : visits ≡ count_by is_visited coats
 
+-- How many commits were visited: each that was taken from the queue and is not there again, and none more often than it has come
+-- to say more, but for what is in the queue.
+pub record IsVisitCount (coats : List Coat) (visits : ℕ) : Type 0 where
+  pub most : visits + count_by (λ coat. coat.queued) coats ≤ sum_by (λ coat. known coat.paint) coats
+  pub least : count_by is_visited coats ≤ visits
+
 -- nothing is known of p, or it was taken from the queue, or is there
 abbrev pub IsTouched : List Coat → List ℕ → List (ℕ × ℕ) → ℕ → Type 0
 IsTouched coats taken queue p = (coat_at coats p ≡ bare) ⊎ (Contains taken p ⊎ ((g : ℕ) × Contains queue (g, p)))
@@ -129,6 +135,7 @@ pub record IsPainting (s : Painting) : Type 0 where
   pub waiting : IsWaiting (history_of s.graph.now.layers) s.coats.all.items (heap_items s.queue)
   pub gathered : AreBasesGathered s.coats.all.items s.gathered.items
   pub touched : AreTouched s.coats.all.items s.taken.items (heap_items s.queue)
+  pub visits : IsVisitCount s.coats.all.items s.visits
   pub visiting : AreBelowCap (history_of s.graph.now.layers) s.first.0 (numbers_of s.others.now)
       → IsVisiting (history_of s.graph.now.layers) s.first.0 (numbers_of s.others.now) s.coats.all.items s.visits
 

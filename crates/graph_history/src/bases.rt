@@ -5,7 +5,7 @@ ghost use Rattle.graph_format.specs.StoredHistory.{history_of};
 ghost use Rattle.gix_commitgraph.specs.Graph.{total};
 ghost use Rattle.graph_ancestors.specs.WalkAnswer.{numbers_of};
 ghost use Rattle.graph_history.specs.Bases.{AreMergeBases, IsAhead, IsBehind};
-ghost use Rattle.graph_history.specs.Bases.{AreBelowCap, AreVisits};
+ghost use Rattle.graph_history.specs.Bases.{AreVisits};
 ghost use Rattle.graph_history.specs.Comparison.{IsComparisonOf};
 ghost use Rattle.graph_ancestors.specs.Cardinality.{IsNumberOf};
 ghost use Rattle.graph_history.specs.Paint.{AreIdle};
@@ -22,7 +22,8 @@ use std::marker::Model;
 pub struct Bases {
     /// Each once, the least position first.
     pub positions: Vec<Position>,
-    /// How many commits were visited: taken from the queue of the search.
+    /// How many commits were visited: taken from the queue of the search. A commit at the cap may
+    /// have been visited up to three times.
     pub visits: u64,
 }
 
@@ -53,7 +54,8 @@ impl<'g> Checked<'g> {
     /// The search visits commits with the highest generation numbers first, until none is left but
     /// ancestors of common ancestors. Where no generation number of the first and the others is at
     /// the cap, it visits no commit twice, and none below all of the first, the others and the
-    /// parents of the commits on one side alone.
+    /// parents of the commits on one side alone. At the cap it visits a commit again each time that
+    /// more is found out about it, three times at most.
     ///
     /// # Errors
     ///
@@ -70,8 +72,7 @@ impl<'g> Checked<'g> {
             (numbers_of others.now) (numbers_of bases.positions.items)) }
         ensures within { IfOk result (λ bases.
             All (λ base. base.0 < total self.now.layers) bases.positions.items) }
-        ensures visits { IfOk result (λ bases. AreBelowCap (history_of self.now.layers) first.0
-            (numbers_of others.now) → AreVisits (history_of self.now.layers) first.0
+        ensures visits { IfOk result (λ bases. AreVisits (history_of self.now.layers) first.0
             (numbers_of others.now) bases.visits) }
     {
         Ok(self.compare(alloc, first, others)?.bases)
@@ -117,8 +118,7 @@ impl<'g> Checked<'g> {
             (numbers_of others.now) (numbers_of c.bases.positions.items)) }
         ensures within { IfOk result (λ c.
             All (λ base. base.0 < total self.now.layers) c.bases.positions.items) }
-        ensures visits { IfOk result (λ c. AreBelowCap (history_of self.now.layers) first.0
-            (numbers_of others.now) → AreVisits (history_of self.now.layers) first.0
+        ensures visits { IfOk result (λ c. AreVisits (history_of self.now.layers) first.0
             (numbers_of others.now) c.bases.visits) }
         ensures ahead { IfOk result (λ c. IsNumberOf c.divergence.ahead
             (IsAhead (history_of self.now.layers) first.0 (numbers_of others.now))) }

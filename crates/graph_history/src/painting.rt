@@ -10,7 +10,7 @@ ghost use Rattle.graph_format.specs.StoredHistory.{history_of};
 ghost use Rattle.gix_commitgraph.specs.Graph.{total};
 ghost use Rattle.graph_ancestors.specs.WalkAnswer.{numbers_of};
 ghost use Rattle.graph_history.specs.Bases.{AreBelowCap, AreVisits};
-ghost use Rattle.graph_history.specs.Painting.{IsKnownEdge, IsVisiting};
+ghost use Rattle.graph_history.specs.Painting.{IsKnownEdge, IsVisitCount, IsVisiting};
 ghost use Rattle.graph_history.specs.Paint.{is_painted, is_stale, is_queued};
 ghost use Rattle.graph_history.specs.Paint.{is_ahead, is_behind, is_base, bare, coat_at, paint_at};
 ghost use Rattle.graph_history.specs.Paint.{IsSo, IsCounted, IsPaint, AreIdle};
@@ -187,6 +187,7 @@ impl<'p, 'g> Painting<'p, 'g> {
             (numbers_of self.old.others.now) self.new.coats.all.items) }
         ensures spread { OnOk result (IsSpread (history_of self.old.graph.now.layers)
             self.old.first.0 (numbers_of self.old.others.now) self.new.coats.all.items) }
+        ensures count { OnOk result (IsVisitCount self.new.coats.all.items self.new.visits) }
         ensures visiting { OnOk result (AreBelowCap (history_of self.old.graph.now.layers)
             self.old.first.0 (numbers_of self.old.others.now)
             → IsVisiting (history_of self.old.graph.now.layers) self.old.first.0
@@ -293,8 +294,7 @@ pub(crate) fn paint_from<'p, 'g>(
     ensures gathered { IfOk result (λ s. AreBasesGathered s.coats.all.items s.gathered.items) }
     ensures painted { IfOk result (λ s. IsPainted (history_of graph.now.layers) first.0
         (numbers_of others.now) s.coats.all.items) }
-    ensures visits { IfOk result (λ s. AreBelowCap (history_of graph.now.layers) first.0
-        (numbers_of others.now) → AreVisits (history_of graph.now.layers) first.0
+    ensures visits { IfOk result (λ s. AreVisits (history_of graph.now.layers) first.0
         (numbers_of others.now) s.visits) }
 {
     generations_never_rise_along_walks();

@@ -14,7 +14,7 @@ use Rattle.graph_layer.specs.declared.opening.error.OpenError.{OpenError}
 use Rattle.gix_commitgraph.specs.Graph.{graph_ids, total}
 use Rattle.gix_commitgraph.specs.Sound.{Sound}
 use Rattle.graph_ancestors.specs.WalkAnswer.{numbers_of}
-use Rattle.graph_history.specs.Bases.{AreMergeBases, IsAhead, IsBehind, AreBelowCap, AreVisits}
+use Rattle.graph_history.specs.Bases.{AreMergeBases, IsAhead, IsBehind, AreVisits}
 use Rattle.graph_ancestors.specs.RefusedGraph.{MayRefuseGraph}
 use Rattle.graph_ancestors.specs.Cardinality.{IsNumberOf}
 use Rattle.graph_history.specs.declared.bases.Comparison.{Comparison}
@@ -35,7 +35,7 @@ pub record IsComparison (history : List Node) (first : ℕ) (others : List ℕ) 
   pub bases : AreMergeBases history first others (numbers_of comparison.bases.positions.items)
   pub ahead : IsNumberOf comparison.divergence.ahead (IsAhead history first others)
   pub behind : IsNumberOf comparison.divergence.behind (IsBehind history first others)
-  pub visits : AreBelowCap history first others → AreVisits history first others comparison.bases.visits
+  pub visits : AreVisits history first others comparison.bases.visits
 
 -- the least position where an id is
 abbrev pub IsIdAt : List Layer → List ℕ → ℕ → Type 0

@@ -176,6 +176,36 @@ fn bases_and_counts_are_those_of_git(rt: HostRuntime) {
     }
 }
 
+/// A line of four commits, and two commits on its end, one of which merges the root once more.
+const ABOVE_A_LINE: Layers = &[&[
+    (0x11, &[], 1),
+    (0x22, &[0], 2),
+    (0x33, &[1], 3),
+    (0x44, &[2], 4),
+    (0x55, &[3, 0], 5),
+    (0x66, &[3], 5),
+]];
+
+/// A graph, two commits, and how many commits a search visits, those with the highest generation
+/// numbers first, until none is left but ancestors of common ancestors.
+const VISITS: &[(Layers, u32, u32, u64)] = &[
+    // The two, their base, and the line below it down to the child of the root. Before that is
+    // visited, the root is known as an ancestor of one of the two alone.
+    (ABOVE_A_LINE, 4, 5, 5),
+    // The commit, to which both lead, and once more as an ancestor of itself.
+    (CYCLE, 0, 0, 2),
+];
+
+#[test]
+fn visits_are_those_of_the_search(rt: HostRuntime) {
+    for (layers, first, other, visits) in VISITS {
+        let graph = graph(&rt, rt.alloc(), layers);
+        let checked = right(&rt, rt.alloc(), &graph);
+        let answer = answer_of(&rt, rt.alloc(), &checked, *first, &[*other]);
+        assert!(&rt; answer.bases.visits == *visits);
+    }
+}
+
 /// Two commits of `CRISS_CROSS`, their merge bases, and how many commits are ahead and behind.
 type Pair = (u32, u32, &'static [Position], u32, u32);
 

@@ -1,4 +1,4 @@
-use Rattle.std.proofs.Common.{inr, ◌<◌, ◌≤◌, length, get_or, ◌∙◌, heap_items, arith}
+use Rattle.std.proofs.Common.{inr, ℕ, ◌<◌, ◌≤◌, length, get_or, ◌∙◌, heap_items, arith}
 use Rattle.std.proofs.lemmas.List.{length-map}
 use Rattle.graph_format.specs.declared.Position.{Position}
 use Rattle.graph_walks.specs.declared.TheConstants.{GENERATION_NUMBER_MAX}
@@ -7,9 +7,10 @@ use Rattle.graph_format.specs.StoredHistory.{history_of}
 use Rattle.graph_ancestors.specs.WalkAnswer.{numbers_of}
 use Rattle.graph_history.proofs.CoatLemmas.{so_first, so_other, bare_level, begun_first, begun_more, begun_all}
 use Rattle.graph_history.proofs.CoatLemmas.{number_at, number_contained}
-use Rattle.graph_history.proofs.EdgeLemmas.{painted_queued, visits_told}
+use Rattle.graph_history.proofs.EdgeLemmas.{painted_queued, at_most_once}
 use Rattle.graph_history.proofs.PassLemmas.{passed_kept}
-use Rattle.graph_history.proofs.BaseLemmas.{painted_is_exact}
+use Rattle.graph_history.proofs.BaseLemmas.{painted_is_exact, capped_visited}
+use Rattle.graph_history.proofs.VisitCountLemmas.{visits_told}
 use Rattle.graph_history.proofs.painting.paint_from.Goals as goal
 
 pub add-requires-clause-so : goal.add-requires-clause-so
@@ -135,8 +136,10 @@ returns-clause-visits c =
     let paint = rw (i.graph, i.first, i.others) at e.paint in
     let done = rw i.graph at e.done in
     let visiting = rw (i.graph, i.first, i.others) at e.visiting in
-    let painted =
-    painted_is_exact h a bs coats paint (rw (i.graph, i.first, i.others) at e.spread) done
-    (λ x y. c.generations_never_rise_along_walks.ensures h x y sound.generations)
-    (λ x y. c.generations_fall_along_walks.ensures h x y sound.generations) in
-    λ below. visits_told h a bs coats c.run.new.self.visits painted paint done (visiting below)
+    let spread = rw (i.graph, i.first, i.others) at e.spread in
+    let never_rises = λ (x y : ℕ). c.generations_never_rise_along_walks.ensures h x y sound.generations in
+    let falls = λ (x y : ℕ). c.generations_fall_along_walks.ensures h x y sound.generations in
+    let painted = painted_is_exact h a bs coats paint spread done never_rises falls in
+    visits_told h a bs coats c.run.new.self.visits painted paint done e.count
+    (capped_visited h a bs coats paint spread done never_rises falls)
+    (λ below. at_most_once h a bs coats c.run.new.self.visits painted paint (visiting below))

@@ -1,7 +1,7 @@
 use Rattle.std.proofs.lemmas.Result.{IfOk-weaker}
 use Rattle.graph_format.specs.StoredHistory.{history_of}
 use Rattle.graph_ancestors.specs.WalkAnswer.{numbers_of}
-use Rattle.graph_history.specs.Bases.{AreBelowCap, AreVisits}
+use Rattle.graph_history.specs.Bases.{AreVisits}
 use Rattle.graph_history.specs.Comparison.{IsComparisonOf}
 use Rattle.graph_history.specs.declared.bases.Comparison.{Comparison}
 use Rattle.graph_history.proofs.checked.Checked.compare.Goals as goal
@@ -13,5 +13,5 @@ returns-clause-visits c =
     let a = c.args.first.0 in
     let bs = numbers_of c.args.others.now in
     IfOk-weaker c.compare.result (IsComparisonOf layers a bs)
-    (λ (x : Comparison). AreBelowCap h a bs → AreVisits h a bs x.bases.visits) (λ x is. is.visits)
+    (λ (x : Comparison). AreVisits h a bs x.bases.visits) (λ x is. is.visits)
     (rw c.new.ensures at c.compare.ensures.exact)

@@ -9,6 +9,7 @@ use Rattle.graph_history.specs.declared.paint.Paint.{Paint}
 use Rattle.graph_history.proofs.CoatLemmas.{coat_with, added_by}
 use Rattle.graph_history.proofs.EdgeLemmas.{visiting_added}
 use Rattle.graph_history.proofs.TouchLemmas.{touched_added}
+use Rattle.graph_history.proofs.VisitCountLemmas.{count_added}
 use Rattle.graph_history.proofs.painting.Painting.add.Goals as goal
 
 pub set-requires-clause-few : goal.set-requires-clause-few
@@ -59,6 +60,10 @@ returns c =
             rw (taken, c.gather.ensures.queue)
             (touched_added h s.coats.all.items c.set.new.self.all.items s.taken.items (heap_items s.queue)
             (heap_items c.enqueue.new.self.queue) p c.in_ok-enqueue.ensures.joins after.adds.others r.painting.touched);
+        visits =
+            rw visits
+            (count_added s.coats.all.items c.set.new.self.all.items p x s.visits new inside is_new is_after uncovered
+            r.painting.visits);
         visiting =
             rw (graph, first, others, visits)
             (λ below.

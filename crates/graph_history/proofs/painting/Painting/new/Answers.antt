@@ -6,6 +6,7 @@ use Rattle.graph_history.proofs.CoatLemmas.{gathered_none}
 use Rattle.graph_history.proofs.EdgeLemmas.{paint_none, waiting_none, visiting_none}
 use Rattle.graph_history.proofs.PassLemmas.{passed_none}
 use Rattle.graph_history.proofs.TouchLemmas.{touched_none}
+use Rattle.graph_history.proofs.VisitCountLemmas.{count_none}
 use Rattle.graph_history.proofs.painting.Painting.new.Goals as goal
 
 pub returns-clause-painting : goal.returns-clause-painting
@@ -28,6 +29,7 @@ returns-clause-painting c =
       waiting = waiting_none h a bs coats e.bare (heap_items c.new.result) c.new.ensures.items c.new.ensures.heap_order;
       gathered = rw c.new-2.ensures.items (gathered_none coats e.bare);
       touched = touched_none coats c.new-3.result.items (heap_items c.new.result) e.bare;
+      visits = count_none coats e.bare;
       visiting = λ _. visiting_none h a bs coats e.bare;
     }
 

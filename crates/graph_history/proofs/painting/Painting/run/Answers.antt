@@ -16,6 +16,7 @@ use Rattle.graph_history.proofs.CoatLemmas.{coat_with, none_fresh, stops, taken_
 use Rattle.graph_history.proofs.PaintLemmas.{grows_refl}
 use Rattle.graph_history.proofs.PassLemmas.{passed_kept}
 use Rattle.graph_history.proofs.TouchLemmas.{touched_taken}
+use Rattle.graph_history.proofs.VisitCountLemmas.{count_taken}
 use Rattle.graph_history.proofs.painting.Painting.run.Goals as goal
 use Rattle.graph_history.proofs.painting.Painting.run.Goals.{else-self-eq0-via-then-self-eq0+else-is_below_cap}
 use Rattle.graph_history.proofs.painting.Painting.run.Goals.{else-self-eq0-via-else-self-eq0}
@@ -98,6 +99,13 @@ visit-requires c =
             touched_taken coats c.set.new.self.all.items s.taken.items c.push.new.self.items (heap_items s.queue)
             (heap_items c.pop.new.self) c.in-Some.next c.in-Some.ensures.permutation after.there i.painting.touched
             c.in_ok-push.ensures.items;
+        visits =
+            (let few = count_by-le-length is_visited coats in
+            let old = i.painting.visits.least in
+            count_taken coats c.set.new.self.all.items c.in-Some.next.1 s.visits c.saturating_add-self.result new
+            (omega (arith, entry.0, i.painting.paint.coats_len)) (ap (λ (m : Coat). coat_with m.paint false) c.at-paint.ensures)
+            c.set.ensures.coats queued (omega (arith, c.saturating_add-self.ensures))
+            (omega (arith, c.saturating_add-self.ensures, old, few, i.painting.few)) i.painting.visits);
         visiting = λ below.
             (let old = i.painting.visiting below in
             let cap =
