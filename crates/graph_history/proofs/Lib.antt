@@ -12,3 +12,4 @@ pub mod EdgeLemmas
 pub mod BelowLemmas
 pub mod IdLemmas
 pub mod VisitCountLemmas
+pub mod BaseLawLemmas
