@@ -10,10 +10,10 @@ use graph_chunks::dates::CorrectedDates;
 use graph_chunks::filters::GraphFilters;
 use graph_commands::run::{run_ancestor, run_distinct, run_find, run_list, run_verify};
 use graph_folder::folder::{Folder, Memory};
-use graph_history::Checked;
+use graph_history::{Checked, Comparer, Comparison, Reached};
 use graph_vectors::build;
 use history_commands::run::{run_check, run_is_ancestor, run_merge_base, run_walk};
-use std::alloc::Global;
+use std::alloc::{AllocError, Global};
 use std::convert::Infallible;
 use std::io::Write;
 use std::{io, mem};
@@ -29,6 +29,9 @@ pub fn make(rt: &HostRuntime, alloc: Global, call: Call, stage: &mut Stage) -> i
         Call::VerifyDistinct => verify_integrity(rt, alloc, true, &stage.graphs.line),
         Call::Put { folder } => put(rt, alloc, folder, stage),
         Call::Push => push(rt, alloc, stage),
+        Call::Query(Query::IsAncestorTwice) => {
+            ask(rt, alloc, Query::IsAncestorTwice, &stage.graphs.branches)
+        }
         Call::Query(query) => ask(rt, alloc, query, &stage.graphs.line),
         Call::Dates => dates(rt, alloc, &stage.graphs.dated),
         Call::Filters => filters(rt, alloc, &stage.graphs.dated),
@@ -115,25 +118,47 @@ fn verify_integrity(
     println!(rt; "{copied:?}")
 }
 
-/// Checks a graph for queries, then asks for the walk from its tenth commit to the first, or
-/// whether there is one. Each has a line.
+/// Checks a graph for queries, then asks once or twice of its last commit and its first. Each
+/// answer has a line.
 fn ask(rt: &HostRuntime, alloc: Global, query: Query, graph: &Graph) -> io::Result<()> {
     let checked = Checked::new(alloc, graph);
     println!(rt; "{:?}", checked.as_ref().map(|_| ()))?;
     let Ok(checked) = checked else {
         return Ok(());
     };
-    let (Some(from), Some(to)) = (checked.position(9), checked.position(0)) else {
-        return println!(rt; "fewer than ten commits");
+    let last = checked.num_commits().saturating_sub(1);
+    let (Some(from), Some(to)) = (checked.position(last), checked.position(0)) else {
+        return println!(rt; "no commits");
     };
     match query {
         Query::IsAncestor => println!(rt; "{:?}", checked.is_ancestor(alloc, from, to)),
-        Query::Walk => {
-            let answer = checked.ancestor_walk(alloc, from, to);
-            let walk = answer.map(|reached| reached.walk);
-            println!(rt; "{walk:?}")
+        Query::Walk => tell_walk(rt, checked.ancestor_walk(alloc, from, to)),
+        Query::IsAncestorTwice => {
+            let mut searcher = checked.searcher(alloc);
+            println!(rt; "{:?}", searcher.is_ancestor(from, to))?;
+            println!(rt; "{:?}", searcher.is_ancestor(from, to))
+        }
+        Query::WalkTwice => {
+            let mut searcher = checked.searcher(alloc);
+            tell_walk(rt, searcher.ancestor_walk(from, to))?;
+            tell_walk(rt, searcher.ancestor_walk(from, to))
+        }
+        Query::CompareTwice => {
+            let mut comparer = Comparer::new(alloc, &checked);
+            tell_bases(rt, comparer.compare(from, &[to]))?;
+            tell_bases(rt, comparer.compare(from, &[to]))
         }
     }
+}
+
+fn tell_walk(rt: &HostRuntime, answer: Result<Reached, AllocError>) -> io::Result<()> {
+    let walk = answer.map(|reached| reached.walk);
+    println!(rt; "{walk:?}")
+}
+
+fn tell_bases(rt: &HostRuntime, answer: Result<Comparison, AllocError>) -> io::Result<()> {
+    let positions = answer.map(|comparison| comparison.bases.positions);
+    println!(rt; "{positions:?}")
 }
 
 fn dates(rt: &HostRuntime, alloc: Global, graph: &Graph) -> io::Result<()> {

@@ -20,11 +20,14 @@ pub enum Call {
     OpenLayer,
 }
 
-/// A question of a checked graph.
+/// A question of a checked graph, or two of one searcher or comparer.
 #[derive(Clone, Copy)]
 pub enum Query {
     IsAncestor,
+    IsAncestorTwice,
     Walk,
+    WalkTwice,
+    CompareTwice,
 }
 
 /// A command of `graphtool`.
@@ -74,7 +77,10 @@ const CALLS: &[(&str, Call)] = &[
     ("verify_integrity", Call::Verify),
     ("verify_integrity_with", Call::VerifyDistinct),
     ("is_ancestor", Call::Query(Query::IsAncestor)),
+    ("is_ancestor twice", Call::Query(Query::IsAncestorTwice)),
     ("ancestor_walk", Call::Query(Query::Walk)),
+    ("ancestor_walk twice", Call::Query(Query::WalkTwice)),
+    ("compare twice", Call::Query(Query::CompareTwice)),
     ("CheckedGraph::push", Call::Push),
     ("put_file", Call::Put { folder: false }),
     ("put_dir", Call::Put { folder: true }),

@@ -39,6 +39,8 @@ pub struct Graphs {
     pub chain: Chain,
     /// Ten commits in a line, the last of which has its parent three times.
     pub line: Graph,
+    /// A merge of a line of three commits and of a merge of many.
+    pub branches: Graph,
     /// Two commits in a line, with corrected dates and a filter.
     pub dated: Graph,
 }
@@ -96,6 +98,7 @@ impl Graphs {
         Ok(Graphs {
             chain: Chain::new(alloc)?,
             line: line(alloc)?,
+            branches: branches(alloc)?,
             dated: dated(alloc)?,
         })
     }
@@ -178,7 +181,36 @@ fn line(alloc: Global) -> Result<Graph> {
         (9, &[7], 9),
         (10, &[8, 8, 8], 10),
     ];
-    let bytes = file(alloc, &LayerPlan::of_rows(alloc, &[], &rows)?)?;
+    graph_of_rows(alloc, &rows)
+}
+
+/// The graph of a layer whose last commit has two parents. The first one's ancestors are a line of
+/// two, down to the first commit, and those of the second are twelve other roots.
+fn branches(alloc: Global) -> Result<Graph> {
+    let rows: [Row<'_>; 17] = [
+        (1, &[], 1),
+        (2, &[], 1),
+        (3, &[], 1),
+        (4, &[], 1),
+        (5, &[], 1),
+        (6, &[], 1),
+        (7, &[], 1),
+        (8, &[], 1),
+        (9, &[], 1),
+        (10, &[], 1),
+        (11, &[], 1),
+        (12, &[], 1),
+        (13, &[], 1),
+        (14, &[0], 2),
+        (15, &[13], 3),
+        (16, &[1, 2, 3, 4, 5, 6, 7, 8, 9, 10, 11, 12], 2),
+        (17, &[14, 15], 4),
+    ];
+    graph_of_rows(alloc, &rows)
+}
+
+fn graph_of_rows(alloc: Global, rows: &[Row<'_>]) -> Result<Graph> {
+    let bytes = file(alloc, &LayerPlan::of_rows(alloc, &[], rows)?)?;
     Ok(Graph::new(alloc, layers(alloc, slice::from_ref(&bytes))?)?)
 }
 
