@@ -20,3 +20,5 @@ mod refusals;
 mod shared_bases;
 #[cfg(test)]
 mod shared_lists;
+#[cfg(test)]
+mod wide;
