@@ -8,10 +8,11 @@ usage: python3 scripts/real_data GRAPHTOOL HISTORYTOOL TEST_FILTERS [every-value
   to be what differences.py lists. `distinct` and `ancestor` refuse the damaged ones with the same line.
 - `find`: where each commit stands, in files and chains that are named in every way.
 - `ancestor`: a shortest walk between each pair of commits, or that there is none, as
-  `git merge-base --is-ancestor` says, and how many commits were visited.
+  `git merge-base --is-ancestor` says, and how many commits were visited: in a line the one right number.
 - `is-ancestor` and `walk`: the same pairs and damaged folders, by ids.
 - `merge-base`: the bases that `git merge-base --all` names, and how many commits are ahead and behind by the
-  parents that Git lists; where times are in order, also as `git rev-list --left-right --count` counts them.
+  parents that Git lists; where times are in order, also as `git rev-list --left-right --count` counts them. How many
+  were visited lies within the bounds that the parents and the generation numbers give.
   Also of long histories, in a file and in a chain, and of small ones with cycles, beside all walks.
 - chains in which commits stand in several layers: the same questions beside all walks, which answers are not Git's, and
   what `git cgraph` says beside them. And a chain file with the line ends 0d 0a, which Git does not load.
@@ -27,6 +28,7 @@ usage: python3 scripts/real_data GRAPHTOOL HISTORYTOOL TEST_FILTERS [every-value
   a slow reading of the file; two million runs then, which take more than half an hour.
 - `git cgraph`: each word, installed, in repositories of every kind, beside Git's own answers, and what is said
   of damaged ones.
+- a file of 300,000 commits, asked by each command, and with one fault late in it, which is named at its position.
 - surroundings that are hostile: streams, paths, chain files, and every amount of memory.
 
 What an answer has to be is made from Git's own words, `git rev-list --parents` and `git cat-file`,
@@ -52,6 +54,7 @@ from checks import (
     disk_checks,
     distinct_checks,
     further_checks,
+    large_checks,
     list_checks,
     path_checks,
     question_checks,
@@ -119,6 +122,8 @@ def check_others(paths, tally, every_value):
         repeated_checks.check_told((program, histories), tally, folder, partial(new_repository, folder))
         further_checks.check_shared_list(histories, tally, folder)
         date_checks.check_all(histories, tally, folder)
+    with tempfile.TemporaryDirectory() as folder:
+        large_checks.check_all((program, histories), tally, folder)
     cycle_checks.check_all(histories, tally)
     random_checks.check_all(histories, tally)
 

@@ -5,6 +5,7 @@ And the two cases in which the answers differ: an id in two layers, and commits 
 """
 
 import itertools
+from functools import partial
 
 from checks import base_checks
 from checks.runs import check_runs
@@ -16,13 +17,42 @@ from histories import shapes
 
 UNKNOWN = "1" * 40
 
+LINE = 12
+"""So many commits has a line of which each pair is asked for."""
+
 
 def check_all(programs, tally, new):
     """The checks of walks to ancestors by both programs; a new repository comes from a function of its name."""
+    check_line(programs, tally, new("ancestors in a line"))
     check_file(programs, tally, new("ancestors in a file"))
     check_chain(programs, tally, new("ancestors in a chain"))
     check_id_in_two_layers(programs, tally, new("ancestors by an id in two layers"))
     check_replaced_parents(programs, tally, new("ancestors by replaced parents"))
+
+
+def check_line(programs, tally, repository):
+    """All pairs of commits in a line, of which each search visits a certain number: those from the one to the other."""
+    ids = repository.add(shapes.linear(LINE))
+    repository.write_graph()
+    place, path = sorted(ids).index, repository.graph_path()
+
+    def complaint(later, earlier, answers):
+        walk = [place(commit) for commit in ids[earlier : later + 1][::-1]]
+        text = "walk %s\nvisits %d\n" % (" ".join(map(str, walk)), len(walk)) if walk else "none\nvisits 0\n"
+        base, apart = min(later, earlier), abs(later - earlier)
+        counts = max(later - earlier, 0), max(earlier - later, 0)
+        bases = "base %d %s\nahead %d behind %d\nvisits %d\n" % (place(ids[base]), ids[base], *counts, apart + 1)
+        return judge.exactly(int(not walk), text, "", answers[0]) or judge.exactly(0, bases, "", answers[1])
+
+    pairs = itertools.product(range(LINE), repeat=2)
+    runs = [(lambda pair=pair: asked(programs, path, *(ids[it] for it in pair)), partial(complaint, *pair)) for pair in pairs]
+    check_runs(tally, "%s, ancestor and merge-base, each pair of a line, and their visits" % repository.object_format, runs)
+
+
+def asked(programs, path, first, second):
+    """The answers to `ancestor` and `merge-base` of two commits."""
+    program, histories = programs
+    return program.ancestor(path, first, second), histories.merge_base(path, first, second)
 
 
 def check_file(programs, tally, repository):

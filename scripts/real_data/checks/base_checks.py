@@ -10,7 +10,8 @@ import shutil
 
 from checks.runs import check_runs
 from expected import judge
-from expected.listing import places
+from expected.listing import generations, places
+from expected.visits import Visits
 from histories import shapes
 
 UNKNOWN = "1" * 40
@@ -70,18 +71,22 @@ def check_sets(histories, tally, repository, name, words, graphs, sets):
     """
     found = []
     in_order = all(words[parent].time <= said.time for said in words.values() for parent in said.parents)
-    reached = all_reached(words)
+    reached, number = all_reached(words), {commit: number for number, commit in enumerate(words)}
+    parents = [[number[parent] for parent in said.parents] for said in words.values()]
+    visits = Visits(parents, list(generations(words).values()), list(reached.values()))
 
     def answer(ids):
         told = [histories.merge_base(path, *ids) for path in graphs]
-        return repository.merge_bases(*ids), divergence(reached, *ids), repository.divergence(*ids), told
+        bases, (first, *rest) = repository.merge_bases(*ids), (number[commit] for commit in ids)
+        bounds = visits.bounds(first, rest, len(bases))
+        return bases, bounds, divergence(reached, *ids), repository.divergence(*ids), told
 
     def complaint(answers):
-        bases, listed, counted, told = answers
+        bases, bounds, listed, counted, told = answers
         found.append((len(bases), listed == counted))
         if listed != counted if in_order else any(more > count for more, count in zip(listed, counted)):
             return "Git counts %s, and its own parents say %s" % (counted, listed)
-        complaints = [complaint_of(bases, listed, *pair) for pair in zip(told, graphs.values())]
+        complaints = [complaint_of(bases, listed, bounds, *pair) for pair in zip(told, graphs.values())]
         return next(filter(None, complaints), None)
 
     runs = [(lambda ids=ids: answer(ids), complaint) for ids in sets]
@@ -107,12 +112,16 @@ def divergence(reached, first, *others):
     return bin(ahead & ~behind).count("1"), bin(behind & ~ahead).count("1")
 
 
-def complaint_of(bases, counts, answer, place):
-    """A complaint where the answer names other bases than Git, not in the order of positions, or counts otherwise; or None."""
+def complaint_of(bases, counts, bounds, answer, place):
+    """A complaint where the answer names other bases than Git, not in the order of positions, or counts otherwise; or where the
+    number of visits is out of its bounds; or None."""
     match = ANSWER.fullmatch(answer.out.decode())
     if not match or answer.err or answer.status != (0 if bases else 1):
         return "status %s and %r, where Git says %s" % (answer.status, answer.out[:60], bases)
     lines = "".join("base %d %s\n" % line for line in sorted((place[base], base) for base in bases)) or "none\n"
     expected = (lines, *counts)
     told = (match.group(1), int(match.group(2)), int(match.group(3)))
-    return None if told == expected else "%s, where Git says %s" % (told, expected)
+    if told != expected:
+        return "%s, where Git says %s" % (told, expected)
+    least, most = bounds
+    return None if least <= int(match.group(4)) <= most else "%s visits, not %d to %d" % (match.group(4), least, most)

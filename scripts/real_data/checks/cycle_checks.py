@@ -17,6 +17,7 @@ from checks.program import Answer
 from damage import further, trees
 from damage.layer import contents
 from expected.listing import GREATEST_GENERATION
+from expected.visits import Visits
 from histories.repository import ID_LENGTH
 
 HISTORIES = 4000
@@ -35,10 +36,12 @@ KINDS |= {kind + ", at the cap" for kind in KINDS} | {"in common, and no base, a
 
 
 class History(NamedTuple):
-    """The parents of each commit, the commits to which a walk of one step or more leads from it, and the ids."""
+    """The parents of each commit, the commits to which a walk of one step or more leads from it, the generation numbers, and
+    the ids."""
 
     parents: List[tuple]
     below: List[set]
+    levels: List[int]
     ids: List[str]
 
 
@@ -85,7 +88,7 @@ def written(info, chance):
     trees.lay_out(info, trees.of_layers(kind, files))
     ids = b"".join(dict(contents(file, kind))[b"OIDL"] for file in files)
     size = ID_LENGTH[kind]
-    return History(parents, below, [ids[at : at + size].hex() for at in range(0, len(ids), size)])
+    return History(parents, below, levels, [ids[at : at + size].hex() for at in range(0, len(ids), size)])
 
 
 def proper_ancestors(parents, commit):
@@ -119,4 +122,6 @@ def question(bench, info, history, commits):
     place = {commit: number for number, commit in enumerate(history.ids)}
     status, text = bench.run("merge-base", info, *[history.ids[commit] for commit in commits])
     counts = len(first - others), len(others - first)
-    return complaint_of([history.ids[base] for base in bases], counts, Answer(status, text, b""), place), kind
+    reached = [sum(1 << other for other in below[commit] | {commit}) for commit in range(len(below))]
+    bounds = Visits(history.parents, history.levels, reached).bounds(commits[0], commits[1:], len(bases))
+    return complaint_of([history.ids[base] for base in bases], counts, bounds, Answer(status, text, b""), place), kind

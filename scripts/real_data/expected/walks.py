@@ -19,7 +19,8 @@ class Walks:
     def judge(self, first, second, reached, answer):
         """The answer is a shortest walk, where Git says that the first commit reaches the second, or else that there is none.
 
-        The number of visits lies within its bounds, which are numbers of commits.
+        The number of visits lies within its bounds, which are numbers of commits. Where the generation numbers allow no walk,
+        nothing is visited, and where both commits are one, that alone.
         """
         match = ANSWER.fullmatch(answer.out.decode())
         if not match or answer.err or answer.status != (0 if reached else 1):
@@ -33,9 +34,10 @@ class Walks:
         level = self.generation[second]
         at_or_above = sum(self.generation[commit] >= level for commit in steps)
         above = sum(self.generation[commit] > level for commit in steps)
-        least = len(walk) - 1 if reached else above
-        visits = int(match.group(2))
-        bounds = None if least <= visits <= at_or_above else "%d visits, not %d to %d" % (visits, least, at_or_above)
+        least, most, visits = len(walk) - 1 if reached else above, at_or_above, int(match.group(2))
+        if first == second or self.generation[first] <= level:
+            least = most = int(first == second)
+        bounds = None if least <= visits <= most else "%d visits, not %d to %d" % (visits, least, most)
         return complaint or bounds
 
     def judge_ids(self, first, second, reached, answer):
