@@ -1,6 +1,6 @@
 -- what the parts of a file that were read say of it
 use Rattle.std.proofs.Common.{◌≡◌, ℕ, ◌+◌, ◌-◌, List, length, take, drop, slice_range, Option, Some}
-use Rattle.std.proofs.Common.{None, IfSome, sym, ap, ◌∙◌, arith}
+use Rattle.std.proofs.Common.{None, IfSome, Bool, true, false, ◌==◌, ◌&&◌, if◌then◌else◌, Global, Vec, sym, ap, subst, ◌∙◌, arith}
 use Rattle.std.specs.Option.{IsSomeAnd}
 use Rattle.std.proofs.Math.Seq.{take-append_seam}
 use Rattle.std.proofs.lemmas.List.{take-append-drop}
@@ -28,10 +28,25 @@ pub begins-head : (o : Option (List ℕ)) (n : ℕ) (part : Part) (answer : Opti
 begins-head o n part None begins h = tt
 begins-head o n part (Some head) begins h = as-some _ _ o (λ file is. begins file (begins-part file n part is)) h
 
-pub range-part : (o : Option (List ℕ)) (start len : ℕ) (part : Part) → IsSomeAnd o (λ file. IsPartOf file start len part)
+range-part : (o : Option (List ℕ)) (start len : ℕ) (part : Part) → IsSomeAnd o (λ file. IsPartOf file start len part)
     → IsSomeAnd o (λ file. slice_range file start (start + len) ≡ part.bytes.items)
 range-part o start len part h = as-some _ _ o (λ (file : List ℕ) is.
     ap (λ (n : ℕ). take n (drop start file)) (back start len) ∙ sym is.0) h
   where
     back : (n m : ℕ) → n + m - n ≡ m
     back n m = omega arith
+
+-- the bytes of the part, if they are answered
+pub range-bytes : (o : Option (List ℕ)) (start len file_len : ℕ) (part : Part) (answer : Option (Vec ℕ Global))
+    → answer ≡ (if (part.file_len == file_len) && (length part.bytes.items == len) then Some part.bytes else None)
+    → IsSomeAnd o (λ file. IsPartOf file start len part)
+    → IfSome answer (λ bytes. IsSomeAnd o (λ file. slice_range file start (start + len) ≡ bytes.items))
+range-bytes o start len file_len part answer is h =
+    subst (λ (a : Option (Vec ℕ Global)). IfSome a (λ bytes. IsSomeAnd o (λ file.
+    slice_range file start (start + len) ≡ bytes.items)))
+    (sym is) (by ((part.file_len == file_len) && (length part.bytes.items == len)))
+  where
+    by : (v : Bool) → IfSome (if v then Some part.bytes else None)
+        (λ bytes. IsSomeAnd o (λ file. slice_range file start (start + len) ≡ bytes.items))
+    by true = range-part o start len part h
+    by false = tt

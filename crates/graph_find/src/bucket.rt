@@ -1,32 +1,40 @@
 //! The search for an id among those that begin with the same byte.
 
 ghost use Rattle.std.specs.Prelude.{◌≡◌, ◌-◌, ◌*◌, ◌<◌, ◌≤◌, ℕ, List, length, option_map, IfSome};
+ghost use Rattle.std.specs.Prelude.{OnSome};
 ghost use Rattle.graph_format.specs.Layer.{Layer};
-ghost use Rattle.graph_format.specs.Lookup.{Found};
+ghost use Rattle.graph_format.specs.Lookup.{Found, digits};
 ghost use Rattle.graph_find.specs.Bucket.{IsBucket};
 
 use crate::head::Span;
 use std::cmp::Ordering;
 
-/// The position of an id, by the ids of its bucket, one after another.
-pub(crate) fn search(ids: &[u8], span: Span, wanted: &[u8]) -> Option<u32>
+/// The position of an id, by the ids of its bucket, one after another, and how many of them it was
+/// compared with.
+pub(crate) fn search(ids: &[u8], span: Span, wanted: &[u8]) -> (Option<u32>, u32)
     requires order { span.first ≤ span.end }
     requires room { length ids.now ≡ length wanted.now * (span.end - span.first) }
-    ensures within { IfSome result (λ pos. pos < span.end) }
-    ensures from { IfSome result (λ pos. span.first ≤ pos) }
+    ensures within { IfSome result.0 (λ pos. pos < span.end) }
+    ensures from { IfSome result.0 (λ pos. span.first ≤ pos) }
     ensures found { (layer : Layer) → IsBucket layer wanted.now span.first span.end ids.now
-        → Found layer wanted.now result }
+        → Found layer wanted.now result.0 }
+
+    // At most as many comparisons as the size of the bucket has binary digits.
+    ensures most { result.1 ≤ digits (span.end - span.first) }
+    ensures least { OnSome result.0 (1 ≤ result.1) }
 {
     let size = wanted.len();
     let (mut low, mut high) = (span.first, span.end);
+    let mut comparisons = 0;
     while low < high {
         let middle = low + (high - low) / 2;
         let start = size * (middle - span.first) as usize;
+        comparisons += 1;
         match wanted.cmp(&ids[start..start + size]) {
             Ordering::Less => high = middle,
-            Ordering::Equal => return Some(middle),
+            Ordering::Equal => return (Some(middle), comparisons),
             Ordering::Greater => low = middle + 1,
         }
     }
-    None
+    (None, comparisons)
 }

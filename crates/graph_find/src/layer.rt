@@ -54,7 +54,8 @@ pub(crate) fn find_in_layer<T: Folder>(
     let Some(ids) = read_range(alloc, folder, path, file_len, start, len)? else {
         return Ok(Search::NotByParts);
     };
-    let Some(pos) = search(&ids, span, wanted) else {
+    let (found, _) = search(&ids, span, wanted);
+    let Some(pos) = found else {
         return Ok(Search::Missing);
     };
     let len = record_len(layout.kind);

@@ -1,7 +1,7 @@
 //! Parts of a file, read from a folder.
 
 ghost use Rattle.std.specs.Prelude.{◌≡◌, ◌+◌, ◌≤◌, length, slice_range, IfOk, IfSome, IsSomeAnd};
-ghost use Rattle.std.specs.Prelude.{IsErrOf, None};
+ghost use Rattle.std.specs.Prelude.{◌==◌, ◌&&◌, if◌then◌else◌, IsErrOf, Some, None};
 ghost use Rattle.std.specs.Option.{ForSome};
 ghost use Rattle.graph_folder.specs.Tree.{file_at};
 ghost use Rattle.graph_folder.specs.Failures.{failures_after};
@@ -9,7 +9,7 @@ ghost use Rattle.graph_format.specs.Head.{BeginsWith};
 ghost use Rattle.graph_find.specs.ReadHead.{IsHead};
 
 use crate::head::{Head, head_of};
-use graph_folder::folder::{Folder, ReadError};
+use graph_folder::folder::{Folder, Part, ReadError};
 use std::alloc::Global;
 
 /// How many bytes are read first: the header, a table of chunks of the greatest number of chunks,
@@ -58,9 +58,19 @@ pub(crate) fn read_range<T: Folder>(
         ≡ failures_after result (T.failure_count folder.old) }
 {
     match folder.read_part(alloc, path, start as u64, len)? {
-        Some(part) if part.file_len == file_len as u64 && part.bytes.len() == len => {
-            Ok(Some(part.bytes))
-        }
-        _ => Ok(None),
+        Some(part) => Ok(bytes_of(part, file_len, len)),
+        None => Ok(None),
+    }
+}
+
+/// The bytes of a part, if there are so many, and the file has this length.
+fn bytes_of(part: Part, file_len: usize, len: usize) -> Option<Vec<u8>>
+    ensures { result ≡ (if (part.file_len == file_len) && (length part.bytes.items == len)
+        then Some part.bytes else None) }
+{
+    if part.file_len == file_len as u64 && part.bytes.len() == len {
+        Some(part.bytes)
+    } else {
+        None
     }
 }

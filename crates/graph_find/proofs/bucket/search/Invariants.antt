@@ -1,6 +1,7 @@
 -- The id stands nowhere outside of what is left.
-use Rattle.std.proofs.Common.{◌-◌, ◌≤◌}
+use Rattle.std.proofs.Common.{◌+◌, ◌-◌, ◌≤◌}
 use Rattle.graph_format.specs.Layer.{Layer}
+use Rattle.graph_format.specs.Lookup.{digits}
 use Rattle.graph_layer.proofs.SearchLemmas.{StandsWithin}
 use Rattle.graph_find.specs.Bucket.{IsBucket}
 use Rattle.graph_find.proofs.bucket.search.Given as goal
@@ -11,6 +12,7 @@ invariant-loop-low l = record {
   order : l.low ≤ l.high;
   from : l.span.first ≤ l.low;
   within : l.high ≤ l.span.end;
+  counted : l.comparisons + digits (l.high - l.low) ≤ digits (l.span.end - l.span.first);
 }
 
 abbrev pub decreases-loop-low : goal.decreases-loop-low

@@ -10,8 +10,8 @@ returns-then-wanted-size-clause-found g c =
     c.requires.head c.requires.begins
     (λ same. c.if-wanted-size.true (same ∙ sym c.len_in_bytes-size.ensures)))
 
-pub returns-in_default-search-clause-found : goal.returns-in_default-search-clause-found
-returns-in_default-search-clause-found g c =
+pub returns-in_default-found-clause-found : goal.returns-in_default-found-clause-found
+returns-in_default-found-clause-found g c =
     let head = c.args.head.now in
     let size = c.len_in_bytes-size.result in
     let span = c.span-span.result in
@@ -25,14 +25,14 @@ returns-in_default-search-clause-found g c =
     (head.layout.chunks.ids.start + size * span.first) (size * (span.end - span.first)) refl refl
     c.in-Some.ids.items (rw c.in-Some.is at c.in_ok-ids.ensures.size)
     (λ tree is. rw c.in-Some.is at (c.in_ok-ids.ensures.part tree is))
-    (λ layer bucket. c.in_default-search.ensures.found layer (rw c.deref.ensures.value bucket)))
+    (λ layer bucket. rw c.in_default-found.is at (c.search-found.ensures.found layer (rw c.deref.ensures.value bucket))))
 
 pub returns-clause-found : goal.returns-clause-found
 returns-clause-found g c =
     let head = c.args.head.now in
     let size = c.len_in_bytes-size.result in
     let span = c.span-span.result in
-    let pos = c.in-Some-search.pos in
+    let pos = c.in-Some-found.pos in
     let len = c.record_len-len.result in
     rw (← c.as_bytes-wanted.ensures.bytes)
     (found-place (g.T.Folder.tree c.args.folder.now) c.args.path.now c.as_bytes-wanted.result.now head
@@ -44,8 +44,8 @@ returns-clause-found g c =
     (head.layout.chunks.ids.start + size * span.first) (size * (span.end - span.first)) refl refl
     c.in-Some.ids.items (rw c.in-Some.is at c.in_ok-ids.ensures.size)
     (λ tree is. rw c.in-Some.is at (c.in_ok-ids.ensures.part tree is))
-    pos c.in-Some-search.ensures.within
-    (λ layer bucket. c.in-Some-search.ensures.found layer (rw c.deref.ensures.value bucket))
+    pos (rw c.in-Some-found.is at c.search-found.ensures.within)
+    (λ layer bucket. rw c.in-Some-found.is at (c.search-found.ensures.found layer (rw c.deref.ensures.value bucket)))
     (head.layout.chunks.records.start + len * pos) len c.record_len-len.ensures refl
     c.in-Some-2.record.items (rw c.in-Some-2.is at c.in_ok-record.ensures.size)
     (λ tree is. rw c.in-Some-2.is at
