@@ -45,9 +45,9 @@ typedef struct cg_file { const uint8_t *bytes; size_t len; const uint8_t *path; 
 /* Why no graph was opened. `code` is
  *   0  where one was;
  *   2  where the bytes of `layer`, which counts from 0, are no layer: `detail` is the N of "file N" in docs/REFUSALS.md, and where
- *      it is 5, `chunk` the K of "file 5 chunk K"; 20: memory ran out;
+ *      it is 5, `chunk` the K of "file 5 chunk K"; 20: memory ran out, and they are those of one;
  *   3  where the layers make no graph: `detail` is the N of "graph N" there, and where it is 3, `layer` the first of another kind
- *      of hash than the one below it; 4: memory ran out;
+ *      of hash than the one below it; 4: memory ran out, and they make one;
  *   4  from cg_open_checked alone, where the check refuses the graph: `detail` is the code of the verdict; 10: memory ran out;
  *   5  where the path of `layer` is not UTF-8.
  * What is not named is 0. The first refusal is told, in the order of the layers. */
@@ -58,8 +58,9 @@ typedef struct cg_error { uint32_t code, detail, chunk; uint64_t layer; } cg_err
  *
  * The bytes and the paths are copied, so that they may go once the call has returned; a graph takes 20 bytes a commit, and 4 a
  * word of the extra edge list, besides the bytes. They are read once, by the copy: where a mapped file changes meanwhile, the
- * graph is one of the bytes that were read, but no proof says so. A mapped file that gets shorter meanwhile ends the program by
- * SIGBUS, as any read of it does; who fears that reads the file instead. */
+ * graph is one of the bytes that were read, but no proof says so. Only where there is no memory for the copy they are read in
+ * place, for what is wrong with them. A mapped file that gets shorter meanwhile ends the program by SIGBUS, as any read of it
+ * does; who fears a change reads the file instead. */
 cg_error cg_open(const cg_file *files, size_t count, cg_graph *out);
 
 /* Opens the graph and checks it, as cg_verify does: code 4, and no graph, where the check refuses it for the reason that
@@ -120,8 +121,8 @@ cg_block cg_parents_from(cg_graph graph, uint32_t first, cg_parent_count *answer
                          uint32_t *out, size_t len);
 
 /* What a check found. `code` is 0 where the graph is right: `num_commits` is the number of commits, `longest` that of the edges of
- * the longest walk (unknown where not has_longest), and `kinds` that of the different numbers of parents. Else it tells of the
- * first fault, and is the N of "verify N" in docs/REFUSALS.md:
+ * the longest walk (0 where that is not known, and has_longest false), and `kinds` that of the different numbers of parents. Else
+ * it tells of the first fault, and is the N of "verify N" in docs/REFUSALS.md:
  *   1   too many layers;
  *   2   `layer` has not one base id for each layer below it;
  *   3   its base id of number `index`, which counts from 0, is not the checksum of that layer;
@@ -130,7 +131,7 @@ cg_block cg_parents_from(cg_graph graph, uint32_t first, cg_parent_count *answer
  *   6   its parents cannot be decoded, for the reason of number `fault`, as the code of cg_parents;
  *   7   its parent at position `other` is none of its layer or of those below;
  *   8   its generation number is not `other`;
- *   10  memory ran out;
+ *   10  memory ran out before the check was done;
  *   11  its id stands at the earlier position `other` too: only where distinct ids are asked for;
  *   12  CG_CLOSED.
  * What is not named is 0, but for `called`: the number of commits that the check passed before the fault, or of all on code 0.
@@ -176,7 +177,7 @@ typedef struct cg_pair { uint32_t from, to; } cg_pair;
  *   4  of CG_CLOSED; else
  *   2  where the graph was not opened by cg_open_checked; else
  *   0  where `answered` is the smaller of the two lengths, so that each pair was answered for which there is room; else
- *   1  where a position of the next pair, whose number `answered` is, is none;
+ *   1  where a position of the next pair, whose number `answered` is, is none; else
  *   3  where memory ran out on that pair.
  * The first `answered` places of the room were written, and no other. It is 0 for 2 and 4. */
 typedef struct cg_answered { uint32_t code; uint64_t answered; } cg_answered;
@@ -187,7 +188,7 @@ cg_answered cg_are_ancestors(cg_graph graph, const cg_pair *pairs, size_t count,
 
 /* The merge bases of a commit and some others. code 0: there are `length`; `ahead` commits are those that the first leads to
  * and none of the others does, and `behind` those that some of the others leads to and the first does not; `visits` commits
- * were visited. The other codes are those of cg_reached, of which 3 may come before 1. */
+ * were visited. The other codes are those of cg_reached; 1 where a position of any of them is none. */
 typedef struct cg_bases { uint32_t code, ahead, behind; uint64_t visits, length; } cg_bases;
 
 /* Looks for the merge bases that `git merge-base --all FIRST OTHERS..` names, and writes their positions, the least first, as

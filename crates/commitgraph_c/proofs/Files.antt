@@ -1,9 +1,13 @@
 -- one more file, and its layer
 use Rattle.std.proofs.Common.{◌≡◌, ℕ, suc, ◌+◌, ◌<◌, ◌≤◌, List, [], ◌∷◌, ◌++◌, length, take, get_or, subst, sym, refl}
-use Rattle.std.proofs.Common.{◌∙◌, ap, arith, slice_get, Option, Some, IsSomeAnd, inl, inr}
+use Rattle.std.proofs.Common.{◌∙◌, ap, arith, slice_get, Option, Some, None, IsSomeAnd, inl, inr}
 use Rattle.std.proofs.lemmas.List.{take_more, take_all, length-take-le}
 use Rattle.std.proofs.lemmas.Option.{slice_get-get_or}
+use Rattle.std.specs.Str.{IsUtf8}
 use Rattle.graph_format.specs.Layer.{Layer, IsLayer}
+use Rattle.graph_format.specs.Opened.{MayRefuse}
+use Rattle.graph_format.specs.Refusal.{refusal}
+use Rattle.graph_format.specs.declared.error.FileError.{FileError}
 use Rattle.commitgraph_c.specs.declared.open.CgFile.{CgFile}
 use Rattle.graph_format.specs.declared.error.FileError.TheVariants as file
 use Rattle.commitgraph_c.specs.declared.open.CgError.{CgError}
@@ -32,9 +36,10 @@ pub all_of : (files : List CgFile) (layers : List Layer) (i : ℕ) → length fi
     → AreLayersOf files layers
 all_of files layers i past all = subst (λ (fs : List CgFile). AreLayersOf fs layers) (take_all i files past) all
 
--- a file for which an allocation failed
-pub out_of_memory : (layer : ℕ) (f : CgFile) (e : CgError) → e ≡ told_file layer file.OutOfMemory → RefusesFile layer f e
-out_of_memory layer f e told = inr (record { error = file.OutOfMemory; may = inr refl; told = told })
+-- a file is refused by its bytes, or an allocation failed
+pub refused_bytes : (layer : ℕ) (f : CgFile) (e : CgError) (error : FileError) → IsUtf8 f.path.now
+    → MayRefuse f.bytes.now error → e ≡ told_file layer error → RefusesFile layer f e
+refused_bytes layer f e error text may told = inr (record { text = text; error = error; may = may; told = told })
 
 -- there are as many layers as files
 pub as_many : (files : List CgFile) (layers : List Layer) → AreLayersOf files layers → length files ≡ length layers
@@ -66,9 +71,10 @@ refused_at files layers i d place e below all many refuses =
     })
 
 -- a turn of the loop in which a layer was opened, and there is no memory for it
-pub no_room : (files : List CgFile) (layers : List Layer) (layer : Layer) (i : ℕ) (d : CgFile) (place : ℕ) (e : CgError)
+pub no_room : (files : List CgFile) (layers : List Layer) (i : ℕ) (d : CgFile) (place : ℕ) (e : CgError)
     → i < length files → AreLayersOf (take i files) layers → place ≡ length layers
-    → IsLayer (get_or files i d).bytes.now (get_or files i d).path.now layer → e ≡ told_file place file.OutOfMemory
+    → IsUtf8 (get_or files i d).path.now → refusal (get_or files i d).bytes.now ≡ None → e ≡ told_file place file.OutOfMemory
     → RefusesFiles files e
-no_room files layers layer i d place e below all many is told =
-    refused_at files layers i d place e below all many (out_of_memory place (get_or files i d) e told)
+no_room files layers i d place e below all many text accepted told =
+    refused_at files layers i d place e below all many (refused_bytes place (get_or files i d) e file.OutOfMemory text
+    (inr (refl, accepted)) told)

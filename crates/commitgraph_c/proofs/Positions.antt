@@ -1,8 +1,7 @@
--- the positions of numbers, one after another
-use Rattle.std.proofs.Common.{◌≡◌, ◌∙◌, sym, ap, ℕ, ◌+◌, ◌<◌, List, [], ◌∷◌, ◌++◌, length, take, get_or, arith}
-use Rattle.std.proofs.lemmas.Grind.{common_steps}
+-- positions, and their numbers
+use Rattle.std.proofs.Common.{◌≡◌, ◌∙◌, ap, sym, subst, ℕ, ◌+◌, ◌<◌, List, [], ◌∷◌, ◌++◌, length, take, get_or, All}
 use Rattle.std.proofs.lemmas.List.{take_more}
-use Rattle.std.specs.List.{Any}
+use Rattle.std.proofs.lemmas.List.Elements.{All-nil, All-cons, All-head, All-tail}
 use Rattle.graph_ancestors.specs.WalkAnswer.{numbers_of}
 use Rattle.graph_format.specs.declared.Position.{Position}
 use Rattle.commitgraph_c.proofs.Written.{numbers_end}
@@ -14,6 +13,13 @@ next_found found pos numbers i before here lt =
     numbers_end found pos ∙ ap (λ ns. ns ++ pos.0 ∷ []) before ∙ ap (λ n. take i numbers ++ n ∷ []) here
     ∙ sym (take_more numbers i 0 lt)
 
--- what holds of the number at an index holds of some number
-pub some_at : (P : ℕ → Type 0) (numbers : List ℕ) (i : ℕ) → i < length numbers → P (get_or numbers i 0) → Any P numbers
-some_at P numbers i lt here = (i, get_or numbers i 0, lt, grind (arith, common_steps), here)
+-- positions are below a limit where their numbers are
+below : (limit : ℕ) (found : List Position) → All (λ n. n < limit) (numbers_of found) → All (λ (p : Position). p.0 < limit) found
+below limit [] all = All-nil (λ (p : Position). p.0 < limit)
+below limit (x ∷ found) all =
+    All-cons (λ (p : Position). p.0 < limit) x found (All-head (λ n. n < limit) x.0 (numbers_of found) all)
+    (below limit found (All-tail (λ n. n < limit) x.0 (numbers_of found) all))
+
+pub all_below : (limit : ℕ) (found : List Position) (numbers : List ℕ) → numbers_of found ≡ numbers
+    → All (λ n. n < limit) numbers → All (λ (p : Position). p.0 < limit) found
+all_below limit found numbers is all = below limit found (subst (λ (ns : List ℕ). All (λ n. n < limit) ns) (sym is) all)

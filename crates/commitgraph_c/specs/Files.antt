@@ -2,9 +2,8 @@
 use Rattle.std.specs.Prelude.{◌≡◌, ◌⊎◌, ℕ, List, [], ◌∷◌, Some, None, IsSomeAnd, ⊤, slice_get, take}
 use Rattle.std.specs.Str.{IsUtf8}
 use Rattle.graph_format.specs.Layer.{Layer, IsLayer}
-use Rattle.graph_format.specs.Refusal.{refusal}
+use Rattle.graph_format.specs.Opened.{MayRefuse}
 use Rattle.graph_format.specs.declared.error.FileError.{FileError}
-use Rattle.graph_format.specs.declared.error.FileError.TheVariants as file
 use Rattle.graph_format.specs.declared.error.GraphError.{GraphError}
 use Rattle.graph_format.specs.declared.error.GraphError.TheVariants as graph
 use Rattle.gix_commitgraph.specs.GraphRefusal.{graph_refusal}
@@ -24,6 +23,10 @@ AreLayersOf (file ∷ files) (layer ∷ layers) = IsLayer file.bytes.now file.pa
 abbrev pub IsOpenedFrom : List CgFile → List Layer → Type 0
 IsOpenedFrom files layers = AreLayersOf files layers × (graph_refusal layers ≡ None)
 
+-- how it is told that there is no error
+abbrev pub no_error : CgError
+no_error = record { code = 0; detail = 0; chunk = 0; layer = 0 }
+
 -- how it is told that the path of a layer is not UTF-8, why its bytes are refused, and why layers make no graph
 abbrev pub told_path : ℕ → CgError
 told_path layer = record { code = 5; detail = 0; chunk = 0; layer = layer }
@@ -35,10 +38,12 @@ abbrev pub told_graph : GraphError → CgError
 told_graph (graph.HashMismatch layer) = record { code = 3; detail = 3; chunk = 0; layer = layer }
 told_graph x = record { code = 3; detail = graph_number x; chunk = 0; layer = 0 }
 
--- The file that is to be this layer is refused by its bytes, or an allocation failed.
+-- The file that is to be this layer, by a path that is UTF-8, is refused by its bytes; or an allocation failed, and its bytes are
+-- not refused.
 pub record RefusesBytes (layer : ℕ) (f : CgFile) (e : CgError) : Type 0 where
+  pub text : IsUtf8 f.path.now
   pub error : FileError
-  pub may : (IsUtf8 f.path.now × (refusal f.bytes.now ≡ Some error)) ⊎ (error ≡ file.OutOfMemory)
+  pub may : MayRefuse f.bytes.now error
   pub told : e ≡ told_file layer error
 
 -- The file that is to be this layer is refused: its path is not UTF-8, or else its bytes are refused.
@@ -51,12 +56,12 @@ pub record RefusesFirst (files : List CgFile) (e : CgError) : Type 0 where
   pub before : AreLayersOf (take e.layer files) layers
   pub refused : IsSomeAnd (slice_get files e.layer) (λ f. RefusesFile e.layer f e)
 
--- Each file is a layer, and the layers make no graph, or an allocation failed.
+-- Each file is a layer, and the layers make no graph; or an allocation failed, and they make one.
 pub record RefusesLayers (files : List CgFile) (e : CgError) : Type 0 where
   pub layers : List Layer
   pub all : AreLayersOf files layers
   pub error : GraphError
-  pub may : (graph_refusal layers ≡ Some error) ⊎ (error ≡ graph.OutOfMemory)
+  pub may : (graph_refusal layers ≡ Some error) ⊎ ((error ≡ graph.OutOfMemory) × (graph_refusal layers ≡ None))
   pub told : e ≡ told_graph error
 
 -- The first refusal of files is told: of the first file that is no layer, or else of the layers.

@@ -2,6 +2,7 @@ pub mod Answers
 pub mod Blocks
 pub mod FaultNumbers
 pub mod Files
+pub mod FirstLine
 pub mod Held
 pub mod Many
 pub mod Probes

@@ -12,7 +12,11 @@ pub record AnswersFirst {X : Type 0} (Answers : X → ℕ → Type 0) (asked : L
   pub each : (i : ℕ) → i < answered → (x : X) → slice_get asked i ≡ Some x → IsSomeAnd (slice_get new i) (Answers x)
   pub rest : (i : ℕ) → answered ≤ i → slice_get new i ≡ slice_get old i
 
--- a position of a pair is none of the graph's
+-- both positions of a pair are those of commits of a graph
+abbrev pub IsPair : List Layer → CgPair → Type 0
+IsPair layers pair = (pair.from < total layers) × (pair.to < total layers)
+
+-- a position of a pair is that of none
 abbrev pub IsNoPair : List Layer → CgPair → Type 0
 IsNoPair layers pair = (total layers ≤ pair.from) ⊎ (total layers ≤ pair.to)
 

@@ -26,6 +26,10 @@ abbrev pub without_probes : ℕ → ℕ → ℕ → ℕ → CgProbed
 without_probes code position layer number =
     record { code = code; position = position; number = number; layer = layer; answered = 0 }
 
+-- so many commits are answered for, and nothing is told of a refusal but the code
+abbrev pub with_probes : ℕ → ℕ → CgProbed
+with_probes code answered = record { code = code; position = 0; number = 0; layer = 0; answered = answered }
+
 -- how it is told that filters are refused: the number that historytool prints, and the place
 abbrev pub told_filter_fault : FiltersError → CgProbed
 told_filter_fault (fault.IndexSize layer) = without_probes 1 0 layer 0

@@ -121,6 +121,7 @@ pub record TellsStats (layers : List Layer) (v : CgVerdict) : Type 0 where
   pub num_commits : v.num_commits ≡ total layers
   pub called : v.called ≡ total layers
   pub longest : MatchesLongestWalk (history_of layers) (told_longest v)
+  pub unknown : v.has_longest ≡ false → v.longest ≡ 0
   pub no_place : (v.position ≡ 0) × ((v.other ≡ 0) × (v.layer ≡ 0))
   pub no_fault : (v.fault ≡ 0) × (v.index ≡ 0)
 
@@ -157,6 +158,7 @@ pub record TellsOutcome (outcome : Outcome) (v : CgVerdict) : Type 0 where
   pub num_commits : v.num_commits ≡ outcome.num_commits
   pub called : v.called ≡ outcome.num_commits
   pub longest : told_longest v ≡ outcome.longest_path_length
+  pub unknown : v.has_longest ≡ false → v.longest ≡ 0
   pub no_place : (v.position ≡ 0) × ((v.other ≡ 0) × (v.layer ≡ 0))
   pub no_fault : (v.fault ≡ 0) × (v.index ≡ 0)
 

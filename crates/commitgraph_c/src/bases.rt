@@ -1,7 +1,7 @@
 //! Merge bases, and how far commits have come apart, in a graph that was checked.
 
-ghost use Rattle.std.specs.Prelude.{◌≡◌, ◌≢◌, ◌↔◌, ◌<◌, ◌≤◌, ◌⊎◌, false, All, Any, IfErr, IfOk};
-ghost use Rattle.std.specs.Prelude.{IsSomeAnd, None};
+ghost use Rattle.std.specs.Prelude.{◌≡◌, ◌≢◌, ◌↔◌, ◌<◌, ◌≤◌, ◌⊎◌, false, All, Any, IfOk};
+ghost use Rattle.std.specs.Prelude.{IsSomeAnd, IsTrue, None};
 ghost use Rattle.gix_commitgraph.specs.Graph.{total};
 ghost use Rattle.graph_ancestors.specs.WalkAnswer.{numbers_of};
 ghost use Rattle.commitgraph_c.specs.Answers.{IsChecked, TellsBases, TellsComparison};
@@ -11,7 +11,7 @@ use crate::handle::CgGraph;
 use crate::query::write_positions;
 use gix_commitgraph::Position;
 use graph_history::{Checked, Comparison};
-use std::alloc::Global;
+use std::alloc::{AllocError, Global};
 
 /// The merge bases of a commit and some others, and how far they have come apart.
 #[repr(C)]
@@ -38,7 +38,7 @@ pub extern "C" fn cg_merge_bases(
 ) -> CgBases
     ensures answer { result.code ≡ 0 → IsSomeAnd graph.address.held (λ held.
         TellsBases held.0 first others.now result out.old out.new) }
-    ensures nowhere { result.code ≡ 1 → IsChecked graph.address.held (λ layers.
+    ensures nowhere { result.code ≡ 1 ↔ IsChecked graph.address.held (λ layers.
         (total layers ≤ first) ⊎ Any (λ other. total layers ≤ other) others.now) }
     ensures within { result.code ≡ 0 → IsChecked graph.address.held (λ layers.
         (first < total layers) × All (λ other. other < total layers) others.now) }
@@ -54,36 +54,34 @@ pub extern "C" fn cg_merge_bases(
     let Some(checked) = opened.as_checked() else {
         return refused(2);
     };
-    let Some(first) = checked.position(first) else {
+    let commits = checked.graph().num_commits();
+    if first >= commits || !are_below(others, commits) {
         return refused(1);
+    }
+    let Ok(others) = positions_of(alloc, others) else {
+        return refused(3);
     };
-    let others = match positions_of(alloc, &checked, others) {
-        Ok(others) => others,
-        Err(code) => return refused(code),
-    };
-    match checked.compare(alloc, first, &others) {
+    match checked.compare(alloc, Position(first), &others) {
         Ok(comparison) => tell(&comparison, out),
         Err(_) => refused(3),
     }
 }
 
-/// The positions of these numbers; or 1 where one is none of the graph's, and 3 where memory ran
-/// out.
-fn positions_of(alloc: Global, graph: &Checked<'_>, numbers: &[u32]) -> Result<Vec<Position>, u32>
-    ensures exact { IfOk result (λ found. numbers_of found.items ≡ numbers.now) }
-    ensures within { IfOk result (λ found.
-        All (λ pos. pos.0 < total graph.now.layers) found.items) }
-    ensures refused { IfErr result (λ code. (code ≡ 3)
-        ⊎ ((code ≡ 1) × Any (λ number. total graph.now.layers ≤ number) numbers.now)) }
+/// Whether all numbers are below a limit.
+fn are_below(numbers: &[u32], limit: u32) -> bool
+    ensures below { IsTrue result → All (λ number. number < limit) numbers.now }
+    ensures not_below { result ≡ false → Any (λ number. limit ≤ number) numbers.now }
 {
-    let mut found = Vec::new(alloc);
+    numbers.iter().all(|number| *number < limit)
+}
+
+/// The positions of these numbers, if there is memory.
+fn positions_of(alloc: Global, numbers: &[u32]) -> Result<Vec<Position>, AllocError>
+    ensures { IfOk result (λ found. numbers_of found.items ≡ numbers.now) }
+{
+    let mut found = Vec::with_capacity(alloc, numbers.len())?;
     for number in numbers {
-        let Some(pos) = graph.position(*number) else {
-            return Err(1);
-        };
-        if found.push(pos).is_err() {
-            return Err(3);
-        }
+        found.push(Position(*number))?;
     }
     Ok(found)
 }

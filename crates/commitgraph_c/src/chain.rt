@@ -1,8 +1,9 @@
 //! The lines of a chain file.
 
-ghost use Rattle.std.specs.Prelude.{◌≡◌, ◌<◌, ◌≤◌, ◌==◌, ◌∷◌, [], false, drop, length, IfSome};
+ghost use Rattle.std.specs.Prelude.{◌≡◌, ◌+◌, ◌<◌, ◌≤◌, ◌==◌, ◌∷◌, [], false, drop, length, IfSome};
 ghost use Rattle.std.specs.Prelude.{IsTrue, position, slice_range, take};
 ghost use Rattle.std.specs.Str.Lines.{lines, strip_carriage_return};
+ghost use Rattle.commitgraph_c.specs.FirstLine.{line_len};
 
 /// Where a line ends, and where the next one begins.
 #[repr(C)]
@@ -18,6 +19,8 @@ pub struct CgLine {
 pub extern "C" fn cg_chain_line(text: &[u8], start: usize) -> CgLine
     ensures line { IsTrue result.found → lines (drop start text.now)
         ≡ slice_range text.now start result.end ∷ lines (drop result.next text.now) }
+    ensures next { IsTrue result.found
+        → result.next ≡ start + line_len (drop start text.now) }
     ensures from { IsTrue result.found → start ≤ result.end }
     ensures until { IsTrue result.found → result.end ≤ result.next }
     ensures forward { IsTrue result.found → start < result.next }
@@ -44,6 +47,7 @@ pub extern "C" fn cg_chain_line(text: &[u8], start: usize) -> CgLine
 fn first_line(text: &[u8]) -> (usize, usize)
     requires { 0 < length text.now }
     ensures line { lines text.now ≡ take result.0 text.now ∷ lines (drop result.1 text.now) }
+    ensures next { result.1 ≡ line_len text.now }
     ensures order { result.0 ≤ result.1 }
     ensures forward { 0 < result.1 }
     ensures within { result.1 ≤ length text.now }

@@ -1,6 +1,7 @@
 //! An open graph as C holds it: the address of an `Opened` that this library has allocated.
 
-ghost use Rattle.std.specs.Prelude.{◌≡◌, Option, Some, is_some, IsSome, List, Bool, option_map};
+ghost use Rattle.std.specs.Prelude.{◌≡◌, Option, Some, None, is_some, IsSome, List, Bool};
+ghost use Rattle.std.specs.Prelude.{option_map};
 ghost use Rattle.graph_format.specs.Layer.{Layer};
 ghost use Rattle.commitgraph_c.specs.Answers.{layers_of};
 
@@ -8,6 +9,7 @@ use crate::opened::Opened;
 use gix_commitgraph::Graph;
 use std::alloc::Global;
 use std::marker::{Model, Send};
+use std::mem::{ManuallyDrop, replace};
 
 /// The address of a graph that C lends for a call, or of none. Many calls may read one graph at a
 /// time.
@@ -112,16 +114,35 @@ unsafe impl Send for CgOwned {}
 
 /// A graph that C owns, or none.
 #[repr(C)]
-#[derive(Drop)]
 pub struct CgOwner {
     address: CgOwned,
     opened: bool,
     ghost opened_is: { opened ≡ is_some address.held },
 }
 
+impl Drop for CgOwner {
+    /// None is let go while it holds a graph: its block is taken out and freed before.
+    fn drop(self)
+        requires { self.address.held ≡ None }
+    {
+        let CgOwner {
+            address: _,
+            opened: _,
+        } = self;
+    }
+}
+
 impl CgOwner {
+    /// Writes a graph, in its block. What was there before is not freed.
+    pub(crate) fn write(&mut self, graph: Box<Opened>)
+        ensures { self.new.address.held ≡ Some graph.value }
+    {
+        let before = replace(self, CgOwner::of(graph));
+        let _before = unsafe { ManuallyDrop::new_unchecked(before) };
+    }
+
     /// A graph, in its block.
-    pub(crate) fn of(graph: Box<Opened>) -> CgOwner
+    fn of(graph: Box<Opened>) -> CgOwner
         ensures { result.address.held ≡ Some graph.value }
     {
         CgOwner {

@@ -2,11 +2,14 @@
 
 ghost use Rattle.std.specs.Prelude.{◌≡◌, ◌≢◌, ◌++◌, ◌∷◌, [], IfErr, IfOk, IsSomeAnd, OnOk, Some};
 ghost use Rattle.std.specs.Prelude.{None, false, string_bytes, true};
+ghost use Rattle.std.specs.Str.{IsUtf8};
 ghost use Rattle.graph_format.specs.Layer.{IsLayer};
+ghost use Rattle.graph_format.specs.Opened.{MayRefuse};
+ghost use Rattle.graph_format.specs.Refusal.{refusal};
 ghost use Rattle.gix_commitgraph.specs.GraphRefusal.{graph_refusal};
 ghost use Rattle.gix_commitgraph.specs.Distinct.{IsSoundWith};
 ghost use Rattle.commitgraph_c.specs.Files.{IsOpenedFrom, RefusesFile, RefusesFiles};
-ghost use Rattle.commitgraph_c.specs.Files.{told_file, told_graph};
+ghost use Rattle.commitgraph_c.specs.Files.{no_error, told_file, told_graph};
 ghost use Rattle.commitgraph_c.specs.Verdict.{FailsCheck, TellsCounts, TellsStats, options_of};
 
 use crate::check::{CgCount, CgVerdict, right, wrong};
@@ -16,6 +19,7 @@ use crate::opened::Opened;
 use gix_commitgraph::verify::VerifyOptions;
 use gix_commitgraph::{File, FileError, Graph, GraphError};
 use graph_format::error_numbers::{file_number, graph_number};
+use graph_format::layout::layout_of;
 use graph_history::CheckedGraph;
 use std::alloc::{AllocError, Global};
 
@@ -60,6 +64,7 @@ fn error(code: u32, detail: u32, layer: u64) -> CgError
 pub extern "C" fn cg_open(alloc: Global, files: &[CgFile<'_>], out: &mut CgOwner) -> CgError
     ensures opened { result.code ≡ 0 → IsSomeAnd out.new.address.held (λ held.
         (held.1 ≡ false) × IsOpenedFrom files.now held.0) }
+    ensures told { result.code ≡ 0 → result ≡ no_error }
     ensures kept { result.code ≢ 0 → out.new ≡ out.old }
     ensures refused { result.code ≢ 0 → RefusesFiles files.now result }
 {
@@ -69,7 +74,7 @@ pub extern "C" fn cg_open(alloc: Global, files: &[CgFile<'_>], out: &mut CgOwner
     };
     match opened {
         Ok(opened) => {
-            *out = CgOwner::of(opened);
+            out.write(opened);
             error(0, 0, 0)
         }
         Err(error) => error,
@@ -93,6 +98,7 @@ pub extern "C" fn cg_open_checked(
         (held.1 ≡ true) × IsSoundWith (options_of distinct_ids) held.0) }
     ensures verdict { result.code ≡ 0 → IsSomeAnd out.new.address.held (λ held.
         TellsStats held.0 verdict.new × TellsCounts held.0 verdict.new counts.old counts.new) }
+    ensures told { result.code ≡ 0 → result ≡ no_error }
     ensures kept { result.code ≢ 0 → (out.new ≡ out.old) × (counts.new ≡ counts.old) }
     ensures refused { result.code ≢ 0 → result.code ≢ 4 → RefusesFiles files.now result }
     ensures unwritten { result.code ≢ 0 → result.code ≢ 4 → verdict.new ≡ verdict.old }
@@ -124,6 +130,7 @@ fn hand_out(
     ensures opened { result.code ≡ 0 → out.new.address.held ≡ Some (graph.layers, true) }
     ensures stats { result.code ≡ 0 → TellsStats graph.layers verdict.new }
     ensures counts { result.code ≡ 0 → TellsCounts graph.layers verdict.new counts.old counts.new }
+    ensures told { result.code ≡ 0 → result ≡ no_error }
     ensures refused { result.code ≢ 0 → result ≡ told_graph GraphError.OutOfMemory }
     ensures kept { result.code ≢ 0 → (out.new ≡ out.old) × ((verdict.new ≡ verdict.old)
         × (counts.new ≡ counts.old)) }
@@ -133,7 +140,7 @@ fn hand_out(
         Err(error) => return error,
     };
     write_stats(&opened, verdict, counts);
-    *out = CgOwner::of(opened);
+    out.write(opened);
     error(0, 0, 0)
 }
 
@@ -218,20 +225,32 @@ fn add(layers: &mut Vec<File>, layer: File, place: u64) -> Result<(), CgError>
 }
 
 /// Opens a file, which is to be the layer of this place.
-#[tactic(auto, using(crate::proofs::Files::out_of_memory))]
+#[tactic(auto, using(crate::proofs::Files::refused_bytes))]
 fn open_layer(alloc: Global, file: CgFile<'_>, place: u64) -> Result<File, CgError>
     ensures layer { IfOk result (IsLayer file.entry.bytes.now file.entry.path.now) }
+    ensures text { IfOk result (λ _. IsUtf8 file.entry.path.now) }
+    ensures accepted { IfOk result (λ _. refusal file.entry.bytes.now ≡ None) }
     ensures refused { IfErr result (RefusesFile place file.entry) }
 {
     let Ok(path) = str::from_utf8(file.path) else {
         return Err(error(5, 0, place));
     };
     let Ok((bytes, path)) = copies(alloc, file.bytes, path) else {
-        return Err(file_error(&FileError::OutOfMemory, place));
+        return Err(file_error(&uncopied(file.bytes), place));
     };
     match File::new(alloc, bytes, path) {
         Ok(file) => Ok(file),
         Err(refusal) => Err(file_error(&refusal, place)),
+    }
+}
+
+/// Why bytes are refused that were not copied: what is wrong with them, or that memory ran out.
+fn uncopied(bytes: &[u8]) -> FileError
+    ensures { MayRefuse bytes.now result }
+{
+    match layout_of(bytes) {
+        Ok(_) => FileError::OutOfMemory,
+        Err(refusal) => refusal,
     }
 }
 

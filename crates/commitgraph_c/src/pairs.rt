@@ -4,7 +4,7 @@ ghost use Rattle.std.specs.Prelude.{◌≡◌, ◌↔◌, ◌<◌, ◌≤◌, �
 ghost use Rattle.std.specs.Prelude.{IfErr, IfOk, IfSome, IsSomeAnd, slice_get};
 ghost use Rattle.gix_commitgraph.specs.Graph.{total};
 ghost use Rattle.commitgraph_c.specs.Answers.{IsChecked};
-ghost use Rattle.commitgraph_c.specs.Many.{AnswersFirst, AnswersPair, IsNoPair};
+ghost use Rattle.commitgraph_c.specs.Many.{AnswersFirst, AnswersPair, IsNoPair, IsPair};
 
 use crate::handle::CgGraph;
 use gix_commitgraph::Position;
@@ -48,6 +48,8 @@ pub extern "C" fn cg_are_ancestors(
         → result.answered < min (length pairs.now) (length out.old) }
     ensures nowhere { result.code ≡ 1 → IsChecked graph.address.held (λ layers.
         IsSomeAnd (slice_get pairs.now result.answered) (IsNoPair layers)) }
+    ensures memory { result.code ≡ 3 → IsChecked graph.address.held (λ layers.
+        IsSomeAnd (slice_get pairs.now result.answered) (IsPair layers)) }
     ensures unchecked { result.code ≡ 2 ↔ IsSomeAnd graph.address.held (λ held. held.1 ≡ false) }
     ensures closed { result.code ≡ 4 ↔ graph.address.held ≡ None }
     ensures codes { result.code ≤ 4 }
@@ -80,6 +82,8 @@ fn answer_pairs(alloc: Global, graph: &Checked<'_>, pairs: &[CgPair], out: &mut 
         → result.answered < min (length pairs.now) (length out.old) }
     ensures nowhere { result.code ≡ 1
         → IsSomeAnd (slice_get pairs.now result.answered) (IsNoPair graph.now.layers) }
+    ensures memory { result.code ≡ 3
+        → IsSomeAnd (slice_get pairs.now result.answered) (IsPair graph.now.layers) }
     ensures codes { (result.code ≡ 0) ⊎ ((result.code ≡ 1) ⊎ (result.code ≡ 3)) }
 {
     let places = pairs.len().min(out.len());
@@ -106,8 +110,8 @@ fn answer_pairs(alloc: Global, graph: &Checked<'_>, pairs: &[CgPair], out: &mut 
 fn answer_pair(searcher: &mut Searcher<'_>, pair: CgPair) -> Result<u8, u32>
     ensures graph { searcher.new ≡ searcher.old }
     ensures answer { IfOk result (AnswersPair searcher.old pair) }
-    ensures refused { IfErr result (λ code. (code ≡ 3)
-        ⊎ ((code ≡ 1) × IsNoPair searcher.old pair)) }
+    ensures refused { IfErr result (λ code. ((code ≡ 1) × IsNoPair searcher.old pair)
+        ⊎ ((code ≡ 3) × IsPair searcher.old pair)) }
 {
     let commits = searcher.graph().num_commits();
     if pair.from >= commits || pair.to >= commits {

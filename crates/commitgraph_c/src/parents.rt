@@ -1,6 +1,6 @@
 //! The parents of a commit.
 
-ghost use Rattle.std.specs.Prelude.{◌≡◌, ◌<◌, ◌≤◌, None, IfSome, set, true};
+ghost use Rattle.std.specs.Prelude.{◌≡◌, ◌↔◌, ◌<◌, ◌≤◌, None, IfSome, IsSomeAnd, set, true};
 ghost use Rattle.graph_layer.specs.Commit.{commit_parents};
 ghost use Rattle.gix_commitgraph.specs.Graph.{total};
 ghost use Rattle.commitgraph_c.specs.Answers.{HasCommit, TellsParents, layers_of, parents_in};
@@ -29,9 +29,9 @@ pub struct CgParents {
 pub extern "C" fn cg_parents(graph: CgGraph, pos: u32, out: &mut [u32]) -> CgParents
     ensures parents { result.code ≤ 4 → HasCommit (layers_of graph.address.held) pos (λ commit.
         TellsParents (parents_in commit) result out.old out.new) }
-    ensures nowhere { result.code ≡ 5 → IfSome (layers_of graph.address.held) (λ layers.
+    ensures nowhere { result.code ≡ 5 ↔ IsSomeAnd (layers_of graph.address.held) (λ layers.
         total layers ≤ pos) }
-    ensures closed { result.code ≡ 6 → layers_of graph.address.held ≡ None }
+    ensures closed { result.code ≡ 6 ↔ layers_of graph.address.held ≡ None }
 
     // In a graph that was found right each position has all its parents.
     ensures right { IfSome graph.address.held (λ held.

@@ -7,7 +7,7 @@ ghost use Rattle.graph_chunks.specs.GraphFilters.{graph_filters_refusal};
 ghost use Rattle.commitgraph_c.specs.Answers.{layers_of};
 ghost use Rattle.commitgraph_c.specs.Many.{AnswersFirst};
 ghost use Rattle.commitgraph_c.specs.Probes.{AnswersProbe, RefusesFilters, filters_told};
-ghost use Rattle.commitgraph_c.specs.Probes.{told_filter_fault, without_probes};
+ghost use Rattle.commitgraph_c.specs.Probes.{told_filter_fault, with_probes, without_probes};
 
 use crate::handle::CgGraph;
 use changed_paths::filters::Answer;
@@ -56,10 +56,13 @@ pub extern "C" fn cg_probe_path(
         → result.answered < min (length positions.now) (length out.old) }
     ensures nowhere { result.code ≡ 11 → IsSomeAnd (layers_of graph.address.held) (λ layers.
         IsSomeAnd (slice_get positions.now result.answered) (λ pos. total layers ≤ pos)) }
+    ensures told { (result.code ≡ 0) ⊎ (result.code ≡ 11)
+        → result ≡ with_probes result.code result.answered }
     ensures refused { 0 < result.code → result.code ≤ 10
         → IsSomeAnd (layers_of graph.address.held) (λ layers. RefusesFilters layers result) }
     ensures closed { result.code ≡ 12 ↔ layers_of graph.address.held ≡ None }
     ensures codes { result.code ≤ 12 }
+    ensures nothing { 11 < result.code → result ≡ without_probes result.code 0 0 0 }
     ensures kept { result.code ≢ 0 → result.code ≢ 11 → out.new ≡ out.old }
 {
     let Some(graph) = graph.graph() else {
@@ -92,6 +95,7 @@ fn probe_all(
         → result.answered < min (length positions.now) (length out.old) }
     ensures nowhere { result.code ≡ 11
         → IsSomeAnd (slice_get positions.now result.answered) (λ pos. commits ≤ pos) }
+    ensures told { result ≡ with_probes result.code result.answered }
     ensures codes { (result.code ≡ 0) ⊎ (result.code ≡ 11) }
 {
     let places = positions.len().min(out.len());

@@ -1,4 +1,4 @@
-use Rattle.std.proofs.Common.{rules, subst, sym, List, inl, inr, ⊎_elim}
+use Rattle.std.proofs.Common.{rules, subst, sym, List, inr}
 use Rattle.std.proofs.lemmas.Result.{err_from_is_err_and}
 use Rattle.graph_format.specs.Layer.{Layer}
 use Rattle.commitgraph_c.specs.Files.{AreLayersOf}
@@ -28,8 +28,9 @@ pub returns-in_err-add-clause-refused : goal.returns-in_err-add-clause-refused
 returns-in_err-add-clause-refused c =
     let handed = err_from_is_err_and c.from_residual-in_err-add.result c.from_residual-in_err-add.ensures.1 in
     rw (handed.1, handed.2)
-    (no_room c.args.files.now c.loop-file.layers.items c.in_ok-layer.layer c.loop-file.file-index _ c.len-place.result _
-    c.loop-file-test.true c.loop-file.invariant (search rules) c.in_ok-layer.ensures.layer c.in_err-add.ensures.error)
+    (no_room c.args.files.now c.loop-file.layers.items c.loop-file.file-index _ c.len-place.result _
+    c.loop-file-test.true c.loop-file.invariant (search rules) c.in_ok-layer.ensures.text c.in_ok-layer.ensures.accepted
+    c.in_err-add.ensures.error)
 
 pub returns-in-Err-clause-refused : goal.returns-in-Err-clause-refused
 returns-in-Err-clause-refused c =
@@ -39,6 +40,6 @@ returns-in-Err-clause-refused c =
       all =
           all_of c.args.files.now c.loop-file.layers.items c.loop-file.file-index c.loop-file-test.false c.loop-file.invariant;
       error = _;
-      may = ⊎_elim (λ refused. inl refused) (λ memory. inr memory.0) c.in-Err.ensures.refusal;
+      may = c.in-Err.ensures.refusal;
       told = c.graph_error.ensures;
     })
