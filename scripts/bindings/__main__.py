@@ -12,6 +12,7 @@ proved the crates which the library uses.
 import chunked
 import concurrent.futures
 import functools
+import large
 import layout
 import os
 import pathlib
@@ -41,6 +42,8 @@ LINES = [b"", b"\n", b"a", b"a\n", b"a\r\n\nb\r", b"\r\n\r\r\nc", b"\n\n", b"ab\
 HELGRIND = ["valgrind", "-q", "--tool=helgrind", "--error-exitcode=99"]
 SANITIZED = "-Zsanitizer=thread -Cunsafe-allow-abi-mismatch=sanitizer"
 """Flags of a nightly Rust compiler. Its standard library is not built with them."""
+CALLING_ALL = ("ask.c", "large.c", "memory.c", "threads.c")
+"""The programs that make each call. Those of layout.c are the calls that write a struct."""
 STRICT = ["-D_GNU_SOURCE", "-Wall", "-Wextra", "-Wpedantic", "-Werror"]
 COUNTING = threading.Lock()
 passed = failed = 0
@@ -92,8 +95,9 @@ def wait_for_crates(log):
         time.sleep(2)
 
 
-def exports():
-    """No export has a `requires`, each has an `ensures` but cg_close, and the header and the Rust crate declare just them."""
+def exports(archive):
+    """No export has a `requires`, each has an `ensures` but cg_close. The library, the header and the Rust crate have just them,
+    and each is called by the Rust crate, and by the programs that make all calls."""
     texts = [path.read_text() for path in (CRATE / "src").glob("*.rt")]
     found = dict(pair for text in texts for pair in re.findall(r'pub extern "C" fn (\w+)(.*?)\n?\{\n', text, re.DOTALL))
     expect("no export has a `requires`", found and not any("requires" in contract for contract in found.values()), found)
@@ -103,6 +107,15 @@ def exports():
     for path, pattern in ((header, r"^[\w ]+ \*?(cg_\w+)\("), (rust, r"pub fn (cg_\w+)\(")):
         declared = re.findall(pattern, path.read_text(), re.MULTILINE)
         expect(f"{path.name} declares the exports", sorted(declared) == sorted(found), declared)
+    if present("nm", "the names in the library"):
+        named = re.findall(r" [A-Z] (cg_\w+)$", run("nm", "--extern-only", "--defined-only", archive).stdout, re.MULTILINE)
+        expect("the library has the exports", sorted(named) == sorted(found), named)
+    crate = "".join(path.read_text() for path in rust.parent.glob("*.rs"))
+    calls = {"the Rust crate": re.findall(r"sys::(cg_\w+)\(", crate)}
+    for program in CALLING_ALL:
+        calls[program] = re.findall(r"\b(cg_\w+)\(", (HERE / program).read_text())
+    for caller, made in calls.items():
+        expect(f"{caller} makes each call", set(made) == set(found), set(found) ^ set(made))
 
 
 def git(where, *words):
@@ -294,6 +307,28 @@ def fields(name, compiler, archives, scratch):
         expect(f"{name}: each field, {fault}", rows[0] == ["error", *error] and rows[1] == ["verdict", *verdict], rows)
 
 
+def many_commits(compiler, archives, scratch):
+    """A graph of 300,000 commits through each call, and faults that stand near its end."""
+    program, file, questions, answers = (scratch / f"large-{name}" for name in ("program", "graph", "questions", "answers"))
+    done = run(compiler, "-std=c11", "-O1", *STRICT, f"-I{HEADER}", HERE / "large.c", *archives, "-o", program)
+    expect("large.c", done.returncode == 0, done.stderr)
+    data = large.graph()
+    file.write_bytes(data)
+    questions.write_bytes(large.questions())
+    done = run(program, file, questions, answers)
+    rows = [[word if word.isalpha() else int(word) for word in line.split()] for line in done.stdout.splitlines()]
+    expect("a large graph: what is told of it", (done.returncode, rows) == (0, list(large.rows())), (done.stderr, rows))
+    before, after = large.answers()
+    told = answers.read_bytes() if answers.exists() else b""
+    expect("a large graph: its commits, dates and filters", told.startswith(before), len(told))
+    expect("a large graph: pairs and merge bases", told.endswith(after), len(told))
+    expect("a large graph: a walk", large.is_walk(told[len(before) : -len(after)]), len(told))
+    for fault, changed, wanted in large.faults(data):
+        file.write_bytes(changed)
+        rows = [[word if word.isalpha() else int(word) for word in line.split()] for line in run(program, file).stdout.splitlines()]
+        expect(f"a large graph, {fault}", all(row in rows for row in wanted), (rows, wanted))
+
+
 def parents_of(where, commit):
     return git(where, "log", "-1", "--format=%P", commit).split()
 
@@ -454,10 +489,10 @@ def example(compiler, archives, scratch, graphs):
 
 
 def parts(archives, scratch, graphs):
-    """The calls for each compiler that is there."""
-    for compiler in ("gcc", "clang"):
-        if present(compiler, f"C with {compiler}"):
-            yield functools.partial(c, compiler, archives, scratch, graphs)
+    """The calls for each compiler that is there. One is enough for the graph of many commits."""
+    compilers = [compiler for compiler in ("gcc", "clang") if present(compiler, f"C with {compiler}")]
+    yield from (functools.partial(c, compiler, archives, scratch, graphs) for compiler in compilers)
+    yield from (functools.partial(many_commits, compiler, archives, scratch) for compiler in compilers[:1])
     if present("cargo", "Rust"):
         folders = ":".join(str(archive.parent) for archive in archives)
         at = {**os.environ, "COMMITGRAPH_LIB": folders, "CARGO_TARGET_DIR": str(scratch / "target")}
@@ -477,7 +512,7 @@ def main():
         built()
         return
     archives = built()
-    exports()
+    exports(archives[0])
     if not GRAPHTOOL:
         print("what graphtool lists and counts: left out, since no GRAPHTOOL is given")
     if not HISTORYTOOL:

@@ -1,4 +1,5 @@
-/* threads FILE: four threads read one graph at a time, and each has to find what the first thread found alone. */
+/* threads FILE: four threads read one graph at a time, and open one each, and each has to find what the first thread found
+ * alone. */
 #include "commitgraph.h"
 #include <pthread.h>
 #include <stdio.h>
@@ -6,6 +7,16 @@
 
 enum { THREADS = 4, ROOM = 64 };
 static cg_graph graph;
+static cg_file file;
+
+/* How many commits a graph has that is opened by this thread, and closed again. */
+static uint32_t opened(void) {
+    cg_graph own = CG_CLOSED;
+    cg_error error = cg_open(&file, 1, &own);
+    uint32_t count = cg_num_commits(own);
+    cg_close(own);
+    return count + error.code;
+}
 
 /* A number made from all that a graph answers. */
 static uint64_t sum(void) {
@@ -24,10 +35,13 @@ static uint64_t sum(void) {
         all = all * 31 + block.length + out[0] + cg_is_ancestor(graph, count - 1, pos).found;
         all = all * 31 + cg_ancestor_walk(graph, count - 1, pos, out, ROOM).length;
         all = all * 31 + cg_merge_bases(graph, pos, &pos, 1, out, ROOM).length;
+        all = all * 31 + cg_parents(graph, pos, out, ROOM).count + cg_commit_at(graph, pos, commits) + commits[0].time;
+        all = all * 31 + cg_tree_at(graph, pos, id, len) + id[0] + cg_chain_line(id, len, 0).next;
         all = all * 31 + cg_are_ancestors(graph, &(cg_pair){ count - 1, pos }, 1, id, 1).answered + id[0];
     }
     all = all * 31 + cg_corrected_dates(graph, dates, ROOM).length + dates[count - 1];
     all = all * 31 + cg_probe_path(graph, (const uint8_t *)"a", 1, out, 0, (uint8_t *)commits, 0).code;
+    all = all * 31 + opened();
     return all * 31 + cg_verify(graph, true, &verdict, counts, ROOM) + verdict.longest + counts[0].commits;
 }
 
@@ -44,7 +58,7 @@ int main(int argc, char **argv) {
     cg_count counts[1];
     FILE *input = argc == 2 ? fopen(argv[1], "rb") : NULL;
     if (!input) return 2;
-    cg_file file = { bytes, fread(bytes, 1, sizeof bytes, input), (const uint8_t *)argv[1], strlen(argv[1]) };
+    file = (cg_file){ bytes, fread(bytes, 1, sizeof bytes, input), (const uint8_t *)argv[1], strlen(argv[1]) };
     fclose(input);
     if (cg_open_checked(&file, 1, false, &verdict, counts, 1, &graph).code) return 3;
     uint64_t alone = sum();

@@ -1,0 +1,196 @@
+/* large GRAPH [QUESTIONS ANSWERS]: makes each call on a graph of many commits, and prints what it tells in a struct. QUESTIONS
+ * are numbers of 32 bits: how many pairs, the pairs, a commit, how many others, and the others, by their positions. Then what is
+ * told of all commits and of these is written to ANSWERS, one call's after another's. Status 9: two calls disagree. */
+#include "commitgraph.h"
+#include <inttypes.h>
+#include <stdio.h>
+#include <stdlib.h>
+#include <string.h>
+
+enum { KINDS = 4, LEN = 20 };
+#define N(number) ((uint64_t)(number))
+
+/* A line: a word, and each number after it. */
+static void print(const char *word, size_t count, const uint64_t *numbers) {
+    printf("%s", word);
+    for (size_t i = 0; i < count; i++) printf(" %" PRIu64, numbers[i]);
+    putchar('\n');
+}
+#define PRINT(word, ...) print(word, sizeof (uint64_t[]){ __VA_ARGS__ } / sizeof(uint64_t), (uint64_t[]){ __VA_ARGS__ })
+
+static void *room(size_t count, size_t size) {
+    void *made = calloc(count + 1, size);
+    if (!made) exit(8);
+    return made;
+}
+
+static uint8_t *read_all(const char *path, size_t *len) {
+    FILE *file = fopen(path, "rb");
+    if (!file) exit(2);
+    fseek(file, 0, SEEK_END);
+    *len = (size_t)ftell(file);
+    rewind(file);
+    uint8_t *bytes = room(*len, 1);
+    if (fread(bytes, 1, *len, file) != *len) exit(2);
+    fclose(file);
+    return bytes;
+}
+
+static void put(FILE *file, const void *items, size_t count, size_t size) {
+    if (fwrite(items, size, count, file) != count) exit(2);
+}
+
+static void agree(bool good) { if (!good) exit(9); }
+
+static void print_verdict(cg_verdict v, const cg_count *counts) {
+    PRINT("verdict", v.code, v.num_commits, v.longest, N(v.has_longest), v.position, v.other, v.fault, v.called, v.layer, v.index,
+          v.kinds);
+    for (uint64_t i = 0; i < v.kinds && i < KINDS; i++) PRINT("count", counts[i].parents, counts[i].commits);
+}
+
+static void print_check(cg_graph graph, bool distinct) {
+    cg_verdict verdict;
+    cg_count counts[KINDS];
+    agree(cg_verify(graph, distinct, &verdict, counts, KINDS) == verdict.code);
+    print_verdict(verdict, counts);
+}
+
+/* What each record says, and the ids. */
+static void tell_commits(cg_graph graph, FILE *file, uint32_t count) {
+    cg_commit *commits = room(count, sizeof *commits), one;
+    uint64_t *times = room(count, sizeof *times);
+    uint32_t *numbers = room(count, sizeof *numbers);
+    uint8_t *ids = room(count, LEN), *trees = room(count, LEN);
+    agree(cg_commits(graph, 0, commits, count) == count && cg_id_len(graph) == LEN);
+    for (uint32_t pos = 0; pos < count; pos++) {
+        times[pos] = commits[pos].time;
+        numbers[pos] = commits[pos].generation;
+        agree(cg_commit_at(graph, pos, &one) && one.time == times[pos] && one.generation == numbers[pos]);
+        agree(cg_id_at(graph, pos, ids + (size_t)pos * LEN, LEN) == LEN);
+        agree(cg_tree_at(graph, pos, trees + (size_t)pos * LEN, LEN) == LEN);
+        agree(cg_lookup(graph, ids + (size_t)pos * LEN, LEN) == pos);
+    }
+    put(file, times, count, sizeof *times);
+    put(file, numbers, count, sizeof *numbers);
+    put(file, ids, count, LEN);
+    put(file, trees, count, LEN);
+}
+
+/* How many parents each commit has, and all parents. */
+static void tell_parents(cg_graph graph, FILE *file, uint32_t count) {
+    cg_parent_count *answers = room(count, sizeof *answers), one;
+    uint32_t *out = room(2 * (size_t)count, sizeof *out), two[2];
+    uint64_t *counts = room(count, sizeof *counts), length = 0;
+    cg_block block = cg_parents_from(graph, 0, answers, count, out, 2 * (size_t)count);
+    PRINT("block", block.commits, block.length);
+    for (uint32_t pos = 0; pos < block.commits; pos++) {
+        one = cg_parents(graph, pos, two, 2);
+        counts[pos] = one.count;
+        agree(!one.code && !answers[pos].code && one.count == answers[pos].count && one.count <= 2);
+        agree(!memcmp(two, out + length, one.count * sizeof *two));
+        length += one.count;
+    }
+    put(file, counts, block.commits, sizeof *counts);
+    put(file, out, length, sizeof *out);
+}
+
+/* The dates, and what the filters say of a path, up to a position that is none. */
+static void tell_chunks(cg_graph graph, FILE *file, uint32_t count) {
+    uint64_t *out = room(count, sizeof *out);
+    uint32_t *positions = room(count, sizeof *positions);
+    uint8_t *answers = room(count, 1);
+    cg_dates dates = cg_corrected_dates(graph, out, count);
+    PRINT("dates", dates.code, dates.position, dates.layer, dates.expected, dates.length);
+    for (uint32_t pos = 0; pos <= count; pos++) positions[pos] = pos;
+    cg_probed probed = cg_probe_path(graph, (const uint8_t *)"a", 1, positions, N(count) + 1, answers, N(count) + 1);
+    PRINT("probed", probed.code, probed.position, probed.number, probed.layer, probed.answered);
+    if (!file) return;
+    put(file, out, dates.length, sizeof *out);
+    put(file, answers, probed.answered, 1);
+}
+
+/* Pairs, all of them and with a last one that is none; and each alone. */
+static void tell_pairs(cg_graph graph, FILE *file, cg_pair *pairs, uint32_t count) {
+    uint8_t *out = room(count, 1);
+    cg_answered all = cg_are_ancestors(graph, pairs, count, out, count);
+    PRINT("answered", all.code, all.answered);
+    put(file, out, all.answered, 1);
+    for (uint32_t i = 0; i < count; i++) {
+        cg_leads leads = cg_is_ancestor(graph, pairs[i].from, pairs[i].to);
+        agree(!leads.code && leads.found == out[i]);
+    }
+    pairs[count - 1].to = cg_num_commits(graph);
+    all = cg_are_ancestors(graph, pairs, count, out, count);
+    PRINT("answered", all.code, all.answered);
+}
+
+/* The walk of a pair. */
+static void tell_walk(cg_graph graph, FILE *file, cg_pair pair) {
+    uint32_t count = cg_num_commits(graph), *out = room(count, sizeof *out);
+    cg_reached reached = cg_ancestor_walk(graph, pair.from, pair.to, out, count);
+    PRINT("reached", reached.code, reached.length);
+    put(file, out, reached.length, sizeof *out);
+}
+
+/* Merge bases with others, with a last one that is none, and with no others. */
+static void tell_bases(cg_graph graph, FILE *file, uint32_t first, uint32_t *others, uint32_t count) {
+    uint32_t out[KINDS];
+    for (int turn = 0; turn < 3; turn++) {
+        if (turn == 1) others[count - 1] = cg_num_commits(graph);
+        cg_bases bases = cg_merge_bases(graph, first, others, turn == 2 ? 0 : count, out, KINDS);
+        PRINT("bases", bases.code, bases.ahead, bases.behind, bases.length);
+        put(file, out, bases.length <= KINDS ? bases.length : KINDS, sizeof *out);
+    }
+}
+
+/* A text of many lines, each of one letter. */
+static void read_lines(uint32_t count) {
+    size_t len = 2 * (size_t)count, start = 0;
+    uint8_t *text = room(len, 1);
+    for (size_t i = 0; i < len; i++) text[i] = i % 2 ? '\n' : 'a';
+    for (cg_line line; start < len; start = line.next) {
+        line = cg_chain_line(text, len, start);
+        agree(line.found && line.end == start + 1 && line.next == start + 2);
+    }
+    agree(!cg_chain_line(text, len, start).found);
+}
+
+static void tell(cg_graph graph, cg_graph checked, const char *questions, const char *answers) {
+    size_t len;
+    uint32_t *asked = (uint32_t *)(void *)read_all(questions, &len), count = cg_num_commits(graph), pairs = asked[0];
+    cg_pair *first_pair = (cg_pair *)(void *)(asked + 1);
+    FILE *file = fopen(answers, "wb");
+    if (!file) exit(2);
+    read_lines(count);
+    tell_commits(graph, file, count);
+    tell_parents(graph, file, count);
+    tell_chunks(graph, file, count);
+    tell_walk(checked, file, *first_pair);
+    tell_pairs(checked, file, first_pair, pairs);
+    asked += 1 + 2 * (size_t)pairs;
+    tell_bases(checked, file, asked[0], asked + 2, asked[1]);
+    if (fclose(file)) exit(2);
+}
+
+int main(int argc, char **argv) {
+    size_t len;
+    if (argc != 2 && argc != 4) return 2;
+    cg_file file = { read_all(argv[1], &len), 0, (const uint8_t *)"", 0 };
+    file.len = len;
+    cg_graph graph = CG_CLOSED, checked = CG_CLOSED;
+    cg_verdict verdict = { .code = 0 };
+    cg_count counts[KINDS];
+    cg_error error = cg_open(&file, 1, &graph);
+    PRINT("error", error.code, error.detail, error.chunk, error.layer, N(graph.opened));
+    cg_error told = cg_open_checked(&file, 1, true, &verdict, counts, KINDS, &checked);
+    PRINT("checked", told.code, told.detail, told.chunk, told.layer, N(checked.opened));
+    if (error.code) return 0;
+    print_verdict(verdict, counts);
+    print_check(graph, false);
+    print_check(graph, true);
+    if (argc == 2) tell_chunks(graph, NULL, cg_num_commits(graph));
+    if (argc == 4) tell(graph, checked, argv[2], argv[3]);
+    cg_close(graph);
+    cg_close(checked);
+    return 0;
+}
