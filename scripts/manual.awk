@@ -13,7 +13,7 @@
     sub(/^ +/, "")
     if (text == "") { kind = "paragraph"; text = $0 } else text = text " " $0
 }
-END { finish() }
+END { finish(); end_kept() }
 
 # Writes the paragraph or the item that was read to its end.
 function finish(    colon) {
@@ -35,7 +35,7 @@ function about(text) {
 }
 
 function heading(text) {
-    if (mode == "page" && section == "Synopsis") print ".fi"
+    end_kept()
     section = text
     lines = 0
     if (mode == "page") printf ".SH %s\n", roff(toupper(text))
@@ -45,8 +45,17 @@ function heading(text) {
 # A line that is kept as it is; those of the synopsis are the usage text.
 function kept(line) {
     sub(/^ +/, "", line)
-    if (mode == "page") printf "%s%s\n", lines++ ? "" : ".nf\n", bold(line)
+    if (mode == "page")
+        printf "%s%s\n", is_kept ? "" : (lines++ ? ".PP\n" : "") ".nf\n", section == "Synopsis" ? bold(line) : roff(line)
     else if (section == "Synopsis" && has_word(line)) printf "%s%s\n", usage_start(lines++), line
+    else if (section != "Synopsis" && mode == "help" && word == "") printf "%s  %s\n", is_kept ? "" : "\n", line
+    is_kept = 1
+}
+
+# Ends the lines that are kept as they are, where there are some.
+function end_kept() {
+    if (is_kept && mode == "page") print ".fi"
+    is_kept = 0
 }
 
 function usage_start(number) {
@@ -60,6 +69,7 @@ function has_word(line) {
 }
 
 function paragraph(text) {
+    end_kept()
     if (mode == "page") printf "%s%s\n", lines++ ? ".PP\n" : "", roff_text(text)
     else if (mode == "help" && word == "") {
         if (lines++) print ""
@@ -68,6 +78,7 @@ function paragraph(text) {
 }
 
 function item(term, text) {
+    end_kept()
     if (mode == "page") printf ".TP\n%s\n%s\n", roff_text(term), roff_text(text)
     else if (mode == "help" && word == "") {
         printf "  %s\n", plain(term)
