@@ -5,3 +5,4 @@ pub mod BlockLemmas
 pub mod AncestorAnswers
 pub mod CheckAnswers
 pub mod FindLemmas
+pub mod WordsLemmas

@@ -11,3 +11,5 @@ pub mod OpenerAnswer
 pub mod CheckAnswers
 pub mod Find
 pub mod Ancestor
+pub mod GraphtoolWords
+pub mod GraphtoolAnswers

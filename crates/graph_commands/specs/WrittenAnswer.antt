@@ -14,3 +14,7 @@ WritesAnswer {A = A} text_of status_of MayAnswer old new status =
 -- the line of a refusal is written, and the status is the refusal's
 abbrev pub WritesRefusal : Refusal → Option (List ℕ) → Option (List ℕ) → ℕ → Type 0
 WritesRefusal refusal old new status = Appends old new (refusal_text refusal ⧺ newline) × (status ≡ refusal_status refusal)
+
+-- one line is written that says why there is no answer, and the status is 2
+abbrev pub Complains : List ℕ → Option (List ℕ) → Option (List ℕ) → ℕ → Type 0
+Complains line old new status = Appends old new (line ⧺ newline) × (status ≡ 2)

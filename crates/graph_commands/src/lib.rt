@@ -1,6 +1,7 @@
 //! The commands of `graphtool`, over any folder, reader and writer.
 //!
-//! [`run`] has the commands: the contract of each says what it may write, and with which exit
+//! [`command`] has the words that ask for each command, and [`program`] what both programs do with
+//! it. [`run`] has the commands: the contract of each says what it may write, and with which exit
 //! [`status`]. [`refusal`] has the line that says why a command was refused, [`report`] the lines
 //! of what a check and a search found, [`line`] writes a line whole, and [`block`] gathers many.
 #![tactic(auto)]
@@ -8,10 +9,12 @@
 mod ancestor;
 pub mod block;
 mod bytes;
+pub mod command;
 mod find;
 pub mod line;
 mod listing;
 mod numbers;
+pub mod program;
 pub mod refusal;
 pub mod report;
 pub mod run;

@@ -24,4 +24,6 @@ mod opening;
 #[cfg(test)]
 mod refusing;
 #[cfg(test)]
+mod responding;
+#[cfg(test)]
 mod verifying;
