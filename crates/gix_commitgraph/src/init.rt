@@ -93,9 +93,9 @@ fn check_above(graph: &Graph, file: &File) -> Result<(), GraphError>
     ensures refusal { Reports result (graph_refusal (graph.now ++ file.now ∷ [])) }
     ensures opened { All IsOpened (graph.now ++ file.now ∷ []) }
 {
-    let commits = graph.num_commits() as u128 + file.num_commits() as u128;
-    if commits > MAX_COMMITS as u128 {
-        return Err(GraphError::TooManyCommits(commits));
+    let sum = graph.num_commits() as u128 + file.num_commits() as u128;
+    if sum > MAX_COMMITS as u128 {
+        return Err(GraphError::TooManyCommits(sum));
     }
     if graph.object_hash() != file.object_hash() {
         return Err(GraphError::HashMismatch {

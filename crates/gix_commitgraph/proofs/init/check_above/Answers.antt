@@ -9,13 +9,13 @@ use Rattle.gix_commitgraph.proofs.layers.LayerListLemmas.{size}
 use Rattle.gix_commitgraph.proofs.layers.PushedLayerLemmas.{too-many-above, refusal-above}
 use Rattle.gix_commitgraph.proofs.init.check_above.Goals as goal
 
-pub returns-then-commits : goal.returns-then-commits
-returns-then-commits c =
+pub returns-then-sum : goal.returns-then-sum
+returns-then-sum c =
     let layers = c.args.graph.now in
     let layer = c.args.file.now in
     let sum : c.num_commits.result + c.num_commits-2.result ≡ total (layers ++ layer ∷ []) =
     omega (arith, c.num_commits.ensures.commits, c.num_commits-2.ensures.ids, sum_by_push size layers layer) in
-    let many : MAX_COMMITS < total (layers ++ layer ∷ []) = omega (arith, sum, c.if-commits.true) in
+    let many : MAX_COMMITS < total (layers ++ layer ∷ []) = omega (arith, sum, c.if-sum.true) in
     record {
       refusal = too-many-above layers layer many ∙ ap (λ (n : ℕ). Some (TooManyCommits n)) (sym sum);
       opened = All-push IsOpened layers layer c.num_commits.ensures.graph.opened c.num_commits-2.ensures.layer;
@@ -31,7 +31,7 @@ returns-then-ne c =
       c.num_commits.ensures.commits,
       c.num_commits-2.ensures.ids,
       sum_by_push size layers layer,
-      c.if-commits.false,
+      c.if-sum.false,
     ) in
     record {
       refusal =
@@ -51,7 +51,7 @@ returns c =
       c.num_commits.ensures.commits,
       c.num_commits-2.ensures.ids,
       sum_by_push size layers layer,
-      c.if-commits.false,
+      c.if-sum.false,
     ) in
     record {
       refusal =
