@@ -1,9 +1,9 @@
 //! Parent count and greatest parent generation of many commits, gathered before their check.
 //!
-//! Parents stand anywhere in a layer, so that the memory with their generation numbers is waited
-//! for. In a loop as short as the one here, those of several commits are waited for at once. So one
-//! or two parents that stand in the commit's own layer are read there, with no branch on their
-//! number, and all others in a call.
+//! Parents stand anywhere in a layer, so reading their generation numbers misses the cache. In a
+//! loop this short the processor overlaps the misses of several commits. So one or two parents that
+//! stand in the commit's own layer are read there, with no branch on their number, and all others
+//! in a call.
 
 ghost use Rattle.std.specs.Prelude.{◌≡◌, ◌+◌, ◌%◌, ◌<◌, Some, IfSome, length, map};
 
