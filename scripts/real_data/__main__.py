@@ -69,63 +69,63 @@ from checks import (
 from checks.program import LINES, FilterProgram, HistoryProgram, Program
 from expected.differences import Differences
 from histories.repository import ID_LENGTH, Repository
-from tally import Tally
+from results import Results
 
 
 def main(path, history_path, filter_path, every_value=False):
     """Runs all checks on the programs at these paths, and answers the exit status."""
     paths = [os.path.abspath(it) for it in (path, history_path, filter_path)]
-    tally, differences = Tally(), Differences()
+    results, differences = Results(), Differences()
     with ProcessPoolExecutor() as pool:
         of_kinds = [pool.submit(check_kind, paths, object_format) for object_format in ID_LENGTH]
-        check_others(paths, tally, every_value)
+        check_others(paths, results, every_value)
         for of_kind in of_kinds:
             counted, seen, lines = of_kind.result()
-            tally.add(counted)
+            results.add(counted)
             differences.add(seen)
             LINES.update(lines)
-    differences.check(tally)
-    row_checks.check_all(tally)
-    return tally.finish()
+    differences.check(results)
+    row_checks.check_all(results)
+    return results.finish()
 
 
 def check_kind(paths, object_format):
-    """The checks of graphs with one kind of hash, in a process of their own: their tally, where Git's verdict differs,
+    """The checks of graphs with one kind of hash, in a process of their own: their results, where Git's verdict differs,
     and the first lines of all answers.
     """
     program, histories, asker = Program(paths[0]), HistoryProgram(paths[1]), FilterProgram(paths[2])
-    tally, differences = Tally(), Differences()
+    results, differences = Results(), Differences()
     with tempfile.TemporaryDirectory() as folder:
         new = partial(new_repository, folder, object_format)
-        list_checks.check_all(program, tally, new)
-        verify_checks.check_all(program, tally, new, differences)
-        path_checks.check_all(program, tally, new, differences)
-        ancestor_checks.check_all((program, histories), tally, new)
-        base_checks.check_long(histories, tally, new)
-        repeated_checks.check_all((program, histories), tally, new)
-        distinct_checks.check_all(program, tally, new, differences)
-        disk_checks.check_all((program, histories), tally, new, differences)
-        further_checks.check_all((histories, asker), tally, new)
-        damaged_checks.check_all((histories, asker), tally, new)
-    return tally, differences, LINES
+        list_checks.check_all(program, results, new)
+        verify_checks.check_all(program, results, new, differences)
+        path_checks.check_all(program, results, new, differences)
+        ancestor_checks.check_all((program, histories), results, new)
+        base_checks.check_long(histories, results, new)
+        repeated_checks.check_all((program, histories), results, new)
+        distinct_checks.check_all(program, results, new, differences)
+        disk_checks.check_all((program, histories), results, new, differences)
+        further_checks.check_all((histories, asker), results, new)
+        damaged_checks.check_all((histories, asker), results, new)
+    return results, differences, LINES
 
 
-def check_others(paths, tally, every_value):
+def check_others(paths, results, every_value):
     """The checks that are not of one kind of hash."""
     program, histories = Program(paths[0]), HistoryProgram(paths[1])
-    word_checks.check_all(program, tally)
-    question_checks.check_all(histories, tally)
-    surroundings_checks.check_all(program, tally)
-    sweep_checks.check_all(program, tally, every_value)
+    word_checks.check_all(program, results)
+    question_checks.check_all(histories, results)
+    surroundings_checks.check_all(program, results)
+    sweep_checks.check_all(program, results, every_value)
     with tempfile.TemporaryDirectory() as folder:
-        cgraph_checks.check_all((program, histories), tally, folder, partial(new_repository, folder))
-        repeated_checks.check_told((program, histories), tally, folder, partial(new_repository, folder))
-        further_checks.check_shared_list(histories, tally, folder)
-        date_checks.check_all(histories, tally, folder)
+        cgraph_checks.check_all((program, histories), results, folder, partial(new_repository, folder))
+        repeated_checks.check_told((program, histories), results, folder, partial(new_repository, folder))
+        further_checks.check_shared_list(histories, results, folder)
+        date_checks.check_all(histories, results, folder)
     with tempfile.TemporaryDirectory() as folder:
-        large_checks.check_all((program, histories), tally, folder)
-    cycle_checks.check_all(histories, tally)
-    random_checks.check_all(histories, tally)
+        large_checks.check_all((program, histories), results, folder)
+    cycle_checks.check_all(histories, results)
+    random_checks.check_all(histories, results)
 
 
 def new_repository(folder, object_format, name):

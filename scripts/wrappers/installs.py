@@ -37,7 +37,7 @@ printf '%s\\n' "${COMPREPLY[@]}"
 """A script for bash: completes the words after Git's completion and ours."""
 
 
-def check_all(tally):
+def check_all(results):
     """The checks of the installation, on copies whose programs write their words."""
     with tempfile.TemporaryDirectory() as folder:
         clone = Clone(folder)
@@ -45,13 +45,13 @@ def check_all(tally):
             clone.put_program(name, "printf '<%s>' \"$@\"\n")
         clone.put("crates/commitgraph_c/out/libcommitgraph.a", "the library\n")
         repository = make_repository(clone, os.path.join(folder, "repository").encode())
-        check_words(tally, clone)
-        check_fresh(tally, clone, os.path.join(folder, ODD_PREFIX))
-        check_beside(tally, clone, os.path.join(folder, "prefix"))
-        check_page(tally, clone, os.path.join(folder, "prefix"))
-        check_completion(tally, clone, repository)
-        check_away(tally, clone, folder, repository)
-        tally.check("scripts/install, nothing is left over", clone.left_over())
+        check_words(results, clone)
+        check_fresh(results, clone, os.path.join(folder, ODD_PREFIX))
+        check_beside(results, clone, os.path.join(folder, "prefix"))
+        check_page(results, clone, os.path.join(folder, "prefix"))
+        check_completion(results, clone, repository)
+        check_away(results, clone, folder, repository)
+        results.check("scripts/install, nothing is left over", clone.left_over())
 
 
 def install(clone, *words, **streams):
@@ -68,29 +68,29 @@ def below(prefix):
     return found
 
 
-def check_words(tally, clone):
+def check_words(results, clone):
     """Other words than a prefix end with the usage text."""
     for words in ([], [""], ["--remove"], ["a", "b"], ["--help"], ["--remove", "a", "b"]):
-        tally.check("scripts/install %s" % " ".join(words), exactly(install(clone, *words), 2, "", USAGE))
+        results.check("scripts/install %s" % " ".join(words), exactly(install(clone, *words), 2, "", USAGE))
     answer = install(clone, "--remove", clone.folder)
     right = answer[:2] == (1, "") and "nothing was put below" in answer.err
-    tally.check("scripts/install --remove, where nothing was put", None if right else "it is %r" % (answer,))
+    results.check("scripts/install --remove, where nothing was put", None if right else "it is %r" % (answer,))
 
 
-def check_fresh(tally, clone, prefix):
+def check_fresh(results, clone, prefix):
     """A prefix that is not there yet is made, and taken away again; the second time over what is there."""
     for title in ("into a fresh prefix", "over what is there"):
         answer = install(clone, prefix)
         files = {path for path in below(prefix) if not path.endswith("/")}
         complaint = None if answer.status == 0 and files == INSTALLED else "it is %r with %s" % (answer, sorted(files))
-        tally.check("scripts/install, " + title, complaint)
+        results.check("scripts/install, " + title, complaint)
     answer = install(clone, "--remove", prefix)
     left = os.path.lexists(prefix) and below(prefix)
     complaint = exactly(answer, 0, "") or (None if left is False else "it left %s" % left)
-    tally.check("scripts/install --remove, of a prefix that it made", complaint)
+    results.check("scripts/install --remove, of a prefix that it made", complaint)
 
 
-def check_beside(tally, clone, prefix):
+def check_beside(results, clone, prefix):
     """Files and folders of others stay as they are, and a file of theirs is not replaced."""
     for folder in ("bin", "lib", "share/man/man1", "empty"):
         os.makedirs(os.path.join(prefix, folder))
@@ -101,17 +101,17 @@ def check_beside(tally, clone, prefix):
     os.symlink("other", os.path.join(prefix, "bin", "graphtool"))
     answer = install(clone, "prefix", cwd=os.path.dirname(prefix))
     right = answer[:2] == (1, "") and "bin/graphtool is there" in answer.err and below(prefix) == before | {"bin/graphtool"}
-    tally.check("scripts/install, beside a file of the same name", None if right else "it is %r" % (answer,))
+    results.check("scripts/install, beside a file of the same name", None if right else "it is %r" % (answer,))
     os.remove(os.path.join(prefix, "bin", "graphtool"))
     answer = install(clone, "prefix", cwd=os.path.dirname(prefix))
     right = answer.status == 0 and INSTALLED < below(prefix)
-    tally.check("scripts/install, beside other files", None if right else "it is %r" % (answer,))
+    results.check("scripts/install, beside other files", None if right else "it is %r" % (answer,))
     answer = install(clone, "--remove", prefix)
     complaint = exactly(answer, 0, "") or (None if below(prefix) == before else "there is %s" % sorted(below(prefix) ^ before))
-    tally.check("scripts/install --remove, beside other files", complaint)
+    results.check("scripts/install --remove, beside other files", complaint)
 
 
-def check_page(tally, clone, prefix):
+def check_page(results, clone, prefix):
     """The manual page is rendered without a warning, has all words, and is what Git shows."""
     install(clone, prefix)
     page = os.path.join(prefix, "share", "man", "man1", "git-cgraph.1")
@@ -127,11 +127,11 @@ def check_page(tally, clone, prefix):
         for command in commands:
             answer = run([shutil.which(command[0]), *command[1:]], variables)
             right = answer.status == 0 and "GIT-CGRAPH(1)" in answer.out and not answer.err
-            tally.check("the manual page, by %s" % " ".join(command[:2]), None if right else "it is %r" % (answer,))
+            results.check("the manual page, by %s" % " ".join(command[:2]), None if right else "it is %r" % (answer,))
     install(clone, "--remove", prefix)
 
 
-def check_completion(tally, clone, repository):
+def check_completion(results, clone, repository):
     """The words and the revisions that Git's completion offers after `git cgraph`."""
     theirs = next(filter(os.path.exists, COMPLETIONS), None)
     if not theirs or not shutil.which("bash"):
@@ -152,10 +152,10 @@ def check_completion(tally, clone, repository):
         folder = os.path.join(repository, b"sub") if "-C" in words and ".." in words else repository
         answer = run(command, {**clone.surroundings(), "PATH": os.environ["PATH"]}, cwd=folder)
         complaint = None if set(answer.out.split()) == offered and not answer.err else "it is %r" % (answer,)
-        tally.check("completion of git cgraph " + " ".join(words), complaint)
+        results.check("completion of git cgraph " + " ".join(words), complaint)
 
 
-def check_away(tally, clone, folder, repository):
+def check_away(results, clone, folder, repository):
     """What was installed works where the clone is not any more, by the path of the command and by Git."""
     prefix = os.path.join(folder, "moved")
     install(clone, os.path.join(folder, "before"))
@@ -175,10 +175,10 @@ def check_away(tally, clone, folder, repository):
     ):
         path = shutil.which(command[0], path=variables["PATH"])
         answer = run([path, *command[1:]], variables, cwd=repository)
-        tally.check("installed, without the clone: " + " ".join(command), exactly(answer, *wanted))
+        results.check("installed, without the clone: " + " ".join(command), exactly(answer, *wanted))
     os.rename(folder + "/away", clone.folder)
     for name in PROGRAMS:
         os.remove(os.path.join(clone.folder, "crates", name, "out", name))
     answer = install(clone, prefix + " 2")
     right = answer.status == 1 and "rt" in answer.err and not os.path.lexists(prefix + " 2")
-    tally.check("scripts/install, with nothing built and no rt", None if right else "it is %r" % (answer,))
+    results.check("scripts/install, with nothing built and no rt", None if right else "it is %r" % (answer,))

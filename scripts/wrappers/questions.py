@@ -52,22 +52,22 @@ STATUSES = [
 """A word, the line and the status of its program, and the status of `git cgraph`."""
 
 
-def check_all(tally):
+def check_all(results):
     """The checks of `git cgraph`."""
     with tempfile.TemporaryDirectory() as folder:
         clone = Clone(folder)
         repository = make_repository(clone, os.path.join(folder.encode(), ODD_NAME))
-        check_words(tally, clone)
-        check_told(tally, clone)
-        check_manual(tally)
+        check_words(results, clone)
+        check_told(results, clone)
+        check_manual(results)
         for shell in SHELLS:
             if shutil.which(shell[0]):
-                check_questions(tally, clone, repository, shell)
-        check_statuses(tally, clone, repository)
-        check_repeated(tally, clone, repository)
-        check_revisions(tally, clone, repository)
-        check_ends(tally, clone, repository)
-        tally.check("git cgraph, nothing is left over", clone.left_over())
+                check_questions(results, clone, repository, shell)
+        check_statuses(results, clone, repository)
+        check_repeated(results, clone, repository)
+        check_revisions(results, clone, repository)
+        check_ends(results, clone, repository)
+        results.check("git cgraph, nothing is left over", clone.left_over())
 
 
 def make_repository(clone, path):
@@ -109,15 +109,15 @@ def said(sentences):
     return "".join("git cgraph: %s\n" % sentence for sentence in sentences)
 
 
-def check_words(tally, clone):
+def check_words(results, clone):
     """Words that are no command end with the usage text and status 129, and need no repository."""
     for sentence, words in WRONG.items():
         answer = ask(clone, words, clone.folder)
         right = answer[:2] == (129, "") and answer.err.startswith(said([sentence]) + USAGE)
-        tally.check("git cgraph %s: %s" % (" ".join(words), sentence), None if right else "it is %r" % (answer,))
+        results.check("git cgraph %s: %s" % (" ".join(words), sentence), None if right else "it is %r" % (answer,))
 
 
-def check_manual(tally):
+def check_manual(results):
     """The synopsis of the manual has the commands of the table, with as many revisions, and each has an item."""
     manual = read("docs", "MANUAL.md")
     synopsis = re.findall(r"^    git cgraph \[-C DIR\] (.*)$", manual, re.MULTILINE)
@@ -126,13 +126,13 @@ def check_manual(tally):
         words = re.sub(r"\[.*?\]", "", line).replace("|", " ").split()
         said.update({word: words.count("REV") + words.count("REV..") for word in words if "REV" not in word})
     listed = {command.word: command.least() for command in commands() if command.by_git}
-    tally.check("the synopsis of the manual is that of the table", None if said == listed else "it has %s" % said)
+    results.check("the synopsis of the manual is that of the table", None if said == listed else "it has %s" % said)
     items = {word.split()[0] for word in re.findall(r"^- `([^`]*)`: ", manual, re.MULTILINE)}
     missing = sorted(set(listed) - items)
-    tally.check("each command has an item in the manual", "there is none on %s" % missing if missing else None)
+    results.check("each command has an item in the manual", "there is none on %s" % missing if missing else None)
 
 
-def check_told(tally, clone):
+def check_told(results, clone):
     """Help and version, alone and after each word, and outside a repository."""
     version = "git-cgraph " + read("VERSION")
     manual = read("docs", "MANUAL.md")
@@ -144,12 +144,12 @@ def check_told(tally, clone):
         told = line.strip() in answer.out and (not word or len(answer.out.split("\n")) < 12)
         right = answer.status == 0 and answer.out.startswith(("usage: git cgraph", "git-cgraph: ")) and not answer.err
         title = " ".join(["git-cgraph", *before, "--help"])
-        tally.check(title, None if right and told and helps[0] == helps[1] else "they are %r" % (helps,))
+        results.check(title, None if right and told and helps[0] == helps[1] else "they are %r" % (helps,))
         answer = ask(clone, [*before, "--version"], clone.folder)
-        tally.check(" ".join(["git cgraph", *before, "--version"]), exactly(answer, 0, version))
+        results.check(" ".join(["git cgraph", *before, "--version"]), exactly(answer, 0, version))
 
 
-def check_questions(tally, clone, repository, shell):
+def check_questions(results, clone, repository, shell):
     """The words that the programs get, in the folder of the objects, wherever the shell stands."""
     objects = os.path.join(repository, b".git", b"objects").decode("utf-8", "surrogateescape")
     sub, outside = os.path.join(repository, b"sub"), os.path.dirname(repository)
@@ -166,13 +166,13 @@ def check_questions(tally, clone, repository, shell):
         }
         for way, answer in ways.items():
             complaint = None if answer == expected else "it is %r" % (answer,)
-            tally.check("%s git-cgraph %s %s" % (" ".join(shell), word, way), complaint)
+            results.check("%s git-cgraph %s %s" % (" ".join(shell), word, way), complaint)
     clone.put_program("graphtool", "cat\nprintf '<%s>' \"$@\"\n")
     answer = ask(clone, ["list"], sub, shell)
-    tally.check("%s git-cgraph list" % " ".join(shell), exactly(answer, 0, "content<list>"))
+    results.check("%s git-cgraph list" % " ".join(shell), exactly(answer, 0, "content<list>"))
 
 
-def check_statuses(tally, clone, repository):
+def check_statuses(results, clone, repository):
     """The status of `git cgraph` to each kind of answer, and the sentences after it."""
     rows = refusals.read_rows()
     folder = os.path.join(repository, b".git/objects/info").decode("utf-8", "surrogateescape")
@@ -183,20 +183,20 @@ def check_statuses(tally, clone, repository):
         sentences = refusals.sentences(rows, line, word, folder) if expected else []
         if line == "unknown 1":
             sentences.insert(0, "id 1 is " + git(clone, repository, "rev-parse", revisions[0]))
-        tally.check("git cgraph %s, answered %r" % (word, line), exactly(answer, expected, line + "\n", said(sentences)))
+        results.check("git cgraph %s, answered %r" % (word, line), exactly(answer, expected, line + "\n", said(sentences)))
     clone.put_program("historytool", "printf '%s\\n' 'base 3 ab' 'base 14 cd' 'ahead 3 behind 4' 'visits 7'\n")
     for words, out in (
         (["merge-base", "HEAD", "HEAD"], "ab\ncd\n"),
         (["merge-base", "HEAD", "-v", "HEAD"], "base 3 ab\nbase 14 cd\nahead 3 behind 4\nvisits 7\n"),
     ):
-        tally.check("git cgraph " + " ".join(words), exactly(ask(clone, words, repository), 0, out))
+        results.check("git cgraph " + " ".join(words), exactly(ask(clone, words, repository), 0, out))
     clone.put_program("historytool", "echo 'usage: other words' >&2\nexit 2\n")
     answer = ask(clone, ["check"], repository)
     err = "usage: other words\n" + said(["the program does not take these words"])
-    tally.check("git cgraph check, of a program without it", exactly(answer, 128, "", err))
+    results.check("git cgraph check, of a program without it", exactly(answer, 128, "", err))
 
 
-def check_repeated(tally, clone, repository):
+def check_repeated(results, clone, repository):
     """After some answers of a chain of two layers or more, what is said where `distinct` finds a commit in two of them."""
     info = os.path.join(repository, b".git/objects/info")
     os.rename(os.path.join(info, b"commit-graph"), os.path.join(info, b"aside"))
@@ -223,12 +223,12 @@ def check_repeated(tally, clone, repository):
         out = line.replace("base 3 ", "") + "\n"
         wanted = (128 if line.startswith("refused") else status, out, err)
         title = "git cgraph %s, answered %r of the chain %r, where distinct runs %r" % (word, line, layers, distinct)
-        tally.check(title, exactly(answer, *wanted))
+        results.check(title, exactly(answer, *wanted))
     shutil.rmtree(os.path.join(info, b"commit-graphs"))
     os.rename(os.path.join(info, b"aside"), os.path.join(info, b"commit-graph"))
 
 
-def check_revisions(tally, clone, repository):
+def check_revisions(results, clone, repository):
     """Names of commits, however odd, and names of anything else."""
     clone.put_program("graphtool", ECHO)
     head, before = (git(clone, repository, "rev-parse", name) for name in ("HEAD", "HEAD~1"))
@@ -236,18 +236,18 @@ def check_revisions(tally, clone, repository):
     for name, commit in names.items():
         answer = ask(clone, ["find", name], repository)
         complaint = None if answer[:2] == (0, "<find><info/commit-graph><%s>" % commit) else "it is %r" % (answer,)
-        tally.check("git cgraph find %a" % name, complaint)
+        results.check("git cgraph find %a" % name, complaint)
     other = head[:12] + format(int(head[12], 16) ^ 1, "x")
     for name in ("tree", "HEAD^{tree}", "nothing", "HEAD~2", "", "HEAD..HEAD", "^HEAD", other, "$(id)"):
         answer = ask(clone, ["find", name], repository)
         right = answer[:2] == (128, "") and "git cgraph: '%s' " % name in answer.err
-        tally.check("git cgraph find %a, which is no commit" % name, None if right else "it is %r" % (answer,))
+        results.check("git cgraph find %a, which is no commit" % name, None if right else "it is %r" % (answer,))
     answer = ask(clone, ["verify"], clone.folder)
     right = answer[:2] == (128, "") and "not a git repository" in answer.err
-    tally.check("git cgraph verify where there is no repository", None if right else "it is %r" % (answer,))
+    results.check("git cgraph verify where there is no repository", None if right else "it is %r" % (answer,))
 
 
-def check_ends(tally, clone, repository):
+def check_ends(results, clone, repository):
     """Answers that cannot be written or that nobody reads, and signals."""
     rows = refusals.read_rows()
     unwritten = "the answer could not be written"
@@ -255,23 +255,23 @@ def check_ends(tally, clone, repository):
     many = "n=0\nwhile [ $n -lt 20000 ]; do echo $n 0000000000; n=$((n + 1)); done\n"
     clone.put_program("graphtool", many)
     with open("/dev/full", "wb") as full:
-        tally.check("git cgraph, to a full device", exactly(ask(clone, ["verify"], repository, stdout=full), 128, "", sentences))
+        results.check("git cgraph, to a full device", exactly(ask(clone, ["verify"], repository, stdout=full), 128, "", sentences))
     closed = ask(clone, ["verify"], repository, ("sh",), preexec_fn=lambda: os.close(1))
-    tally.check("git cgraph, output that is closed", exactly(closed, 128, "", sentences))
+    results.check("git cgraph, output that is closed", exactly(closed, 128, "", sentences))
     for name, word in (("git-cgraph", "verify"), ("graphtool", "distinct")):
         script = '"$0" %s %s | head -n 1; exit "${PIPESTATUS[0]}"' % (word, "." if name == "graphtool" else "")
         path = os.path.join(clone.folder, name)
         answer = run([shutil.which("bash"), "-c", script, path], {**clone.surroundings(), "PATH": os.environ["PATH"]}, cwd=repository)
         err = sentences.replace("git cgraph", name)
         right = (141, "0 0000000000\n", "") if name == "git-cgraph" else (2, "0 0000000000\n", err)
-        tally.check("%s, nobody reads on" % name, None if answer == right else "it is %r" % (answer,))
+        results.check("%s, nobody reads on" % name, None if answer == right else "it is %r" % (answer,))
     clone.put_program("graphtool", "kill -9 $$\n")
     ended = "ended by signal 9"
     answer = ask(clone, ["verify"], repository)
-    tally.check("git cgraph, " + ended, exactly(answer, 137, "", said([ended, *refusals.sentences(rows, ended)])))
+    results.check("git cgraph, " + ended, exactly(answer, 137, "", said([ended, *refusals.sentences(rows, ended)])))
     for number in (signal.SIGINT, signal.SIGTERM, signal.SIGHUP):
-        tally.check("git cgraph, sent %s" % number.name, interrupted(clone, repository, number))
-    tally.check("git cgraph, ended by itself", ended_alone(clone, repository))
+        results.check("git cgraph, sent %s" % number.name, interrupted(clone, repository, number))
+    results.check("git cgraph, ended by itself", ended_alone(clone, repository))
 
 
 def interrupted(clone, repository, number):

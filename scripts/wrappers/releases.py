@@ -43,29 +43,29 @@ def variables():
     return {"PATH": os.environ["PATH"], "HOME": "/nowhere", "GIT_CONFIG_NOSYSTEM": "1", "LC_ALL": "C", "PYTHONDONTWRITEBYTECODE": "1", **NAME}
 
 
-def check_all(tally):
+def check_all(results):
     """The checks of a release."""
-    check_release(tally)
-    check_gate(tally)
-    check_refusals(tally)
+    check_release(results)
+    check_gate(results)
+    check_refusals(results)
 
 
-def check_release(tally):
+def check_release(results):
     """A number stands in all places then, the changes have it with the date, and a tag leads to the commit."""
     with tempfile.TemporaryDirectory() as folder:
         copy = Copy(folder)
         answer = copy.release("99.1.0")
         complaint = None if answer.status == 0 else "it is %r" % (answer,)
-        tally.check("scripts/release", complaint or next(version.wrong_places(folder), None))
+        results.check("scripts/release", complaint or next(version.wrong_places(folder), None))
         heading = "## 99.1.0, %s\n\n- one\n\n## %s, " % (datetime.date.today().isoformat(), version.number())
         changes = version.read(version.CHANGES, folder)
         right = version.number(folder) == "99.1.0" and heading in changes and version.UNRELEASED not in changes
-        tally.check("scripts/release, the changes are dated", None if right else "they are %r" % changes)
+        results.check("scripts/release, the changes are dated", None if right else "they are %r" % changes)
         right = copy.git("rev-parse", "v99.1.0^{commit}") == copy.git("rev-parse", "HEAD") and not copy.git("status", "--porcelain")
-        tally.check("scripts/release, a tag leads to the commit", None if right else copy.git("log", "--oneline", "--decorate"))
+        results.check("scripts/release, a tag leads to the commit", None if right else copy.git("log", "--oneline", "--decorate"))
 
 
-def check_gate(tally):
+def check_gate(results):
     """Where the gate fails, everything is as it was."""
     with tempfile.TemporaryDirectory() as folder:
         copy = Copy(folder, gate=1)
@@ -73,10 +73,10 @@ def check_gate(tally):
         answer = copy.release("99.1.0")
         right = answer.status == 1 and "the gate failed" in answer.err and copy.git("rev-parse", "HEAD") == before
         right = right and not copy.git("tag", "--list") and not copy.git("status", "--porcelain")
-        tally.check("scripts/release, the gate fails", None if right else "it is %r" % (answer,))
+        results.check("scripts/release, the gate fails", None if right else "it is %r" % (answer,))
 
 
-def check_refusals(tally):
+def check_refusals(results):
     """No release is made without changes, of what is not committed, or with a number that is none or not above the last."""
     for title, words, changes, why in (
         ("no number", ["1.2"], CHANGES, "is no number"),
@@ -87,10 +87,10 @@ def check_refusals(tally):
         with tempfile.TemporaryDirectory() as folder:
             answer = Copy(folder, changes=changes % version.number()).release(*words)
             right = answer[:2] == (1, "") and why in answer.err
-            tally.check("scripts/release, " + title, None if right else "it is %r" % (answer,))
+            results.check("scripts/release, " + title, None if right else "it is %r" % (answer,))
     with tempfile.TemporaryDirectory() as folder:
         copy = Copy(folder)
         version.write("more", "more\n", folder)
         answer = copy.release("99.1.0")
         right = answer[:2] == (1, "") and "not committed" in answer.err
-        tally.check("scripts/release, of what is not committed", None if right else "it is %r" % (answer,))
+        results.check("scripts/release, of what is not committed", None if right else "it is %r" % (answer,))

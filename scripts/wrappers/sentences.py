@@ -13,7 +13,7 @@ COMMANDS = {command.word: [command.program, command.word, *command.operands()] f
 """The words by which each command is run."""
 
 
-def check_all(tally):
+def check_all(results):
     """The checks of all rows, of ids beside positions, and of lines that no row has."""
     rows = refusals.read_rows()
     with tempfile.TemporaryDirectory() as folder:
@@ -22,11 +22,11 @@ def check_all(tally):
             answer = ask(clone, line, command)
             said = refusals.sentences(rows, line, command)
             title = "the sentences of %r from %s" % (line, command)
-            tally.check(title, right(answer, line, command, said))
-        check_unknown(tally, clone, rows)
-        check_no_id(tally, clone, rows)
-        check_other_line(tally, clone)
-        tally.check("sentences, nothing is left over", clone.left_over())
+            results.check(title, right(answer, line, command, said))
+        check_unknown(results, clone, rows)
+        check_no_id(results, clone, rows)
+        check_other_line(results, clone)
+        results.check("sentences, nothing is left over", clone.left_over())
 
 
 def examples(rows):
@@ -55,15 +55,15 @@ def right(answer, line, command, said):
     return exactly(answer, 1, line + "\n", err)
 
 
-def check_unknown(tally, clone, rows):
+def check_unknown(results, clone, rows):
     """An id that is not there is named."""
     clone.put_program("historytool", "echo 'unknown 2'\nexit 1\n")
     answer = clone.run(["historytool", "merge-base", ".", "aa", "bb", "cc"])
     said = ["id 2 is bb", *refusals.sentences(rows, "unknown 2")]
-    tally.check("an unknown id is named", right(answer, "unknown 2", "merge-base", said))
+    results.check("an unknown id is named", right(answer, "unknown 2", "merge-base", said))
 
 
-def check_no_id(tally, clone, rows):
+def check_no_id(results, clone, rows):
     """The first text that is no id is named."""
     ids = ["aB" * 20, "0" * 64, "a" * 41, "HEAD"]
     for line, no_id in (("refused id 1", ids[2]), ("refused id 2", "g" * 40)):
@@ -72,9 +72,9 @@ def check_no_id(tally, clone, rows):
         answer = clone.run(["historytool", "merge-base", ".", *given])
         said = ["'%s' is not an id" % no_id, *refusals.sentences(rows, line)]
         err = "".join("historytool: %s\n" % sentence for sentence in said)
-        tally.check("a text that is no id is named, %s" % line, exactly(answer, 2, line + "\n", err))
+        results.check("a text that is no id is named, %s" % line, exactly(answer, 2, line + "\n", err))
 
 
-def check_other_line(tally, clone):
+def check_other_line(results, clone):
     """A line that no row has is passed on with its status, and nothing is said of it."""
-    tally.check("a line of no row", right(ask(clone, "refused nothing 3", "verify"), "refused nothing 3", "verify", []))
+    results.check("a line of no row", right(ask(clone, "refused nothing 3", "verify"), "refused nothing 3", "verify", []))

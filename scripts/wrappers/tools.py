@@ -40,17 +40,17 @@ cp built "out/$2"
 """A `python3` that builds a program from the file `built` beside its sources, in the place of scripts/proving.py."""
 
 
-def check_all(tally):
+def check_all(results):
     """The checks of both wrappers, and of the one version."""
     for wrapper in map(wrapper_of, PROGRAMS):
         with tempfile.TemporaryDirectory() as folder:
             clone = Clone(folder)
-            check_words(tally, wrapper, clone)
-            check_build(tally, wrapper, clone)
-            check_passing(tally, wrapper, clone)
-            check_told(tally, wrapper, clone)
-            tally.check("%s, nothing is left over" % wrapper.name, clone.left_over())
-    check_version(tally)
+            check_words(results, wrapper, clone)
+            check_build(results, wrapper, clone)
+            check_passing(results, wrapper, clone)
+            check_told(results, wrapper, clone)
+            results.check("%s, nothing is left over" % wrapper.name, clone.left_over())
+    check_version(results)
 
 
 def usage_of(name):
@@ -66,17 +66,17 @@ def read(*path):
         return file.read()
 
 
-def check_words(tally, wrapper, clone):
+def check_words(results, wrapper, clone):
     """Words that are no command end with the usage text, and build nothing; a command asks for `rt`."""
     for words in wrapper.no_command:
         answer = clone.run([wrapper.name, *words])
-        tally.check("%s, usage after the words %r" % (wrapper.name, words), exactly(answer, 2, "", usage_of(wrapper.name)))
+        results.check("%s, usage after the words %r" % (wrapper.name, words), exactly(answer, 2, "", usage_of(wrapper.name)))
     answer = clone.run([wrapper.name, *first_command(wrapper)])
     unmade = "the program could not be proved or built"
     said = [unmade, *refusals.sentences(refusals.read_rows(), unmade)]
     lines = answer.err.splitlines()
     right = answer[:2] == (3, "") and re.search(r"\brt\b", lines[0]) and lines[1:] == ["%s: %s" % (wrapper.name, line) for line in said]
-    tally.check("%s, no rt on the path" % wrapper.name, None if right else "it is %r" % (answer,))
+    results.check("%s, no rt on the path" % wrapper.name, None if right else "it is %r" % (answer,))
 
 
 def first_command(wrapper):
@@ -84,7 +84,7 @@ def first_command(wrapper):
     return next([command, *words] for command, words in wrapper.commands.items() if words)
 
 
-def check_build(tally, wrapper, clone):
+def check_build(results, wrapper, clone):
     """The program is built on its first use, and its words come to it as they are."""
     name, words = wrapper.name, first_command(wrapper)
     clone.put("bin/rt", "#!/bin/sh\nexit 1\n")
@@ -94,24 +94,24 @@ def check_build(tally, wrapper, clone):
     written = "".join("<%s>" % word for word in words)
     first, second = (clone.run([name, *words]) for _ in range(2))
     right = first[:2] == (0, written) and re.fullmatch(name + r": proving [^\n]*\nprogress\n", first.err)
-    tally.check("%s, the program is built" % name, None if right else "it is %r" % (first,))
-    tally.check("%s, it is not built again" % name, exactly(second, 0, written))
+    results.check("%s, the program is built" % name, None if right else "it is %r" % (first,))
+    results.check("%s, it is not built again" % name, exactly(second, 0, written))
 
 
-def check_passing(tally, wrapper, clone):
+def check_passing(results, wrapper, clone):
     """The answer and the status are those of the program, for each command."""
     for command, more in wrapper.commands.items():
         words, written = [command, *more], "line %s\nmore\n" % " ".join([command, *more])
         for status in (0, 1, 2):
             clone.put_program(wrapper.name, 'echo line "$@"\necho more\nexit %d\n' % status)
             title = "%s %s, the program's status %d" % (wrapper.name, command, status)
-            tally.check(title, exactly(clone.run([wrapper.name, *words]), status, written))
+            results.check(title, exactly(clone.run([wrapper.name, *words]), status, written))
     clone.put_program(wrapper.name, "echo why >&2\nexit 2\n")
     answer = clone.run([wrapper.name, *first_command(wrapper)])
-    tally.check("%s, what the program says on standard error" % wrapper.name, exactly(answer, 2, "", "why\n"))
+    results.check("%s, what the program says on standard error" % wrapper.name, exactly(answer, 2, "", "why\n"))
 
 
-def check_told(tally, wrapper, clone):
+def check_told(results, wrapper, clone):
     """Help and version, alone and after each command, which build nothing; and the usage text, which is that of the table."""
     name, told = wrapper.name, "%s %s" % (wrapper.name, read("VERSION"))
     clone.put_program(name, "exit 7\n")
@@ -122,19 +122,19 @@ def check_told(tally, wrapper, clone):
             rows = ["%-11s  %s" % (command.word, command.about) for command in commands(name)]
             missing = [row for row in rows if row not in answer.out.splitlines()]
             complaint = None if right and not missing else "it is %r" % (answer,)
-            tally.check(" ".join([name, *before, word]), complaint)
+            results.check(" ".join([name, *before, word]), complaint)
         answer = clone.run([name, *before, "--version"])
-        tally.check(" ".join([name, *before, "--version"]), exactly(answer, 0, told))
+        results.check(" ".join([name, *before, "--version"]), exactly(answer, 0, told))
     own = usage_of(name).strip().replace(" | --help | --version", "")
-    tally.check("%s, its usage is that of the table" % name, None if own == usage(name) else "it is %r" % own)
+    results.check("%s, its usage is that of the table" % name, None if own == usage(name) else "it is %r" % own)
 
 
-def check_version(tally):
+def check_version(results):
     """The number of the version stands in VERSION; the changes and all that names it agree with it."""
-    tally.check("each place that names the version has its number", next(version.wrong_places(), None))
+    results.check("each place that names the version has its number", next(version.wrong_places(), None))
     kit = KIT.search(read("README.md")).group(1)
     right = read("VERSION") == "%s, proved with %s\n" % (version.number(), kit)
-    tally.check("the kit of the version is the one that is needed", None if right else "it is %r" % read("VERSION"))
+    results.check("the kit of the version is the one that is needed", None if right else "it is %r" % read("VERSION"))
     line = 'const VERSION: &str = "historytool %s";' % read("VERSION").strip()
     there = line in read("crates", "historytool", "src", "main.rt").split("\n")
-    tally.check("historytool has the version", None if there else "its source has no line " + line)
+    results.check("historytool has the version", None if there else "its source has no line " + line)

@@ -21,16 +21,16 @@ LINE = 12
 """So many commits has a line of which each pair is asked for."""
 
 
-def check_all(programs, tally, new):
+def check_all(programs, results, new):
     """The checks of walks to ancestors by both programs; a new repository comes from a function of its name."""
-    check_line(programs, tally, new("ancestors in a line"))
-    check_file(programs, tally, new("ancestors in a file"))
-    check_chain(programs, tally, new("ancestors in a chain"))
-    check_id_in_two_layers(programs, tally, new("ancestors by an id in two layers"))
-    check_replaced_parents(programs, tally, new("ancestors by replaced parents"))
+    check_line(programs, results, new("ancestors in a line"))
+    check_file(programs, results, new("ancestors in a file"))
+    check_chain(programs, results, new("ancestors in a chain"))
+    check_id_in_two_layers(programs, results, new("ancestors by an id in two layers"))
+    check_replaced_parents(programs, results, new("ancestors by replaced parents"))
 
 
-def check_line(programs, tally, repository):
+def check_line(programs, results, repository):
     """All pairs of commits in a line, of which each search visits a certain number: those from the one to the other."""
     ids = repository.add(shapes.linear(LINE))
     repository.write_graph()
@@ -46,7 +46,7 @@ def check_line(programs, tally, repository):
 
     pairs = itertools.product(range(LINE), repeat=2)
     runs = [(lambda pair=pair: asked(programs, path, *(ids[it] for it in pair)), partial(complaint, *pair)) for pair in pairs]
-    check_runs(tally, "%s, ancestor and merge-base, each pair of a line, and their visits" % repository.object_format, runs)
+    check_runs(results, "%s, ancestor and merge-base, each pair of a line, and their visits" % repository.object_format, runs)
 
 
 def asked(programs, path, first, second):
@@ -55,21 +55,21 @@ def asked(programs, path, first, second):
     return program.ancestor(path, first, second), histories.merge_base(path, first, second)
 
 
-def check_file(programs, tally, repository):
+def check_file(programs, results, repository):
     """All pairs of commits of merges, in a single file; and ids that are not in it."""
     repository.add(shapes.diamonds(10))
     repository.write_graph()
     words = repository.words()
-    check_pairs(programs, tally, repository, "merges", Walks(words, [list(words)]))
+    check_pairs(programs, results, repository, "merges", Walks(words, [list(words)]))
     known, path = min(words), repository.graph_path()
     commands = {"ancestor": programs[0].ancestor, "is-ancestor": programs[1].is_ancestor, "walk": programs[1].walk}
     for name, pair, number in (("first", (UNKNOWN, known), 1), ("second", (known, UNKNOWN), 2), ("both", (UNKNOWN,) * 2, 1)):
         for command, run in commands.items():
             complaint = judge.exactly(1, "unknown %d\n" % number, "", run(path, *pair))
-            tally.check("%s, %s, an id that is not there: %s" % (repository.object_format, command, name), complaint)
+            results.check("%s, %s, an id that is not there: %s" % (repository.object_format, command, name), complaint)
 
 
-def check_chain(programs, tally, repository):
+def check_chain(programs, results, repository):
     """All pairs of commits of a tangled history, in a chain of three layers."""
     history, size = shapes.tangled(36, seed=8), 12
     ids = []
@@ -77,10 +77,10 @@ def check_chain(programs, tally, repository):
         ids += repository.add(history[: start + size], start)[start:]
         repository.write_graph("--split=no-merge")
     layers = [ids[start : start + size] for start in range(0, len(ids), size)]
-    check_pairs(programs, tally, repository, "a tangled chain", Walks(repository.words(), layers))
+    check_pairs(programs, results, repository, "a tangled chain", Walks(repository.words(), layers))
 
 
-def check_pairs(programs, tally, repository, name, walks):
+def check_pairs(programs, results, repository, name, walks):
     """What is said of each pair of commits."""
     program, histories = programs
     path = repository.info_path()
@@ -96,11 +96,11 @@ def check_pairs(programs, tally, repository, name, walks):
 
     pairs = list(itertools.product(walks.words, repeat=2))
     runs = [(lambda pair=pair: answer(pair), lambda answers, pair=pair: complaint(pair, answers)) for pair in pairs]
-    check_runs(tally, "%s, ancestor, is-ancestor and walk, each pair of %s" % (repository.object_format, name), runs)
-    base_checks.check_all(histories, tally, repository, name, walks)
+    check_runs(results, "%s, ancestor, is-ancestor and walk, each pair of %s" % (repository.object_format, name), runs)
+    base_checks.check_all(histories, results, repository, name, walks)
 
 
-def check_id_in_two_layers(programs, tally, repository):
+def check_id_in_two_layers(programs, results, repository):
     """Three commits in a line, the second of them in both layers of a chain, and the third on its later position.
 
     `verify` and Git pass the chain. An id is looked up at its first position, to which no walk leads here.
@@ -112,19 +112,19 @@ def check_id_in_two_layers(programs, tally, repository):
     later = 2 + sorted([middle, tip]).index(middle)
     title, path = "%s, an id in two layers" % repository.object_format, repository.info_path()
     passed = judge.verdict("ok commits 4 longest 2\nparents 0 commits 1\nparents 1 commits 3\n", program.verify(path))
-    tally.check(title + ", verified", passed)
-    tally.check(title + ", passed by Git", complaint_of((0, False), repository.git_verdict()))
+    results.check(title + ", verified", passed)
+    results.check(title + ", passed by Git", complaint_of((0, False), repository.git_verdict()))
     refused = judge.verdict("refused verify 11 position %d earlier %d\n" % (later, position), program.distinct(path))
-    tally.check(title + ", its ids distinct", refused)
-    tally.check(title + ", the tip reaches it, as Git says", complaint_of(True, repository.reaches(tip, middle)))
+    results.check(title + ", its ids distinct", refused)
+    results.check(title + ", the tip reaches it, as Git says", complaint_of(True, repository.reaches(tip, middle)))
     nothing = judge.exactly(1, "none\nvisits 2\n", "", program.ancestor(path, tip, middle))
-    tally.check(title + ", no walk to its first position", nothing)
+    results.check(title + ", no walk to its first position", nothing)
     told = judge.exactly(1, "no\n", "", histories.is_ancestor(path, middle, tip))
-    tally.check(title + ", told of its first position", told)
+    results.check(title + ", told of its first position", told)
     walk = "walk %d %d %d\nvisits 3\n" % (5 - later, later, 1 - position)
-    tally.check(title + ", a walk by its later one", judge.exactly(0, walk, "", program.ancestor(path, tip, root)))
+    results.check(title + ", a walk by its later one", judge.exactly(0, walk, "", program.ancestor(path, tip, root)))
     ids = "%s\n%s\n%s\n" % (tip, middle, root)
-    tally.check(title + ", the ids on that walk", judge.exactly(0, ids, "", histories.walk(path, tip, root)))
+    results.check(title + ", the ids on that walk", judge.exactly(0, ids, "", histories.walk(path, tip, root)))
 
 
 def with_middle_in_both(repository, ids):
@@ -147,7 +147,7 @@ def with_middle_in_both(repository, ids):
     return trees.chain([lower, trees.Layer("", content).renamed(kind)])
 
 
-def check_replaced_parents(programs, tally, repository):
+def check_replaced_parents(programs, results, repository):
     """A tip that `git replace --graft` takes off its parent, and puts on a root that is none of its ancestors.
 
     The commit-graph has the parents that stand in the commits, and so has Git where it replaces none.
@@ -165,10 +165,10 @@ def check_replaced_parents(programs, tally, repository):
             repository.git("replace", "--graft", *graft)
         for second, (status, text) in answers.items():
             title = "%s, a tip %s, ancestor %d" % (repository.object_format, name, place(second))
-            tally.check(title + ", as Git says", complaint_of(second == reached, repository.reaches(tip, second)))
-            tally.check(title, judge.exactly(status, text, "", program.ancestor(path, tip, second)))
+            results.check(title + ", as Git says", complaint_of(second == reached, repository.reaches(tip, second)))
+            results.check(title, judge.exactly(status, text, "", program.ancestor(path, tip, second)))
             told = judge.exactly(status, "no\n" if status else "yes\n", "", histories.is_ancestor(path, second, tip))
-            tally.check(title + ", told", told)
+            results.check(title + ", told", told)
 
 
 def complaint_of(expected, seen):

@@ -28,19 +28,19 @@ SIZES = ((2, 300), (3, 20), (4, 20), (5, 20))
 """How many commits of a long history are asked for at once, and how often. There are four such histories."""
 
 
-def check_all(histories, tally, repository, name, walks):
+def check_all(histories, results, repository, name, walks):
     """What is said of some commits of a graph; and of ids that are not in it."""
     path, place, choice = repository.info_path(), walks.place, random.Random(25)
     commits = sorted(place)
     sets = [choice.choices(commits, k=size) for size, count in ((2, 150), (4, 50)) for _ in range(count)]
-    check_sets(histories, tally, repository, name, walks.words, {path: place}, sets)
+    check_sets(histories, results, repository, name, walks.words, {path: place}, sets)
     for number in (1, 2, 4):
         ids = [UNKNOWN if place + 1 == number else commits[place] for place in range(4)] + [UNKNOWN]
         unknown = judge.exactly(1, "unknown %d\n" % number, "", histories.merge_base(path, *ids))
-        tally.check("%s, merge-base, id %d of %s is not there" % (repository.object_format, number, name), unknown)
+        results.check("%s, merge-base, id %d of %s is not there" % (repository.object_format, number, name), unknown)
 
 
-def check_long(histories, tally, new):
+def check_long(histories, results, new):
     """What is said of long histories, each in a single file and in a chain; where times are in disorder, in the second."""
     for name, disorder in (("topics", 0), ("topics in disorder", 0.02)):
         repository, ids, layers = new(name), [], []
@@ -55,16 +55,16 @@ def check_long(histories, tally, new):
         pools, choice = (ids, ids[-LENGTH // 4 :], ids[-100:]), random.Random(seed)
         sets = [choice.sample(pools[number % 3], size) for size, count in SIZES for number in range(count)]
         graphs = {repository.graph_path(): places([ids]), chain: places(layers)}
-        found = check_sets(histories, tally, repository, name, repository.words(), graphs, sets)
+        found = check_sets(histories, results, repository, name, repository.words(), graphs, sets)
         left_out = sorted({0, 1, 2}.difference(count for count, _ in found))
         complaint = "none has %s bases" % left_out if left_out else None
-        tally.check("%s, merge-base, sets of %s with no base, with one, and with two" % (repository.object_format, name), complaint)
+        results.check("%s, merge-base, sets of %s with no base, with one, and with two" % (repository.object_format, name), complaint)
         alike = sum(is_alike for _, is_alike in found)
         complaint = None if alike > 0.9 * len(sets) else "in too few"
-        tally.check("%s, rev-list, counts of sets of %s, right in %d" % (repository.object_format, name, alike), complaint)
+        results.check("%s, rev-list, counts of sets of %s, right in %d" % (repository.object_format, name, alike), complaint)
 
 
-def check_sets(histories, tally, repository, name, words, graphs, sets):
+def check_sets(histories, results, repository, name, words, graphs, sets):
     """What is said of sets of commits in graphs of the same commits, by their paths, each with the places of its ids.
 
     Answers of each set how many bases it has, and whether Git counts what its own parents say.
@@ -90,7 +90,7 @@ def check_sets(histories, tally, repository, name, words, graphs, sets):
         return next(filter(None, complaints), None)
 
     runs = [(lambda ids=ids: answer(ids), complaint) for ids in sets]
-    check_runs(tally, "%s, merge-base, sets of commits of %s" % (repository.object_format, name), runs)
+    check_runs(results, "%s, merge-base, sets of commits of %s" % (repository.object_format, name), runs)
     return found
 
 

@@ -61,22 +61,22 @@ class Installed:
         return run(command, {**self.variables, **way.variables}, cwd=way.folder)
 
 
-def check_all(programs, tally, folder, new):
+def check_all(programs, results, folder, new):
     """The checks of `git cgraph`; a new repository comes from a function of its object format and its name."""
     installed = Installed(os.path.join(folder, "installed"), programs)
     complaint = None if installed.installation.status == 0 else "it is %r" % (installed.installation,)
-    tally.check("scripts/install, with the programs", complaint)
+    results.check("scripts/install, with the programs", complaint)
     for kind in ("sha1", "sha256"):
-        check_kinds(installed, tally, new(kind, "asked"))
-        check_split(installed, tally, new(kind, "asked, split"))
-    check_empty(installed, tally, new("sha1", "asked, empty"))
-    check_abbreviation(installed, tally, new("sha1", "asked, abbreviations"))
-    check_damage(installed, tally, new("sha1", "asked, damaged"))
-    check_damaged_trees(installed, tally, new("sha1", "asked, damaged folders"))
-    tally.check("git cgraph, nothing is left over", installed.clone.left_over())
+        check_kinds(installed, results, new(kind, "asked"))
+        check_split(installed, results, new(kind, "asked, split"))
+    check_empty(installed, results, new("sha1", "asked, empty"))
+    check_abbreviation(installed, results, new("sha1", "asked, abbreviations"))
+    check_damage(installed, results, new("sha1", "asked, damaged"))
+    check_damaged_trees(installed, results, new("sha1", "asked, damaged folders"))
+    results.check("git cgraph, nothing is left over", installed.clone.left_over())
     answer = installed.clone.run(["scripts/install", "--remove", installed.prefix])
     gone = answer.status == 0 and not os.path.lexists(installed.prefix)
-    tally.check("scripts/install --remove, with the programs", None if gone else "it is %r" % (answer,))
+    results.check("scripts/install --remove, with the programs", None if gone else "it is %r" % (answer,))
 
 
 def add_names(repository, ids):
@@ -88,7 +88,7 @@ def add_names(repository, ids):
     repository.git(*person, "tag", "-a", "-m", "a tree", "tree", ids[1] + "^{tree}")
 
 
-def check_kinds(installed, tally, bare):
+def check_kinds(installed, results, bare):
     """Each word in a bare repository, in one with files and in a linked worktree, from each place."""
     ids = bare.add(shapes.diamonds(4))
     add_names(bare, ids)
@@ -114,10 +114,10 @@ def check_kinds(installed, tally, bare):
     }
     words = bare.words()
     for title, way in ways.items():
-        check_words(installed, tally, "%s, %s" % (bare.object_format, title), way, (words, [ids]))
+        check_words(installed, results, "%s, %s" % (bare.object_format, title), way, (words, [ids]))
 
 
-def check_split(installed, tally, repository):
+def check_split(installed, results, repository):
     """Each word in a repository whose commit-graph is a chain of three layers."""
     history, ids, layers = shapes.diamonds(4), [], []
     for stop in (4, 9, len(history)):
@@ -127,16 +127,16 @@ def check_split(installed, tally, repository):
     add_names(repository, ids)
     title = repository.object_format + ", a repository with a split commit-graph"
     sums = [checksum for checksum, _ in repository.chain()]
-    check_words(installed, tally, title, Way(repository.folder), (repository.words(), layers), sums)
+    check_words(installed, results, title, Way(repository.folder), (repository.words(), layers), sums)
     chain = os.path.join(repository.info_path(), trees.CHAIN)
     listed = installed.ask(Way(repository.folder), "list")
     write_bytes(chain, read_bytes(chain).rstrip(b"\n"))
     answer = installed.ask(Way(repository.folder), "list")
     complaint = None if answer == listed else "it is %r, not %r" % (answer, listed)
-    tally.check("git cgraph list in %s, whose last line has no end" % title, complaint)
+    results.check("git cgraph list in %s, whose last line has no end" % title, complaint)
 
 
-def check_words(installed, tally, title, way, graph, sums=(None,)):
+def check_words(installed, results, title, way, graph, sums=(None,)):
     """Each word beside Git's own words, which are given with the ids of each layer and the layers' checksums."""
     words, layers = graph
     ids = [commit for layer in layers for commit in layer]
@@ -151,25 +151,25 @@ def check_words(installed, tally, title, way, graph, sums=(None,)):
     for question, out in wanted.items():
         answer = installed.ask(way, *question)
         complaint = None if answer == (0, out, "") else "it is %r, expected %r" % (answer, out)
-        tally.check("git cgraph %s in %s" % (" ".join(question), title), complaint)
+        results.check("git cgraph %s in %s" % (" ".join(question), title), complaint)
     answer = installed.ask(way, "find", "tree")
     right = answer[:2] == (128, "") and "git cgraph: 'tree' names no commit" in answer.err
-    tally.check("git cgraph find in %s, a tag of a tree" % title, None if right else "it is %r" % (answer,))
-    check_check(installed, tally, title, way, verified(words))
-    check_pairs(installed, tally, title, way, (Walks(words, layers), ids))
+    results.check("git cgraph find in %s, a tag of a tree" % title, None if right else "it is %r" % (answer,))
+    check_check(installed, results, title, way, verified(words))
+    check_pairs(installed, results, title, way, (Walks(words, layers), ids))
 
 
-def check_check(installed, tally, title, way, text):
+def check_check(installed, results, title, way, text):
     """The answer to `check`; a program that does not have the word says so."""
     answer = installed.ask(way, "check")
     if installed.knows_check:
         right = answer.status == 0 and answer.out.startswith(text) and not answer.err
     else:
         right = answer[:2] == (128, "") and "the program does not take these words" in answer.err
-    tally.check("git cgraph check in %s" % title, None if right else "it is %r" % (answer,))
+    results.check("git cgraph check in %s" % title, None if right else "it is %r" % (answer,))
 
 
-def check_pairs(installed, tally, title, way, history):
+def check_pairs(installed, results, title, way, history):
     """The words that take two revisions, for some pairs of commits, beside Git."""
     walks, ids = history
     rows, complaints = refusals.read_rows(), []
@@ -188,7 +188,7 @@ def check_pairs(installed, tally, title, way, history):
         text = answer._replace(out=answer.out.encode(), err="" if said.status else answer.err)
         complaints.append(walks.judge_ids(second, first, said.status == 0, text))
     complaint = next(filter(None, complaints), None)
-    tally.check("git cgraph is-ancestor, merge-base and walk in %s" % title, complaint)
+    results.check("git cgraph is-ancestor, merge-base and walk in %s" % title, complaint)
 
 
 def sentences(rows, line, word, way, more=()):
@@ -196,23 +196,23 @@ def sentences(rows, line, word, way, more=()):
     return "".join("git cgraph: %s\n" % sentence for sentence in [*more, *refusals.sentences(rows, line, word)])
 
 
-def check_empty(installed, tally, repository):
+def check_empty(installed, results, repository):
     """A repository without a commit has no commit-graph, and nothing to ask about."""
     rows, way = refusals.read_rows(), Way(repository.folder)
     for word, status in (("verify", 1), ("distinct", 1), ("list", 128)):
         answer = installed.ask(way, word)
         right = (status, "refused open 2\n", sentences(rows, "refused open 2", word, way))
-        tally.check("git cgraph %s in an empty repository" % word, None if answer == right else "it is %r" % (answer,))
+        results.check("git cgraph %s in an empty repository" % word, None if answer == right else "it is %r" % (answer,))
     answer = installed.ask(way, "check")
     expected = (1, "refused open 2\n") if installed.knows_check else (128, "")
-    tally.check("git cgraph check in an empty repository", None if answer[:2] == expected else "it is %r" % (answer,))
+    results.check("git cgraph check in an empty repository", None if answer[:2] == expected else "it is %r" % (answer,))
     for words in (["find", "HEAD"], ["is-ancestor", "HEAD", "HEAD"], ["walk", "HEAD", "HEAD"], ["merge-base", "HEAD", "HEAD"]):
         answer = installed.ask(way, *words)
         right = answer[:2] == (128, "") and "git cgraph: 'HEAD' names no commit" in answer.err
-        tally.check("git cgraph %s in an empty repository" % " ".join(words), None if right else "it is %r" % (answer,))
+        results.check("git cgraph %s in an empty repository" % " ".join(words), None if right else "it is %r" % (answer,))
 
 
-def check_abbreviation(installed, tally, repository):
+def check_abbreviation(installed, results, repository):
     """An abbreviation that is that of two commits is refused as Git refuses it, and one that is not is taken."""
     ids = sorted(repository.add(shapes.linear(MANY)))
     repository.write_graph()
@@ -222,26 +222,26 @@ def check_abbreviation(installed, tally, repository):
     )
     answer = installed.ask(Way(repository.folder), "find", short)
     right = answer[:2] == (128, "") and "ambiguous" in answer.err and "'%s' names no commit" % short in answer.err
-    tally.check("git cgraph find, an ambiguous abbreviation", None if right else "it is %r" % (answer,))
+    results.check("git cgraph find, an ambiguous abbreviation", None if right else "it is %r" % (answer,))
     answer = installed.ask(Way(repository.folder), "find", alone[:10])
     line = found(repository.words(), [ids])[alone]
-    tally.check("git cgraph find, an abbreviation", None if answer == (0, line, "") else "it is %r" % (answer,))
+    results.check("git cgraph find, an abbreviation", None if answer == (0, line, "") else "it is %r" % (answer,))
 
 
-def check_damage(installed, tally, repository):
+def check_damage(installed, results, repository):
     """Files with one thing wrong: the line of each, what is said of it, and the id of the commit that it names."""
     ids = repository.add(shapes.octopus(3, 4, 2))
     file = verify_checks.original(repository, generation_version=1)
-    check_lie(installed, tally, repository, (file, ids))
+    check_lie(installed, results, repository, (file, ids))
     wrongs = wrong_layout.all_wrong(file) + wrong_commits.all_wrong(file)
     # One damage for each row is enough: the lines themselves are checked of the programs.
     for text, wrong in {shape(wrong.answer): wrong for wrong in wrongs if wrong.answer.startswith("refused")}.items():
         content = sealed(wrong.layer, repository.object_format)
         write_bytes(repository.graph_path(), content)
-        check_refusal(installed, tally, repository, (wrong.name, wrong.answer, [content]))
+        check_refusal(installed, results, repository, (wrong.name, wrong.answer, [content]))
 
 
-def check_lie(installed, tally, repository, graph):
+def check_lie(installed, results, repository, graph):
     """A revision is named by the commits, also where the commit-graph has other parents."""
     file, ids = graph
     words, order = repository.words(), sorted(ids)
@@ -250,7 +250,7 @@ def check_lie(installed, tally, repository, graph):
     write_bytes(repository.graph_path(), sealed(content, repository.object_format))
     answer = installed.ask(Way(repository.folder), "find", ids[-1] + "~2")
     line = found(words, [ids])[words[parent].parents[0]]
-    tally.check("git cgraph find, of a parent that the file lacks", None if answer == (0, line, "") else "it is %r" % (answer,))
+    results.check("git cgraph find, of a parent that the file lacks", None if answer == (0, line, "") else "it is %r" % (answer,))
 
 
 def shape(line):
@@ -260,7 +260,7 @@ def shape(line):
     return " ".join(word if not word.isdigit() or before in keeps else "N" for before, word in zip([""] + words, words))
 
 
-def check_damaged_trees(installed, tally, repository):
+def check_damaged_trees(installed, results, repository):
     """Folders in which something is wrong: the same. A file is what is checked, where there is one."""
     right, info = disk_checks.right_chain(repository), repository.info_path()
     cases = {}
@@ -273,10 +273,10 @@ def check_damaged_trees(installed, tally, repository):
         trees.lay_out(info, case.tree)
         names = ["%s/graph-%s.graph" % (trees.GRAPHS, name.decode("latin-1")) for name in case.tree.get(trees.CHAIN, b"").split()]
         layers = [case.tree.get(name, b"") for name in names] if file is None else [file]
-        check_refusal(installed, tally, repository, (case.name, line, layers))
+        check_refusal(installed, results, repository, (case.name, line, layers))
 
 
-def check_refusal(installed, tally, repository, case):
+def check_refusal(installed, results, repository, case):
     """What `git cgraph` and `graphtool` say of a damaged commit-graph: the case's name, its line and its layers."""
     name, line, layers = case
     info, rows = os.path.realpath(repository.info_path()), refusals.read_rows()
@@ -291,7 +291,7 @@ def check_refusal(installed, tally, repository, case):
         said = [*commit, *refusals.sentences(rows, line.strip(), "verify", *folders)]
         err = "".join("%s: %s\n" % (program, sentence) for sentence in said)
         complaint = None if answer == (1, line, err) else "it is %r, expected %r" % (answer, (line, err))
-        tally.check("%s verify, %s, in sentences" % (program, name), complaint)
+        results.check("%s verify, %s, in sentences" % (program, name), complaint)
 
 
 def position_in(line, layers):

@@ -45,15 +45,15 @@ class History(NamedTuple):
     ids: List[str]
 
 
-def check_all(histories, tally):
+def check_all(histories, results):
     """The checks of some histories, always the same ones."""
     parts = [(histories.path, start, min(PART, HISTORIES - start)) for start in range(0, HISTORIES, PART)]
     answers = many.in_processes(try_part, parts)
     complaints, cyclic = [complaint for complaint, _, _ in answers if complaint], sum(count for _, count, _ in answers)
     title = "merge-base, %d histories at random, %d with cycles" % (HISTORIES, cyclic)
-    tally.check("%s (%d runs)" % (title, HISTORIES * SETS), complaints[0] if complaints else None)
+    results.check("%s (%d runs)" % (title, HISTORIES * SETS), complaints[0] if complaints else None)
     odd = sorted(KINDS.symmetric_difference(set().union(*(kinds for _, _, kinds in answers))))
-    tally.check("merge-base, histories at random, each kind of answer", "none or one has %s" % odd if odd else None)
+    results.check("merge-base, histories at random, each kind of answer", "none or one has %s" % odd if odd else None)
 
 
 def try_part(program, start, count):

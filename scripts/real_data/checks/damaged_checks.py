@@ -32,32 +32,32 @@ BOTH = "dates commits 5\nfilters commits 5\n"
 """What is told of dates and filters that are right."""
 
 
-def check_all(programs, tally, new):
+def check_all(programs, results, new):
     """The checks of damaged graphs; a new repository comes from a function of its name."""
     histories, asker = programs
-    check_one_layer(histories, asker, tally, new("further, damaged"))
-    check_two_layers(histories, tally, new("further, damaged layers"))
+    check_one_layer(histories, asker, results, new("further, damaged"))
+    check_two_layers(histories, results, new("further, damaged layers"))
 
 
-def check_one_layer(histories, asker, tally, repository):
+def check_one_layer(histories, asker, results, repository):
     """A file of five commits with something else in its further chunks."""
     add_changes(repository, FIVE)
     layer = repository.new_graph("--changed-paths")
-    filter_checks.check_all(asker, tally, repository, "five commits", [layer])
+    filter_checks.check_all(asker, results, repository, "five commits", [layer])
     rows = [(name, said, [edits]) for name, said, edits in damages(layer, repository.object_format)]
-    check_rows(histories, tally, repository, [layer], rows)
+    check_rows(histories, results, repository, [layer], rows)
 
 
-def check_two_layers(histories, tally, repository):
+def check_two_layers(histories, results, repository):
     """Two layers of the five commits with something else in their further chunks."""
     ids = add_changes(repository, FIVE)
     for tip in (ids[2], ids[4]):
         repository.write_graph("--split=no-merge", "--changed-paths", tips=[tip])
     layers = [layer for _, layer in repository.chain()]
-    check_rows(histories, tally, repository, layers, damages_of_two(layers, repository.object_format))
+    check_rows(histories, results, repository, layers, damages_of_two(layers, repository.object_format))
 
 
-def check_rows(histories, tally, repository, layers, rows):
+def check_rows(histories, results, repository, layers, rows):
     """What `check` and Git say of the layers with each row's chunks in place of their own."""
     kind, words = repository.object_format, repository.words()
     plain = answers(repository, words, "false")
@@ -66,10 +66,10 @@ def check_rows(histories, tally, repository, layers, rows):
         tree = trees.chain([trees.Layer("", file).renamed(kind) for file in files])
         trees.lay_out(repository.info_path(), tree if len(files) > 1 else {trees.FILE: files[0]})
         title, expected = "%s, check, %s" % (kind, name), told(files, kind)
-        tally.check(title + ", by the rules", complaint_of(True, expected.startswith(said)))
+        results.check(title + ", by the rules", complaint_of(True, expected.startswith(said)))
         answer = histories.check(repository.info_path())
-        tally.check(title, judge.verdict(checked(verified(words), files, kind), answer))
-        check_git(tally, title, expected.startswith("refused"), plain, answers(repository, words, "true"))
+        results.check(title, judge.verdict(checked(verified(words), files, kind), answer))
+        check_git(results, title, expected.startswith("refused"), plain, answers(repository, words, "true"))
 
 
 def edited(layers, kind, edits):
@@ -83,11 +83,11 @@ def edited(layers, kind, edits):
     return files
 
 
-def check_git(tally, title, refused, plain, seen):
+def check_git(results, title, refused, plain, seen):
     """What Git answers over a graph, beside what it answers without: the same, but where the graph is refused."""
     said = ["%s %s" % (name, "as without" if seen[name] == plain[name] else "otherwise") for name in plain]
     said = ["%s, some not at all" % text if None in seen[name] else text for text, name in zip(said, plain)]
-    tally.check("%s; over it Git answers: %s" % (title, "; ".join(said)), None if refused else complaint_of(plain, seen))
+    results.check("%s; over it Git answers: %s" % (title, "; ".join(said)), None if refused else complaint_of(plain, seen))
 
 
 def answers(repository, words, graph):

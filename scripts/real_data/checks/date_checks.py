@@ -39,13 +39,13 @@ ROWS = (
 first by position is named; or the refusal, with the position of A."""
 
 
-def check_all(histories, tally, folder):
+def check_all(histories, results, folder):
     """The checks, whose files stand in a folder of their own."""
     orders = list(itertools.permutations(FIVE))
     complaints = many.in_processes(try_orders, [(histories.path, orders[start::12]) for start in range(12)])
-    tally.check("check, five commits in every order", next(filter(None, complaints), None))
+    results.check("check, five commits in every order", next(filter(None, complaints), None))
     runs = [run(histories, os.path.join(folder, "dates %d" % number), *row) for number, row in enumerate(SMALL)]
-    check_runs(tally, "check, dates of small graphs", runs)
+    check_runs(results, "check, dates of small graphs", runs)
 
 
 def try_orders(program, orders):

@@ -16,16 +16,16 @@ LAYER_SIZE = 5
 """The number of commits in each layer of the chain that is damaged."""
 
 
-def check_all(programs, tally, new, differences):
+def check_all(programs, results, new, differences):
     """The checks of damaged folders; a new repository comes from a function of its name."""
     program = programs[0]
     repository = new("wrong folders")
     right = right_chain(repository)
     for case in all_wrong(right):
-        check_tree(programs, tally, repository, case, differences)
+        check_tree(programs, results, repository, case, differences)
     trees.lay_out(repository.info_path(), right.tree)
-    check_missing(program, tally, repository)
-    check_unreadable(program, tally, repository, right)
+    check_missing(program, results, repository)
+    check_unreadable(program, results, repository, right)
 
 
 def right_chain(repository):
@@ -51,7 +51,7 @@ def write_chain(repository, tips):
     return [trees.Layer(checksum, content) for checksum, content in repository.chain()]
 
 
-def check_tree(programs, tally, repository, case, differences):
+def check_tree(programs, results, repository, case, differences):
     """What is said of a folder `info`, and of its folder of layers where no file stands beside it."""
     program, histories = programs
     info = repository.info_path()
@@ -63,15 +63,15 @@ def check_tree(programs, tally, repository, case, differences):
         refusal = partial(judge.exactly, 1, case.answer, "")
         complaints += [refusal(program.find(path, "0" * 40)) for path in paths]
     title = "%s, %s, verified and found" % (repository.object_format, case.name)
-    tally.check(title, next(filter(None, complaints), None))
+    results.check(title, next(filter(None, complaints), None))
     complaints = [beside.complaint(program, path, answer) for path, answer in zip(paths, answers)]
     complaints += [beside.complaint_of_questions(histories, path, answer) for path, answer in zip(paths, answers)]
     title = "%s, %s, distinct, ancestor, is-ancestor and walk" % (repository.object_format, case.name)
-    tally.check(title, next(filter(None, complaints), None))
+    results.check(title, next(filter(None, complaints), None))
     differences.compare(case.listed_as or case.name, answers[0], repository.git_verdict())
 
 
-def check_missing(program, tally, repository):
+def check_missing(program, results, repository):
     """Paths at which there is nothing, and folders and files that are no graph."""
     info = repository.info_path()
     write_bytes(os.path.join(info, "file"), b"no graph")
@@ -84,11 +84,11 @@ def check_missing(program, tally, repository):
         "file": "refused open 5 layer 0 file 1\n",
     }
     for name, text in wanted.items():
-        check_both(program, tally, repository, os.path.join(info, name), name, text)
-    check_both(program, tally, repository, "", "", NOTHING_FOUND)
+        check_both(program, results, repository, os.path.join(info, name), name, text)
+    check_both(program, results, repository, "", "", NOTHING_FOUND)
 
 
-def check_unreadable(program, tally, repository, right):
+def check_unreadable(program, results, repository, right):
     """A file that must not be read is not opened. Left out where all may be read."""
     info = repository.info_path()
     file, layer = os.path.join(info, trees.FILE), os.path.join(info, right.layers[1].path())
@@ -97,11 +97,11 @@ def check_unreadable(program, tally, repository, right):
         os.chmod(path, 0)
     if not os.access(file, os.R_OK):
         for path in (file, layer, info, os.path.dirname(layer)):
-            check_both(program, tally, repository, path, "one that must not be read: " + path, NOT_OPENED)
+            check_both(program, results, repository, path, "one that must not be read: " + path, NOT_OPENED)
 
 
-def check_both(program, tally, repository, path, name, text):
+def check_both(program, results, repository, path, name, text):
     """One line is all that both commands say of a path."""
     right = partial(judge.exactly, 1, text, "")
     complaint = right(program.verify(path)) or right(program.find(path, "0" * 40))
-    tally.check("%s, the path %a, verified and found" % (repository.object_format, name), complaint)
+    results.check("%s, the path %a, verified and found" % (repository.object_format, name), complaint)

@@ -15,30 +15,30 @@ LAYER_SIZE = 5
 LAYERS = 4
 
 
-def check_all(program, tally, new, differences):
+def check_all(program, results, new, differences):
     """The checks of chains of layers; a new repository comes from a function of its name."""
     repository = new("distinct ids")
     chain, text = right_chain(repository)
-    check_answers(program, tally, repository, "a right chain", text, text)
+    check_answers(program, results, repository, "a right chain", text, text)
     for lower, upper in combinations(range(LAYERS), 2):
         tree, places = with_id_of(chain, lower, [upper])
         name = "an id of layer %d in layer %d too" % (lower, upper)
         trees.lay_out(repository.info_path(), tree)
-        check_answers(program, tally, repository, name, text, duplicate(places))
+        check_answers(program, results, repository, name, text, duplicate(places))
     tree, places = with_id_of(chain, 0, range(1, LAYERS))
     trees.lay_out(repository.info_path(), tree)
-    check_answers(program, tally, repository, "an id in all layers", text, duplicate(places))
-    check_commit_again(program, tally, repository, chain, differences)
+    check_answers(program, results, repository, "an id in all layers", text, duplicate(places))
+    check_commit_again(program, results, repository, chain, differences)
 
 
-def check_answers(program, tally, repository, name, text, distinct_text):
+def check_answers(program, results, repository, name, text, distinct_text):
     """What `verify` and `distinct` say of the chain that is there."""
     path, title = repository.info_path(), "%s, %s" % (repository.object_format, name)
-    tally.check(title + ", verified", judge.verdict(text, program.verify(path)))
-    tally.check(title + ", its ids distinct", judge.verdict(distinct_text, program.distinct(path)))
+    results.check(title + ", verified", judge.verdict(text, program.verify(path)))
+    results.check(title + ", its ids distinct", judge.verdict(distinct_text, program.distinct(path)))
 
 
-def check_commit_again(program, tally, repository, chain, differences):
+def check_commit_again(program, results, repository, chain, differences):
     """A commit of a lower layer in the place of a tip of the last one, with all that the file says of it."""
     words, number = repository.words(), LAYERS - 1
     ids, start = ids_of(chain, number), chain.starts[number]
@@ -54,7 +54,7 @@ def check_commit_again(program, tally, repository, chain, differences):
     levels = generations(words)
     text = summary([len(words[other].parents) for other in kept], [levels[other] for other in kept])
     name = "a commit in two layers"
-    check_answers(program, tally, repository, name, text, duplicate([chain.starts[lower] + at, start + place]))
+    check_answers(program, results, repository, name, text, duplicate([chain.starts[lower] + at, start + place]))
     differences.compare(name, program.verify(repository.info_path()), repository.git_verdict())
     differences.compare(name + ", for distinct", program.distinct(repository.info_path()), repository.git_verdict())
 

@@ -16,26 +16,26 @@ FORMS = (("version 1 of a machine whose bytes are unsigned", 1), ("version 2", 2
 """What Git of another machine, or a later one, writes in place of the filters: its name, and the version of the hash."""
 
 
-def check_all(asker, tally, repository, name, layers):
+def check_all(asker, results, repository, name, layers):
     """The checks of the filters of a graph that Git wrote, of which these are the layers, the lowest first."""
     kind, words = repository.object_format, repository.words()
     changes = {commit: repository.changed_paths(commit, said.parents) for commit, said in words.items()}
     title = "%s, %%s, %s" % (kind, name)
-    check_bits(tally, title % "bits", [filters.stored(layer, kind) for layer in layers], changes)
-    check_answers(asker, tally, title % "answers", repository, layers, changes)
+    check_bits(results, title % "bits", [filters.stored(layer, kind) for layer in layers], changes)
+    check_answers(asker, results, title % "answers", repository, layers, changes)
     for form, version in FORMS:
         others = [written_anew(layer, kind, version, changes) for layer in layers]
-        check_answers(asker, tally, title % "answers" + ", by " + form, repository, others, changes)
+        check_answers(asker, results, title % "answers" + ", by " + form, repository, others, changes)
 
 
-def check_bits(tally, title, layers, changes):
+def check_bits(results, title, layers, changes):
     """Each filter that was computed has the bits of the paths that its commit changes, and no others."""
     differ = []
     for stored, settings in layers:
         for commit, own in stored.items():
             if own and own != filters.made(changes[commit], settings, signed=settings[0] == 1):
                 differ.append("%s is %s" % (commit, own.hex()))
-    tally.check(title, "; ".join(differ[:3]) or None)
+    results.check(title, "; ".join(differ[:3]) or None)
 
 
 def written_anew(layer, kind, version, changes):
@@ -48,7 +48,7 @@ def written_anew(layer, kind, version, changes):
     return filters.with_filters(layer, kind, made, own)
 
 
-def check_answers(asker, tally, title, repository, layers, changes):
+def check_answers(asker, results, title, repository, layers, changes):
     """Each filter answers of each path what its bits say; and each path that its commit changes is possible."""
     paths = sorted(filters.entries(path for changed in changes.values() for path in changed).union(OTHERS))
     stored = [filters.stored(layer, repository.object_format) for layer in layers]
@@ -58,7 +58,7 @@ def check_answers(asker, tally, title, repository, layers, changes):
     for path, layer in zip(files, layers):
         write_bytes(path, layer)
     complaint = exactly(0, "".join(word + "\n" for row in rows for word in row), "", asker.ask(files, paths))
-    tally.check(title, complaint or missed(paths, [commit for commit, _, _ in asked], rows, changes))
+    results.check(title, complaint or missed(paths, [commit for commit, _, _ in asked], rows, changes))
 
 
 def missed(paths, commits, rows, changes):

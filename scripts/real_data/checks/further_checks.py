@@ -23,36 +23,36 @@ SHORT = 4
 """A check of that file takes no longer than so many seconds of processor."""
 
 
-def check_all(programs, tally, new):
+def check_all(programs, results, new):
     """The checks of further chunks; a new repository comes from a function of its name."""
     histories, _ = programs
-    check_times(histories, tally, new("further, times"))
-    check_chain(programs, tally, new("further, a chain"))
-    check_filters(programs, tally, new("further, filters"))
-    check_long_time(histories, tally, new("further, a long time"))
+    check_times(histories, results, new("further, times"))
+    check_chain(programs, results, new("further, a chain"))
+    check_filters(programs, results, new("further, filters"))
+    check_long_time(histories, results, new("further, a long time"))
 
 
-def check_right(histories, tally, repository, name, dates, filters):
+def check_right(histories, results, repository, name, dates, filters):
     """A graph that Git wrote, with dates of all commits or none, and so many filters or none."""
     words = repository.words()
     said = ["none" if count is None else "commits %d" % count for count in (len(words) if dates else None, filters)]
     text = verified(words) + "dates %s\nfilters %s\n" % tuple(said)
     complaint = judge.exactly(0, text, "", histories.check(repository.info_path()))
     title = "%s, check, %s" % (repository.object_format, name)
-    tally.check(title, complaint)
-    tally.check(title + ", passed by Git", complaint_of((0, False), repository.git_verdict()))
+    results.check(title, complaint)
+    results.check(title + ", passed by Git", complaint_of((0, False), repository.git_verdict()))
 
 
-def check_times(histories, tally, repository):
+def check_times(histories, results, repository):
     """Times that go back, times 0, offsets of more than 31 bits and times of 34 bits."""
     times = [2000, 1000, 0, 0, FAR // 2, 5, 5, FAR - 1, FAR - 1, 0, 7, FAR - 1, 0, 0]
     repository.add([Commit((place - 1,) if place % 4 else (), time) for place, time in enumerate(times)])
     for version in (1, 2):
         repository.new_graph(generation_version=version)
-        check_right(histories, tally, repository, "times of every kind, version %d" % version, version == 2, None)
+        check_right(histories, results, repository, "times of every kind, version %d" % version, version == 2, None)
 
 
-def check_chain(programs, tally, repository):
+def check_chain(programs, results, repository):
     """Three layers with dates, then one more without, and then all of them merged, with some filters and with all."""
     histories, asker = programs
     history, size = shapes.tangled(24, seed=9), 6
@@ -62,14 +62,14 @@ def check_chain(programs, tally, repository):
         flags = ["--changed-paths"] if number % 2 else ["--no-changed-paths"]
         repository.write_graph("--split=no-merge", *flags, generation_version=1 if last else 2)
         filters = size * ((number + 1) // 2) or None
-        check_right(histories, tally, repository, "%d layers" % (number + 1), not last, filters)
+        check_right(histories, results, repository, "%d layers" % (number + 1), not last, filters)
         layers = [layer for _, layer in repository.chain()]
-        filter_checks.check_all(asker, tally, repository, "%d layers" % len(layers), layers)
+        filter_checks.check_all(asker, results, repository, "%d layers" % len(layers), layers)
     for more, filters in ((["--max-new-filters=2"], size * 2 + 2), ([], len(history))):
         name = "layers merged, with filters of %d" % filters
         repository.write_graph("--split=replace", "--changed-paths", *more)
-        check_right(histories, tally, repository, name, True, filters)
-        filter_checks.check_all(asker, tally, repository, name, [layer for _, layer in repository.chain()])
+        check_right(histories, results, repository, name, True, filters)
+        filter_checks.check_all(asker, results, repository, name, [layer for _, layer in repository.chain()])
 
 
 class Change:
@@ -114,35 +114,35 @@ def many_paths():
     return changes + [removal, Change(4000, (last + 1, last), [], [b"a"])]
 
 
-def check_filters(programs, tally, repository):
+def check_filters(programs, results, repository):
     """Filters of many paths and of too many, of odd bytes and of no change, and some that are not computed."""
     histories, asker = programs
     count = len(add_changes(repository, many_paths()))
     for most, computed in ((3, 3), (count, count)):
         repository.write_graph("--changed-paths", "--max-new-filters=%d" % most)
         name = "filters, at most %d new ones" % most
-        check_right(histories, tally, repository, name, True, computed)
-        filter_checks.check_all(asker, tally, repository, name, [read_bytes(repository.graph_path())])
+        check_right(histories, results, repository, name, True, computed)
+        filter_checks.check_all(asker, results, repository, name, [read_bytes(repository.graph_path())])
     for version in (1, 2):
         name = "filters of version %d, where Git writes them" % version
         layer = repository.new_graph("--changed-paths", filter_version=version)
-        check_right(histories, tally, repository, name, True, count)
-        filter_checks.check_all(asker, tally, repository, name, [layer])
+        check_right(histories, results, repository, name, True, count)
+        filter_checks.check_all(asker, results, repository, name, [layer])
 
 
-def check_long_time(histories, tally, repository):
+def check_long_time(histories, results, repository):
     """A time of more than 34 bits between two others, which nobody damaged: Git then denies an ancestor."""
     root, middle, tip = repository.add([Commit((), 10**9), Commit((0,), FAR + 5), Commit((1,), 10**9 + 9)])
     repository.write_graph()
     position = sorted([root, middle, tip]).index(middle)
     refusal = "refused dates 5 position %d expected %d\n" % (position, 10**9 + 1)
     title = "%s, check, a time of more than 34 bits" % repository.object_format
-    tally.check(title, judge.exactly(1, refusal, "", histories.check(repository.graph_path())))
+    results.check(title, judge.exactly(1, refusal, "", histories.check(repository.graph_path())))
     seen = (repository.reaches(tip, root), repository.reaches(tip, root, "true"))
-    tally.check(title + ", what Git says without the graph and with it", complaint_of((True, False), seen))
+    results.check(title + ", what Git says without the graph and with it", complaint_of((True, False), seen))
 
 
-def check_shared_list(histories, tally, folder):
+def check_shared_list(histories, results, folder):
     """A file of many commits that all have one long list of parents: to go over it for each would take very long."""
     path = os.path.join(folder, "shared")
     write_bytes(path, shared_list(SHARED))
@@ -152,7 +152,7 @@ def check_shared_list(histories, tally, folder):
     counts = "ok commits %d longest 1\nparents 0 commits 1\nparents %d commits %d\n" % (SHARED + 1, SHARED + 1, SHARED)
     text = counts + "dates commits %d\nfilters none\n" % (SHARED + 1)
     slow = "it takes %.1f seconds of processor" % seconds if seconds > SHORT else None
-    tally.check("check, a list of parents that many commits share", judge.exactly(0, text, "", answer) or slow)
+    results.check("check, a list of parents that many commits share", judge.exactly(0, text, "", answer) or slow)
 
 
 def shared_list(count):

@@ -17,14 +17,14 @@ OTHERS = 100
 """So many others `merge-base` is asked for at once; the last of them alone decides the answer."""
 
 
-def check_all(programs, tally, folder):
+def check_all(programs, results, folder):
     """The checks, whose files stand in a folder of their own."""
     plan, path = Large(), os.path.join(folder, "commit-graph")
     with open(path, "wb") as file:
         file.write(plan.content)
-    check_runs(tally, "a file of %d commits, each command" % plan.count, list(right_runs(programs, plan, path)))
+    check_runs(results, "a file of %d commits, each command" % plan.count, list(right_runs(programs, plan, path)))
     runs = [run for number, fault in enumerate(large.faults(plan)) for run in fault_runs(programs, plan, fault, path, number)]
-    check_runs(tally, "a file of %d commits, each fault in its last tenth" % plan.count, runs)
+    check_runs(results, "a file of %d commits, each fault in its last tenth" % plan.count, runs)
 
 
 def right_runs(programs, plan, path):

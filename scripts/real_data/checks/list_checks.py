@@ -12,24 +12,24 @@ from expected.listing import listing
 from histories import shapes
 
 
-def check_all(program, tally, new):
+def check_all(program, results, new):
     """The checks of all that `list` reads; a new repository comes from a function of its name."""
-    check_empty(new("empty"), tally)
+    check_empty(new("empty"), results)
     for name, history in shapes.ALL.items():
-        check_history(program, tally, new(name), name, history)
-    check_chain(program, tally, new("chain"))
-    check_named_damage(program, tally, new("named damage"))
-    check_damage(program, tally, new("damage"))
+        check_history(program, results, new(name), name, history)
+    check_chain(program, results, new("chain"))
+    check_named_damage(program, results, new("named damage"))
+    check_damage(program, results, new("damage"))
 
 
-def check_empty(repository, tally):
+def check_empty(repository, results):
     """Git writes no commit-graph of no commits, so there is none to list."""
     repository.write_graph()
     complaint = "there is one" if os.path.exists(repository.graph_path()) else None
-    tally.check("%s, no commits: Git writes no file" % repository.object_format, complaint)
+    results.check("%s, no commits: Git writes no file" % repository.object_format, complaint)
 
 
-def check_history(program, tally, repository, name, history):
+def check_history(program, results, repository, name, history):
     """The listing of a history, as each version of generation data and Bloom filters surround it."""
     repository.add(history)
     words = repository.words()
@@ -40,7 +40,7 @@ def check_history(program, tally, repository, name, history):
             kinds = expected_chunks(history, version, flags)
             complaint = other_chunks(layer, repository, kinds) or judge.same(expected, program.list(layer))
             title = [repository.object_format, name, "generation version %d" % version] + flags
-            tally.check(", ".join(title), complaint)
+            results.check(", ".join(title), complaint)
 
 
 def expected_chunks(history, version, flags):
@@ -60,7 +60,7 @@ def other_chunks(layer, repository, expected):
     return None if found == expected else "chunks %s, expected %s" % (sorted(found), sorted(expected))
 
 
-def check_chain(program, tally, repository):
+def check_chain(program, results, repository):
     """The listing of each layer of a split commit-graph, and the answers to a damaged one."""
     ids = repository.add(shapes.tangled(90, seed=3))
     parts = [ids[:20], ids[20:22], ids[22:70], ids[70:]]
@@ -69,14 +69,14 @@ def check_chain(program, tally, repository):
     kind, words, layers = repository.object_format, repository.words(), repository.chain()
     sums = [checksum for checksum, _ in layers]
     texts = [listing(kind, words, parts[: number + 1], sums[:number]) for number in range(len(layers))]
-    tally.check("%s, a chain" % kind, None if len(layers) == len(parts) else "it has %d layers" % len(layers))
+    results.check("%s, a chain" % kind, None if len(layers) == len(parts) else "it has %d layers" % len(layers))
     for number, ((_, layer), text) in enumerate(zip(layers, texts)):
-        tally.check("%s, layer %d of a chain" % (kind, number), judge.same(text, program.list(layer)))
+        results.check("%s, layer %d of a chain" % (kind, number), judge.same(text, program.list(layer)))
     family = mutations.edits(layers[1][1], kind, texts[1], 0xFF)
-    check_family(program, tally, "%s, a layer of a chain with all bits of each byte changed" % kind, family)
+    check_family(program, results, "%s, a layer of a chain with all bits of each byte changed" % kind, family)
 
 
-def check_named_damage(program, tally, repository):
+def check_named_damage(program, results, repository):
     """The exact answers to a file in which one thing is wrong."""
     repository.add(shapes.octopus(3, 4, 2))
     kind, words = repository.object_format, repository.words()
@@ -84,13 +84,13 @@ def check_named_damage(program, tally, repository):
     original = Original(repository.new_graph(generation_version=1), kind, text)
     for name, layer, condition in named.refused(original):
         complaint = judge.refused_by([condition], program.list(layer))
-        tally.check("%s, %s: refused by %s" % (kind, name, condition), complaint)
+        results.check("%s, %s: refused by %s" % (kind, name, condition), complaint)
     for name, layer, changes in named.listed(original):
         complaint = judge.same(original.relisted(changes), program.list(layer))
-        tally.check("%s, %s: listed" % (kind, name), complaint)
+        results.check("%s, %s: listed" % (kind, name), complaint)
 
 
-def check_damage(program, tally, repository):
+def check_damage(program, results, repository):
     """The answers to a small file that is cut or changed in every place, or at random."""
     repository.add(shapes.octopus(3, 4))
     kind, words = repository.object_format, repository.words()
@@ -106,9 +106,9 @@ def check_damage(program, tally, repository):
         "a file with offsets in other places": mutations.shuffled_tables(layer, kind, 500, seed=5),
     }
     for name, family in families.items():
-        check_family(program, tally, "%s, %s" % (kind, name), family)
+        check_family(program, results, "%s, %s" % (kind, name), family)
 
 
-def check_family(program, tally, name, family):
+def check_family(program, results, name, family):
     """One check of all runs of a family of damaged files."""
-    check_runs(tally, name, [(partial(program.list, layer), right) for layer, right in family])
+    check_runs(results, name, [(partial(program.list, layer), right) for layer, right in family])

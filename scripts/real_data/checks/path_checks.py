@@ -21,18 +21,18 @@ NO_IDS = {
 """Words that are no ids, and the number of the refusal: of their length, or of a digit."""
 
 
-def check_all(program, tally, new, differences):
+def check_all(program, results, new, differences):
     """The checks of names of graphs; a new repository comes from a function of its name."""
-    check_file(program, tally, new(NAME))
+    check_file(program, results, new(NAME))
     for name, history, size in (
         ("a chain of 3 layers", shapes.octopus(3, 4, 2)[:12], 4),
         ("a chain of 20 layers", shapes.tangled(40, seed=6), 2),
     ):
-        check_chain(program, tally, new("%s, %s" % (NAME, name)), (name, history, size), differences)
-    check_alternate(program, tally, new("alternate"), differences)
+        check_chain(program, results, new("%s, %s" % (NAME, name)), (name, history, size), differences)
+    check_alternate(program, results, new("alternate"), differences)
 
 
-def check_file(program, tally, repository):
+def check_file(program, results, repository):
     """A graph of a single file, by its path, by that of its folder, and by other names."""
     repository.add(shapes.octopus(3, 4, 2))
     words = repository.words()
@@ -44,9 +44,9 @@ def check_file(program, tally, repository):
     paths += [(name, info) for name in ("commit-graph", "./commit-graph", "../info//commit-graph")]
     paths += [(link_to(path, repository), None) for path in (repository.graph_path(), info)]
     title = "%s, a single file" % repository.object_format
-    check_ways(program, tally, title, paths + folder_names(info), (words, [list(words)]))
-    check_other_ids(program, tally, title, repository.graph_path(), (words, [list(words)]))
-    check_names_of_layers(program, tally, repository, layer)
+    check_ways(program, results, title, paths + folder_names(info), (words, [list(words)]))
+    check_other_ids(program, results, title, repository.graph_path(), (words, [list(words)]))
+    check_names_of_layers(program, results, repository, layer)
 
 
 def file_names(layer, repository):
@@ -70,18 +70,18 @@ def folder_names(folder):
     return plain + [(text, folder) for text in (".", "./", "../" + name)] + [(name, os.path.dirname(folder))]
 
 
-def check_names_of_layers(program, tally, repository, layer):
+def check_names_of_layers(program, results, repository, layer):
     """Files that are named as layers of a chain, but not by their checksums: `verify` alone refuses them."""
     commit, line = min(found(repository.words(), [list(repository.words())]).items())
     for middle in ("", "ab", commit, commit.upper(), "0" * 40, "0" * 64, "graph-.graph"):
         path = os.path.join(repository.folder, "graph-%s.graph" % middle)
         write_bytes(path, layer)
         title = "%s, a file with %a in its name" % (repository.object_format, middle)
-        tally.check(title + ", verified", judge.verdict("refused verify 4 layer 0 fault 2\n", program.verify(path)))
-        tally.check(title + ", found", judge.same(line, program.find(path, commit)))
+        results.check(title + ", verified", judge.verdict("refused verify 4 layer 0 fault 2\n", program.verify(path)))
+        results.check(title + ", found", judge.same(line, program.find(path, commit)))
 
 
-def check_chain(program, tally, repository, case, differences):
+def check_chain(program, results, repository, case, differences):
     """A chain of layers, each written by Git after a batch of commits."""
     name, history, size = case
     ids = []
@@ -92,16 +92,16 @@ def check_chain(program, tally, repository, case, differences):
     words, graphs = repository.words(), os.path.join(repository.info_path(), "commit-graphs")
     title = "%s, %s" % (repository.object_format, name)
     complaint = None if len(repository.chain()) == len(layers) else "there are %d" % len(repository.chain())
-    tally.check(title + ", of %d layers" % len(layers), complaint)
+    results.check(title + ", of %d layers" % len(layers), complaint)
     copy = shutil.copytree(graphs, os.path.join(repository.folder, "größe ñ.d"))
     for folder in (repository.info_path(), graphs, copy):
-        check_ways(program, tally, title, folder_names(folder), (words, layers))
-    check_other_ids(program, tally, title, graphs, (words, layers))
+        check_ways(program, results, title, folder_names(folder), (words, layers))
+    check_other_ids(program, results, title, graphs, (words, layers))
     differences.compare(name, program.verify(graphs), repository.git_verdict())
-    check_files_of_chain(program, tally, title, repository, layers)
+    check_files_of_chain(program, results, title, repository, layers)
 
 
-def check_files_of_chain(program, tally, title, repository, layers):
+def check_files_of_chain(program, results, title, repository, layers):
     """Each layer of a chain as a file: the lowest is right, a higher one lacks its bases, but has its commits."""
     words, graphs = repository.words(), os.path.join(repository.info_path(), "commit-graphs")
     lowest = {commit: said for commit, said in words.items() if commit in layers[0]}
@@ -109,14 +109,14 @@ def check_files_of_chain(program, tally, title, repository, layers):
         path = os.path.join(graphs, "graph-%s.graph" % checksum)
         text = "refused verify 2 layer 0\n" if number else verified(lowest)
         name = "%s, the file of layer %d" % (title, number)
-        tally.check(name + ", verified", judge.verdict(text, program.verify(path)))
-        check_found(program, tally, name, (path, None), (words, [layers[number]]))
+        results.check(name + ", verified", judge.verdict(text, program.verify(path)))
+        check_found(program, results, name, (path, None), (words, [layers[number]]))
     path = os.path.join(graphs, "commit-graph-chain")
     text = "refused open 5 layer 0 file %d\n" % (1 if os.path.getsize(path) < LEAST_SIZE else 2)
-    tally.check("%s, the chain file, verified" % title, judge.verdict(text, program.verify(path)))
+    results.check("%s, the chain file, verified" % title, judge.verdict(text, program.verify(path)))
 
 
-def check_ways(program, tally, title, paths, graph):
+def check_ways(program, results, title, paths, graph):
     """What `verify` and `find` say of a graph by each of some names; it is Git's words and the layers' ids.
 
     By the first name each commit is looked up, by the others some are.
@@ -124,33 +124,33 @@ def check_ways(program, tally, title, paths, graph):
     for number, (path, folder) in enumerate(paths):
         name = path if folder else os.path.basename(path) or path.rsplit("/", 2)[-2] + "/"
         place = "%s, as %a%s" % (title, name, " from a folder" if folder else "")
-        tally.check(place + ", verified", judge.same(verified(graph[0]), program.verify(path, cwd=folder)))
-        check_found(program, tally, place, (path, folder), graph, step=5 if number else 1)
+        results.check(place + ", verified", judge.same(verified(graph[0]), program.verify(path, cwd=folder)))
+        check_found(program, results, place, (path, folder), graph, step=5 if number else 1)
 
 
-def check_found(program, tally, title, way, graph, step=1):
+def check_found(program, results, title, way, graph, step=1):
     """Each commit of a graph is found where it stands, or some of them are, in steps."""
     path, folder = way
     lines = list(found(*graph).items())[::step]
     runs = [(partial(program.find, path, commit, cwd=folder), partial(judge.same, line)) for commit, line in lines]
-    check_runs(tally, title + ", found", runs)
+    check_runs(results, title + ", found", runs)
 
 
-def check_other_ids(program, tally, title, path, graph):
+def check_other_ids(program, results, title, path, graph):
     """What is said of ids that are not in a graph, of ids in capitals, and of words that are no ids."""
     words, layers = graph
     commit, line = min(found(words, layers).items())
     answer = program.find(path, commit.upper())
-    tally.check(title + ", an id in capitals", judge.same(line, answer))
+    results.check(title + ", an id in capitals", judge.same(line, answer))
     none = partial(judge.exactly, 1, "none\n", "")
-    check_runs(tally, title + ", absent ids", [(partial(program.find, path, other), none) for other in absent(words)])
+    check_runs(results, title + ", absent ids", [(partial(program.find, path, other), none) for other in absent(words)])
     nothing = os.path.join(path, "nothing")
     for word, number in NO_IDS.items():
         refused = partial(judge.exactly, 2, "refused id %d\n" % number, "")
         runs = [(partial(program.find, where, word), refused) for where in (path, nothing, "")]
-        check_runs(tally, "%s, %a is no id" % (title, word), runs)
+        check_runs(results, "%s, %a is no id" % (title, word), runs)
     answer = program.find(nothing, commit)
-    tally.check(title + ", an id where nothing stands", judge.exactly(1, "refused open 1\n", "", answer))
+    results.check(title + ", an id where nothing stands", judge.exactly(1, "refused open 1\n", "", answer))
 
 
 def absent(words):
@@ -164,7 +164,7 @@ def absent(words):
     return sorted(set(near + far + trees + ["0" * size, "f" * size]) - set(words)) + other_kind
 
 
-def check_alternate(program, tally, lower, differences):
+def check_alternate(program, results, lower, differences):
     """A chain whose lower layer stands in an alternate: it does not open here, but does for Git."""
     ids = lower.add(shapes.linear(8))
     lower.write_graph("--split=no-merge", tips=ids[:5])
@@ -175,9 +175,9 @@ def check_alternate(program, tally, lower, differences):
     graphs = os.path.join(upper.info_path(), "commit-graphs")
     lines = read_bytes(os.path.join(graphs, "commit-graph-chain")).split()
     title = "%s, a chain over an alternate" % lower.object_format
-    tally.check(title, None if len(lines) == 2 else "the chain has %d layers" % len(lines))
+    results.check(title, None if len(lines) == 2 else "the chain has %d layers" % len(lines))
     for path in (upper.info_path(), graphs):
         answer = program.verify(path)
-        tally.check(title + ", verified", judge.verdict("refused open 2\n", answer))
-        tally.check(title + ", found", judge.exactly(1, "refused open 2\n", "", program.find(path, ids[-1])))
+        results.check(title + ", verified", judge.verdict("refused open 2\n", answer))
+        results.check(title + ", found", judge.exactly(1, "refused open 2\n", "", program.find(path, ids[-1])))
         differences.compare("a chain over an alternate", answer, upper.git_verdict())

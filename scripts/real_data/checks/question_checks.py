@@ -26,33 +26,33 @@ OTHER_WORDS = [
 VERSION = os.path.join(os.path.dirname(os.path.abspath(__file__)), *[os.pardir] * 3, "VERSION")
 
 
-def check_all(histories, tally):
+def check_all(histories, results):
     """The checks of words and streams."""
     for words in OTHER_WORDS:
         complaint = judge.exactly(2, "", USAGE, histories.run(*words, input=b""))
-        tally.check("historytool, usage after the words %r" % words, complaint)
+        results.check("historytool, usage after the words %r" % words, complaint)
     version = "historytool " + read_bytes(VERSION).decode()
-    tally.check("historytool --version", judge.exactly(0, version, "", histories.run("--version")))
+    results.check("historytool --version", judge.exactly(0, version, "", histories.run("--version")))
     helps = [histories.run(word) for word in ("--help", "-h")]
     text = helps[0].out.decode()
     told = helps[0] == helps[1] and helps[0].status == 0 and not helps[0].err
-    tally.check("historytool --help and -h", None if told and text.startswith(USAGE + "\n") else "they are %r" % (helps,))
+    results.check("historytool --help and -h", None if told and text.startswith(USAGE + "\n") else "they are %r" % (helps,))
     runs = {"is-ancestor": histories.is_ancestor, "walk": histories.walk, "merge-base": histories.merge_base}
     for command, run in runs.items():
         exchanged = judge.exactly(2, "refused id 1\n", "", run(ID, ".", ID))
-        tally.check("%s, its path and its first id exchanged" % command, exchanged)
+        results.check("%s, its path and its first id exchanged" % command, exchanged)
         nothing = judge.exactly(1, "refused open 1\n", "", run(os.devnull, ID, ID))
-        tally.check("%s, a path with nothing that is a graph" % command, nothing)
-        check_failed_write(tally, command, partial(run, os.devnull, ID, ID))
+        results.check("%s, a path with nothing that is a graph" % command, nothing)
+        check_failed_write(results, command, partial(run, os.devnull, ID, ID))
     nothing = judge.exactly(1, "refused open 1\n", "", histories.check(os.devnull))
-    tally.check("check, a path with nothing that is a graph", nothing)
-    check_failed_write(tally, "check", partial(histories.check, os.devnull))
-    check_failed_write(tally, "historytool --version", partial(histories.run, "--version"))
+    results.check("check, a path with nothing that is a graph", nothing)
+    check_failed_write(results, "check", partial(histories.check, os.devnull))
+    check_failed_write(results, "historytool --version", partial(histories.run, "--version"))
 
 
-def check_failed_write(tally, name, run):
+def check_failed_write(results, name, run):
     """The answer of a run whose output is closed."""
     answer = run(preexec_fn=partial(os.close, 1))
-    tally.check("%s, output that is closed" % name, judge.exactly(2, "", FAILED_WRITE, answer))
+    results.check("%s, output that is closed" % name, judge.exactly(2, "", FAILED_WRITE, answer))
     answer = run(preexec_fn=partial(os.closerange, 1, 3))
-    tally.check("%s, output and errors that are closed" % name, judge.exactly(2, "", "", answer))
+    results.check("%s, output and errors that are closed" % name, judge.exactly(2, "", "", answer))

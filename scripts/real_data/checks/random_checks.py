@@ -20,12 +20,12 @@ KINDS |= {"refused dates %d" % row for row in range(1, 6)} | {"refused filters %
 """All that has to come up, each many times; no check here lets memory run out."""
 
 
-def check_all(histories, tally):
+def check_all(histories, results):
     """The checks of some graphs, always the same ones."""
     complaints, kinds = try_all(histories.path, GRAPHS, 1)
-    tally.check("check, graphs at random (%d runs)" % GRAPHS, complaints[0] if complaints else None)
+    results.check("check, graphs at random (%d runs)" % GRAPHS, complaints[0] if complaints else None)
     left_out = sorted(KINDS - kinds)
-    tally.check("check, graphs at random, each kind of answer", "none has %s" % left_out if left_out else None)
+    results.check("check, graphs at random, each kind of answer", "none has %s" % left_out if left_out else None)
 
 
 def try_all(program, count, seed):

@@ -95,7 +95,7 @@ class Repeated:
         return is_walk and len(ids) == self.steps[first][second] + 1
 
 
-def check_all(programs, tally, new):
+def check_all(programs, results, new):
     """The checks of a chain, which are the same for each kind of hash."""
     repository = new("commits in several layers")
     graph, ids = laid_out(repository)
@@ -103,18 +103,18 @@ def check_all(programs, tally, new):
     program, histories = programs
     verified, git = program.verify(path), repository.git_verdict()
     right = (verified.status, git.status) == (0, 0) and verified.out.startswith(b"ok commits %d " % len(graph.ids))
-    tally.check(title + ", verified, and passed by Git", None if right else "they are %r and %r" % (verified, git))
+    results.check(title + ", verified, and passed by Git", None if right else "they are %r and %r" % (verified, git))
     twice = next(number for number, commit in enumerate(graph.ids) if commit in graph.ids[:number])
     line = "refused verify 11 position %d earlier %d\n" % (twice, graph.ids.index(graph.ids[twice]))
-    tally.check(title + ", one of them is named", judge.exactly(1, line, "", program.distinct(path)))
+    results.check(title + ", one of them is named", judge.exactly(1, line, "", program.distinct(path)))
     for commit in ids:
         found = program.find(path, commit).out.split()[:2]
         complaint = None if found == [b"position", b"%d" % graph.ids.index(commit)] else "it is %r" % (found,)
-        tally.check("%s, found, commit %d" % (title, ids.index(commit)), complaint)
+        results.check("%s, found, commit %d" % (title, ids.index(commit)), complaint)
     kinds = {word: set() for word in KINDS}
-    check_runs(tally, title + ", questions", list(questions(histories, repository, graph, kinds)))
-    tally.check(title + ", which answers are Git's", None if kinds == KINDS else "they are %r" % kinds)
-    check_line_ends(program, tally, new("a chain with other line ends"))
+    check_runs(results, title + ", questions", list(questions(histories, repository, graph, kinds)))
+    results.check(title + ", which answers are Git's", None if kinds == KINDS else "they are %r" % kinds)
+    check_line_ends(program, results, new("a chain with other line ends"))
 
 
 def laid_out(repository):
@@ -165,20 +165,20 @@ def kind_of_bases(found, bases):
     return NO_BASE if not found else MORE if found > bases else OTHER
 
 
-def check_told(programs, tally, folder, new):
+def check_told(programs, results, folder, new):
     """What `git cgraph` says beside its answers of such a chain, and of Git's own chain of the same commits."""
     os.mkdir(os.path.join(folder, "told"))
     installed = Installed(os.path.join(folder, "told", "installed"), programs)
     repository = new("sha1", "told of commits in several layers")
     ids = laid_out(repository)[1]
-    check_questions(installed, tally, repository, ids, ("commits in several layers", "the answer may differ from Git's"))
+    check_questions(installed, results, repository, ids, ("commits in several layers", "the answer may differ from Git's"))
     trees.lay_out(repository.info_path(), {})
     for stop in (4, 6, 8):
         repository.write_graph("--split=no-merge", tips=ids[:stop])
-    check_questions(installed, tally, repository, ids, ("Git's own chain", None))
+    check_questions(installed, results, repository, ids, ("Git's own chain", None))
 
 
-def check_questions(installed, tally, repository, ids, case):
+def check_questions(installed, results, repository, ids, case):
     """Some questions of `git cgraph`, beside whose answers this has to be said, or nothing where a graph is Git's."""
     name, beside = case
     way, rows = Way(repository.folder), refusals.read_rows()
@@ -197,10 +197,10 @@ def check_questions(installed, tally, repository, ids, case):
         answer = installed.ask(way, *words)
         complaint = None if answer == (status, out, err) else "it is %r, expected %r" % (answer, (status, out, err))
         places = " ".join(str(ids.index(commit)) for commit in words[1:])
-        tally.check("git cgraph %s %s, of %s" % (words[0], places, name), complaint)
+        results.check("git cgraph %s %s, of %s" % (words[0], places, name), complaint)
 
 
-def check_line_ends(program, tally, repository):
+def check_line_ends(program, results, repository):
     """A chain file whose lines end with 0d 0a: its layers are opened, and Git warns and checks none of them."""
     right, verdicts, title = right_chain(repository), [], "%s, line ends 0d 0a" % repository.object_format
     damaged = trees.Layer(right.lines[-1].decode(), right.layers[-1].content[:-1] + b"\0")
@@ -209,7 +209,7 @@ def check_line_ends(program, tally, repository):
         ("a damaged chain", [*right.layers[:-1], damaged], "refused verify 4 layer 2 fault 1\n"),
     ):
         trees.lay_out(repository.info_path(), {**trees.chain(layers), trees.CHAIN: b"".join(it + b"\r\n" for it in right.lines)})
-        tally.check("%s, %s" % (title, name), judge.verdict(text, program.verify(repository.info_path())))
+        results.check("%s, %s" % (title, name), judge.verdict(text, program.verify(repository.info_path())))
         verdicts.append(repository.git_verdict())
     complaint = None if verdicts[0] == verdicts[1] and verdicts[0].warned else "it says %r" % verdicts
-    tally.check(title + ", Git warns of both alike", complaint)
+    results.check(title + ", Git warns of both alike", complaint)

@@ -11,14 +11,14 @@ NO_MEMORY = "memory ran out"
 """The beginning of rows whose lines depend on the machine; scripts/refused_memory has them all."""
 
 ELSEWHERE = {None, "When there is no answer"}
-"""Sections with rows of no line, and of lines on standard error, which scripts/check_wrapper has."""
+"""Sections with rows of no line, and of lines on standard error, which scripts/wrappers has."""
 
 
-def check_all(tally):
+def check_all(results):
     """The checks of all rows, once all else was run."""
     rows = refusals.read_rows()
     without = [line for command, line in LINES if refusals.row_of(rows, line, command) is None]
-    tally.check("each line has a row in docs/REFUSALS.md", "none has %r" % without if without else None)
+    results.check("each line has a row in docs/REFUSALS.md", "none has %r" % without if without else None)
     reached = {refusals.row_of(rows, line, command) for command, line in LINES}
     reached |= {refusals.row_of(rows, refusals.detail_of(line)) for _, line in LINES if refusals.detail_of(line)}
     for row in rows:
@@ -26,4 +26,4 @@ def check_all(tally):
         if row.section not in ELSEWHERE and not left_out:
             may_be = row.text != "refused open 3" or fails_to_read(BAD_DEVICE)
             complaint = "no check has it" if may_be and row not in reached else None
-            tally.check("the line %s, from %s" % (row.text, row.command or "any command"), complaint)
+            results.check("the line %s, from %s" % (row.text, row.command or "any command"), complaint)

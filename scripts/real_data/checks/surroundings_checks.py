@@ -31,7 +31,7 @@ MOST_MEMORY = 2**26
 PAGE = 4096
 
 
-def check_all(program, tally):
+def check_all(program, results):
     """The checks of hostile surroundings."""
     with tempfile.TemporaryDirectory() as folder:
         os.chmod(folder, 0o755)
@@ -39,24 +39,24 @@ def check_all(program, tally):
         write_bytes(graph, built.diamond())
         commands = {"list": ("list",), "verify": ("verify", graph), "find": ("find", graph, "11" * 20)}
         for name, words in commands.items():
-            check_no_reader(program, tally, name, words, graph)
-        check_input(program, tally)
-        check_odd_paths(program, tally, folder)
-        check_pipe(program, tally, folder)
-        check_permission(program, tally, folder)
-        check_chain_files(program, tally, folder)
-        check_memory(program, tally, os.path.join(folder, "large"))
+            check_no_reader(program, results, name, words, graph)
+        check_input(program, results)
+        check_odd_paths(program, results, folder)
+        check_pipe(program, results, folder)
+        check_permission(program, results, folder)
+        check_chain_files(program, results, folder)
+        check_memory(program, results, os.path.join(folder, "large"))
 
 
-def check_soon(tally, name, right, run):
+def check_soon(results, name, right, run):
     """A check of a run that has to end soon."""
     started = processor_seconds()
     complaint = right(run())
     seconds = processor_seconds() - started
-    tally.check(name, complaint or ("it took %.1f s of processor" % seconds if seconds > SOON else None))
+    results.check(name, complaint or ("it took %.1f s of processor" % seconds if seconds > SOON else None))
 
 
-def check_no_reader(program, tally, name, words, graph):
+def check_no_reader(program, results, name, words, graph):
     """Output into a pipe whose reader has gone is a failed write, whether or not a signal comes with it."""
     right = partial(judge.exactly, 2, "", FAILED_WRITE)
     for title, restore in (("", False), (", no signal held back", True)):
@@ -64,21 +64,21 @@ def check_no_reader(program, tally, name, words, graph):
         os.close(reader)
         with open(graph, "rb") as stdin:
             run = partial(program.run, *words, stdin=stdin, stdout=writer, restore_signals=restore)
-            check_soon(tally, "%s, a pipe whose reader has gone%s" % (name, title), right, run)
+            check_soon(results, "%s, a pipe whose reader has gone%s" % (name, title), right, run)
         os.close(writer)
 
 
-def check_input(program, tally):
+def check_input(program, results):
     """Standard input that is closed, and a pipe that is cut at each of many places."""
     right = partial(judge.exactly, 1, "refused read 2\n", "")
     closed = partial(program.run, "list", preexec_fn=partial(os.close, 0))
-    check_soon(tally, "list, input that is closed", right, closed)
+    check_soon(results, "list, input that is closed", right, closed)
     content = built.octopus()
     places = [*range(0, len(content), 50), len(content)]
     runs = [
         (partial(in_pieces, program, content[:stop]), partial(judged_by_reading, content[:stop])) for stop in places
     ]
-    check_runs(tally, "list, a pipe that is cut", runs)
+    check_runs(results, "list, a pipe that is cut", runs)
 
 
 def in_pieces(program, content):
@@ -105,7 +105,7 @@ def judged_by_reading(content, answer):
     return judge.exactly(0 if text.startswith("layer ") else 1, text, "", answer)
 
 
-def check_odd_paths(program, tally, folder):
+def check_odd_paths(program, results, folder):
     """Paths at which there is neither a file nor a folder, and such as no file can have."""
     fifo, loop = os.path.join(folder, "fifo"), os.path.join(folder, "loop")
     os.mkfifo(fifo)
@@ -120,11 +120,11 @@ def check_odd_paths(program, tally, folder):
         "a path of 5,000 bytes, of folders": os.path.join(folder, "./" * 2500),
     }
     for name, path in paths.items():
-        check_path(program, tally, name, path, NOTHING_FOUND)
+        check_path(program, results, name, path, NOTHING_FOUND)
     os.close(keeper)
 
 
-def check_pipe(program, tally, folder):
+def check_pipe(program, results, folder):
     """A pipe in the place of the file in an info folder is read to its end."""
     info = os.path.join(folder, "pipe")
     pipe = os.path.join(info, "commit-graph")
@@ -132,17 +132,17 @@ def check_pipe(program, tally, folder):
     os.mkfifo(pipe)
     threading.Thread(target=write_bytes, args=(pipe, built.diamond()), daemon=True).start()
     right = partial(judge.verdict, reading.verified(built.diamond()))
-    check_soon(tally, "verify, a pipe in an info folder", right, partial(program.verify, info))
+    check_soon(results, "verify, a pipe in an info folder", right, partial(program.verify, info))
 
 
-def check_path(program, tally, name, path, text, **streams):
+def check_path(program, results, name, path, text, **streams):
     """What `verify` and `find` say of a path, soon."""
     right = partial(judge.verdict, text)
-    check_soon(tally, "verify, " + name, right, partial(program.verify, path, **streams))
-    check_soon(tally, "find, " + name, right, partial(program.find, path, "ee" * 20, **streams))
+    check_soon(results, "verify, " + name, right, partial(program.verify, path, **streams))
+    check_soon(results, "find, " + name, right, partial(program.find, path, "ee" * 20, **streams))
 
 
-def check_permission(program, tally, folder):
+def check_permission(program, results, folder):
     """A folder that must not be read. Where all may be read, the program is run as nobody, if that may be."""
     closed = os.path.join(folder, "closed")
     os.mkdir(closed)
@@ -150,9 +150,9 @@ def check_permission(program, tally, folder):
     os.chmod(closed, 0)
     streams = {"preexec_fn": partial(os.setuid, NOBODY)} if os.geteuid() == 0 else {}
     if may_run(program, streams):
-        check_path(program, tally, "a folder that must not be read", closed, NOT_OPENED, **streams)
+        check_path(program, results, "a folder that must not be read", closed, NOT_OPENED, **streams)
         within = os.path.join(closed, "commit-graph")
-        check_path(program, tally, "a file in a folder that must not be read", within, NOTHING_FOUND, **streams)
+        check_path(program, results, "a file in a folder that must not be read", within, NOTHING_FOUND, **streams)
     os.chmod(closed, 0o755)
 
 
@@ -164,7 +164,7 @@ def may_run(program, streams):
         return False
 
 
-def check_chain_files(program, tally, folder):
+def check_chain_files(program, results, folder):
     """Chain files of very many lines, and lines that lead elsewhere or hold no name."""
     content = built.file_of("sha1", [])
     name = content[-20:].hex()
@@ -185,10 +185,10 @@ def check_chain_files(program, tally, folder):
             write_bytes(os.path.join(graphs, "graph-%s.graph" % name), content)
             write_bytes(os.path.join(graphs, "commit-graph-chain"), lines)
             right = partial(judge.verdict, text)
-            check_soon(tally, "verify, a chain file of " + title, right, partial(program.verify, graphs))
+            check_soon(results, "verify, a chain file of " + title, right, partial(program.verify, graphs))
 
 
-def check_memory(program, tally, path):
+def check_memory(program, results, path):
     """Each command on a graph of 100,000 commits, in each amount of memory from the least that starts it: its
     answer, or the stated line for want of memory. Where there is none for the words, they are no command."""
     content = built.line("sha1", COMMITS)
@@ -210,7 +210,7 @@ def check_memory(program, tally, path):
         wrong = [answer for answer in answers if not is_allowed(answer, right)]
         complaint = "status %s, %r, %r" % (wrong[0].status, wrong[0].out[:60], wrong[0].err[:60]) if wrong else None
         enough = judge.exactly(status, text, "", answers[-1]) or complaint
-        tally.check("%s, 100,000 commits in %d to %d KiB" % (name, least >> 10, MOST_MEMORY >> 10), enough)
+        results.check("%s, 100,000 commits in %d to %d KiB" % (name, least >> 10, MOST_MEMORY >> 10), enough)
 
 
 def limited(program, words, path, size):

@@ -11,7 +11,7 @@ PART = 60
 """Bytes that one process changes before it takes the next."""
 
 
-def check_all(program, tally, every_value=False):
+def check_all(program, results, every_value=False):
     """A check for each file: changed, and changed and sealed again. `list` is run on the first, which shows
     all that is read of a layer, and `verify` on the second, since it refuses a wrong checksum before all else."""
     masks = tuple(range(1, 256)) if every_value else SOME_MASKS
@@ -24,7 +24,7 @@ def check_all(program, tally, every_value=False):
             wrong = [odd for _, odd in answers if odd]
             complaint = "%d parts, first %s of %s" % (len(wrong), wrong[0].complaint, wrong[0].content.hex()) if wrong else None
             runs = sum(count for count, _ in answers)
-            tally.check("each byte of a file, %s, %s, %s (%d runs)" % (name, title, command, runs), complaint)
+            results.check("each byte of a file, %s, %s, %s (%d runs)" % (name, title, command, runs), complaint)
 
 
 def try_part(program, content, command, masks, start):

@@ -21,21 +21,21 @@ MOST_FINDS = 60
 """Of a file with more commits, some alone are looked up."""
 
 
-def check_all(program, tally, new, differences):
+def check_all(program, results, new, differences):
     """The checks of single files; a new repository comes from a function of its name."""
     for name, history in shapes.ALL.items():
-        check_history(program, tally, new("verified " + name), name, history, differences)
+        check_history(program, results, new("verified " + name), name, history, differences)
     repository = new("wrong")
     repository.add(shapes.octopus(3, 4, 2))
-    check_wrong(program, tally, repository, differences)
-    check_beside_dates(program, tally, repository, differences)
-    check_forms(program, tally, repository, differences)
-    check_bytes(program, tally, repository)
-    check_chance(program, tally, repository)
-    check_small_stack(program, tally, repository)
+    check_wrong(program, results, repository, differences)
+    check_beside_dates(program, results, repository, differences)
+    check_forms(program, results, repository, differences)
+    check_bytes(program, results, repository)
+    check_chance(program, results, repository)
+    check_small_stack(program, results, repository)
 
 
-def check_history(program, tally, repository, name, history, differences):
+def check_history(program, results, repository, name, history, differences):
     """What is counted in a history, beside each kind of further chunks, and where its commits stand."""
     repository.add(history)
     kind, path, words = repository.object_format, repository.graph_path(), repository.words()
@@ -44,22 +44,22 @@ def check_history(program, tally, repository, name, history, differences):
             repository.new_graph(*flags, generation_version=version)
             answer = program.verify(path)
             title = [kind, name, "generation version %d" % version, *flags, "verified"]
-            tally.check(", ".join(title), judge.same(verified(words), answer))
+            results.check(", ".join(title), judge.same(verified(words), answer))
             differences.compare(name, answer, repository.git_verdict())
     lines = list(found(words, [list(words)]).items())
     some = lines[:: 1 + len(lines) // MOST_FINDS]
     runs = [(partial(program.find, path, commit), partial(judge.same, line)) for commit, line in some]
-    check_runs(tally, "%s, %s, found" % (kind, name), runs)
+    check_runs(results, "%s, %s, found" % (kind, name), runs)
 
 
-def check_wrong(program, tally, repository, differences):
+def check_wrong(program, results, repository, differences):
     """What is found wrong in files with one thing wrong, whose checksums are right or are not."""
     kind, file = repository.object_format, original(repository, generation_version=1)
     for name, edited, text in wrong_layout.all_wrong(file) + wrong_commits.all_wrong(file):
-        check_verdict(program, tally, repository, differences, (name, sealed(edited, kind), text))
+        check_verdict(program, results, repository, differences, (name, sealed(edited, kind), text))
         answer = verify_bytes(program, repository.graph_path(), edited)
         unsealed_text = text if text.startswith("refused open") else CHECKSUM
-        tally.check("%s, %s, not sealed" % (kind, name), judge.verdict(unsealed_text, answer))
+        results.check("%s, %s, not sealed" % (kind, name), judge.verdict(unsealed_text, answer))
 
 
 def original(repository, generation_version):
@@ -69,14 +69,14 @@ def original(repository, generation_version):
     return Original(layer, repository.object_format, text)
 
 
-def check_beside_dates(program, tally, repository, differences):
+def check_beside_dates(program, results, repository, differences):
     """Files with wrong generations beside right corrected dates."""
     for name, edited, text in wrong_commits.beside_dates(original(repository, generation_version=2)):
         case = (name, sealed(edited, repository.object_format), text)
-        check_verdict(program, tally, repository, differences, case)
+        check_verdict(program, results, repository, differences, case)
 
 
-def check_forms(program, tally, repository, differences):
+def check_forms(program, results, repository, differences):
     """Right files in forms that Git does not write, wrong trailers, and wrong chunks that are ignored."""
     kind, text = repository.object_format, verified(repository.words())
     plain = repository.new_graph(generation_version=1)
@@ -87,27 +87,27 @@ def check_forms(program, tally, repository, differences):
         (forms.wrong_chunks_aside(full, kind), text),
     ):
         for name, layer in files:
-            check_verdict(program, tally, repository, differences, (name, layer, answer))
+            check_verdict(program, results, repository, differences, (name, layer, answer))
 
 
-def check_verdict(program, tally, repository, differences, case):
+def check_verdict(program, results, repository, differences, case):
     """The answer to a file, beside Git's verdict on it; a case is its name, its bytes and the answer."""
     name, layer, text = case
     answer = verify_bytes(program, repository.graph_path(), layer)
-    tally.check("%s, %s, verified" % (repository.object_format, name), judge.verdict(text, answer))
+    results.check("%s, %s, verified" % (repository.object_format, name), judge.verdict(text, answer))
     complaint = beside.complaint(program, repository.graph_path(), answer)
-    tally.check("%s, %s, distinct and ancestor" % (repository.object_format, name), complaint)
+    results.check("%s, %s, distinct and ancestor" % (repository.object_format, name), complaint)
     differences.compare(name, answer, repository.git_verdict())
 
 
-def check_bytes(program, tally, repository):
+def check_bytes(program, results, repository):
     """No byte of a file can be another: the file is refused then, mostly by its checksum."""
     kind, layer = repository.object_format, repository.new_graph()
     name = "%s, a file with a byte's lowest bit changed, verified" % kind
-    check_family(program, tally, name, forms.some_bytes(layer, kind))
+    check_family(program, results, name, forms.some_bytes(layer, kind))
 
 
-def check_chance(program, tally, repository):
+def check_chance(program, results, repository):
     """Files changed at random and then sealed: there is always a whole answer."""
     kind, layer = repository.object_format, repository.new_graph(generation_version=1)
     right = partial(judge.in_form_of_check, len(repository.words()))
@@ -117,10 +117,10 @@ def check_chance(program, tally, repository):
     }
     for name, family in families.items():
         files = [(sealed(edited, kind), right) for edited, _ in family]
-        check_family(program, tally, "%s, a file with %s, sealed and verified" % (kind, name), files)
+        check_family(program, results, "%s, a file with %s, sealed and verified" % (kind, name), files)
 
 
-def check_small_stack(program, tally, repository):
+def check_small_stack(program, results, repository):
     """Each command ends as usual where its stack may have no more than 48 KiB."""
     words, small = repository.words(), {"preexec_fn": limit_stack}
     layer, path = repository.new_graph(), repository.graph_path()
@@ -132,7 +132,7 @@ def check_small_stack(program, tally, repository):
         ("distinct", program.distinct(path, **small), verified(words)),
         ("find", program.find(path, commit, **small), line),
     ):
-        tally.check("%s, %s with a small stack" % (repository.object_format, command), judge.same(right, answer))
+        results.check("%s, %s with a small stack" % (repository.object_format, command), judge.same(right, answer))
 
 
 def limit_stack():
@@ -140,14 +140,14 @@ def limit_stack():
     resource.setrlimit(resource.RLIMIT_STACK, (48 * 1024, 48 * 1024))
 
 
-def check_family(program, tally, name, family):
+def check_family(program, results, name, family):
     """One check of all runs of a family of damaged files, each with the judge of the answer."""
     with tempfile.TemporaryDirectory() as folder:
         runs = [
             (partial(verify_bytes, program, os.path.join(folder, str(number)), layer), right)
             for number, (layer, right) in enumerate(family)
         ]
-        check_runs(tally, name, runs)
+        check_runs(results, name, runs)
 
 
 def verify_bytes(program, path, layer):

@@ -32,39 +32,39 @@ BAD_DEVICE = "/proc/self/mem"
 """On some machines a file that opens, and whose first byte cannot be read."""
 
 
-def check_all(program, tally):
+def check_all(program, results):
     """The checks of words and streams."""
-    check_usage(program, tally)
-    check_streams(program, tally)
-    check_paths_beyond(program, tally)
-    check_family(program, tally, "random bytes", mutations.noise(300, seed=2))
+    check_usage(program, results)
+    check_streams(program, results)
+    check_paths_beyond(program, results)
+    check_family(program, results, "random bytes", mutations.noise(300, seed=2))
 
 
-def check_usage(program, tally):
+def check_usage(program, results):
     """Other words than a command end with the usage text and status 2."""
     for words in OTHER_WORDS:
         complaint = judge.exactly(2, "", USAGE, program.run(*words, input=b""))
-        tally.check("usage after the words %r" % words, complaint)
+        results.check("usage after the words %r" % words, complaint)
     complaint = judge.exactly(2, "refused id 1\n", "", program.find(ID, "."))
-    tally.check("find, its path and its id exchanged", complaint)
+    results.check("find, its path and its id exchanged", complaint)
     complaint = judge.exactly(2, "refused id 1\n", "", program.ancestor(ID, ".", ID))
-    tally.check("ancestor, its path and its first id exchanged", complaint)
+    results.check("ancestor, its path and its first id exchanged", complaint)
 
 
-def check_streams(program, tally):
+def check_streams(program, results):
     """Input that is empty, cannot be read or is larger than the memory, and output that cannot be written."""
-    tally.check("no input", judge.exactly(1, "refused file 1\n", "", program.list(b"")))
+    results.check("no input", judge.exactly(1, "refused file 1\n", "", program.list(b"")))
     with tempfile.TemporaryFile() as zeros:
         zeros.truncate(256 * MEGABYTE)
         answer = program.run("list", stdin=zeros, preexec_fn=partial(limit_memory, 64 * MEGABYTE))
-        tally.check("input larger than the memory", judge.exactly(1, "refused read 3\n", "", answer))
+        results.check("input larger than the memory", judge.exactly(1, "refused read 3\n", "", answer))
     folder = os.open(os.curdir, os.O_RDONLY)
-    tally.check("a folder as input", judge.exactly(1, "refused read 2\n", "", program.run("list", stdin=folder)))
+    results.check("a folder as input", judge.exactly(1, "refused read 2\n", "", program.run("list", stdin=folder)))
     os.close(folder)
-    check_full(tally, "list", partial(program.run, "list", input=b""))
+    check_full(results, "list", partial(program.run, "list", input=b""))
 
 
-def check_paths_beyond(program, tally):
+def check_paths_beyond(program, results):
     """Files that cannot be read or are larger than the memory, and output that cannot be written."""
     commands = {"verify": program.verify, "distinct": program.distinct, "find": partial(program.find, commit=ID)}
     for command, run in commands.items():
@@ -75,11 +75,11 @@ def check_paths_beyond(program, tally):
             for name, where in (("a file", path), ("the file of a folder", folder)):
                 answer = run(where, preexec_fn=partial(limit_memory, 64 * MEGABYTE))
                 title = "%s, %s larger than the memory" % (command, name)
-                tally.check(title, judge.exactly(1, "refused open 7\n", "", answer))
-            check_full(tally, command, partial(run, os.path.join(folder, "nothing")))
+                results.check(title, judge.exactly(1, "refused open 7\n", "", answer))
+            check_full(results, command, partial(run, os.path.join(folder, "nothing")))
         if fails_to_read(BAD_DEVICE):
             answer = run(BAD_DEVICE)
-            tally.check("%s, a file whose read fails" % command, judge.exactly(1, "refused open 3\n", "", answer))
+            results.check("%s, a file whose read fails" % command, judge.exactly(1, "refused open 3\n", "", answer))
 
 
 def fails_to_read(path):
@@ -96,16 +96,16 @@ def fails_to_read(path):
     return False
 
 
-def check_full(tally, command, run):
+def check_full(results, command, run):
     """The answer of a run whose output cannot be written."""
     answer = run(preexec_fn=partial(os.close, 1))
-    tally.check("%s, output that is closed" % command, judge.exactly(2, "", FAILED_WRITE, answer))
+    results.check("%s, output that is closed" % command, judge.exactly(2, "", FAILED_WRITE, answer))
     answer = run(preexec_fn=partial(os.closerange, 1, 3))
-    tally.check("%s, output and errors that are closed" % command, judge.exactly(2, "", "", answer))
+    results.check("%s, output and errors that are closed" % command, judge.exactly(2, "", "", answer))
     if os.path.exists("/dev/full"):
         with open("/dev/full", "wb") as full:
             answer = run(stdout=full)
-        tally.check("%s, output to a full device" % command, judge.exactly(2, "", FAILED_WRITE, answer))
+        results.check("%s, output to a full device" % command, judge.exactly(2, "", FAILED_WRITE, answer))
 
 
 def limit_memory(size):

@@ -121,7 +121,7 @@ class Differences:
             self.seen.setdefault(name, set()).update(finders)
         self.crashes |= other.crashes
 
-    def check(self, tally):
+    def check(self, results):
         """Prints the differences, and checks that they are the listed ones."""
         release = subprocess.check_output(["git", "--version"], text=True).strip()
         print("\nDifferences from the verdict of `git commit-graph verify`, %s:" % release)
@@ -132,8 +132,8 @@ class Differences:
         if release.startswith(RECORDED_OF):
             listed = {(name, finder) for name, (finder, _) in LISTED.items()}
             seen = {(name, finder) for name, finders in self.seen.items() for finder in finders}
-            tally.check("each difference from Git's verdict is listed", first_of(seen - listed))
-            tally.check("each listed difference from Git's verdict shows", first_of(listed - seen))
+            results.check("each difference from Git's verdict is listed", first_of(seen - listed))
+            results.check("each listed difference from Git's verdict shows", first_of(listed - seen))
 
 
 def first_of(pairs):

@@ -1,7 +1,7 @@
 """Counts checks, and prints a line for each."""
 
 
-class Tally:
+class Results:
     """The checks that passed and failed so far."""
 
     def __init__(self):
@@ -18,7 +18,7 @@ class Tally:
             print(self.wrong[-1], flush=True)
 
     def add(self, other):
-        """Counts the checks of another tally too, whose lines are printed already."""
+        """Counts the checks of others too, whose lines are printed already."""
         self.passed += other.passed
         self.wrong += other.wrong
 

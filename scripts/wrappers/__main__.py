@@ -1,23 +1,25 @@
-#!/usr/bin/env python3
-"""Checks the commands `git cgraph`, `graphtool` and `historytool` around their programs, their installation and
+"""`python3 scripts/wrappers` checks the commands `git cgraph`, `graphtool` and `historytool` around their programs, their installation and
 releases.
 
 It runs copies of the scripts, with programs and an `rt` that these checks make. The last line is
 `N passed, M failed`.
 """
 
+import os
 import sys
 
-from tally import Tally
+sys.path.insert(0, os.path.dirname(os.path.dirname(os.path.abspath(__file__))))
+
+from results import Results
 from wrappers import installs, packages, questions, releases, sentences, tools
 
 
 def main():
     """Runs the checks, and answers the exit status."""
-    tally = Tally()
+    results = Results()
     for part in (tools, sentences, questions, installs, packages, releases):
-        part.check_all(tally)
-    return tally.finish()
+        part.check_all(results)
+    return results.finish()
 
 
 if __name__ == "__main__":
