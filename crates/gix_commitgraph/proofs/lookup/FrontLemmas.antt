@@ -1,21 +1,22 @@
 -- Ids whose fronts differ are distinct.
 use Rattle.std.proofs.Common.{◌≡◌, inl, inr, ℕ, ◌+◌, ◌<◌, ◌≤◌, Bool, true, false, nat_lt}
 use Rattle.std.proofs.Common.{List, [], ◌++◌, length, get_or, slice_get}
-use Rattle.std.proofs.Common.{Some, option_map, IsTrue, sym, ap, ◌∙◌, arith, ⊎_elim}
+use Rattle.std.proofs.Common.{Some, option_map, IsTrue, refl, sym, ap, ◌∙◌, arith, ⊎_elim}
 use Rattle.std.proofs.Math.Dec.{eqb}
 use Rattle.std.specs.Prelude.{map}
 use Rattle.std.specs.List.{AllAdjacentBelow, IsAllAdjacentAnswer, IsDistinct}
-use Rattle.std.specs.List.Sorted.{IsPermutation, IsNonDecreasing}
-use Rattle.std.proofs.lemmas.Bool.{cases_lt, eq-eqb, ltb-true}
+use Rattle.std.specs.List.Sorted.{IsPermutation, IsNonDecreasing, IsStrictlyIncreasing}
+use Rattle.std.proofs.lemmas.Bool.{cases_lt, eq-eqb, lt-ltb, ltb-true}
 use Rattle.std.proofs.lemmas.Bool.Decides.{eqb_tells}
 use Rattle.std.proofs.lemmas.List.{append-nil}
 use Rattle.std.proofs.lemmas.List.Sorted.{IsPermutation-sym}
 use Rattle.std.proofs.lemmas.Map.Keys.{IsDistinct-from_apart, IsDistinct-IsPermutation, apart_from_distinct}
+use Rattle.std.proofs.lemmas.Map.Keys.{IsStrictlyIncreasing-from_distinct}
 use Rattle.std.proofs.lemmas.Option.{slice_get_within, get_or_from_slice_get, slice_get-map}
 use Rattle.graph_format.specs.Layer.{Layer}
 use Rattle.gix_commitgraph.specs.Graph.{graph_ids}
 use Rattle.gix_commitgraph.specs.Distinct.{AreDistinct}
-use Rattle.gix_commitgraph.specs.Fronts.{front_of}
+use Rattle.gix_commitgraph.specs.Fronts.{front_of, HaveDistinctFronts}
 
 -- each number is below the next
 abbrev pub Rise : List ℕ → Type 0
@@ -25,6 +26,12 @@ Rise xs = AllAdjacentBelow (λ x y. true ≡ nat_lt x y) xs (length xs)
 pub risen : (xs : List ℕ) (answer : Bool) → IsAllAdjacentAnswer (λ x y b. b ≡ nat_lt x y) xs answer → IsTrue answer → Rise xs
 risen xs true h told = h
 risen xs false h told = let clash : false ≡ true = told in cc
+
+-- where each number is below the next, the answer says so
+rise-told : (xs : List ℕ) (answer : Bool) → IsAllAdjacentAnswer (λ x y b. b ≡ nat_lt x y) xs answer → IsStrictlyIncreasing xs
+    → IsTrue answer
+rise-told xs true h up = refl
+rise-told xs false h up = let clash : false ≡ true = h.2 0 ∙ lt-ltb _ _ (up h.0 h.1) in cc
 
 eqb-less : (a b : ℕ) → a < b → eqb a b ≡ false
 eqb-less a b less = elim (eqb_tells a b) [
@@ -84,3 +91,12 @@ distinct-by_fronts layers fronts sorted are moved up rise = λ p q id at_p at_q.
     (λ (not_after : p ≤ q). omega arith)
     (cases_lt q p))
     (cases_lt p q)
+
+-- and where all fronts differ, the sorted ones rise
+pub rise-by_fronts : (layers : List Layer) (fronts sorted : List ℕ) (answer : Bool) → fronts ≡ map front_of (graph_ids layers)
+    → IsPermutation fronts sorted → IsNonDecreasing sorted → IsAllAdjacentAnswer (λ x y b. b ≡ nat_lt x y) sorted answer
+    → HaveDistinctFronts layers → IsTrue answer
+rise-by_fronts layers fronts sorted answer are moved up told apart =
+    let distinct : IsDistinct eqb fronts = rw are apart in
+    rise-told sorted answer told
+    (IsStrictlyIncreasing-from_distinct sorted up (IsDistinct-IsPermutation eqb eqb-flips fronts sorted moved distinct))

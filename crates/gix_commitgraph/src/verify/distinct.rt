@@ -7,7 +7,8 @@
 ghost use Rattle.std.specs.Prelude.{◌≡◌, ◌^◌, ◌<◌, length, IfOk, IsTrue};
 ghost use Rattle.gix_hash_core.specs.Oid.{oid_bytes};
 ghost use Rattle.gix_commitgraph.specs.IdPlaces.{ComesBeforeRepeats};
-ghost use Rattle.gix_commitgraph.specs.Fronts.{front_of};
+ghost use Rattle.gix_commitgraph.specs.Fronts.{front_of, HaveDistinctFronts};
+ghost use Rattle.gix_commitgraph.specs.Graph.{total};
 
 use crate::Position;
 use crate::graph::Graph;
@@ -38,7 +39,10 @@ impl Graph {
         first: usize,
         alloc: Global,
     ) -> Result<u32, AllocError>
-        ensures { IfOk result (AreDistinctBelow self.now) }
+        ensures distinct { IfOk result (AreDistinctBelow self.now) }
+        // Where all fronts differ, no id is looked for.
+        ensures fronts { IfOk result (λ below. IsTrue options.distinct_ids → first ≡ 0
+            → 1 < length self.now → HaveDistinctFronts self.now → below ≡ total self.now) }
     {
         if !options.distinct_ids || first > 0 || self.files.len() == 1 {
             return Ok(0);
@@ -53,7 +57,8 @@ impl Graph {
 
     /// Whether no two ids have the same front. Then all are distinct.
     fn has_distinct_fronts(&self, alloc: Global) -> Result<bool, AllocError>
-        ensures { IfOk result (λ are. IsTrue are → AreDistinct self.now) }
+        ensures distinct { IfOk result (λ are. IsTrue are → AreDistinct self.now) }
+        ensures fronts { IfOk result (λ are. HaveDistinctFronts self.now → IsTrue are) }
     {
         let mut fronts = Vec::new(alloc);
         fronts.reserve(self.num_commits() as usize)?;
