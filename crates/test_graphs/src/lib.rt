@@ -19,6 +19,8 @@ mod graphs;
 #[cfg(test)]
 mod large;
 #[cfg(test)]
+mod sizes;
+#[cfg(test)]
 mod texts;
 #[cfg(test)]
 mod verifying;
