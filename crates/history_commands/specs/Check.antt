@@ -54,12 +54,12 @@ pub record AreFindings (layers : List Layer) (findings : Findings) : Type 0 wher
   pub filters : AreFiltersFound layers findings.filters
 
 -- dates may be refused so, where each layer has some
-abbrev pub MayRefuseDates : List Layer → DatesError → Type 0
+unfoldable pub MayRefuseDates : List Layer → DatesError → Type 0
 MayRefuseDates layers error =
     All HasDates layers × MayRefuseGraphDates layers error
 
 -- filters may be refused so
-abbrev pub MayRefuseFilters : List Layer → FiltersError → Type 0
+unfoldable pub MayRefuseFilters : List Layer → FiltersError → Type 0
 MayRefuseFilters layers error = MayRefuseGraphFilters layers error
 
 -- why no right graph is found, as `verify` may say: the path opens none, or the one that it opens fails its check

@@ -241,6 +241,7 @@ fn open_checked<T: Folder>(
 }
 
 /// How many commits have a corrected date, if each layer has dates.
+#[tactic(auto, unfolding(crate::specs::Check::MayRefuseDates))]
 fn count_dates(alloc: Global, graph: &Graph) -> Result<Option<u32>, DatesError>
     ensures found { IfOk result (AreDatesFound graph.now) }
     ensures refused { IfErr result (MayRefuseDates graph.now) }
@@ -253,6 +254,7 @@ fn count_dates(alloc: Global, graph: &Graph) -> Result<Option<u32>, DatesError>
 }
 
 /// How many commits have a filter that was computed, if some layer has filters.
+#[tactic(auto, unfolding(crate::specs::Check::MayRefuseFilters))]
 fn count_filters(alloc: Global, graph: &Graph) -> Result<Option<u32>, FiltersError>
     ensures found { IfOk result (AreFiltersFound graph.now) }
     ensures refused { IfErr result (MayRefuseFilters graph.now) }
