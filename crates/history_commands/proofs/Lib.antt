@@ -1,3 +1,4 @@
 pub mod AskLemmas
 pub mod BasesLemmas
 pub mod WalkLemmas
+pub mod WordsLemmas

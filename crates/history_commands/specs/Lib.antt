@@ -3,3 +3,5 @@ pub mod IsAncestor
 pub mod MergeBases
 pub mod Walk
 pub mod Check
+pub mod HistorytoolWords
+pub mod HistorytoolAnswers

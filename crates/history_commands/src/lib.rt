@@ -7,6 +7,7 @@
 
 mod bases;
 mod check;
+pub mod command;
 mod question;
 pub mod run;
 mod walk;

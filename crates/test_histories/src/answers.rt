@@ -21,7 +21,7 @@ pub const ONES_OF_SHA256: &str = "1111111111111111111111111111111111111111111111
 pub const CS_OF_SHA256: &str = "cccccccccccccccccccccccccccccccccccccccccccccccccccccccccccccccc";
 
 /// The shortest walk from the fourth commit to the first, which is one step.
-const STEP: &str = "cccccccccccccccccccccccccccccccccccccccc\n\
+pub const STEP: &str = "cccccccccccccccccccccccccccccccccccccccc\n\
     1111111111111111111111111111111111111111\n";
 
 /// The walk from the fourth commit to the second.

@@ -23,4 +23,6 @@ mod graph_filters;
 #[cfg(test)]
 mod merge_bases;
 #[cfg(test)]
+mod responding;
+#[cfg(test)]
 mod writes;

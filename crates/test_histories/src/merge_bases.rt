@@ -44,6 +44,12 @@ const ROWS: &[Row] = &[
         "base 4 dddddddddddddddddddddddddddddddddddddddd\nahead 0 behind 4\nvisits 5\n",
     ),
     (("file", CS, &[DS]), 1, "none\nahead 4 behind 1\nvisits 5\n"),
+    (("file", CS, &[]), 1, "none\nahead 4 behind 0\nvisits 4\n"),
+    (
+        ("file", CS, &[ONES; 100]),
+        0,
+        "base 0 1111111111111111111111111111111111111111\nahead 3 behind 0\nvisits 4\n",
+    ),
     (
         ("sha256", CS_OF_SHA256, &[ONES_OF_SHA256]),
         0,

@@ -1,0 +1,187 @@
+//! The commands of `historytool`, by the words of a command line.
+
+ghost use Rattle.std.specs.Prelude.{◌≡◌, ℕ, List, IfOk, IfSome, IsNone, map, string_bytes};
+ghost use Rattle.history_commands.specs.HistorytoolWords.{AskHistorytool, AskOfIds};
+ghost use Rattle.history_commands.specs.HistorytoolAnswers.{TellsOfItself};
+ghost use Rattle.history_commands.specs.declared.command.Command.{Command};
+
+use crate::run::{run_check, run_is_ancestor, run_merge_base, run_walk};
+use graph_commands::line::{WriteFailed, write_line};
+use graph_commands::program::Run;
+use graph_commands::status::Status;
+use graph_folder::folder::Folder;
+use std::alloc::Global;
+use std::io::{Read, Write};
+
+/// What `historytool` is asked to do.
+#[derive(Clone, Copy, Debug)]
+pub enum Command<'a> {
+    /// The help is to be written.
+    Help {
+        /// Its text, without the end of the last line.
+        text: &'a str,
+    },
+    /// The version is to be written.
+    Version {
+        /// Its text, without the end of the line.
+        text: &'a str,
+    },
+    /// It is to be told whether the first commit is an ancestor of the second.
+    IsAncestor {
+        /// The path of the graph.
+        path: &'a str,
+        /// The first id, in hexadecimal digits.
+        first: &'a str,
+        /// The second id.
+        second: &'a str,
+    },
+    /// A walk along parents from the first commit to the second is to be found.
+    Walk {
+        /// The path of the graph.
+        path: &'a str,
+        /// The first id, in hexadecimal digits.
+        first: &'a str,
+        /// The second id.
+        second: &'a str,
+    },
+    /// What the first commit and the others have in common is to be told.
+    MergeBase {
+        /// The path of the graph.
+        path: &'a str,
+        /// The first id, in hexadecimal digits.
+        first: &'a str,
+        /// The other ids, of which there is one at least.
+        others: &'a [String],
+    },
+    /// The graph is to be checked, with its dates and its filters.
+    Check {
+        /// The path of the graph.
+        path: &'a str,
+    },
+}
+
+/// What `historytool` tells of itself.
+#[derive(Clone, Copy, Debug)]
+pub struct Texts<'a> {
+    /// What it can be asked.
+    pub help: &'a str,
+    /// Which version it is.
+    pub version: &'a str,
+}
+
+impl<'a> Command<'a> {
+    /// The command that the words of a command line ask for, and none where they ask for none. The
+    /// first word is the program's own name.
+    #[tactic(auto, using(crate::proofs::WordsLemmas::named))]
+    pub fn from_words(words: &'a [String], texts: Texts<'a>) -> Option<Command<'a>>
+        ensures asked { IfSome result (AskHistorytool texts.entry.help.now texts.entry.version.now
+            (map string_bytes words.now)) }
+        ensures other { IsNone result → (command : Command)
+            → ¬ AskHistorytool texts.entry.help.now texts.entry.version.now
+            (map string_bytes words.now) command }
+    {
+        match words {
+            [_, name] => match name.as_str() {
+                "--help" | "-h" => Some(Command::Help { text: texts.help }),
+                "--version" => Some(Command::Version {
+                    text: texts.version,
+                }),
+                _ => None,
+            },
+            [_, name, path] => match name.as_str() {
+                "check" => Some(Command::Check { path }),
+                _ => None,
+            },
+            [_, name, path, first, others @ ..] => Command::of_ids(name, path, first, others),
+            _ => None,
+        }
+    }
+
+    /// The command with this name about the ids of two commits or more, if it is one.
+    #[tactic(auto, using(crate::proofs::WordsLemmas::named_of_ids))]
+    fn of_ids(
+        name: &str,
+        path: &'a str,
+        first: &'a str,
+        others: &'a [String],
+    ) -> Option<Command<'a>>
+        ensures asked { IfSome result (AskOfIds
+            name.now path.now first.now (map string_bytes others.now)) }
+        ensures other { IsNone result → (command : Command)
+            → ¬ AskOfIds name.now path.now first.now (map string_bytes others.now) command }
+    {
+        match name {
+            "is-ancestor" => match others {
+                [] => None,
+                [second] => Some(Command::IsAncestor {
+                    path,
+                    first,
+                    second,
+                }),
+                _ => None,
+            },
+            "walk" => match others {
+                [] => None,
+                [second] => Some(Command::Walk {
+                    path,
+                    first,
+                    second,
+                }),
+                _ => None,
+            },
+            "merge-base" => match others {
+                [] => None,
+                _ => Some(Command::MergeBase {
+                    path,
+                    first,
+                    others,
+                }),
+            },
+            _ => None,
+        }
+    }
+}
+
+impl Run for Command<'_> {
+    ghost use Rattle.history_commands.specs.HistorytoolAnswers.{HistorytoolMayWrite};
+
+    ghost MayWrite = { HistorytoolMayWrite };
+
+    fn run<R: Read, T: Folder, W: Write>(
+        self,
+        alloc: Global,
+        _: &mut R,
+        folder: &mut T,
+        output: &mut W,
+    ) -> Result<u8, WriteFailed> {
+        match self {
+            Command::Help { text } => tell(output, text),
+            Command::Version { text } => tell(output, text),
+            Command::IsAncestor {
+                path,
+                first,
+                second,
+            } => run_is_ancestor(alloc, folder, path, first, second, output),
+            Command::Walk {
+                path,
+                first,
+                second,
+            } => run_walk(alloc, folder, path, first, second, output),
+            Command::MergeBase {
+                path,
+                first,
+                others,
+            } => run_merge_base(alloc, folder, path, first, others, output),
+            Command::Check { path } => run_check(alloc, folder, path, output),
+        }
+    }
+}
+
+/// Writes a text that was asked for, and answers the exit status. `WriteFailed` comes where the
+/// writer fails.
+fn tell<W: Write>(output: &mut W, text: &str) -> Result<u8, WriteFailed>
+    ensures { IfOk result (TellsOfItself text.now (W.contents output.old) (W.contents output.new)) }
+{
+    write_line(output, text)?;
+    Ok(Status::Yes as u8)
+}

@@ -1,0 +1,78 @@
+//! What `historytool` answers to the words of a command line.
+
+use crate::answers::{CS, ONES, STEP};
+use crate::fixtures::graphs;
+use graph_commands::line::WriteFailed;
+use graph_commands::program::{Complaints, respond};
+use graph_vectors::Sink;
+use history_commands::command::{Command, Texts};
+use std::alloc::Global;
+use std::io;
+use std::process::Abort;
+
+/// The words after the program's own name, with the status and with what is written to the output
+/// and to standard error.
+const ROWS: &[(&[&str], u8, &str, &str)] = &[
+    (&["--help"], 0, "help\n", ""),
+    (&["-h"], 0, "help\n", ""),
+    (&["--version"], 0, "version\n", ""),
+    (&["is-ancestor", "file", ONES, CS], 0, "yes\n", ""),
+    (&["walk", "file", CS, ONES], 0, STEP, ""),
+    (
+        &["merge-base", "file", CS, ONES],
+        0,
+        "base 0 1111111111111111111111111111111111111111\nahead 3 behind 0\nvisits 4\n",
+        "",
+    ),
+    (&["check", "nowhere"], 1, "refused open 1\n", ""),
+    (&[], 2, "", "usage\n"),
+    (&["walk", "file", CS], 2, "", "usage\n"),
+    (&["merge-base", "file", CS], 2, "", "usage\n"),
+];
+
+/// The answer to these words.
+fn answer(
+    rt: &impl Abort,
+    alloc: Global,
+    words: &[&str],
+    output: &mut Sink,
+    errors: &mut Sink,
+) -> Result<u8, WriteFailed> {
+    let mut folder = graphs(rt, alloc);
+    let mut line = Vec::new(alloc);
+    for word in ["historytool"].iter().chain(words.iter()) {
+        let word = String::from_str(alloc, word).expect(rt, "memory");
+        line.push(word).expect(rt, "memory");
+    }
+    let complaints = Complaints {
+        usage: "usage",
+        write_failed: "failed",
+    };
+    let texts = Texts {
+        help: "help",
+        version: "version",
+    };
+    let (command, mut input) = (Command::from_words(&line, texts), io::empty());
+    respond(
+        alloc,
+        command,
+        complaints,
+        &mut input,
+        &mut folder,
+        output,
+        errors,
+    )
+}
+
+#[test]
+fn runs_what_the_words_ask_historytool_for(rt: HostRuntime) {
+    let alloc = rt.alloc();
+    for (words, status, written, told) in ROWS {
+        let mut output = Sink::new(alloc, usize::MAX, None);
+        let mut errors = Sink::new(alloc, usize::MAX, None);
+        let answered = answer(&rt, alloc, words, &mut output, &mut errors);
+        assert_eq!(&rt; answered, Ok(*status), "{words:?}");
+        assert_eq!(&rt; output.text(), *written, "{words:?}");
+        assert_eq!(&rt; errors.text(), *told, "{words:?}");
+    }
+}
