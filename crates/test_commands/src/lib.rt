@@ -22,8 +22,12 @@ mod on_disk;
 #[cfg(test)]
 mod opening;
 #[cfg(test)]
+mod reads;
+#[cfg(test)]
 mod refusing;
 #[cfg(test)]
 mod responding;
 #[cfg(test)]
 mod verifying;
+#[cfg(test)]
+mod watched;
