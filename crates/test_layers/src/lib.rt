@@ -13,9 +13,13 @@ mod chunk_tables;
 #[cfg(test)]
 mod commits;
 #[cfg(test)]
+mod disks;
+#[cfg(test)]
 mod fixtures;
 #[cfg(test)]
 mod folders;
+#[cfg(test)]
+mod host;
 #[cfg(test)]
 mod ids;
 #[cfg(test)]
