@@ -1,80 +1,81 @@
 //! A commit with so many parents that a search has to keep many of them.
 
-use crate::fixtures::{graph, right};
+use crate::fixtures::{graph_of, layer, right};
 use gix_commitgraph::{Graph, Position};
-use graph_history::Checked;
+use graph_history::Searcher;
 use graph_vectors::Row;
 use std::alloc::Global;
 use std::process::Abort;
-use std::rt::Clock;
 use std::time::Instant;
 
-/// How many parents the last commit has. All have the first commit as their parent.
-const PARENTS: u32 = 250;
+/// The parents of the last commit. They come after two roots, and have the first as their parent.
+const PARENTS: &[u32] = &[
+    2, 3, 4, 5, 6, 7, 8, 9, 10, 11, 12, 13, 14, 15, 16, 17, 18, 19, 20, 21, 22, 23, 24, 25, 26, 27,
+    28, 29, 30, 31, 32, 33, 34, 35, 36, 37, 38, 39, 40, 41, 42, 43, 44, 45, 46, 47, 48, 49, 50, 51,
+    52, 53, 54, 55, 56, 57, 58, 59, 60, 61, 62, 63, 64, 65, 66, 67, 68, 69, 70, 71, 72, 73, 74, 75,
+    76, 77, 78, 79, 80, 81, 82, 83, 84, 85, 86, 87, 88, 89, 90, 91, 92, 93, 94, 95, 96, 97, 98, 99,
+    100, 101, 102, 103, 104, 105, 106, 107, 108, 109, 110, 111, 112, 113, 114, 115, 116, 117, 118,
+    119, 120, 121,
+];
 
-/// Two roots, and the positions after them.
-const ROOTS: u32 = 2;
+/// The position of the last commit.
+const LAST: u32 = 122;
 
-/// How often the walk is asked for.
+/// How often each question is asked.
 const TIMES: u32 = 200;
 
-/// The graph.
+/// The rows of the commits.
+fn rows(rt: &impl Abort, alloc: Global) -> Vec<Row<'static>> {
+    let mut rows = Vec::new(alloc);
+    for byte in 1..=2 {
+        let root: Row<'static> = (byte, &[], 1);
+        rows.push(root).expect(rt, "memory");
+    }
+    for byte in 3..=122 {
+        let parent: Row<'static> = (byte, &[0], 2);
+        rows.push(parent).expect(rt, "memory");
+    }
+    let last: Row<'static> = (123, PARENTS, 3);
+    rows.push(last).expect(rt, "memory");
+    rows
+}
+
+/// The graph of these commits.
 fn wide(rt: &impl Abort, alloc: Global) -> Graph {
-    let parents: Result<Vec<u32>, _> = (ROOTS..ROOTS + PARENTS).collect(alloc);
-    let parents = parents.expect(rt, "memory");
-    let mut rows: Vec<Row<'_>> = Vec::new(alloc);
-    for number in 0..ROOTS + PARENTS {
-        let row: Row<'_> = if number < ROOTS {
-            ((number + 1) as u8, &[], 1)
-        } else {
-            ((number + 1) as u8, &[0], 2)
-        };
-        rows.push(row).expect(rt, "memory");
-    }
-    rows.push((0xff, &parents, 3)).expect(rt, "memory");
-    graph(rt, alloc, &[rows.as_slice()])
+    let rows = rows(rt, alloc);
+    graph_of(rt, alloc, [layer(rt, alloc, &[], &rows)])
 }
 
-/// The microseconds that it takes to look for the shortest walk to a commit that is not reached.
-fn walks(
-    rt: &(impl Abort + Clock),
-    alloc: Global,
-    checked: &Checked<'_>,
-    from: Position,
-    to: Position,
-) -> u128 {
-    let mut searcher = checked.searcher(alloc);
-    let start = Instant::now(rt).expect(rt, "a clock");
-    for _ in 0..TIMES {
-        let answer = searcher.ancestor_walk(from, to).expect(rt, "memory");
-        assert!(rt; answer.walk.is_none() && answer.visits == PARENTS + 2);
-    }
-    start.elapsed(rt).expect(rt, "a clock").as_micros()
+/// Looks for a walk from the last commit to the second root, to which none leads.
+fn walk(rt: &impl Abort, searcher: &mut Searcher<'_>) {
+    assert!(rt; LAST < searcher.graph().num_commits());
+    let answer = searcher.ancestor_walk(Position(LAST), Position(1));
+    let answer = answer.expect(rt, "memory");
+    assert!(rt; answer.walk.is_none() && answer.visits == LAST);
 }
 
-/// The microseconds that it takes to look whether there is one.
-fn searches(
-    rt: &(impl Abort + Clock),
-    alloc: Global,
-    checked: &Checked<'_>,
-    from: Position,
-    to: Position,
-) -> u128 {
-    let mut searcher = checked.searcher(alloc);
-    let start = Instant::now(rt).expect(rt, "a clock");
-    for _ in 0..TIMES {
-        assert!(rt; !searcher.is_ancestor(from, to).expect(rt, "memory"));
-    }
-    start.elapsed(rt).expect(rt, "a clock").as_micros()
+/// Asks whether there is one.
+fn search(rt: &impl Abort, searcher: &mut Searcher<'_>) {
+    assert!(rt; LAST < searcher.graph().num_commits());
+    let found = searcher.is_ancestor(Position(LAST), Position(1));
+    assert!(rt; !found.expect(rt, "memory"));
 }
 
-// A walk that reads 64 commits ahead at each, and uses one, takes thirty times as long.
+// A walk that reads 64 commits ahead at each, and uses one, takes forty times as long.
 #[test]
 fn a_walk_takes_about_as_long_as_a_search(rt: HostRuntime) {
     let graph = wide(&rt, rt.alloc());
     let checked = right(&rt, rt.alloc(), &graph);
-    let from = checked.position(ROOTS + PARENTS).expect(&rt, "a commit");
-    let to = checked.position(1).expect(&rt, "a commit");
-    let walks = walks(&rt, rt.alloc(), &checked, from, to);
-    assert!(&rt; walks / 8 <= searches(&rt, rt.alloc(), &checked, from, to));
+    let mut searcher = checked.searcher(rt.alloc());
+    let start = Instant::now(&rt).expect(&rt, "a clock");
+    for _ in 0..TIMES {
+        walk(&rt, &mut searcher);
+    }
+    let walks = start.elapsed(&rt).expect(&rt, "a clock").as_micros();
+    let start = Instant::now(&rt).expect(&rt, "a clock");
+    for _ in 0..TIMES {
+        search(&rt, &mut searcher);
+    }
+    let searches = start.elapsed(&rt).expect(&rt, "a clock").as_micros();
+    assert!(&rt; walks / 8 <= searches);
 }
