@@ -1,5 +1,9 @@
 //! Opening a graph and checking it.
 
+ghost use Rattle.std.specs.Prelude.{IfOk};
+ghost use Rattle.gix_commitgraph.specs.OpenAlways.{IsFromPath};
+ghost use Rattle.gix_commitgraph.specs.Sound.{Sound};
+
 use crate::error::QueryError;
 use gix_commitgraph::Graph;
 use graph_history::CheckedGraph;
@@ -14,7 +18,10 @@ pub fn open_checked<R: Files>(
     rt: &R,
     alloc: Global,
     path: &str,
-) -> Result<CheckedGraph, QueryError> {
+) -> Result<CheckedGraph, QueryError>
+    ensures from { IfOk result (λ graph. IsFromPath path.now graph.layers) }
+    ensures right { IfOk result (λ graph. Sound graph.layers) }
+{
     let graph = Graph::at(rt, alloc, path)?;
     Ok(CheckedGraph::new(alloc, graph)?)
 }

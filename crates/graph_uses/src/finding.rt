@@ -1,11 +1,13 @@
 //! Finding a commit by its id.
 
-ghost use Rattle.std.specs.Prelude.{◌≡◌, ◌<◌, ℕ, List, IfErr, IfOk, IfSome, Some, slice_get};
+ghost use Rattle.std.specs.Prelude.{◌≡◌, ◌<◌, ℕ, List, IfErr, IfOk, IfSome, Some, option_map};
+ghost use Rattle.std.specs.Prelude.{option_and_then, slice_get};
 ghost use Rattle.gix_hash_core.specs.Hexadecimal.{SpellsId, SpellsNone};
 ghost use Rattle.gix_hash_core.specs.Oid.{oid_bytes};
 ghost use Rattle.gix_commitgraph.specs.Graph.{graph_ids, total};
 ghost use Rattle.gix_commitgraph.specs.GraphLookup.{position_number};
 ghost use Rattle.gix_commitgraph.specs.Lookup.{scan};
+ghost use Rattle.graph_history.specs.RightGraph.{record_in};
 
 use gix_commitgraph::Position;
 use gix_hash_core::{IdError, ObjectId, oid};
@@ -40,7 +42,13 @@ pub fn only_position(graph: &Checked<'_>, id: oid<'_>) -> Option<Position>
 
 /// When the commit with an id was made, in seconds since 1970-01-01 00:00:00 UTC; or `None` where
 /// the graph has no such commit.
-pub fn time_of(graph: &Checked<'_>, id: oid<'_>) -> Option<u64> {
-    let pos = graph.find(id)?;
-    Some(graph.committer_time(pos))
+pub fn time_of(graph: &Checked<'_>, id: oid<'_>) -> Option<u64>
+    ensures { result ≡ option_and_then
+        (λ p. option_map (λ r. r.time) (record_in graph.now.layers p))
+        (scan (graph_ids graph.now.layers) (oid_bytes id.entry)) }
+{
+    match graph.find(id) {
+        Some(pos) => Some(graph.committer_time(pos)),
+        None => None,
+    }
 }
