@@ -259,6 +259,7 @@ def refused_and_shared(name, compiler, archives, scratch, graphs):
             title = f"{name}, {kind}, {len(layers)} layers"
             expect(f"{title}: each allocation is refused in turn", calls.pop("reading", None) == "0", done)
             expect(f"{title}: each call that allocates is refused", calls and all(int(n) > 0 for n in calls.values()), done)
+            expect(f"{title}: many pairs are searched with one memory", calls.get("one_pair") == calls.get("three_pairs"), done)
     graph, _ = graphs["sha1"]
     for tool, flags, words in (("", ["-fsanitize=thread"], []), ("valgrind", [], HELGRIND)):
         program = scratch / compiler / "threads"

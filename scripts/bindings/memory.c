@@ -109,6 +109,16 @@ static outcome ancestors(void) {
     return outcome_of(many.code, 3);
 }
 
+/* The same pair so many times in one call: after the first time the search has its memory. */
+static outcome same_pair(uint64_t times) {
+    cg_pair pairs[] = { { from, to }, { from, to }, { from, to } };
+    uint8_t bits[3];
+    return outcome_of(cg_are_ancestors(graph, pairs, times, bits, times).code, 3);
+}
+
+static outcome one_pair(void) { return same_pair(1); }
+static outcome three_pairs(void) { return same_pair(3); }
+
 static outcome dates(void) {
     static uint64_t found[ROOM];
     memset(found, OTHER, sizeof found);
@@ -183,6 +193,8 @@ int main(int argc, char **argv) {
     printf("walk %ld\n", refusals("walk", walk));
     printf("ancestor %ld\n", refusals("ancestor", ancestor));
     printf("ancestors %ld\n", refusals("ancestors", ancestors));
+    printf("one_pair %ld\n", refusals("one_pair", one_pair));
+    printf("three_pairs %ld\n", refusals("three_pairs", three_pairs));
     printf("dates %ld\n", refusals("dates", dates));
     printf("probe %ld\n", refusals("probe", probe));
     printf("bases %ld\n", refusals("bases", bases));
