@@ -14,11 +14,7 @@ use std::rt::Files;
 ///
 /// The error is `Open` where no graph was opened, and `Check` where the check refused the graph. A
 /// failed allocation is one of these two, with `OutOfMemory` inside.
-pub fn open_checked<R: Files>(
-    rt: &R,
-    alloc: Global,
-    path: &str,
-) -> Result<CheckedGraph, QueryError>
+pub fn open_checked<R: Files>(rt: &R, alloc: Global, path: &str) -> Result<CheckedGraph, QueryError>
     ensures from { IfOk result (λ graph. IsFromPath path.now graph.layers) }
     ensures right { IfOk result (λ graph. Sound graph.layers) }
 {

@@ -17,8 +17,8 @@ loop-parent-preserved c =
     let pushed : c.push.new.self.items ≡ c.loop-parent.ids.items ++ oid_bytes c.id.result ∷ [] = search rules in
     record {
       within = All-tail (λ (q : Position). q.0 < total layers) c.in-Some.parent c.next.new.self
-        (rw steps at c.loop-parent.invariant.within);
+          (rw steps at c.loop-parent.invariant.within);
       exact = rw (steps, id) at c.loop-parent.invariant.exact
-        ∙ sym (append_assoc c.loop-parent.ids.items (oid_bytes c.id.result ∷ []) (ids_at layers rest))
-        ∙ ap (λ (ids : List (List ℕ)). ids ++ ids_at layers rest) (sym pushed);
+          ∙ sym (append_assoc c.loop-parent.ids.items (oid_bytes c.id.result ∷ []) (ids_at layers rest))
+          ∙ ap (λ (ids : List (List ℕ)). ids ++ ids_at layers rest) (sym pushed);
     }

@@ -10,5 +10,5 @@ abbrev pub invariant-loop-parent : goal.invariant-loop-parent
 invariant-loop-parent l = record {
   within : All (λ q. q.0 < total l.graph.layers) l.parent-iterator;
   exact : ids_at l.graph.layers (parents_at (history_of l.graph.layers) l.fn.pos.0)
-    ≡ l.ids.items ++ ids_at l.graph.layers (map (λ q. q.0) l.parent-iterator);
+      ≡ l.ids.items ++ ids_at l.graph.layers (map (λ q. q.0) l.parent-iterator);
 }
