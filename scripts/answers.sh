@@ -3,6 +3,7 @@
 
 newline='
 '
+filter='' holds='' beside='' where='' advice='' cure=''
 
 # Says one line on standard error.
 say() {
@@ -29,7 +30,7 @@ find_program() {
 }
 
 # Runs a program with some words, and passes on what it writes, through the command `filter` where that is not
-# empty. Sets `status` to its status, `line` to the first line that it wrote, and `said` to what it wrote on
+# empty, but for a refusal where `holds` is `yes`. Sets `status` to its status, `line` to the first line that it wrote, and `said` to what it wrote on
 # standard error. Where the answer could not be written, or a signal ended the program, `line` and `said` tell of
 # that, and `status` is 2 or that of the signal; `passed` is more than 128 where nobody reads the answer any more.
 #
@@ -54,13 +55,14 @@ ask() {
 }
 
 # Copies standard input to standard output, through `filter`. Its first line goes to 4 before that, so that nothing
-# is written for a command that was ended meanwhile.
+# is written for a command that was ended meanwhile. Where `holds` is `yes`, a line of a refusal is left to the caller.
 pass_on() {
     if ! IFS= read -r line; then
         printf %s "$line"
         return
     fi
     printf 'line %s\n' "$line" >&4 || return
+    case $holds,$line in yes,'refused '*) return ;; esac
     if [ -z "$filter" ]; then
         printf '%s\n' "$line" && cat
     else
@@ -83,14 +85,17 @@ take_apart() {
 }
 
 # After `ask`, says on standard error what the program said there, and, unless the status is 0, what `line` means
-# and what to do, by the tables of docs/REFUSALS.md: report COMMAND PATH [ID..], as the program was asked. `folder`
-# is the info folder of the repository, or empty. `beside` is the line of another row, which has to be said too, or empty.
+# and what to do, by the tables of docs/REFUSALS.md: report COMMAND PATH [ID..], as the program was asked. `beside` is the
+# line of another row, which has to be said too, or empty. What is known of a repository stands in `where`, a sentence on
+# the file of which the line speaks, `advice`, what to do in place of what the table has, and `cure`, the commands by
+# which a commit-graph is written anew; each is empty where nothing is known.
 report() {
     printf %s "$said" >&2
     [ "$status,$beside" != 0, ] || return 0
     command=$1 path=$2
     shift 2
-    NAME=$name LINE=$line COMMAND=$command IDS=$* COMMIT=$(commit_at "$path") FOLDER=$folder BESIDE=$beside LC_ALL=C \
+    NAME=$name LINE=$line COMMAND=$command IDS=$* COMMIT=$(commit_at "$path") BESIDE=$beside \
+        WHERE=$where ADVICE=$advice CURE=$cure LC_ALL=C \
         awk -f "$top/scripts/explain.awk" "$top/docs/REFUSALS.md" >&2
 }
 

@@ -1,8 +1,9 @@
 # Says in sentences what a line of an answer means and what to do, by the tables of docs/REFUSALS.md, which it
 # reads. The surroundings give LINE, COMMAND, the word by which the program was asked, NAME, the name to speak
 # by, and, each of them empty where it is not known, IDS, the ids that were asked about, COMMIT, the id of the
-# commit at the position that the line names, FOLDER, the info folder of the repository, and BESIDE, the line of another
-# row, which is said too: what to do is then as that row has it.
+# commit at the position that the line names, BESIDE, the line of another row, which is said too: what to do is then as
+# that row has it; WHERE, a sentence on the file of which the line speaks; ADVICE, what to do in the place of what the
+# row has; and CURE, the commands by which the commit-graph is written anew, a line for each.
 #
 # A row is that of the line if a text in backquotes in its first cell has the line's words, where a capital
 # letter stands for any number, and the line may have more words at its end. Of several such rows the one with
@@ -39,11 +40,21 @@ END {
         say(happened[beside])
         cure[line] = cure[beside]
     }
-    anew = in_folder(happened["write it anew"])
-    if (cure[line] == "write it anew") say("what to do: " anew)
+    if (ENVIRON["WHERE"] != "") say(ENVIRON["WHERE"])
+    tell_cure(ENVIRON["ADVICE"] != "" ? ENVIRON["ADVICE"] : with_values(cure[line]))
+}
+
+# Says what to do, and how a commit-graph is written anew where that is a part of it.
+function tell_cure(text,    is_anew, anew) {
+    is_anew = text ~ /write it anew/ || ENVIRON["ADVICE"] != ""
+    anew = happened["write it anew"]
+    if (is_anew && ENVIRON["CURE"] != "") {
+        say("what to do: " text ":")
+        printf "%s\n", ENVIRON["CURE"]
+    } else if (text == "write it anew") say("what to do: " anew)
     else {
-        if (cure[line] != "") say("what to do: " with_values(cure[line]))
-        if (cure[line] ~ /write it anew/) say("to write it anew, " anew)
+        if (text != "") say("what to do: " text)
+        if (text ~ /write it anew/) say("to write it anew, " anew)
     }
 }
 
@@ -110,17 +121,6 @@ function with_values(text,    letter, start, whole) {
         text = whole text
     }
     return text
-}
-
-# A sentence with the folder of the repository in the place of the one that it mostly is.
-function in_folder(text,    usual, at, whole) {
-    usual = ".git/objects/info"
-    if (ENVIRON["FOLDER"] == "") return text
-    while ((at = index(text, usual)) > 0) {
-        whole = whole substr(text, 1, at - 1) ENVIRON["FOLDER"]
-        text = substr(text, at + length(usual))
-    }
-    return whole text
 }
 
 function nth_id(number,    ids) {

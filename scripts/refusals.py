@@ -2,7 +2,7 @@
 
 import os
 import re
-from typing import List, NamedTuple, Optional
+from typing import List, NamedTuple, Optional, Sequence
 
 TOP = os.path.dirname(os.path.dirname(os.path.abspath(__file__)))
 ANEW = "write it anew"
@@ -18,6 +18,14 @@ class Row(NamedTuple):
     command: Optional[str]
     happened: str
     to_do: str
+
+
+class Known(NamedTuple):
+    """What is known of a repository whose commit-graph was refused, as scripts/answers.sh has it."""
+
+    where: str = ""
+    advice: str = ""
+    cure: Sequence[str] = ()
 
 
 def read_rows() -> List[Row]:
@@ -64,13 +72,15 @@ def filled(sentence, numbers):
     return LETTER.sub(lambda match: numbers.get(match.group(), match.group()), sentence).replace("`", "'")
 
 
-def sentences(rows, line, command=None, folder=".git/objects/info", beside=None):
-    """What has to be said of a line, in a repository with such an info folder, beside the ids that it speaks of.
+def sentences(rows, line, command=None, known=None, beside=None):
+    """What has to be said of a line, beside the ids that it speaks of: sentences, and commands after four blanks.
 
-    The line of another row may have to be said too; what to do is then as that row has it. The first one may have no row.
+    What is known of the repository may be given. The line of another row may have to be said too; what to do is then as that
+    row has it. The first one may have no row.
     """
     row = row_of(rows, line, command)
     said, numbers, detail = [], {}, detail_of(line)
+    known = known or Known()
     if row:
         happened, numbers = row.happened, values(row.text, line)
         if detail:
@@ -79,8 +89,19 @@ def sentences(rows, line, command=None, folder=".git/objects/info", beside=None)
     if beside:
         row = row_of(rows, beside)
         said += [beside, filled(row.happened, {})]
-    anew = filled(row_of(rows, ANEW).happened.replace(".git/objects/info", folder), {})
-    if row.to_do == ANEW:
+    said += [known.where] if known.where else []
+    if not row:
+        return said
+    anew = filled(row_of(rows, ANEW).happened, {})
+    to_do = known.advice or filled(row.to_do, numbers)
+    if known.cure and (known.advice or ANEW in to_do):
+        return said + ["what to do: %s:" % to_do, *("    " + command for command in known.cure)]
+    if to_do == ANEW:
         return said + ["what to do: " + anew]
-    said += ["what to do: " + filled(row.to_do, numbers)] if row.to_do else []
-    return said + (["to write it anew, " + anew] if ANEW in row.to_do else [])
+    said += ["what to do: " + to_do] if to_do else []
+    return said + (["to write it anew, " + anew] if ANEW in to_do else [])
+
+
+def written(name, said):
+    """What stands on standard error where a command of some name says this."""
+    return "".join("%s\n" % text if text.startswith("    ") else "%s: %s\n" % (name, text) for text in said)

@@ -7,11 +7,12 @@ from typing import NamedTuple
 
 TOP = os.path.dirname(os.path.dirname(os.path.dirname(os.path.abspath(__file__))))
 TOOLS = ("sh", "awk", "cat", "chmod", "cp", "dirname", "find", "git", "id", "ln", "mkdir", "mktemp", "readlink", "rm", "rmdir")
-MORE_TOOLS = ("sed", "sleep", "touch", "tr")
+MORE_TOOLS = ("grep", "head", "od", "sed", "sleep", "tail", "touch", "tr", "wc")
 PROGRAMS = ("graphtool", "historytool")
 COPIED = (
     *("git-cgraph", "graphtool", "historytool", "VERSION", "docs/MANUAL.md", "docs/REFUSALS.md"),
-    *("scripts/answers.sh", "scripts/usage.sh", "scripts/commands", "scripts/explain.awk", "scripts/manual.awk"),
+    *("scripts/answers.sh", "scripts/usage.sh", "scripts/repository.sh", "scripts/cures.sh", "scripts/commands"),
+    *("scripts/explain.awk", "scripts/manual.awk", "scripts/alternates.awk"),
     "scripts/git-cgraph.bash",
     *("scripts/install", "scripts/program", "scripts/library", "scripts/package", "bindings/c/commitgraph.h"),
     *("crates/graphtool/src/main.rt", "crates/historytool/src/main.rt", "LICENSE-MIT", "LICENSE-APACHE"),

@@ -18,7 +18,8 @@ INSTALLED = {
     *("lib/git-cgraph/programs/graphtool", "lib/git-cgraph/programs/historytool"),
     *("lib/git-cgraph/docs/MANUAL.md", "lib/git-cgraph/docs/REFUSALS.md"),
     *("lib/git-cgraph/scripts/answers.sh", "lib/git-cgraph/scripts/usage.sh", "lib/git-cgraph/scripts/commands"),
-    *("lib/git-cgraph/scripts/explain.awk", "lib/git-cgraph/scripts/manual.awk"),
+    *("lib/git-cgraph/scripts/explain.awk", "lib/git-cgraph/scripts/manual.awk", "lib/git-cgraph/scripts/alternates.awk"),
+    *("lib/git-cgraph/scripts/repository.sh", "lib/git-cgraph/scripts/cures.sh"),
     *("include/commitgraph.h", "lib/libcommitgraph.a"),
     *("share/doc/git-cgraph/LICENSE-MIT", "share/doc/git-cgraph/LICENSE-APACHE"),
 }

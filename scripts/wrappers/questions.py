@@ -20,7 +20,7 @@ ODD_REF = "odd';$(id)\"&|<>`\u00e9!#%"
 ECHO = "printf '<%s>' \"$@\"\npwd -P >&2\n"
 """A program that writes its words, and says in which folder it is."""
 
-USAGE = "usage: git cgraph [-C DIR] verify | check | distinct | list\n   or: git cgraph [-C DIR] find REV\n"
+USAGE = "usage: git cgraph [<options>] verify | check | distinct | list\n   or: git cgraph [<options>] find <commit>\n"
 REVISIONS = ("HEAD", "HEAD~1", "HEAD")
 WORDS = {
     command.word: (command.program, REVISIONS[: command.least() + command.takes_more()])
@@ -44,12 +44,15 @@ WRONG = {
     "'verify' has no option '-v'": ["verify", "-v"],
 }
 STATUSES = [
-    *(("verify", "refused verify 1", 1, 1), ("check", "refused open 2", 1, 1), ("distinct", "refused open 1", 1, 1)),
-    *(("find", "refused open 1", 1, 128), ("find", "none", 1, 1), ("is-ancestor", "no", 1, 1), ("walk", "none", 1, 1)),
-    *(("is-ancestor", "yes", 0, 0), ("is-ancestor", "unknown 1", 1, 128), ("merge-base", "none", 1, 1)),
+    *(("verify", "refused verify 1", 1, 1), ("check", "refused dates 6", 1, 128), ("distinct", "refused open 7", 1, 128)),
+    *(("find", "none", 1, 1), ("is-ancestor", "no", 1, 1), ("walk", "none", 1, 1), ("merge-base", "none", 1, 1)),
+    *(("verify", "refused verify 10", 1, 128), ("check", "refused filters 10", 1, 128), ("check", "refused filters 4 layer 0", 1, 1)),
+    *(("is-ancestor", "yes", 0, 0), ("is-ancestor", "unknown 1", 1, 128), ("distinct", "refused verify 1", 1, 1)),
     *(("merge-base", "refused walk", 1, 128), ("walk", "refused verify 10", 1, 128), ("find", "refused id 1", 2, 128)),
 ]
 """A word, the line and the status of its program, and the status of `git cgraph`."""
+
+NEWER = "if the commit is newer than the commit-graph, write that again"
 
 
 def check_all(results):
@@ -106,7 +109,12 @@ def ask(clone, words, folder, shell=(), **streams):
 
 def said(sentences):
     """What stands on standard error where these sentences are said."""
-    return "".join("git cgraph: %s\n" % sentence for sentence in sentences)
+    return refusals.written("git cgraph", sentences)
+
+
+def anew(folder, name, *options):
+    """The commands that write the commit-graph of an info folder anew, where it has this name."""
+    return ["rm -rf '%s/%s'" % (folder.replace("'", "'\\''"), name), " ".join(["git commit-graph write --reachable", *options])]
 
 
 def check_words(results, clone):
@@ -120,11 +128,12 @@ def check_words(results, clone):
 def check_manual(results):
     """The synopsis of the manual has the commands of the table, with as many revisions, and each has an item."""
     manual = read("docs", "MANUAL.md")
-    synopsis = re.findall(r"^    git cgraph \[-C DIR\] (.*)$", manual, re.MULTILINE)
+    synopsis = re.findall(r"^    git cgraph \[<options>\] (.*)$", manual, re.MULTILINE)
     said = {}
     for line in synopsis:
         words = re.sub(r"\[.*?\]", "", line).replace("|", " ").split()
-        said.update({word: words.count("REV") + words.count("REV..") for word in words if "REV" not in word})
+        commits = sum(word.startswith("<commit>") for word in words)
+        said.update({word: commits for word in words if not word.startswith("<")})
     listed = {command.word: command.least() for command in commands() if command.by_git}
     results.check("the synopsis of the manual is that of the table", None if said == listed else "it has %s" % said)
     items = {word.split()[0] for word in re.findall(r"^- `([^`]*)`: ", manual, re.MULTILINE)}
@@ -180,7 +189,10 @@ def check_statuses(results, clone, repository):
         program, revisions = WORDS[word]
         clone.put_program(program, "echo '%s'\nexit %d\n" % (line, status))
         answer = ask(clone, [word, *revisions], repository)
-        sentences = refusals.sentences(rows, line, word, folder) if expected else []
+        cure = anew(folder, "commit-graph")
+        where = "the file is '%s/commit-graph'" % folder if "layer" in line else ""
+        known = refusals.Known("", NEWER, cure[1:]) if line == "unknown 1" else refusals.Known(where, "", cure)
+        sentences = refusals.sentences(rows, line, word, known) if line not in ("yes", "no", "none") else []
         if line == "unknown 1":
             sentences.insert(0, "id 1 is " + git(clone, repository, "rev-parse", revisions[0]))
         results.check("git cgraph %s, answered %r" % (word, line), exactly(answer, expected, line + "\n", said(sentences)))
@@ -218,8 +230,10 @@ def check_repeated(results, clone, repository):
         clone.put_program("historytool", "echo '%s'\nexit %d\n" % (line, status))
         clone.put_program("graphtool", '[ "$*" = "distinct info" ] || exit 9\n' + distinct)
         answer = ask(clone, [word, *WORDS[word][1]], repository)
-        beside = differs if is_said else None
-        err = said(refusals.sentences(rows, line, word, folder, beside)) if status or is_said else ""
+        known = refusals.Known("", "", anew(folder, "commit-graphs", "--split"))
+        err = said(refusals.sentences(rows, "", word, known, differs)) if is_said else ""
+        if line.startswith("refused"):
+            err = said(refusals.sentences(rows, line, word))
         out = line.replace("base 3 ", "") + "\n"
         wanted = (128 if line.startswith("refused") else status, out, err)
         title = "git cgraph %s, answered %r of the chain %r, where distinct runs %r" % (word, line, layers, distinct)

@@ -1,0 +1,201 @@
+# What `git cgraph` asks of a repository: its object folders, where its commit-graph is, and what Git makes of it. It reads
+# this file with `.`, after answers.sh. This defines functions, and runs nothing.
+#
+# `objects` is the object folder of the repository, `home` the one in which the commit-graph was found, `folder` the folder
+# `info` there, and `kind` is `file`, `chain` or `none`.
+
+# A text as one word of a shell.
+quoted() {
+    case $1 in
+    *"'"*) printf "'%s'" "$(printf '%s\n' "$1" | sed "s/'/'\\\\''/g")" ;;
+    *) printf "'%s'" "$1" ;;
+    esac
+}
+
+# The path of a folder from the root on.
+from_root() {
+    (enter "$1" && pwd -P)
+}
+
+# Sets what one call of Git says of the repository: `objects`, `format`, the kind of its ids, `is_shallow`, and `common`, the
+# folder that its worktrees share. A path may have line ends of its own.
+look_at_repository() {
+    told=$(git rev-parse --git-path objects/info --show-object-format --is-shallow-repository --git-common-dir) || exit 128
+    info=${told%%"${newline}sha"*}
+    rest=${told#"$info$newline"}
+    format=${rest%%"$newline"*}
+    rest=${rest#*"$newline"}
+    is_shallow=${rest%%"$newline"*}
+    common=$(from_root "${rest#*"$newline"}") || exit 128
+    case $info in
+    info) objects=$(pwd -P) ;;
+    *) objects=$(from_root "${info%/info}") || exit 128 ;;
+    esac
+}
+
+# Sets `folders` to the object folders in which Git looks for a commit-graph, in its order, each as a word of a shell: the
+# one that is named, or that of the repository, and then those of which it borrows objects.
+look_for_folders() {
+    folders=$(quoted "${named:-$objects}")
+    [ -n "${GIT_ALTERNATE_OBJECT_DIRECTORIES-}" ] || [ -s "$objects/info/alternates" ] || return 0
+    [ -z "$named" ] || folders="$folders $(quoted "$objects")"
+    folders=$folders$(git count-objects -v 2>/dev/null | LC_ALL=C awk -f "$top/scripts/alternates.awk")
+}
+
+is_there() {
+    [ -e "$1" ] || [ -L "$1" ]
+}
+
+# Sets `home`, `folder` and `kind` to the first object folder that has a commit-graph, and to the first of all where none
+# has one. Where an object folder was named, that one counts.
+find_graph() {
+    eval "set -- $folders"
+    [ -z "$named" ] || set -- "$1"
+    for home in "$@"; do
+        folder=$home/info
+        if is_there "$folder/commit-graph"; then
+            kind=file
+            return
+        elif is_there "$folder/commit-graphs/commit-graph-chain"; then
+            kind=chain
+            return
+        fi
+    done
+    kind=none home=$1 folder=$1/info
+}
+
+# The path of the chain file.
+chain_file() {
+    printf '%s\n' "$folder/commit-graphs/commit-graph-chain"
+}
+
+# The lines of the chain file as the programs read them, the last one with an end too: a CR before an end is left out.
+chain_lines() {
+    { LC_ALL=C sed 's/'"$return"'$//' "$(chain_file)" 2>/dev/null && echo; } | sed '${/^$/d;}'
+}
+
+# The path of the layer that a line of the chain names, in the first object folder that has it.
+layer_path() {
+    eval "set -- $(quoted "$1") $folders"
+    wanted=info/commit-graphs/graph-$1.graph
+    shift
+    for place in "$@"; do
+        if is_there "$place/$wanted"; then
+            printf '%s\n' "$place/$wanted"
+            return
+        fi
+    done
+    printf '%s\n' "$folder/${wanted#info/}"
+}
+
+# The path of the file of a layer, which is known by its number.
+layer_file() {
+    if [ "$kind" = file ]; then
+        printf '%s\n' "$folder/commit-graph"
+    else
+        layer_path "$(chain_lines | sed -n "$(($1 + 1))p")"
+    fi
+}
+
+# What the commit-graph is at this moment: the end of a file, which is its checksum, or the lines of a chain and the layers
+# that are there.
+identity() {
+    echo "$kind $home"
+    case $kind in
+    file) tail -c 32 "$folder/commit-graph" 2>/dev/null | od -An -tx1 ;;
+    chain)
+        chain_lines | while IFS= read -r layer; do
+            if [ -e "$(layer_path "$layer")" ]; then echo "there $layer"; else echo "gone $layer"; fi
+        done
+        ;;
+    esac
+}
+
+# Whether some layer of a chain stands in another object folder than the chain.
+is_scattered() {
+    [ "$kind" = chain ] && chain_lines | {
+        while IFS= read -r layer; do
+            case $(layer_path "$layer") in "$folder"/*) ;; *) exit 0 ;; esac
+        done
+        exit 1
+    }
+}
+
+# Makes a folder of links to the layers of a chain, as the programs look for them beside the chain file.
+gather_layers() {
+    if [ -z "$scratch" ]; then
+        scratch=$(mktemp -d) || exit 128
+        trap 'rm -rf "$scratch"' EXIT
+        for signal in HUP INT TERM; do trap "rm -rf \"\$scratch\"; trap - $signal EXIT; kill -$signal \$\$" $signal; done
+    fi
+    rm -rf "${scratch:?}/chain"
+    mkdir "$scratch/chain"
+    cp "$(chain_file)" "$scratch/chain/commit-graph-chain"
+    chain_lines | while IFS= read -r layer; do
+        ! [ -e "$(layer_path "$layer")" ] || ln -s "$(layer_path "$layer")" "$scratch/chain/graph-$layer.graph"
+    done
+}
+
+# Sets `place` to the folder in which a program finds the commit-graph by a path of plain letters, since it takes no other
+# bytes than those of text, and `graph` to that path. A file `commit-graph` is named by itself where it is checked or has
+# no chain beside it: of the folder the programs would say what the chain is.
+place_graph() {
+    if is_scattered; then
+        gather_layers
+        place=$scratch graph=chain
+        return
+    fi
+    place=$home graph=info
+    [ "$kind" = file ] || return 0
+    case $word in
+    verify | check | distinct) graph=info/commit-graph ;;
+    *) is_there "$(chain_file)" || graph=info/commit-graph ;;
+    esac
+}
+
+# Runs a program in that folder.
+in_place() {
+    (enter "$place" && exec "$@")
+}
+
+# The first bytes of a file, as numbers.
+first_bytes() {
+    head -c "$2" "$1" 2>/dev/null | od -An -tu1 -v | tr -s ' \n' ' '
+}
+
+# The kind of hash that a layer's header names, or nothing where it is no header of a layer.
+kind_of_hash() {
+    case $(first_bytes "$1" 6) in
+    ' 67 71 80 72 1 1 ' | ' 67 71 80 72 1 1') echo sha1 ;;
+    ' 67 71 80 72 1 2 ' | ' 67 71 80 72 1 2') echo sha256 ;;
+    esac
+}
+
+# The number of the first line of the chain file that ends with CR and LF, from 0 on, or nothing. Git takes CR for a part of
+# the name of a layer.
+line_with_cr() {
+    LC_ALL=C awk '/\r$/ { print NR - 1; exit }' "$(chain_file)" 2>/dev/null
+}
+
+# Whether commits have replacements, which Git uses and the commit-graph does not have.
+has_replacements() {
+    [ -n "$(git for-each-ref --count=1 refs/replace 2>/dev/null)" ]
+}
+
+has_grafts() {
+    [ -s "$common/info/grafts" ]
+}
+
+has_commits() {
+    [ -n "$(git rev-list -n 1 --all 2>/dev/null)" ]
+}
+
+# Whether the commit-graph has changed-path filters, by the table of chunks of its files.
+has_filters() {
+    for number in 0 1 2 3 4 5 6 7; do
+        file=$(layer_file $number)
+        ! head -c 256 "$file" 2>/dev/null | LC_ALL=C grep -aq BDAT || return 0
+        [ "$kind" = chain ] || return 1
+    done
+    return 1
+}
