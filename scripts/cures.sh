@@ -180,6 +180,7 @@ diagnose() {
 diagnose_opening() {
     if [ "$kind" = none ]; then
         is_absent=yes line='there is no commit-graph'
+        said="$name: $line$newline"
         is_hindered || { advice='have Git write one' && cure=$(writes); }
         return
     fi
