@@ -18,9 +18,19 @@ from_root() {
 }
 
 # Sets what one call of Git says of the repository: `objects`, `format`, the kind of its ids, `is_shallow`, and `common`, the
-# folder that its worktrees share. A path may have line ends of its own.
+# folder that its worktrees share. A path may have line ends of its own. Revisions are named in the same call, and `ids`
+# has their ids then; where Git does not answer with just one id for each, `ids` stays empty.
 look_at_repository() {
-    told=$(git rev-parse --git-path objects/info --show-object-format --is-shallow-repository --git-common-dir) || exit 128
+    ids='' asked=''
+    for revision in "$@"; do
+        case $revision in
+        :/*) asked="$asked $(quoted "$revision")" ;;
+        *) asked="$asked $(quoted "$revision^{commit}")" ;;
+        esac
+    done
+    if [ $# -eq 0 ] || ! told=$(eval "look_up_by_git $asked" 2>/dev/null) || ! take_ids $#; then
+        told=$(look_up_by_git) || exit 128
+    fi
     info=${told%%"${newline}sha"*}
     rest=${told#"$info$newline"}
     format=${rest%%"$newline"*}
@@ -30,6 +40,27 @@ look_at_repository() {
     case $info in
     info) objects=$(pwd -P) ;;
     *) objects=$(from_root "${info%/info}") || exit 128 ;;
+    esac
+}
+
+# Where the repository is, and the ids of revisions, by the commits themselves: the commit-graph may be wrong, and it knows
+# no replacements.
+look_up_by_git() {
+    git --no-replace-objects -c core.commitGraph=false \
+        rev-parse --git-path objects/info --show-object-format --is-shallow-repository --git-common-dir "$@"
+}
+
+# Takes so many ids from the end of `told` to `ids`. The answer is false where there are other lines.
+take_ids() {
+    left=$1
+    while [ "$left" -gt 0 ]; do
+        id=${told##*"$newline"}
+        case $id in *[!0-9a-f]* | '') ids='' && return 1 ;; esac
+        ids=" $id$ids" told=${told%"$newline"*} left=$((left - 1))
+    done
+    case ${#id},${told##*"$newline"} in
+    40,*[!0-9a-f]* | 64,*[!0-9a-f]*) ;;
+    *) ids='' && return 1 ;;
     esac
 }
 
@@ -97,18 +128,11 @@ layer_file() {
     fi
 }
 
-# What the commit-graph is at this moment: the end of a file, which is its checksum, or the lines of a chain and the layers
-# that are there.
+# Which commit-graph there is at this moment: the object folder, and of a chain its lines. A file is read as it was when it
+# was opened, whatever takes its place.
 identity() {
     echo "$kind $home"
-    case $kind in
-    file) tail -c 32 "$folder/commit-graph" 2>/dev/null | od -An -tx1 ;;
-    chain)
-        chain_lines | while IFS= read -r layer; do
-            if [ -e "$(layer_path "$layer")" ]; then echo "there $layer"; else echo "gone $layer"; fi
-        done
-        ;;
-    esac
+    [ "$kind" != chain ] || cat "$(chain_file)" 2>/dev/null
 }
 
 # Whether some layer of a chain stands in another object folder than the chain.
@@ -158,16 +182,12 @@ in_place() {
     (enter "$place" && exec "$@")
 }
 
-# The first bytes of a file, as numbers.
-first_bytes() {
-    head -c "$2" "$1" 2>/dev/null | od -An -tu1 -v | tr -s ' \n' ' '
-}
-
 # The kind of hash that a layer's header names, or nothing where it is no header of a layer.
 kind_of_hash() {
-    case $(first_bytes "$1" 6) in
-    ' 67 71 80 72 1 1 ' | ' 67 71 80 72 1 1') echo sha1 ;;
-    ' 67 71 80 72 1 2 ' | ' 67 71 80 72 1 2') echo sha256 ;;
+    # The bytes are CGPH, the version 1, and the kind.
+    case $(od -An -tx1 -N6 "$1" 2>/dev/null) in
+    *43*47*50*48*01*01*) echo sha1 ;;
+    *43*47*50*48*01*02*) echo sha256 ;;
     esac
 }
 
@@ -177,8 +197,10 @@ line_with_cr() {
     LC_ALL=C awk '/\r$/ { print NR - 1; exit }' "$(chain_file)" 2>/dev/null
 }
 
-# Whether commits have replacements, which Git uses and the commit-graph does not have.
+# Whether commits have replacements, which Git uses and the commit-graph does not have. Git is asked only where some may be.
 has_replacements() {
+    [ -d "$common/refs/replace" ] || [ -d "$common/reftable" ] || grep -q refs/replace/ "$common/packed-refs" 2>/dev/null ||
+        return 1
     [ -n "$(git for-each-ref --count=1 refs/replace 2>/dev/null)" ]
 }
 

@@ -173,11 +173,12 @@ def check_quiet(results, own, _other):
 
 
 def check_written(results, own, _other):
-    """A commit-graph that is another one after its refusal is asked once more, three times in all."""
-    file = own.put("commit-graph", HEADS["sha1"])
+    """A chain that is another one after its refusal is asked once more, three times in all."""
+    chain = own.put_chain(NAMES[:1])
+    own.put_layer(NAMES[0])
     count = 'printf x >>"$PWD/tries"\n'
-    own.clone.put_program("graphtool", count + "echo 'refused verify 1' && date +%%N >>'%s'\nexit 1\n" % os.fsdecode(file))
-    answer = own.ask("verify", PATH=own.clone.surroundings()["PATH"] + ":" + os.environ["PATH"])
+    own.clone.put_program("graphtool", count + "echo 'refused verify 1'\necho %s >>'%s'\nexit 1\n" % (NAMES[0], os.fsdecode(chain)))
+    answer = own.ask("verify")
     tries = os.path.join(own.objects, b"tries")
     line = "the commit-graph was written anew meanwhile"
     err = said([line, *refusals.sentences(refusals.read_rows(), line)])

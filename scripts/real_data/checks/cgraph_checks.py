@@ -173,7 +173,7 @@ def check_check(installed, results, title, way, text):
 def check_pairs(installed, results, title, way, history):
     """The words that take two revisions, for some pairs of commits, beside Git."""
     walks, ids = history
-    rows, complaints = refusals.read_rows(), []
+    complaints = []
     for first, second in [(ids[2], ids[-1]), (ids[-1], ids[2]), (ids[1], ids[2]), (ids[3], ids[3])]:
         said, words = (installed.git(way, "merge-base", *more, first, second) for more in (["--is-ancestor"], ["--all"]))
         answers = {
@@ -182,7 +182,7 @@ def check_pairs(installed, results, title, way, history):
         }
         for word, (status, out) in answers.items():
             answer = installed.ask(way, word, first, second)
-            err = sentences(rows, out.strip(), word, way) if status else ""
+            err = ""
             if answer.status != status or sorted(answer.out.split()) != sorted(out.split()) or answer.err != err:
                 complaints.append("%s: it is %r, expected %r" % (word, answer, (status, out)))
         answer = installed.ask(way, "walk", second, first)
@@ -192,20 +192,19 @@ def check_pairs(installed, results, title, way, history):
     results.check("git cgraph is-ancestor, merge-base and walk in %s" % title, complaint)
 
 
-def sentences(rows, line, word, way, more=()):
-    """What `git cgraph` says of a line, in a repository whose way names no more than the folder `objects` does."""
-    return "".join("git cgraph: %s\n" % sentence for sentence in [*more, *refusals.sentences(rows, line, word)])
-
-
 def check_empty(installed, results, repository):
     """A repository without a commit has no commit-graph, and nothing to ask about."""
-    rows, way = refusals.read_rows(), Way(repository.folder)
-    for word, status in (("verify", 1), ("distinct", 1), ("list", 128)):
+    way = Way(repository.folder)
+    advice = "no branch or tag leads to a commit yet: make one, and write it"
+    known = refusals.Known("", advice, ["git commit-graph write --reachable"])
+    absent = "there is no commit-graph"
+    for word in ("verify", "distinct", "list"):
         answer = installed.ask(way, word)
-        right = (status, "refused open 2\n", sentences(rows, "refused open 2", word, way))
+        err = refusals.written("git cgraph", [absent, *refusals.sentences(refusals.read_rows(), absent, word, known)])
+        right = (128, "refused open 2\n", err)
         results.check("git cgraph %s in an empty repository" % word, None if answer == right else "it is %r" % (answer,))
     answer = installed.ask(way, "check")
-    expected = (1, "refused open 2\n") if installed.knows_check else (128, "")
+    expected = (128, "refused open 2\n" if installed.knows_check else "")
     results.check("git cgraph check in an empty repository", None if answer[:2] == expected else "it is %r" % (answer,))
     for words in (["find", "HEAD"], ["is-ancestor", "HEAD", "HEAD"], ["walk", "HEAD", "HEAD"], ["merge-base", "HEAD", "HEAD"]):
         answer = installed.ask(way, *words)
@@ -278,21 +277,38 @@ def check_damaged_trees(installed, results, repository):
 
 
 def check_refusal(installed, results, repository, case):
-    """What `git cgraph` and `graphtool` say of a damaged commit-graph: the case's name, its line and its layers."""
+    """What `git cgraph` and `graphtool` say of a damaged commit-graph: the case's name, its line and its layers. By the
+    commands that `git cgraph` gives, it becomes right.
+    """
     name, line, layers = case
     info, rows = os.path.realpath(repository.info_path()), refusals.read_rows()
-    path = repository.graph_path() if os.path.isfile(repository.graph_path()) else info
+    is_file = os.path.isfile(repository.graph_path())
     commit = ["the commit at position %s is %s" % at for at in [position_in(line, layers)] if at]
-    answers = {
-        "git cgraph": (installed.ask(Way(repository.folder), "verify"), info),
-        "graphtool": (run([os.path.join(installed.prefix, "bin", "graphtool"), "verify", path], installed.variables), None),
-    }
-    for program, (answer, folder) in answers.items():
-        folders = [folder] if folder else []
-        said = [*commit, *refusals.sentences(rows, line.strip(), "verify", *folders)]
-        err = "".join("%s: %s\n" % (program, sentence) for sentence in said)
-        complaint = None if answer == (1, line, err) else "it is %r, expected %r" % (answer, (line, err))
-        results.check("%s verify, %s, in sentences" % (program, name), complaint)
+    words = [os.path.join(installed.prefix, "bin", "graphtool"), "verify", repository.graph_path() if is_file else info]
+    answer = run(words, installed.variables)
+    err = refusals.written("graphtool", [*commit, *refusals.sentences(rows, line.strip(), "verify")])
+    complaint = None if answer == (1, line, err) else "it is %r, expected %r" % (answer, (1, line, err))
+    results.check("graphtool verify, %s, in sentences" % name, complaint)
+    there = is_file or os.path.isfile(os.path.join(info, trees.CHAIN))
+    text = line.strip() if there else "there is no commit-graph"
+    start = refusals.written("git cgraph", [*([] if there else [text]), *commit, refusals.sentences(rows, text, "verify")[0]])
+    check_cure(installed, results, repository, (name, line, 1 if there else 128, start))
+
+
+def check_cure(installed, results, repository, case):
+    """The case's name, the line and the status of `git cgraph verify`, and how its sentences begin: by the commands that they
+    end with, the commit-graph becomes right, for Git too.
+    """
+    name, line, status, start = case
+    way = Way(repository.folder)
+    answer = installed.ask(way, "verify")
+    right = answer[:2] == (status, line) and answer.err.startswith(start)
+    results.check("git cgraph verify, %s, in sentences" % name, None if right else "it is %r, expected %r" % (answer, start))
+    cure = "".join(line + "\n" for line in answer.err.splitlines() if line.startswith("    "))
+    cured = run(["sh", "-e", "-c", cure], {**installed.variables, **way.variables}, cwd=way.folder)
+    verdicts = installed.ask(way, "verify").status, installed.git(way, "commit-graph", "verify").status
+    right = cure and cured.status == 0 and verdicts == (0, 0)
+    results.check("the cure of %s" % name, None if right else "%r gives %r, and then %r" % (cure, cured, verdicts))
 
 
 def position_in(line, layers):

@@ -191,9 +191,9 @@ def check_questions(installed, results, repository, ids, case):
         (["merge-base", ids[0], ids[1]], (1, "none\n"), (1, "none\n")),
     ):
         status, out = wrong if beside else right
-        folder = os.path.realpath(repository.info_path())
-        said = refusals.sentences(rows, out.strip(), words[0], folder, beside) if status or beside else []
-        err = "".join("git cgraph: %s\n" % sentence for sentence in said)
+        chains = os.path.join(os.path.realpath(repository.info_path()), "commit-graphs")
+        known = refusals.Known("", "", ["rm -rf '%s'" % chains, "git commit-graph write --reachable --split"])
+        err = refusals.written("git cgraph", refusals.sentences(rows, "", words[0], known, beside)) if beside else ""
         answer = installed.ask(way, *words)
         complaint = None if answer == (status, out, err) else "it is %r, expected %r" % (answer, (status, out, err))
         places = " ".join(str(ids.index(commit)) for commit in words[1:])
