@@ -209,7 +209,7 @@ has_grafts() {
 }
 
 has_commits() {
-    [ -n "$(git rev-list -n 1 --all 2>/dev/null)" ]
+    [ -n "$(git -c core.commitGraph=false rev-list -n 1 --all 2>/dev/null)" ]
 }
 
 # Whether the commit-graph has changed-path filters, by the table of chunks of its files.

@@ -289,7 +289,7 @@ def check_refusal(installed, results, repository, case):
     err = refusals.written("graphtool", [*commit, *refusals.sentences(rows, line.strip(), "verify")])
     complaint = None if answer == (1, line, err) else "it is %r, expected %r" % (answer, (1, line, err))
     results.check("graphtool verify, %s, in sentences" % name, complaint)
-    there = is_file or os.path.isfile(os.path.join(info, trees.CHAIN))
+    there = any(os.path.lexists(path) for path in (repository.graph_path(), os.path.join(info, trees.CHAIN)))
     text = line.strip() if there else "there is no commit-graph"
     start = refusals.written("git cgraph", [*([] if there else [text]), *commit, refusals.sentences(rows, text, "verify")[0]])
     check_cure(installed, results, repository, (name, line, 1 if there else 128, start))
