@@ -5,6 +5,7 @@ The programs under test are installed by scripts/install, from a copy of the scr
 
 import itertools
 import os
+import re
 import shutil
 import subprocess
 
@@ -18,7 +19,8 @@ from expected.listing import listing
 from expected.walks import Walks
 from histories import shapes
 from histories.repository import read_bytes, write_bytes
-from wrappers.clone import Clone, run
+from wrappers.clone import TOP, Clone, run
+from wrappers.tools import read
 
 ODD_TAG = "odd';$(id)\"&|<>`\u00e9!#%"
 SHORTEST = 4
@@ -72,12 +74,32 @@ def check_all(programs, results, folder, new):
         check_split(installed, results, new(kind, "asked, split"))
     check_empty(installed, results, new("sha1", "asked, empty"))
     check_abbreviation(installed, results, new("sha1", "asked, abbreviations"))
+    check_session(installed, results, os.path.join(folder, "repository"))
     check_damage(installed, results, new("sha1", "asked, damaged"))
     check_damaged_trees(installed, results, new("sha1", "asked, damaged folders"))
     results.check("git cgraph, nothing is left over", installed.clone.left_over())
     answer = installed.clone.run(["scripts/install", "--remove", installed.prefix])
     gone = answer.status == 0 and not os.path.lexists(installed.prefix)
     results.check("scripts/install --remove, with the programs", None if gone else "it is %r" % (answer,))
+
+
+def check_session(installed, results, folder):
+    """The session of README.md, word by word, in a repository of the commits of examples/README.md."""
+    session = re.search(r"## A session\n(.*?)\n## ", read("README.md"), re.DOTALL).group(1)
+    lines = [line[4:] for line in session.split("\n") if line.startswith("    ")]
+    commands = [(at, line[2:]) for at, line in enumerate(lines) if line.startswith("$ ")]
+    ends = [at for at, _ in commands[1:]] + [len(lines)]
+    recipe = re.findall(r"^    (.*)$", read("examples", "README.md"), re.MULTILINE)[:-1]
+    branches = ["git update-ref refs/heads/topic $second", "git symbolic-ref HEAD refs/heads/main"]
+    os.mkdir(folder)
+    shutil.copytree(os.path.join(TOP, "examples"), os.path.join(folder, "examples"))
+    made = run(["sh", "-e", "-c", "\n".join(["git init -q .", *recipe, *branches])], installed.variables, cwd=folder)
+    results.check("the commits of the examples", None if made.status == 0 else "it is %r" % (made,))
+    for (at, command), end in zip(commands, ends):
+        answer = run(["sh", "-c", command + " 2>&1"], installed.variables, cwd=folder)
+        expected = "".join(line + "\n" for line in lines[at + 1 : end]).replace("/repository", os.path.realpath(folder))
+        complaint = None if answer.out == expected else "it is %r, expected %r" % (answer, expected)
+        results.check("README.md: %s" % command, complaint)
 
 
 def add_names(repository, ids):
