@@ -2,10 +2,10 @@
 use Rattle.std.proofs.Common.{◌≡◌, ◌≢◌, ℕ, ◌<◌, Bool, true, false, cond, Option, Some, None, List, bytes_eq, option_map, ap, sym}
 use Rattle.std.proofs.Common.{◌∙◌, refl}
 use Rattle.gix_chunk_core.specs.Entry.{entry_at}
-use Rattle.first_faults.specs.First.{first_below}
+use Rattle.gix_chunk_core.specs.FirstFault.{first_below}
 use Rattle.gix_chunk_core.specs.Table.{Chunk, chunk_at, table_at, range_of}
 use Rattle.gix_chunk_core.proofs.FaultLemmas.{same-bytes, other-bytes}
-use Rattle.first_faults.proofs.FirstLemmas.{first_below-found, first_below-none_from, first_below-least, find-first_below}
+use Rattle.gix_chunk_core.proofs.FirstFaultLemmas.{first_below-found, first_below-none_from, first_below-least, find-first_below}
 use Rattle.std.proofs.lemmas.Slice.Eq.{bytes_eq-Decides}
 
 -- the chunk i, where it has this id

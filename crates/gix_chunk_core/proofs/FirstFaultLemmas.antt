@@ -8,7 +8,7 @@ use Rattle.std.specs.List.{find, range_with_len}
 use Rattle.std.proofs.lemmas.Bool.{cases_eq}
 use Rattle.std.proofs.lemmas.List.Folds.{find-append}
 use Rattle.std.proofs.lemmas.List.FromFn.{map-range_with_len_more}
-use Rattle.first_faults.specs.First.{◌when◌, ◌otherwise◌, first_below, IsLeastGiving}
+use Rattle.gix_chunk_core.specs.FirstFault.{◌when◌, ◌otherwise◌, first_below, IsLeastGiving}
 
 pub option_or-none_left : {X : Type 0} (a b : Option X) → option_or a b ≡ None → a ≡ None
 option_or-none_left None b h = refl
