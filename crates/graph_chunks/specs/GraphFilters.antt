@@ -2,7 +2,7 @@
 use Rattle.std.specs.Prelude.{◌≡◌, ◌==◌, ◌||◌, ◌⊎◌, ℕ, ◌+◌, not, Bool, true, false, List, [], ◌∷◌, length, map, slice_get}
 use Rattle.std.specs.Prelude.{Option, Some, None, option_map, count_by}
 use Rattle.std.specs.Option.{option_and_then, option_or}
-use Rattle.first_faults.specs.First.{◌when◌, ◌otherwise◌, first_below}
+use Rattle.gix_chunk_core.specs.FirstFault.{◌when◌, ◌otherwise◌, first_below}
 use Rattle.changed_paths.specs.Filter.{IsPossible, IsAbsent}
 use Rattle.changed_paths.specs.Filters.{version_of, filter_of}
 use Rattle.changed_paths.specs.declared.filters.HashVersion.{HashVersion}

@@ -4,7 +4,7 @@ ghost use Rattle.std.specs.Prelude.{◌≡◌, ◌+◌, ◌<◌, ◌^◌, ◌++�
 ghost use Rattle.std.specs.Bool.{OnTrue, OnFalse};
 ghost use Rattle.std.specs.Prelude.{IfOk, IfErr, IfSome};
 ghost use Rattle.corrected_dates.specs.StoredDates.{NamesOneOf};
-ghost use Rattle.first_faults.specs.First.{first_below};
+ghost use Rattle.gix_chunk_core.specs.FirstFault.{first_below};
 ghost use Rattle.graph_chunks.specs.GraphStoredDates.{HasDates, dates_in, dates_of, layer_refusal};
 ghost use Rattle.graph_chunks.specs.GraphStoredDates.{offsets_in, overflow_in};
 ghost use Rattle.graph_chunks.specs.GraphDates.{in_graph, reading_fault, AreReadable, MayNotRead};
