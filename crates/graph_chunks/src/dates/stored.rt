@@ -13,7 +13,7 @@ use crate::dates::DatesError;
 use corrected_dates::{LayerDatesError, decode_dates, refusal_of};
 use gix_commitgraph::file::File;
 use gix_commitgraph::{Graph, Position};
-use graph_layer::check::times;
+use graph_layer::fields::times;
 use std::alloc::Global;
 
 /// The chunk of the section "Generation Data".
