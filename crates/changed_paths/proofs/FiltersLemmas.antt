@@ -10,7 +10,7 @@ use Rattle.std.proofs.lemmas.List.FromFn.{map-range_with_len_more, length-map-ra
 use Rattle.std.proofs.lemmas.Slice.{between_is}
 use Rattle.gix_chunk_core.specs.FirstFault.{◌when◌, ◌otherwise◌}
 use Rattle.graph_format.proofs.PieceLemmas.{get-map-range}
-use Rattle.graph_format.specs.Numbers.{word_in}
+use Rattle.graph_format.specs.Integers.{word_in}
 use Rattle.changed_paths.specs.declared.filters.HashVersion.{HashVersion}
 use Rattle.changed_paths.specs.declared.filters.LayerFiltersError.{LayerFiltersError}
 use Rattle.changed_paths.specs.declared.filters.LayerFiltersError.TheVariants.{IndexSize, DataSize, Version, Hashes, NoBits}

@@ -20,7 +20,7 @@ use Rattle.changed_paths.specs.declared.filters.LayerFiltersError.TheVariants.{I
 use Rattle.changed_paths.specs.declared.filters.LayerFiltersError.TheVariants.{Falls, PastEnd, LeftOver}
 use Rattle.changed_paths.proofs.FiltersLemmas.{filters_of-at, length-filters_of}
 use Rattle.graph_format.specs.Layer.{Layer}
-use Rattle.graph_format.specs.Numbers.{word_in}
+use Rattle.graph_format.specs.Integers.{word_in}
 use Rattle.gix_commitgraph.specs.Graph.{graph_commits, start, stop, total}
 use Rattle.gix_commitgraph.proofs.layers.LayerListLemmas.{get-front, graph_commits-at, start-more}
 use Rattle.gix_commitgraph.proofs.layers.PositionLemmas.{length-graph_commits}

@@ -11,7 +11,7 @@ use Rattle.changed_paths.specs.declared.filters.LayerFiltersError.{LayerFiltersE
 use Rattle.changed_paths.specs.declared.filters.LayerFiltersError.TheVariants as layer_error
 use Rattle.graph_format.specs.Layer.{Layer}
 use Rattle.graph_format.specs.Parents.{position_of}
-use Rattle.graph_format.specs.Numbers.{word_in}
+use Rattle.graph_format.specs.Integers.{word_in}
 use Rattle.gix_commitgraph.specs.Graph.{graph_commits, start}
 use Rattle.graph_chunks.specs.StoredFilters.{index_in, data_in, layer_filters_refusal}
 use Rattle.graph_chunks.specs.declared.filters.FilterSettings.{FilterSettings}
