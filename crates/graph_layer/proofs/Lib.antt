@@ -5,7 +5,7 @@ pub mod FileViewLemmas
 pub mod ElementLemmas
 pub mod BucketLemmas
 pub mod AscendingIdLemmas
-pub mod SearchLemmas
+pub mod LookupLemmas
 pub mod IdOrderLemmas
 pub mod NameTestLemmas
 pub mod FirstByteLemmas
