@@ -22,7 +22,7 @@ use Rattle.graph_layer.specs.declared.opening.error.OpenError.{OpenError}
 use Rattle.graph_layer.specs.declared.opening.error.OpenError.TheVariants.{NotOpened}
 use Rattle.graph_layer.proofs.BucketLemmas.{view-sized_id, view-other_len}
 use Rattle.graph_layer.proofs.FileViewLemmas.{view-layer, view-path, commits-ids, view-record_at}
-use Rattle.graph_layer.proofs.SearchLemmas.{stands_within-bucket, found-other_len}
+use Rattle.graph_layer.proofs.LookupLemmas.{stands_within-bucket, found-other_len}
 use Rattle.graph_find.specs.Bucket.{IsBucket}
 use Rattle.graph_find.specs.LayerFinding.{IsLayerOfHead, TellsOfRecord}
 use Rattle.graph_find.specs.ReadHead.{IsBucketSpan, IsHead}
