@@ -18,4 +18,4 @@ pub mod EdgeListLemmas
 pub mod LayerStatisticsLemmas
 pub mod TraverseLemmas
 pub mod LayerCallLemmas
-pub mod LayerTallyLemmas
+pub mod LayerCountLemmas
