@@ -73,9 +73,6 @@ unfolding first_below
 first_below-none_from f zero h = refl
 first_below-none_from f (suc n) h = rw (first_below-none_from f n (λ i k. h i (omega (arith, k)))) (h n (omega arith))
 
-some_injective : {X : Type 0} {x y : X} → Some x ≡ Some y → x ≡ y
-some_injective h = cc
-
 -- what is given first is given at the least number
 pub first_below-least : {X : Type 0} (f : ℕ → Option X) (n : ℕ) (x : X) → first_below f n ≡ Some x → (i : ℕ)
     × IsLeastGiving f n i x
