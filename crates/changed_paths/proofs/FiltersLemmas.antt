@@ -8,9 +8,9 @@ use Rattle.std.proofs.lemmas.List.{append-nil, take-take, take_all}
 use Rattle.std.proofs.lemmas.List.Folds.{concat-append, drop_split}
 use Rattle.std.proofs.lemmas.List.FromFn.{map-range_with_len_more, length-map-range_with_len}
 use Rattle.std.proofs.lemmas.Slice.{between_is}
-use Rattle.first_faults.specs.First.{◌when◌, ◌otherwise◌}
+use Rattle.gix_chunk_core.specs.FirstFault.{◌when◌, ◌otherwise◌}
 use Rattle.graph_format.proofs.PieceLemmas.{get-map-range}
-use Rattle.graph_format.specs.Numbers.{word_in}
+use Rattle.graph_format.specs.Integers.{word_in}
 use Rattle.changed_paths.specs.declared.filters.HashVersion.{HashVersion}
 use Rattle.changed_paths.specs.declared.filters.LayerFiltersError.{LayerFiltersError}
 use Rattle.changed_paths.specs.declared.filters.LayerFiltersError.TheVariants.{IndexSize, DataSize, Version, Hashes, NoBits}

@@ -5,10 +5,11 @@ use Rattle.std.specs.Bool.{then_some}
 use Rattle.std.specs.Option.{option_or}
 use Rattle.std.proofs.Math.Dec.{leb}
 use Rattle.std.proofs.lemmas.Bool.{cases_lt, lt-ltb, le-ltb, leb-true, leb-false}
-use Rattle.first_faults.specs.First.{first_below}
-use Rattle.first_faults.proofs.FirstLemmas.{first_below-none, first_below-none_more, first_below-found, first_below-none_at}
-use Rattle.first_faults.proofs.FirstLemmas.{option_or-none_left, option_or-none_right, option_or-none, then_some-none}
-use Rattle.first_faults.proofs.FirstLemmas.{then_some-false}
+use Rattle.gix_chunk_core.specs.FirstFault.{first_below}
+use Rattle.gix_chunk_core.proofs.FirstFaultLemmas.{first_below-none, first_below-none_more, first_below-found}
+use Rattle.gix_chunk_core.proofs.FirstFaultLemmas.{first_below-none_at}
+use Rattle.gix_chunk_core.proofs.FirstFaultLemmas.{option_or-none_left, option_or-none_right, option_or-none, then_some-none}
+use Rattle.gix_chunk_core.proofs.FirstFaultLemmas.{then_some-false}
 use Rattle.changed_paths.specs.Filters.{start_of, end_of, IsRising, filter_position, place_fault, places_refusal}
 use Rattle.changed_paths.specs.declared.filters.LayerFiltersError.TheVariants.{Falls, PastEnd}
 

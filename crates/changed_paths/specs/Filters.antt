@@ -3,9 +3,9 @@
 use Rattle.std.specs.Prelude.{◌==◌, ◌<◌, ◌≤◌, ℕ, zero, suc, ◌+◌, ◌-◌, ◌*◌, ◌/◌, not, ◌||◌, List, map, length, slice_range}
 use Rattle.std.specs.Prelude.{Option, Some, None, is_none, nat_lt, if◌then◌else◌}
 use Rattle.std.specs.List.{range_with_len}
-use Rattle.first_faults.specs.First.{◌when◌, ◌otherwise◌, first_below}
+use Rattle.gix_chunk_core.specs.FirstFault.{◌when◌, ◌otherwise◌, first_below}
 use Rattle.graph_format.specs.declared.file.Position.{Position}
-use Rattle.graph_format.specs.Numbers.{word_in}
+use Rattle.graph_format.specs.Integers.{word_in}
 use Rattle.changed_paths.specs.declared.filters.HashVersion.{HashVersion}
 use Rattle.changed_paths.specs.declared.filters.HashVersion.TheVariants.{One, Two}
 use Rattle.changed_paths.specs.declared.filters.LayerFiltersError.{LayerFiltersError}

@@ -3,7 +3,7 @@
 ghost use Rattle.std.specs.Prelude.{◌≡◌, ◌↔◌, ◌*◌, ◌<◌, ◌≤◌, ◌^◌, List, length, slice_get, Some};
 ghost use Rattle.std.specs.Prelude.{IfOk, true, false};
 ghost use Rattle.graph_format.specs.Reports.{Reports};
-ghost use Rattle.graph_format.specs.Numbers.{word_in};
+ghost use Rattle.graph_format.specs.Integers.{word_in};
 ghost use Rattle.changed_paths.specs.Filter.{IsPossible, IsAbsent};
 ghost use Rattle.changed_paths.specs.Filters.{version_of, start_of, filters_of, places_refusal};
 ghost use Rattle.changed_paths.specs.Filters.{filters_refusal, IsRising};
@@ -12,7 +12,7 @@ ghost use Rattle.changed_paths.specs.declared.filters.Answer.TheVariants as answ
 use crate::key::PathKey;
 use crate::murmur3::ByteReading;
 use graph_format::file::Position;
-use graph_format::numbers::word_at;
+use graph_format::integers::word_at;
 use std::marker::Model;
 use thiserror::Error;
 

@@ -7,7 +7,7 @@ use Rattle.std.specs.Option.{option_map}
 use Rattle.std.proofs.lemmas.Bool.{cases_lt}
 use Rattle.std.proofs.lemmas.List.FromFn.{length-range_with_len}
 use Rattle.std.proofs.lemmas.Option.{same_Some}
-use Rattle.first_faults.specs.First.{◌when◌, ◌otherwise◌, first_below}
+use Rattle.gix_chunk_core.specs.FirstFault.{◌when◌, ◌otherwise◌, first_below}
 use Rattle.graph_format.specs.Layer.{Layer}
 use Rattle.graph_format.specs.Points.{Point, check, call, first_some, first_fault, calls, calls_before_fault}
 use Rattle.graph_format.specs.declared.Position.{Position}

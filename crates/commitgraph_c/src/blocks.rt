@@ -11,7 +11,7 @@ use crate::read::{CgCommit, told};
 use gix_commitgraph::law::graph::the_commits_of_layers_add_up;
 use gix_commitgraph::{Graph, Position};
 use graph_format::parents::ParentEdge;
-use graph_layer::check::parent_edges;
+use graph_layer::fields::parent_edges;
 
 /// Writes what the records from a position on say, as many as there is room for. Answers how many
 /// commits there are from there on.

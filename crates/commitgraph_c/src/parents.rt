@@ -11,7 +11,7 @@ use gix_commitgraph::file::Commit;
 use gix_commitgraph::law::sound::the_parents_of_a_right_graph_are_there;
 use graph_format::error_numbers::parent_number;
 use graph_format::parents::ParentEdge;
-use graph_layer::check::parent_edges;
+use graph_layer::fields::parent_edges;
 
 /// The parents of a commit, as far as they can be decoded.
 #[repr(C)]

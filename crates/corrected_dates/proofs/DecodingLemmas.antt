@@ -7,8 +7,8 @@ use Rattle.std.specs.Option.{option_or}
 use Rattle.std.proofs.lemmas.Bool.{eq-eqb}
 use Rattle.std.proofs.lemmas.List.{append-nil}
 use Rattle.std.proofs.lemmas.List.FromFn.{map-range_with_len_more}
-use Rattle.first_faults.specs.First.{first_below}
-use Rattle.first_faults.proofs.FirstLemmas.{first_below-none, first_below-none_more, first_below-found}
+use Rattle.gix_chunk_core.specs.FirstFault.{first_below}
+use Rattle.gix_chunk_core.proofs.FirstFaultLemmas.{first_below-none, first_below-none_more, first_below-found}
 use Rattle.corrected_dates.specs.StoredDates.{date_of, stored_dates, date_fault, dates_refusal}
 use Rattle.corrected_dates.specs.declared.LayerDatesError.{LayerDatesError}
 use Rattle.corrected_dates.specs.declared.LayerDatesError.TheVariants.{DataSize, OverflowSize}

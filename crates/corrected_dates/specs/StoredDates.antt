@@ -3,9 +3,9 @@
 use Rattle.std.specs.Prelude.{◌≡◌, ◌==◌, ◌⊎◌, ⊤, ℕ, ◌+◌, ◌-◌, ◌*◌, ◌/◌, ◌%◌, ◌^◌, ◌<◌, not, List, map, length, slice_index}
 use Rattle.std.specs.Prelude.{Option, Some, None, is_none, unwrap_or, nat_lt, if◌then◌else◌}
 use Rattle.std.specs.List.{range_with_len}
-use Rattle.first_faults.specs.First.{◌when◌, ◌otherwise◌, first_below}
+use Rattle.gix_chunk_core.specs.FirstFault.{◌when◌, ◌otherwise◌, first_below}
 use Rattle.graph_format.specs.declared.file.Position.{Position}
-use Rattle.graph_format.specs.Numbers.{word_in, long_in}
+use Rattle.graph_format.specs.Integers.{word_in, long_in}
 use Rattle.corrected_dates.specs.declared.LayerDatesError.{LayerDatesError}
 use Rattle.corrected_dates.specs.declared.LayerDatesError.TheVariants.{DataSize, OverflowSize, OverflowIndex, TooLarge}
 use Rattle.corrected_dates.specs.declared.LayerDatesError.TheVariants.{OutOfMemory}

@@ -9,7 +9,7 @@ ghost use Rattle.corrected_dates.specs.StoredDates.{offset_of, date_of, date_fau
 ghost use Rattle.corrected_dates.specs.StoredDates.{stored_dates, MayRefuseLayerDates, NamesOneOf};
 
 use graph_format::file::Position;
-use graph_format::numbers::{long_at, word_at};
+use graph_format::integers::{long_at, word_at};
 use thiserror::Error;
 
 /// Where the words of `GDA2` begin that name numbers of the overflow list.

@@ -8,7 +8,7 @@ use Rattle.std.proofs.lemmas.Bool.{cases_lt}
 use Rattle.std.proofs.lemmas.List.{take-take, get_or-take}
 use Rattle.std.proofs.Math.Seq.{take-length}
 use Rattle.std.proofs.lemmas.Slice.{between_is}
-use Rattle.first_faults.specs.First.{first_below, ◌otherwise◌}
+use Rattle.gix_chunk_core.specs.FirstFault.{first_below, ◌otherwise◌}
 use Rattle.gix_chunk_core.specs.Entry.{entry_at}
 use Rattle.gix_chunk_core.specs.Fault.{has_earlier, offset_fault, entry_fault, end_fault, table_fault}
 use Rattle.gix_chunk_core.specs.FirstBytes.{filled, BeginsWith}

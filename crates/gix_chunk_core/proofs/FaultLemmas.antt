@@ -12,8 +12,8 @@ use Rattle.std.proofs.lemmas.Slice.Eq.{bytes_eq-Decides}
 use Rattle.gix_chunk_core.specs.Entry.{entry_at, end_id}
 use Rattle.gix_chunk_core.specs.Fault.{has_earlier, passes, falls, offset_fault, entry_fault, end_fault}
 use Rattle.gix_chunk_core.specs.declared.error.ChunkError.TheVariants.{EarlyEnd, Duplicate, OutOfFile}
-use Rattle.first_faults.proofs.FirstLemmas.{option_or-none, option_or-none_left, option_or-none_right, then_some-none}
-use Rattle.first_faults.proofs.FirstLemmas.{then_some-false}
+use Rattle.gix_chunk_core.proofs.FirstFaultLemmas.{option_or-none, option_or-none_left, option_or-none_right, then_some-none}
+use Rattle.gix_chunk_core.proofs.FirstFaultLemmas.{then_some-false}
 
 pub same-bytes : (xs ys : List ℕ) → bytes_eq xs ys ≡ true → xs ≡ ys
 same-bytes xs ys h = (bytes_eq-Decides xs ys).0 h

@@ -1,3 +1,4 @@
+pub mod FirstFaultLemmas
 pub mod FaultLemmas
 pub mod HeadLemmas
 pub mod RangeLemmas

@@ -2,10 +2,11 @@
 use Rattle.std.proofs.Common.{◌≡◌, ◌≢◌, ℕ, ◌<◌, Bool, true, false, cond, Option, Some, None, List, bytes_eq, option_map, ap, sym}
 use Rattle.std.proofs.Common.{◌∙◌, refl}
 use Rattle.gix_chunk_core.specs.Entry.{entry_at}
-use Rattle.first_faults.specs.First.{first_below}
+use Rattle.gix_chunk_core.specs.FirstFault.{first_below}
 use Rattle.gix_chunk_core.specs.Table.{Chunk, chunk_at, table_at, range_of}
 use Rattle.gix_chunk_core.proofs.FaultLemmas.{same-bytes, other-bytes}
-use Rattle.first_faults.proofs.FirstLemmas.{first_below-found, first_below-none_from, first_below-least, find-first_below}
+use Rattle.gix_chunk_core.proofs.FirstFaultLemmas.{first_below-found, first_below-none_from, first_below-least, find-first_below}
+use Rattle.std.proofs.lemmas.Option.{same_Some}
 use Rattle.std.proofs.lemmas.Slice.Eq.{bytes_eq-Decides}
 
 -- the chunk i, where it has this id
@@ -49,9 +50,6 @@ taken : {X : Type 0} {x y : X} (b : Bool) → cond b (Some x) None ≡ Some y �
 taken true h = (refl, cc)
 taken false h = cc
 
-some_injective : {X : Type 0} {x y : X} → Some x ≡ Some y → x ≡ y
-some_injective h = cc
-
 -- what is found is a chunk with this id
 pub range_of-found : (bytes : List ℕ) (at n : ℕ) (id : List ℕ) (place : ℕ × ℕ) → range_of (table_at bytes at n) id ≡ Some place
     → (i : ℕ) × IsFoundAt bytes at n id place i
@@ -69,7 +67,7 @@ range_of-found bytes at n id place h =
             record {
               within = least.1.below;
               same = same-bytes _ _ chunk.0;
-              is = some_injective is ∙ ap (λ (c : Chunk). (c.start, c.end)) (sym chunk.1);
+              is = same_Some _ _ is ∙ ap (λ (c : Chunk). (c.start, c.end)) (sym chunk.1);
             },
           )
     ] refl

@@ -10,15 +10,15 @@ use Rattle.std.proofs.lemmas.List.FromFn.{length-map-range_with_len, get_or-map-
 use Rattle.std.proofs.lemmas.Option.{slice_get_read, get_or_from_slice_get}
 use Rattle.gix_chunk_core.specs.Entry.{entry_at, end_id}
 use Rattle.gix_chunk_core.specs.Fault.{falls, entry_fault, table_fault}
-use Rattle.first_faults.specs.First.{first_below}
+use Rattle.gix_chunk_core.specs.FirstFault.{first_below}
 use Rattle.gix_chunk_core.specs.Table.{Chunk, Table, Chunks, chunk_at, table_at, range_of}
 use Rattle.gix_chunk_core.specs.declared.error.ChunkError.{ChunkError}
 use Rattle.gix_chunk_core.specs.declared.error.ChunkError.TheVariants.{NoChunks, TableTooSmall}
 use Rattle.gix_chunk_core.proofs.FaultLemmas.{other-bytes, apart-bytes, has_earlier-none, distinct-from, rises-from, falls-false}
 use Rattle.gix_chunk_core.proofs.FaultLemmas.{IsPlaced, IsRight, entry_fault-none, end_fault-none, entry_fault-free}
 use Rattle.gix_chunk_core.proofs.FaultLemmas.{end_fault-free}
-use Rattle.first_faults.proofs.FirstLemmas.{option_or-none, option_or-none_left, option_or-none_right, then_some-none}
-use Rattle.first_faults.proofs.FirstLemmas.{then_some-false, first_below-none_at, first_below-none_from}
+use Rattle.gix_chunk_core.proofs.FirstFaultLemmas.{option_or-none, option_or-none_left, option_or-none_right, then_some-none}
+use Rattle.gix_chunk_core.proofs.FirstFaultLemmas.{then_some-false, first_below-none_at, first_below-none_from}
 use Rattle.gix_chunk_core.proofs.RangeLemmas.{IsFoundAt, range_of-at, range_of-none, range_of-found}
 
 pub table_at-counted : (bytes : List ℕ) (at count : ℕ) → length (table_at bytes at count).chunks ≡ count

@@ -3,7 +3,7 @@
 use Rattle.std.specs.Prelude.{ℕ, ◌+◌, ◌-◌, ◌*◌, Bool, not, ◌&&◌, List, length, Option, nat_lt, ◌==◌, bytes_eq}
 use Rattle.std.specs.List.{list_any, range_with_len}
 use Rattle.gix_chunk_core.specs.Entry.{entry_at, end_id}
-use Rattle.first_faults.specs.First.{◌when◌, ◌otherwise◌, first_below}
+use Rattle.gix_chunk_core.specs.FirstFault.{◌when◌, ◌otherwise◌, first_below}
 use Rattle.gix_chunk_core.specs.declared.error.ChunkError.{ChunkError}
 use Rattle.gix_chunk_core.specs.declared.error.ChunkError.TheVariants.{NoChunks, TableTooSmall, EarlyEnd, Duplicate, OutOfFile}
 use Rattle.gix_chunk_core.specs.declared.error.ChunkError.TheVariants.{Falling, NoEnd}

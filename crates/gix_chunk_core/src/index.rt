@@ -109,7 +109,7 @@ fn end_fault(front: &[u8], len: usize, at: usize, i: usize) -> Option<ChunkError
 }
 
 /// Why the table of `count` chunks is refused, if it is.
-#[tactic(auto, using(first_faults::proofs::FirstLemmas::first_laws, crate::proofs::HeadLemmas::len_laws), unfolding(crate::specs::Fault::table_fault))]
+#[tactic(auto, using(crate::proofs::FirstFaultLemmas::first_laws, crate::proofs::HeadLemmas::len_laws), unfolding(crate::specs::Fault::table_fault))]
 fn table_fault(front: &[u8], len: usize, at: usize, count: usize) -> Option<ChunkError>
     requires count { count < 2 ^ 32 }
     requires len { length front.now ≤ len }

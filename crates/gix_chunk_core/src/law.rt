@@ -1,9 +1,21 @@
-//! Laws of the table of chunks.
+//! Laws of the first fault, and of the table of chunks.
 
-ghost use Rattle.std.specs.Prelude.{◌≡◌, ◌≤◌, ◌↔◌, ℕ, List, length, Some, None, Contains};
+ghost use Rattle.std.specs.Prelude.{◌≡◌, ◌<◌, ◌≤◌, ◌↔◌, ℕ, List, length, Option, Some, None};
+ghost use Rattle.std.specs.Prelude.{Contains};
 ghost use Rattle.gix_chunk_core.specs.Entry.{end_id};
 ghost use Rattle.gix_chunk_core.specs.Fault.{table_fault};
+ghost use Rattle.gix_chunk_core.specs.FirstFault.{first_below, IsLeastGiving};
 ghost use Rattle.gix_chunk_core.specs.Table.{Table, Chunks, range_of};
+
+/// Of the conditions at the numbers below `n`, the one at the least number that gives a fault is
+/// the first; where none gives one, there is no first.
+#[tactic(auto, using(crate::proofs::FirstFaultLemmas::least_laws))]
+pub fn first_is_at_the_least_number<T>()
+    ensures some { (f : ℕ → Option T) (n : ℕ) (x : T)
+        → (first_below f n ≡ Some x) ↔ ((i : ℕ) × IsLeastGiving f n i x) }
+    ensures none { (f : ℕ → Option T) (n : ℕ) → (first_below f n ≡ None)
+        ↔ ((i : ℕ) → i < n → f i ≡ None) }
+{}
 
 /// Bytes have a table of so many chunks at an offset exactly where no condition refuses it, and
 /// they then have one such table alone.

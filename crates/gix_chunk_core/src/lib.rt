@@ -6,6 +6,5 @@ mod index;
 mod law;
 
 pub use error::ChunkError;
-pub use first_faults::first_is_at_the_least_number;
 pub use index::Index;
-pub use law::{chunks_are_found_by_id, tables_are_read_or_refused};
+pub use law::{chunks_are_found_by_id, first_is_at_the_least_number, tables_are_read_or_refused};

@@ -1,10 +1,10 @@
 -- why layers are no graph: the first of these conditions that holds; their order is this crate's own
 use Rattle.std.specs.Prelude.{ℕ, ◌+◌, ◌-◌, ◌==◌, Bool, true, false, not, List, length, slice_get, nat_lt, Option, option_map}
 use Rattle.std.specs.Prelude.{unwrap_or}
-use Rattle.first_faults.specs.First.{first_below}
+use Rattle.gix_chunk_core.specs.FirstFault.{first_below}
 use Rattle.gix_hash_core.specs.declared.kind.Kind.{Kind}
 use Rattle.gix_hash_core.specs.declared.kind.Kind.TheVariants.{Sha1, Sha256}
-use Rattle.first_faults.specs.First.{◌when◌, ◌otherwise◌}
+use Rattle.gix_chunk_core.specs.FirstFault.{◌when◌, ◌otherwise◌}
 use Rattle.graph_format.specs.Layer.{Layer}
 use Rattle.gix_commitgraph.specs.Graph.{total}
 use Rattle.graph_format.specs.declared.TheConstants.{MAX_COMMITS}

@@ -1,4 +1,4 @@
-pub use Rattle.first_faults.specs.First
+pub use Rattle.gix_chunk_core.specs.FirstFault
 pub use Rattle.graph_walks.specs.Counts
 pub use Rattle.graph_walks.specs.History
 pub use Rattle.graph_walks.specs.Generations

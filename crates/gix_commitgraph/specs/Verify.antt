@@ -4,7 +4,7 @@ use Rattle.std.specs.Prelude.{length, map, take, drop, Option, Some, None, optio
 use Rattle.std.specs.BTreeMap.{get, IsUnchanged}
 use Rattle.std.specs.List.{flat_map, range_with_len, enumerate_from}
 use Rattle.std.specs.Ordering.{nat_cmp}
-use Rattle.first_faults.specs.First.{◌when◌, ◌otherwise◌, first_below}
+use Rattle.gix_chunk_core.specs.FirstFault.{◌when◌, ◌otherwise◌, first_below}
 use Rattle.graph_format.specs.Layer.{Layer, record_at}
 use Rattle.graph_format.specs.Parents.{position_of, parents_of, items_of}
 use Rattle.graph_format.specs.Lookup.{scan}

@@ -19,7 +19,7 @@ use gix_commitgraph::law::graph::{
 };
 use gix_commitgraph::law::sound::the_parents_of_a_right_graph_are_there;
 use gix_commitgraph::{Graph, Position};
-use graph_layer::check::{extra_edges, parent_edges};
+use graph_layer::fields::{extra_edges, parent_edges};
 
 /// The commit at a position.
 fn commit_of(graph: &Graph, pos: Position) -> Commit<'_>

@@ -5,9 +5,9 @@ use Rattle.std.specs.Bool.{then_some}
 use Rattle.std.specs.Option.{option_or}
 use Rattle.std.proofs.lemmas.Bool.{eqb-true, eq-eqb, ne_eqb}
 use Rattle.std.proofs.lemmas.Option.{slice_get-map, slice_get_within, get_or_from_slice_get}
-use Rattle.first_faults.specs.First.{first_below}
-use Rattle.first_faults.proofs.FirstLemmas.{first_below-none_more, first_below-found, first_below-none_at, then_some-none}
-use Rattle.first_faults.proofs.FirstLemmas.{then_some-false}
+use Rattle.gix_chunk_core.specs.FirstFault.{first_below}
+use Rattle.gix_chunk_core.proofs.FirstFaultLemmas.{first_below-none_more, first_below-found, first_below-none_at, then_some-none}
+use Rattle.gix_chunk_core.proofs.FirstFaultLemmas.{then_some-false}
 use Rattle.graph_walks.specs.Counts.{greatest}
 use Rattle.graph_walks.specs.History.{parents_at}
 use Rattle.graph_walks.specs.Dates.{number_at, expected_date, AreRight}

@@ -9,8 +9,8 @@ use Rattle.std.proofs.lemmas.Bool.{cases_eq, eqb-true, ne_eqb}
 use Rattle.std.proofs.lemmas.List.{length-map, take_more, take_all}
 use Rattle.std.proofs.lemmas.List.Sums.{count_by_more_yes, count_by_more_no}
 use Rattle.std.proofs.lemmas.Option.{slice_get-map, slice_get_read, slice_get_within, same_Some, get_or_from_slice_get}
-use Rattle.first_faults.specs.First.{◌when◌, ◌otherwise◌, first_below}
-use Rattle.first_faults.proofs.FirstLemmas.{first_below-found}
+use Rattle.gix_chunk_core.specs.FirstFault.{◌when◌, ◌otherwise◌, first_below}
+use Rattle.gix_chunk_core.proofs.FirstFaultLemmas.{first_below-found}
 use Rattle.changed_paths.specs.Filters.{Filters, version_of, start_of, end_of, filters_of, filter_bytes}
 use Rattle.changed_paths.specs.Filters.{filter_position, place_fault, places_refusal, filters_refusal}
 use Rattle.changed_paths.specs.declared.filters.HashVersion.{HashVersion}
@@ -20,7 +20,7 @@ use Rattle.changed_paths.specs.declared.filters.LayerFiltersError.TheVariants.{I
 use Rattle.changed_paths.specs.declared.filters.LayerFiltersError.TheVariants.{Falls, PastEnd, LeftOver}
 use Rattle.changed_paths.proofs.FiltersLemmas.{filters_of-at, length-filters_of}
 use Rattle.graph_format.specs.Layer.{Layer}
-use Rattle.graph_format.specs.Numbers.{word_in}
+use Rattle.graph_format.specs.Integers.{word_in}
 use Rattle.gix_commitgraph.specs.Graph.{graph_commits, start, stop, total}
 use Rattle.gix_commitgraph.proofs.layers.LayerListLemmas.{get-front, graph_commits-at, start-more}
 use Rattle.gix_commitgraph.proofs.layers.PositionLemmas.{length-graph_commits}

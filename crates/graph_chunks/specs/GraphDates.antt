@@ -4,7 +4,7 @@ use Rattle.std.specs.Prelude.{option_map}
 use Rattle.std.specs.Option.{option_and_then}
 use Rattle.corrected_dates.specs.declared.LayerDatesError.{LayerDatesError}
 use Rattle.corrected_dates.specs.declared.LayerDatesError.TheVariants as layer_error
-use Rattle.first_faults.specs.First.{◌when◌, ◌otherwise◌, first_below}
+use Rattle.gix_chunk_core.specs.FirstFault.{◌when◌, ◌otherwise◌, first_below}
 use Rattle.graph_walks.specs.History.{Node}
 use Rattle.graph_walks.specs.Counts.{greatest}
 use Rattle.graph_walks.specs.Dates.{number_at, expected_date, AreRight}

@@ -2,7 +2,7 @@
 use Rattle.std.specs.Prelude.{◌≡◌, ◌==◌, ◌||◌, ◌⊎◌, ℕ, ◌+◌, not, Bool, true, false, List, [], ◌∷◌, length, map, slice_get}
 use Rattle.std.specs.Prelude.{Option, Some, None, option_map, count_by}
 use Rattle.std.specs.Option.{option_and_then, option_or}
-use Rattle.first_faults.specs.First.{◌when◌, ◌otherwise◌, first_below}
+use Rattle.gix_chunk_core.specs.FirstFault.{◌when◌, ◌otherwise◌, first_below}
 use Rattle.changed_paths.specs.Filter.{IsPossible, IsAbsent}
 use Rattle.changed_paths.specs.Filters.{version_of, filter_of}
 use Rattle.changed_paths.specs.declared.filters.HashVersion.{HashVersion}
@@ -11,7 +11,7 @@ use Rattle.changed_paths.specs.declared.filters.LayerFiltersError.{LayerFiltersE
 use Rattle.changed_paths.specs.declared.filters.LayerFiltersError.TheVariants as layer_error
 use Rattle.graph_format.specs.Layer.{Layer}
 use Rattle.graph_format.specs.Parents.{position_of}
-use Rattle.graph_format.specs.Numbers.{word_in}
+use Rattle.graph_format.specs.Integers.{word_in}
 use Rattle.gix_commitgraph.specs.Graph.{graph_commits, start}
 use Rattle.graph_chunks.specs.StoredFilters.{index_in, data_in, layer_filters_refusal}
 use Rattle.graph_chunks.specs.declared.filters.FilterSettings.{FilterSettings}

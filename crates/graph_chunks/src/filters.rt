@@ -6,7 +6,7 @@ ghost use Rattle.std.specs.Option.{option_or};
 ghost use Rattle.changed_paths.specs.Filters.{version_of, filters_of};
 ghost use Rattle.changed_paths.specs.declared.filters.Answer.TheVariants as answer;
 ghost use Rattle.graph_format.specs.Reports.{Reports};
-ghost use Rattle.graph_format.specs.Numbers.{word_in};
+ghost use Rattle.graph_format.specs.Integers.{word_in};
 ghost use Rattle.gix_commitgraph.specs.Graph.{total};
 ghost use Rattle.graph_chunks.specs.StoredFilters.{index_in, data_in, layer_filters_refusal};
 ghost use Rattle.graph_chunks.specs.GraphFilters.{settings_in, settings_of, graph_filters};

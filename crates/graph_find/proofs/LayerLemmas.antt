@@ -22,7 +22,7 @@ use Rattle.graph_layer.specs.declared.opening.error.OpenError.{OpenError}
 use Rattle.graph_layer.specs.declared.opening.error.OpenError.TheVariants.{NotOpened}
 use Rattle.graph_layer.proofs.BucketLemmas.{view-sized_id, view-other_len}
 use Rattle.graph_layer.proofs.FileViewLemmas.{view-layer, view-path, commits-ids, view-record_at}
-use Rattle.graph_layer.proofs.SearchLemmas.{stands_within-bucket, found-other_len}
+use Rattle.graph_layer.proofs.LookupLemmas.{stands_within-bucket, found-other_len}
 use Rattle.graph_find.specs.Bucket.{IsBucket}
 use Rattle.graph_find.specs.LayerFinding.{IsLayerOfHead, TellsOfRecord}
 use Rattle.graph_find.specs.ReadHead.{IsBucketSpan, IsHead}
@@ -94,7 +94,7 @@ module _ (file path : List ℕ) (layout : Layout) (kept : IsLayout file layout) 
       let inside : place.pos < length one.ids = slice_get_within one.ids place.pos id found.holds in
       let kind = view-kind file path layout one kept refl in
       let says : record_at one place.pos ≡ record_of layout.kind bytes =
-      view-record_at file path layout one place.pos (id_len layout.kind + 16) kept refl inside
+      view-record_at file path layout one kept refl place.pos (id_len layout.kind + 16) inside
       (ap (λ (k : Kind). id_len k + 16) kind)
       ∙ ap (λ (k : Kind). record_of k (part file (layout.chunks.records.start + (id_len layout.kind + 16) * place.pos)
       (id_len layout.kind + 16))) (sym kind)

@@ -7,8 +7,8 @@ ghost use Rattle.graph_find.specs.ReadHead.{IsHead, LieInOrder, IsBucketSpan};
 
 use gix_commitgraph::MAX_COMMITS;
 use graph_format::chunks::record_len;
+use graph_format::integers::word_at;
 use graph_format::layout::{Layout, layout_of_head};
-use graph_format::numbers::word_at;
 
 /// The first bytes of a file, up to the end of its fan, and where its parts lie.
 #[derive(Drop)]

@@ -17,7 +17,7 @@ use crate::reading::read_range;
 use gix_hash_core::{Kind, oid};
 use graph_folder::folder::{Folder, ReadError};
 use graph_format::chunks::record_len;
-use graph_format::numbers::long_at;
+use graph_format::integers::long_at;
 use std::alloc::Global;
 
 /// Searches the layer of a file that begins with this head: it reads the ids that begin with the

@@ -9,7 +9,7 @@ use Rattle.gix_hash_core.specs.declared.kind.Kind.TheVariants.{Sha1, Sha256}
 use Rattle.gix_hash_core.specs.Kind.{id_len, kind_of}
 use Rattle.gix_chunk_core.specs.Table.{Chunks}
 use Rattle.gix_chunk_core.proofs.TableLemmas.{table_fault-none}
-use Rattle.first_faults.proofs.FirstLemmas.{otherwise-none, then_some-none, first_below-none_at}
+use Rattle.gix_chunk_core.proofs.FirstFaultLemmas.{otherwise-none, then_some-none, first_below-none_at}
 use Rattle.graph_format.specs.Format.{record_of, record_len, commits_of, kind_in, fan_of, signature, least_size, table_of}
 use Rattle.graph_format.specs.Format.{chunk_of, pieces, words, fan_id, ids_id, records_id, edges_id, bases_id}
 use Rattle.graph_format.specs.Layer.{IsLayer, decoded_layer}

@@ -12,7 +12,7 @@ use Rattle.std.proofs.lemmas.List.{get_or_default}
 use Rattle.std.proofs.lemmas.List.Elements.{All-weaker}
 use Rattle.std.proofs.lemmas.List.Sums.{AllPass-from_list_all, list_all-from_AllPass}
 use Rattle.std.proofs.lemmas.Option.{unwrap_or-slice_get}
-use Rattle.first_faults.proofs.FirstLemmas.{option_or-none, then_some-false, otherwise-none, when-none}
+use Rattle.gix_chunk_core.proofs.FirstFaultLemmas.{option_or-none, then_some-false, otherwise-none, when-none}
 use Rattle.graph_format.specs.Format.{Record}
 use Rattle.graph_format.specs.Layer.{Layer, no_record, record_at}
 use Rattle.graph_format.specs.Order.{AreAscending}

@@ -7,7 +7,7 @@ use Rattle.std.proofs.lemmas.Slice.Eq.{bytes_eq-Decides}
 use Rattle.gix_hash_core.specs.declared.kind.Kind.{Kind}
 use Rattle.gix_hash_core.specs.declared.kind.Kind.TheVariants.{Sha1, Sha256}
 use Rattle.gix_hash_core.specs.Kind.{id_len}
-use Rattle.first_faults.proofs.FirstLemmas.{option_or-none, then_some-false, first_below-none_from}
+use Rattle.gix_chunk_core.proofs.FirstFaultLemmas.{option_or-none, then_some-false, first_below-none_from}
 use Rattle.gix_chunk_core.proofs.TableLemmas.{fault_free}
 use Rattle.graph_format.specs.Format.{Record, record_of, record_len, commits_of, kind_in, fan_of, table_of, chunk_of, pieces}
 use Rattle.graph_format.specs.Format.{words, fan_id, ids_id, records_id, bases_id}

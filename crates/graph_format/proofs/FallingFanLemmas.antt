@@ -3,9 +3,9 @@ use Rattle.std.proofs.Common.{◌≡◌, ◌<◌, ◌≤◌, ℕ, ◌+◌, ◌-�
 use Rattle.std.proofs.Common.{sym, ◌∙◌, ⊎_elim, arith}
 use Rattle.std.specs.Bool.{then_some}
 use Rattle.std.proofs.lemmas.Bool.{ltb-false, ltb-true, lt-ltb, le-ltb, cases_eq}
-use Rattle.first_faults.specs.First.{IsLeastGiving}
-use Rattle.first_faults.proofs.FirstLemmas.{then_some-none, then_some-false, first_below-none_at, first_below-none_from}
-use Rattle.first_faults.proofs.FirstLemmas.{first_below-some_iff}
+use Rattle.gix_chunk_core.specs.FirstFault.{IsLeastGiving}
+use Rattle.gix_chunk_core.proofs.FirstFaultLemmas.{then_some-none, then_some-false, first_below-none_at, first_below-none_from}
+use Rattle.gix_chunk_core.proofs.FirstFaultLemmas.{first_below-some_iff}
 use Rattle.graph_format.specs.FormatLaws.{FallsFirstAt, NamesFirstFall}
 use Rattle.graph_format.specs.Refusal.{fall_after, falling_refusal}
 use Rattle.graph_format.specs.declared.error.FileError.{FileError}

@@ -4,10 +4,10 @@ use Rattle.std.proofs.Common.{unwrap_or, ap, ◌∙◌, arith}
 use Rattle.std.specs.Int.{w32, from_be_bytes}
 use Rattle.std.specs.Bool.{then_some}
 use Rattle.std.proofs.lemmas.Bool.{lt-ltb}
-use Rattle.first_faults.specs.First.{first_below}
+use Rattle.gix_chunk_core.specs.FirstFault.{first_below}
 use Rattle.graph_format.specs.Refusal.{fall_after, falling_refusal}
 use Rattle.graph_format.specs.declared.error.FileError.TheVariants.{FanFalls}
-use Rattle.first_faults.proofs.FirstLemmas.{first_below-none, first_below-none_more, first_below-found}
+use Rattle.gix_chunk_core.proofs.FirstFaultLemmas.{first_below-none, first_below-none_more, first_below-found}
 use Rattle.graph_format.specs.Format.{words, fan_of, fan_id}
 use Rattle.graph_format.specs.ChunkRanges.{IsChunkAt}
 use Rattle.graph_format.specs.declared.chunks.ChunkRange.{ChunkRange}

@@ -6,7 +6,7 @@ use Rattle.std.specs.Prelude.{min}
 use Rattle.std.proofs.lemmas.Bool.{cases_lt}
 use Rattle.std.proofs.Common.{length-take, length-drop}
 use Rattle.std.proofs.lemmas.List.{take-take}
-use Rattle.first_faults.specs.First.{◌otherwise◌}
+use Rattle.gix_chunk_core.specs.FirstFault.{◌otherwise◌}
 use Rattle.gix_chunk_core.specs.Table.{Table, table_at, range_of}
 use Rattle.gix_chunk_core.specs.FirstBytes.{filled}
 use Rattle.gix_chunk_core.proofs.HeadLemmas.{filled-len, filled-index, filled-take, filled-range}

@@ -1,35 +1,25 @@
 -- The history of a layer by the records of its commits.
-use Rattle.std.proofs.Common.{◌≡◌, ℕ, ◌*◌, ◌/◌, ◌<◌, List, map, length, Option, Some, None, IsSomeAnd, slice_get, sym, ap, ◌∙◌}
+use Rattle.std.proofs.Common.{◌≡◌, ℕ, ◌*◌, ◌<◌, List, map, length, Option, Some, None, IsSomeAnd, slice_get, sym, ap, ◌∙◌}
 use Rattle.std.proofs.Common.{arith}
 use Rattle.std.specs.Option.{option_map}
-use Rattle.std.proofs.Math.Nat.{mul-div_cancel_left}
 use Rattle.std.proofs.lemmas.List.{length-map}
 use Rattle.std.proofs.lemmas.Option.{slice_get-get_or, unwrap_or-slice_get, slice_get-map}
 use Rattle.gix_hash_core.specs.declared.kind.Kind.{Kind}
-use Rattle.gix_hash_core.specs.declared.kind.Kind.TheVariants.{Sha1, Sha256}
 use Rattle.gix_hash_core.specs.Kind.{id_len}
 use Rattle.graph_format.specs.Format.{Record, record_of, record_len, pieces}
 use Rattle.graph_format.specs.Layer.{Layer, no_record, record_at}
 use Rattle.graph_format.specs.Layer.{IsOpened}
 use Rattle.graph_format.specs.StoredHistory.{node_of, layer_history}
-use Rattle.graph_format.proofs.PieceLemmas.{length-pieces}
+use Rattle.graph_format.proofs.PieceLemmas.{id_len-positive, length-pieces_of}
 
 -- a layer has one record for each id
 abbrev pub IsPaired : Layer → Type 0
 IsPaired layer = length layer.records ≡ length layer.ids
 
--- bytes of so many pieces
-many : (n c : ℕ) (bytes : List ℕ) → 0 < n → length bytes ≡ n * c → length (pieces n bytes) ≡ c
-many n c bytes positive long = length-pieces n bytes ∙ ap (λ (k : ℕ). k / n) long ∙ mul-div_cancel_left c positive
-
-positive : (kind : Kind) → 0 < id_len kind
-positive Sha1 = omega arith
-positive Sha256 = omega arith
-
 many_ids : (kind : Kind) (c : ℕ) (o : Option (List ℕ)) (ids : List (List ℕ))
     → IsSomeAnd o (λ chunk. (length chunk ≡ id_len kind * c) × (ids ≡ pieces (id_len kind) chunk)) → length ids ≡ c
 many_ids kind c None ids h = absurd h
-many_ids kind c (Some chunk) ids h = ap length h.1 ∙ many (id_len kind) c chunk (positive kind) h.0
+many_ids kind c (Some chunk) ids h = ap length h.1 ∙ length-pieces_of (id_len kind) c chunk (id_len-positive kind) h.0
 
 many_records : (kind : Kind) (c : ℕ) (o : Option (List ℕ)) (records : List Record)
     → IsSomeAnd o (λ chunk. (length chunk ≡ record_len kind * c)
@@ -37,7 +27,7 @@ many_records : (kind : Kind) (c : ℕ) (o : Option (List ℕ)) (records : List R
 many_records kind c None records h = absurd h
 many_records kind c (Some chunk) records h =
     ap length h.1 ∙ length-map (pieces (record_len kind) chunk) (record_of kind)
-    ∙ many (record_len kind) c chunk (omega (arith, positive kind)) h.0
+    ∙ length-pieces_of (record_len kind) c chunk (omega (arith, id_len-positive kind)) h.0
 
 -- an opened layer is paired
 pub opened_is_paired : (layer : Layer) → IsOpened layer → IsPaired layer

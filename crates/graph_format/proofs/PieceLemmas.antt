@@ -1,13 +1,21 @@
--- laws of the pieces of a list of bytes
+-- laws of the pieces of a list of bytes, and that those of ids are not empty
 use Rattle.std.proofs.Common.{◌≡◌, ℕ, zero, suc, ◌+◌, ◌-◌, ◌*◌, ◌/◌, ◌<◌, ◌≤◌, List, length, take, drop, Some, map, slice_range}
 use Rattle.std.proofs.Common.{slice_index, slice_get, sym, ap, ◌∙◌, arith, add-zero, length-take, length-drop}
 use Rattle.std.specs.Int.{w32, from_be_bytes}
 use Rattle.std.specs.List.{range_with_len}
+use Rattle.std.proofs.Math.Nat.{mul-div_cancel_left}
 use Rattle.std.proofs.lemmas.List.{take-take, drop-drop, drop-take}
 use Rattle.std.proofs.lemmas.Slice.{between_is}
 use Rattle.std.proofs.lemmas.Simd.{map-map}
 use Rattle.std.proofs.lemmas.List.FromFn.{get_or-map-range_with_len, length-map-range_with_len}
+use Rattle.gix_hash_core.specs.declared.kind.Kind.{Kind}
+use Rattle.gix_hash_core.specs.declared.kind.Kind.TheVariants.{Sha1, Sha256}
+use Rattle.gix_hash_core.specs.Kind.{id_len}
 use Rattle.graph_format.specs.Format.{pieces, words}
+
+pub id_len-positive : (kind : Kind) → 0 < id_len kind
+id_len-positive Sha1 = omega arith
+id_len-positive Sha256 = omega arith
 
 -- how many bytes a part has
 pub length-slice_range : (xs : List ℕ) (i j : ℕ) → j ≤ length xs → length (slice_range xs i j) ≡ j - i
@@ -40,6 +48,12 @@ pub length-pieces : (size : ℕ) (bytes : List ℕ) → length (pieces size byte
 unfolding pieces
 length-pieces size bytes =
     length-map-range_with_len (λ (k : ℕ). slice_range bytes (size * k) (size * k + size)) 0 (length bytes / size)
+
+-- bytes of so many pieces
+pub length-pieces_of : (size count : ℕ) (bytes : List ℕ) → 0 < size → length bytes ≡ size * count
+    → length (pieces size bytes) ≡ count
+length-pieces_of size count bytes positive long =
+    length-pieces size bytes ∙ ap (λ (n : ℕ). n / size) long ∙ mul-div_cancel_left count positive
 
 -- a number of a list of numbers of four bytes
 pub words-at : (bytes : List ℕ) (i : ℕ) → i < length bytes / 4

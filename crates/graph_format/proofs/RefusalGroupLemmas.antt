@@ -1,7 +1,7 @@
 -- the list of conditions is what the groups say, in their order
 use Rattle.std.proofs.Common.{◌≡◌, List, ℕ, Option, Some, None, refl, ◌∙◌}
 use Rattle.std.specs.Option.{option_or}
-use Rattle.first_faults.specs.First.{◌otherwise◌}
+use Rattle.gix_chunk_core.specs.FirstFault.{◌otherwise◌}
 use Rattle.graph_format.specs.Format.{fan_of, kind_in}
 use Rattle.graph_format.specs.Refusal.{refusal, falling_refusal}
 use Rattle.graph_format.specs.RefusalGroups.{header_refusal, bases_refusal, records_refusal, fan_refusal, ids_refusal}

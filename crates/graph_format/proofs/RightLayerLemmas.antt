@@ -3,9 +3,9 @@ use Rattle.std.proofs.Common.{◌≡◌, not, None, ap}
 use Rattle.std.specs.Prelude.{◌↔◌}
 use Rattle.std.proofs.lemmas.Bool.{not-false, eqb-true, eq-eqb}
 use Rattle.std.proofs.lemmas.Slice.Eq.{bytes_eq-Decides}
-use Rattle.first_faults.specs.First.{first_below}
-use Rattle.first_faults.proofs.FirstLemmas.{option_or-none, then_some-false, first_below-none_at, first_below-none_from}
-use Rattle.first_faults.proofs.FirstLemmas.{otherwise-none, when-none}
+use Rattle.gix_chunk_core.specs.FirstFault.{first_below}
+use Rattle.gix_chunk_core.proofs.FirstFaultLemmas.{option_or-none, then_some-false, first_below-none_at, first_below-none_from}
+use Rattle.gix_chunk_core.proofs.FirstFaultLemmas.{otherwise-none, when-none}
 use Rattle.gix_hash_core.specs.Digest.{digest_of}
 use Rattle.graph_format.specs.Layer.{Layer}
 use Rattle.graph_format.specs.Order.{IsExactFan}

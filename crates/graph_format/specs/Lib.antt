@@ -12,7 +12,7 @@ pub mod ChunkRanges
 pub mod Layout
 pub mod Outline
 pub mod DecodedRecords
-pub mod Numbers
+pub mod Integers
 pub mod ErrorNumbers
 pub mod Opened
 pub mod Parents

@@ -2,7 +2,7 @@
 -- format, "HEADER", "CHUNK LOOKUP", "CHUNK DATA" and "TRAILER".)
 use Rattle.std.specs.Prelude.{ℕ, ◌+◌, ◌-◌, ◌/◌, ◌%◌, Bool, false, not, ◌&&◌, List, length, take, slice_index, Option, Some, None}
 use Rattle.std.specs.Prelude.{option_map, is_none, nat_lt, ◌==◌, bytes_eq}
-use Rattle.first_faults.specs.First.{◌when◌, ◌otherwise◌, first_below}
+use Rattle.gix_chunk_core.specs.FirstFault.{◌when◌, ◌otherwise◌, first_below}
 use Rattle.gix_chunk_core.specs.Fault.{table_fault}
 use Rattle.gix_hash_core.specs.Kind.{id_len, kind_of}
 use Rattle.graph_format.specs.Format.{record_len, signature, least_size, table_of, chunk_of, fan_of, commits_of, kind_in, fan_id}

@@ -2,7 +2,7 @@
 -- `Refusal` is what the groups say, in their order.
 use Rattle.std.specs.Prelude.{ℕ, ◌-◌, not, ◌&&◌, List, length, take, slice_index, Option, option_map, is_none, nat_lt, ◌==◌}
 use Rattle.std.specs.Prelude.{bytes_eq}
-use Rattle.first_faults.specs.First.{◌when◌, ◌otherwise◌}
+use Rattle.gix_chunk_core.specs.FirstFault.{◌when◌, ◌otherwise◌}
 use Rattle.gix_chunk_core.specs.Fault.{table_fault}
 use Rattle.gix_hash_core.specs.declared.kind.Kind.{Kind}
 use Rattle.gix_hash_core.specs.Kind.{id_len, kind_of}

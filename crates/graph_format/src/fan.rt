@@ -9,7 +9,7 @@ ghost use Rattle.graph_format.specs.ChunkRanges.{IsChunkAt};
 
 use crate::chunks::ChunkRange;
 use crate::error::FileError;
-use crate::numbers::word_at;
+use crate::integers::word_at;
 
 /// The number at a place of the fan.
 #[tactic(auto, using(gix_chunk_core::proofs::HeadLemmas::whole_laws))]

@@ -15,9 +15,9 @@ pub mod fan;
 pub mod fault;
 pub mod file;
 mod header;
+pub mod integers;
 pub mod law;
 pub mod layout;
-pub mod numbers;
 pub mod parents;
 pub mod records;
 

@@ -8,8 +8,8 @@ ghost use Rattle.graph_format.specs.DecodedRecords.{AreDecoded};
 ghost use Rattle.graph_format.specs.Layout.{IsLayout};
 
 use crate::chunks::record_len;
+use crate::integers::{long_at, word_at};
 use crate::layout::Layout;
-use crate::numbers::{long_at, word_at};
 use gix_hash_core::Kind;
 use std::alloc::{AllocError, Global};
 

@@ -79,7 +79,7 @@ pub view-sized_id : (bytes path : List ℕ) (layout : Layout) (layer : Layer) (i
     → slice_get layer.ids i
     ≡ Some (slice_range bytes (layout.chunks.ids.start + size * i) (layout.chunks.ids.start + size * i + size))
 view-sized_id bytes path layout layer i size kept view k e =
-    view-id bytes path layout layer i kept view k
+    view-id bytes path layout layer kept view i k
     ∙ ap (λ (n : ℕ). Some (slice_range bytes (layout.chunks.ids.start + n * i) (layout.chunks.ids.start + n * i + n))) (sym e)
 
 pub view-sized_id-fits : (bytes path : List ℕ) (layout : Layout) (layer : Layer) (i size : ℕ) → IsLayout bytes layout
@@ -88,7 +88,7 @@ pub view-sized_id-fits : (bytes path : List ℕ) (layout : Layout) (layer : Laye
 view-sized_id-fits bytes path layout layer i size kept view k e =
     let same : id_len layer.kind ≡ size = sym e in
     let P : ℕ → Type 0 = λ n. layout.chunks.ids.start + n * i + n ≤ length bytes in
-    subst P same (view-id-fits bytes path layout layer i kept view k)
+    subst P same (view-id-fits bytes path layout layer kept view i k)
 
 -- no id of the layer has another length than its kind says
 pub view-other_len : (bytes path : List ℕ) (layout : Layout) (layer : Layer) (id : List ℕ) → IsLayout bytes layout

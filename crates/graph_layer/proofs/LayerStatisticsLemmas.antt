@@ -15,8 +15,8 @@ use Rattle.graph_format.specs.Parents.{parents_of}
 use Rattle.graph_format.specs.Layer.{IsOpened}
 use Rattle.graph_layer.specs.Traverse.{SummarizesLayer, FileStats}
 use Rattle.graph_layer.specs.declared.file.verify.Outcome.{Outcome}
-use Rattle.graph_layer.specs.declared.file.verify.tally.Tally.{Tally}
-use Rattle.graph_layer.specs.LayerTallies.{LayerTallies}
+use Rattle.graph_layer.specs.declared.file.verify.statistics.Statistics.{Statistics}
+use Rattle.graph_layer.specs.LayerStatistics.{AreLayerStatistics}
 use Rattle.graph_layer.specs.ParentCounts.{counted}
 use Rattle.graph_format.proofs.LayerHistoryLemmas.{opened_is_paired, length-layer_history}
 
@@ -69,13 +69,13 @@ count_of-other numbers n k apart =
     ap above_zero (count-more numbers n k ∙ rw test (omega arith))
 
 -- The statistics with one more commit, of this generation number and with so many parents.
-pub record IsMore (generation parents : ℕ) (before tally : Tally) : Type 0 where
-  pub max_generation : tally.max_generation ≡ max before.max_generation generation
-  pub first : before.num_commits ≡ 0 → tally.min_generation ≡ generation
-  pub later : 0 < before.num_commits → tally.min_generation ≡ min before.min_generation generation
-  pub max_parents : tally.max_parents ≡ max before.max_parents parents
-  pub num_commits : tally.num_commits ≡ before.num_commits + 1
-  pub parent_counts : (k : ℕ) → counted tally.parent_counts k
+pub record IsMore (generation parents : ℕ) (before after : Statistics) : Type 0 where
+  pub max_generation : after.max_generation ≡ max before.max_generation generation
+  pub first : before.num_commits ≡ 0 → after.min_generation ≡ generation
+  pub later : 0 < before.num_commits → after.min_generation ≡ min before.min_generation generation
+  pub max_parents : after.max_parents ≡ max before.max_parents parents
+  pub num_commits : after.num_commits ≡ before.num_commits + 1
+  pub parent_counts : (k : ℕ) → counted after.parent_counts k
       ≡ (if k == parents then Some (unwrap_or (counted before.parent_counts parents) 0 + 1) else counted before.parent_counts k)
 
 module _ (layer : Layer) (n : ℕ) (inside : n < length layer.records) where
@@ -106,9 +106,10 @@ module _ (layer : Layer) (n : ℕ) (inside : n < length layer.records) where
   count_generations : length (generations before_it) ≡ n
   count_generations = length-map before_it (λ node. node.generation) ∙ counted_before
 
-  summarized : (before tally : Tally) → LayerTallies before_it before → IsMore (record_at layer n).generation parents before tally
-      → LayerTallies (take (n + 1) (layer_history layer)) tally
-  summarized before tally summary more =
+  summarized : (before after : Statistics) → AreLayerStatistics before_it before
+      → IsMore (record_at layer n).generation parents before after
+      → AreLayerStatistics (take (n + 1) (layer_history layer)) after
+  summarized before after summary more =
       let generation = (record_at layer n).generation in
       record {
         max_generation = more.max_generation ∙ ap (λ m. max m generation) summary.max_generation
@@ -141,13 +142,14 @@ module _ (layer : Layer) (n : ℕ) (inside : n < length layer.records) where
       }
 
   -- the statistics with one more commit
-  pub Tallies-more : (before tally : Tally) (count : ℕ) → count ≡ length (parents_of (record_at layer n) layer.edges).positions
-      → LayerTallies before_it before → IsMore (record_at layer n).generation count before tally
-      → LayerTallies (take (n + 1) (layer_history layer)) tally
-  Tallies-more before tally count is summary more =
+  pub statistics-more : (before after : Statistics) (count : ℕ)
+      → count ≡ length (parents_of (record_at layer n) layer.edges).positions
+      → AreLayerStatistics before_it before → IsMore (record_at layer n).generation count before after
+      → AreLayerStatistics (take (n + 1) (layer_history layer)) after
+  statistics-more before after count is summary more =
       let positions = (parents_of (record_at layer n) layer.edges).positions in
       let counted : count ≡ parents = is ∙ sym (length-map positions (λ pos. pos.0)) in
-      summarized before tally summary (subst (λ (m : ℕ). IsMore (record_at layer n).generation m before tally) counted more)
+      summarized before after summary (subst (λ (m : ℕ). IsMore (record_at layer n).generation m before after) counted more)
 
 -- with each commit of an opened layer, the statistics are those of the layer
 pub stats_of_all : (layer : Layer) (n : ℕ) (outcome : Outcome) → IsOpened layer → n ≡ length layer.ids

@@ -5,7 +5,7 @@ pub mod FileViewLemmas
 pub mod ElementLemmas
 pub mod BucketLemmas
 pub mod AscendingIdLemmas
-pub mod SearchLemmas
+pub mod LookupLemmas
 pub mod IdOrderLemmas
 pub mod NameTestLemmas
 pub mod FirstByteLemmas
@@ -18,4 +18,4 @@ pub mod EdgeListLemmas
 pub mod LayerStatisticsLemmas
 pub mod TraverseLemmas
 pub mod LayerCallLemmas
-pub mod LayerTallyLemmas
+pub mod LayerCountLemmas

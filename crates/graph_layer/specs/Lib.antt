@@ -28,5 +28,5 @@ pub mod OpenRefusals
 pub mod OpenAnswer
 pub mod LayerOpening
 pub mod ParentCounts
-pub mod LayerTallies
+pub mod LayerStatistics
 pub mod ListedParents

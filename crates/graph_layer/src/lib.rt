@@ -2,8 +2,9 @@
 //! it by itself.
 #![tactic(auto)]
 
-pub mod check;
 pub mod counts;
+pub mod faults;
+pub mod fields;
 pub mod file;
 pub mod law;
 pub mod opening;

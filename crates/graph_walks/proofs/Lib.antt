@@ -1,5 +1,5 @@
 pub mod GreatestLemmas
 pub mod WalkPathLemmas
 pub mod WalkLemmas
-pub mod TallyLemmas
+pub mod CountLemmas
 pub mod DateLemmas

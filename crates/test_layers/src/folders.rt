@@ -1,6 +1,6 @@
 use crate::fixtures::compare_text;
-use graph_folder::chain::Lines;
 use graph_folder::folder::{Disk, Folder, Memory, ReadError, read_all};
+use graph_folder::lines::Lines;
 use std::alloc::Global;
 use std::io::{ErrorKind, Read};
 use std::process::Abort;

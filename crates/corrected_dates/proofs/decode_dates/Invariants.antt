@@ -1,5 +1,5 @@
 use Rattle.std.proofs.Common.{◌≡◌, ◌<◌, ◌^◌, ◌++◌, All, None}
-use Rattle.first_faults.specs.First.{first_below}
+use Rattle.gix_chunk_core.specs.FirstFault.{first_below}
 use Rattle.corrected_dates.specs.StoredDates.{date_fault}
 use Rattle.corrected_dates.proofs.DecodingLemmas.{dates_below}
 use Rattle.corrected_dates.proofs.decode_dates.Given as goal

@@ -3,7 +3,7 @@ use Rattle.std.proofs.Common.{◌≡◌, ℕ, List, [], Bool, true, not, ◌==�
 use Rattle.std.proofs.Common.{slice_get, refl, sym, ap, ◌∙◌}
 use Rattle.std.proofs.lemmas.Bool.{eq-eqb}
 use Rattle.std.proofs.lemmas.Option.{slice_get-map}
-use Rattle.first_faults.specs.First.{◌when◌, first_below}
+use Rattle.gix_chunk_core.specs.FirstFault.{◌when◌, first_below}
 use Rattle.graph_format.specs.Layer.{Layer}
 use Rattle.gix_commitgraph.specs.Verify.{base_at, checksum_at, base_refusal, base_ids_refusal}
 use Rattle.gix_commitgraph.specs.declared.verify.VerifyError.{VerifyError}

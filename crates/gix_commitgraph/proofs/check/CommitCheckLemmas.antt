@@ -1,7 +1,7 @@
 -- How the check of a graph goes over the points of one commit.
 use Rattle.std.proofs.Common.{◌≡◌, ℕ, ◌+◌, Bool, true, false, not, ◌==◌, if◌then◌else◌, List, [], ◌∷◌, map, take, min, Option}
 use Rattle.std.proofs.Common.{Some, None, option_map, Result, Ok, Err, nat_lt, eq-eqb, ne_eqb, refl, sym, ap, subst, ◌∙◌, arith}
-use Rattle.first_faults.specs.First.{◌when◌, ◌otherwise◌}
+use Rattle.gix_chunk_core.specs.FirstFault.{◌when◌, ◌otherwise◌}
 use Rattle.graph_format.specs.Layer.{Layer, record_at}
 use Rattle.graph_layer.specs.Commit.{commit_pos}
 use Rattle.graph_format.specs.Parents.{position_of, items_of, parents_of}

@@ -4,7 +4,7 @@ use Rattle.std.proofs.Common.{Option, Some, None, Result, Ok, Err, refl, subst}
 use Rattle.std.specs.Prelude.{IfSome, IsTrue, option_map, ⊤}
 use Rattle.std.specs.List.{flat_map, range_with_len, enumerate_from}
 use Rattle.std.specs.Option.{option_or}
-use Rattle.first_faults.specs.First.{◌when◌, first_below}
+use Rattle.gix_chunk_core.specs.FirstFault.{◌when◌, first_below}
 use Rattle.graph_format.specs.Faults.{layer_fault}
 use Rattle.graph_format.specs.Layer.{Layer}
 use Rattle.graph_format.specs.Parents.{position_of}

@@ -6,7 +6,7 @@ use Rattle.std.specs.Fn.{Mut}
 use Rattle.std.proofs.lemmas.Bool.{le-ltb}
 use Rattle.std.proofs.lemmas.List.{drop_all}
 use denote.Ref.{Bor}
-use Rattle.first_faults.specs.First.{◌when◌}
+use Rattle.gix_chunk_core.specs.FirstFault.{◌when◌}
 use Rattle.graph_format.specs.Layer.{Layer}
 use Rattle.graph_layer.specs.Called.{CalledOn}
 use Rattle.gix_commitgraph.specs.InGraph.{InGraph}

@@ -5,8 +5,8 @@ use Rattle.std.specs.List.{flat_map, range_with_len}
 use Rattle.std.specs.Fn.{Mut}
 use Rattle.std.proofs.lemmas.Bool.{cases_lt}
 use denote.Ref.{Bor}
-use Rattle.first_faults.specs.First.{◌when◌, ◌otherwise◌, first_below}
-use Rattle.first_faults.proofs.FirstLemmas.{first_below-least}
+use Rattle.gix_chunk_core.specs.FirstFault.{◌when◌, ◌otherwise◌, first_below}
+use Rattle.gix_chunk_core.proofs.FirstFaultLemmas.{first_below-least}
 use Rattle.graph_format.specs.Layer.{Layer}
 use Rattle.graph_layer.specs.Commit.{commit_pos, layer_and_position}
 use Rattle.graph_format.specs.Layer.{positions_from}

@@ -9,7 +9,7 @@ use Rattle.graph_format.specs.Layer.{Layer}
 use Rattle.graph_format.specs.Layer.{IsOpened}
 use Rattle.graph_format.specs.StoredHistory.{history_of}
 use Rattle.graph_walks.specs.History.{parent_numbers}
-use Rattle.graph_walks.proofs.TallyLemmas.{tallied}
+use Rattle.graph_walks.proofs.CountLemmas.{counts_add_up}
 use Rattle.gix_commitgraph.specs.Headline.{Stats}
 use Rattle.gix_commitgraph.specs.declared.verify.Outcome as verify
 use Rattle.gix_commitgraph.proofs.history.HistoryLemmas.{length-history}
@@ -19,7 +19,7 @@ pub graph_tallied : (layers : List Layer) (outcome : verify.Outcome) → tree.Is
     → All IsOpened layers → Stats layers outcome → sum (tree.values outcome.parent_counts) ≡ outcome.num_commits
 graph_tallied layers outcome ordered opened stats =
     let history = history_of layers in
-    tallied (eq_by_cmp nat_cmp) unsigned_tied outcome.parent_counts.entries (parent_numbers history)
+    counts_add_up (eq_by_cmp nat_cmp) unsigned_tied outcome.parent_counts.entries (parent_numbers history)
     (IsDistinct-from_sorted nat_cmp (tree.keys outcome.parent_counts) ordered) stats.parent_counts
     ∙ length-map history (λ node. length node.parents)
     ∙ length-history layers opened

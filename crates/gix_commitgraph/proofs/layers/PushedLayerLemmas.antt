@@ -5,8 +5,8 @@ use Rattle.std.proofs.lemmas.Bool.{lt-ltb, le-ltb, ne_eqb}
 use Rattle.std.proofs.lemmas.List.{get_or_push, length_push}
 use Rattle.std.proofs.lemmas.Option.{slice_get-get_or, slice_get_read}
 use denote.Enum.Bare.{sameb}
-use Rattle.first_faults.specs.First.{first_below, ◌when◌}
-use Rattle.first_faults.proofs.FirstLemmas.{first_below-next, first_below-none_from}
+use Rattle.gix_chunk_core.specs.FirstFault.{first_below, ◌when◌}
+use Rattle.gix_chunk_core.proofs.FirstFaultLemmas.{first_below-next, first_below-none_from}
 use Rattle.gix_hash_core.specs.declared.kind.Kind.{Kind}
 use Rattle.gix_hash_core.specs.declared.kind.Kind.TheVariants.{Sha1, Sha256}
 use Rattle.gix_hash_core.specs.contracts.kind.Kind.{the_type}

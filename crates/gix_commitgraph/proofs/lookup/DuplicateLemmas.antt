@@ -4,7 +4,7 @@ use Rattle.std.proofs.Common.{slice_get, Option, Some, None, option_map, refl, s
 use Rattle.std.specs.Prelude.{◌↔◌}
 use Rattle.std.proofs.lemmas.List.{take-take, length-take-le, get_or-take}
 use Rattle.std.proofs.lemmas.Option.{slice_get-get_or, get_or_from_slice_get}
-use Rattle.first_faults.specs.First.{◌otherwise◌}
+use Rattle.gix_chunk_core.specs.FirstFault.{◌otherwise◌}
 use Rattle.graph_format.specs.Layer.{Layer}
 use Rattle.graph_format.specs.Faults.{id_at, id_fault, tree_fault, commit_fault}
 use Rattle.graph_format.specs.Lookup.{Found, scan}

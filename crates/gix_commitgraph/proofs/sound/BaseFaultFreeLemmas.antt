@@ -6,8 +6,8 @@ use Rattle.std.proofs.lemmas.Bool.{not-false, eqb-true, eq-eqb}
 use Rattle.std.proofs.lemmas.List.{length-map, length-take-le, get_or_default, get_or-take, take-map, same_lists}
 use Rattle.std.proofs.lemmas.Option.{slice_get_within, unwrap_or-slice_get}
 use Rattle.std.proofs.lemmas.Slice.Eq.{bytes_eq-Decides}
-use Rattle.first_faults.proofs.FirstLemmas.{option_or-none, then_some-false, first_below-none_at, first_below-none_from}
-use Rattle.first_faults.proofs.FirstLemmas.{otherwise-none, when-none}
+use Rattle.gix_chunk_core.proofs.FirstFaultLemmas.{option_or-none, then_some-false, first_below-none_at, first_below-none_from}
+use Rattle.gix_chunk_core.proofs.FirstFaultLemmas.{otherwise-none, when-none}
 use Rattle.graph_format.specs.Layer.{Layer}
 use Rattle.gix_commitgraph.specs.Verify.{base_at, checksum_at, base_refusal, base_ids_refusal}
 

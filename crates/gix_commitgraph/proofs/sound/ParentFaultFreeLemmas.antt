@@ -5,7 +5,7 @@ use Rattle.std.specs.Prelude.{◌↔◌}
 use Rattle.std.proofs.lemmas.Bool.{not-false, ltb-true, lt-ltb, eqb-true, eq-eqb}
 use Rattle.std.proofs.lemmas.List.{get_or_default}
 use Rattle.std.proofs.lemmas.List.Elements.{All-nil, All-cons, All-head, All-tail}
-use Rattle.first_faults.proofs.FirstLemmas.{then_some-false, when-none}
+use Rattle.gix_chunk_core.proofs.FirstFaultLemmas.{then_some-false, when-none}
 use Rattle.graph_format.specs.Format.{Record}
 use Rattle.graph_format.specs.Layer.{Layer, IsOpened, no_record}
 use Rattle.graph_format.specs.Parents.{parents_of, fault_items}

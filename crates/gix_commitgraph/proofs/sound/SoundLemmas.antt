@@ -5,7 +5,7 @@ use Rattle.std.specs.Prelude.{◌↔◌, IsTrue}
 use Rattle.std.proofs.lemmas.Bool.{ltb-false, le-ltb}
 use Rattle.std.proofs.lemmas.List.Elements.{All-weaker}
 use Rattle.std.proofs.lemmas.Option.{none-some, slice_get-get_or}
-use Rattle.first_faults.proofs.FirstLemmas.{then_some-false, when-none}
+use Rattle.gix_chunk_core.proofs.FirstFaultLemmas.{then_some-false, when-none}
 use Rattle.graph_format.specs.Layer.{Layer}
 use Rattle.gix_commitgraph.specs.Graph.{graph_ids, start}
 use Rattle.graph_format.specs.Layer.{IsOpened}

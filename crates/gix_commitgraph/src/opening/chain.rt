@@ -19,8 +19,8 @@ use crate::graph::Graph;
 use crate::opening::OpenError;
 use crate::opening::graph::new_graph;
 use crate::opening::path::{join, layer_path};
-use graph_folder::chain::Lines;
 use graph_folder::folder::Folder;
+use graph_folder::lines::Lines;
 use graph_layer::opening::{open_layer, read_file};
 use std::alloc::{AllocError, Global};
 

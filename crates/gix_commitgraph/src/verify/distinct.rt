@@ -14,7 +14,7 @@ use crate::Position;
 use crate::graph::Graph;
 use crate::verify::VerifyOptions;
 use gix_hash_core::oid;
-use graph_layer::check::id_fault;
+use graph_layer::faults::id_fault;
 use std::alloc::{AllocError, Global};
 
 /// The id of a commit, and the commit's position in the graph.

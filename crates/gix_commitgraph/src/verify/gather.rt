@@ -14,7 +14,7 @@ use crate::verify::lists::{ListedTally, NO_PARENTS};
 use crate::verify::parents::ParentTally;
 use crate::verify::span::LayerSpan;
 use graph_format::parents::NO_PARENT;
-use graph_layer::check::{generations, parent_edges, parent_fields};
+use graph_layer::fields::{generations, parent_edges, parent_fields};
 
 /// For how many commits parents are gathered at a time.
 const BLOCK: usize = 256;

@@ -10,7 +10,7 @@ use crate::graph::Graph;
 use crate::verify::span::LayerSpan;
 use crate::verify::{VerifyError, VerifyOptions};
 use gix_hash_core::oid;
-use graph_layer::check::{id_fault, tree_fault};
+use graph_layer::faults::{id_fault, tree_fault};
 
 impl Graph {
     ghost use Rattle.graph_format.specs.Lookup.{scan};

@@ -10,7 +10,8 @@ use crate::verify::gather::NOTHING;
 use crate::verify::span::LayerSpan;
 use crate::verify::tally::Tally;
 use crate::verify::{VerifyError, VerifyOptions};
-use graph_layer::check::{base_id_at, layer_fault};
+use graph_layer::faults::layer_fault;
+use graph_layer::fields::base_id_at;
 use std::alloc::Global;
 
 impl Graph {

@@ -9,7 +9,7 @@ use crate::file::commit::ExtraEdge;
 use crate::graph::Graph;
 use crate::verify::parents::ParentTally;
 use crate::verify::span::LayerSpan;
-use graph_layer::check::extra_edges;
+use graph_layer::fields::extra_edges;
 use std::alloc::{AllocError, Global};
 use std::marker::Model;
 

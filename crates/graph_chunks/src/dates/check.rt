@@ -2,7 +2,7 @@
 
 ghost use Rattle.std.specs.Prelude.{◌≡◌, ◌+◌, ◌<◌, ◌^◌, ℕ, None, Some, IfOk, IfErr, length};
 ghost use Rattle.std.specs.Prelude.{max};
-ghost use Rattle.first_faults.specs.First.{first_below};
+ghost use Rattle.gix_chunk_core.specs.FirstFault.{first_below};
 ghost use Rattle.graph_format.specs.StoredHistory.{history_of};
 ghost use Rattle.graph_walks.specs.Dates.{number_at, AreRight};
 ghost use Rattle.graph_layer.specs.Commit.{commit_layer, commit_record, commit_parents};

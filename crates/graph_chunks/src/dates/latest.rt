@@ -13,7 +13,7 @@ ghost use Rattle.graph_chunks.specs.Latest.{latest_of, AreLatest, words_in, HasR
 use gix_commitgraph::file::commit::{ExtraEdge, ParentEdge};
 use gix_commitgraph::file::{Commit, File};
 use gix_commitgraph::{Graph, Position};
-use graph_layer::check::{extra_edges, parent_edges};
+use graph_layer::fields::{extra_edges, parent_edges};
 use std::alloc::{AllocError, Global};
 
 /// The date of the commit at a position, 0 past the last one.

@@ -4,7 +4,7 @@ ghost use Rattle.std.specs.Prelude.{◌≡◌, ◌+◌, ◌<◌, ◌^◌, ◌++�
 ghost use Rattle.std.specs.Bool.{OnTrue, OnFalse};
 ghost use Rattle.std.specs.Prelude.{IfOk, IfErr, IfSome};
 ghost use Rattle.corrected_dates.specs.StoredDates.{NamesOneOf};
-ghost use Rattle.first_faults.specs.First.{first_below};
+ghost use Rattle.gix_chunk_core.specs.FirstFault.{first_below};
 ghost use Rattle.graph_chunks.specs.GraphStoredDates.{HasDates, dates_in, dates_of, layer_refusal};
 ghost use Rattle.graph_chunks.specs.GraphStoredDates.{offsets_in, overflow_in};
 ghost use Rattle.graph_chunks.specs.GraphDates.{in_graph, reading_fault, AreReadable, MayNotRead};
@@ -13,7 +13,7 @@ use crate::dates::DatesError;
 use corrected_dates::{LayerDatesError, decode_dates, refusal_of};
 use gix_commitgraph::file::File;
 use gix_commitgraph::{Graph, Position};
-use graph_layer::check::times;
+use graph_layer::fields::times;
 use std::alloc::Global;
 
 /// The chunk of the section "Generation Data".

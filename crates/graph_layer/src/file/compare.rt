@@ -4,7 +4,7 @@ ghost use Rattle.std.specs.Prelude.{◌≡◌, ℕ, ◌<◌, ◌≤◌, length, 
 ghost use Rattle.std.specs.Ordering.{nat_cmp};
 ghost use Rattle.std.specs.Cmp.Lexicographic.{slice_cmp};
 
-use graph_format::numbers::long_at;
+use graph_format::integers::long_at;
 use std::cmp::Ordering;
 
 /// How two ids compare. Their first eight bytes, which hardly ever agree, are compared as numbers.

@@ -2,7 +2,7 @@
 
 ghost use Rattle.std.specs.Prelude.{◌≡◌, ◌==◌, ◌^◌, ◌<◌, ℕ, if◌then◌else◌, option_map, Some, None};
 ghost use Rattle.std.specs.Prelude.{count_by, slice_index, length};
-ghost use Rattle.first_faults.specs.First.{first_below};
+ghost use Rattle.gix_chunk_core.specs.FirstFault.{first_below};
 ghost use Rattle.gix_hash_core.specs.Hexadecimal.{spells_id};
 ghost use Rattle.gix_hash_core.specs.Oid.{oid_bytes};
 ghost use Rattle.graph_format.specs.NameRule.{is_name, name_of, is_chain_name, hash_text};

@@ -1,12 +1,12 @@
 //! Checks of what one layer says.
 
 mod lists;
-mod tally;
+mod statistics;
 
 ghost use Rattle.std.specs.Prelude.{◌≡◌, ◌≢◌, ◌<◌, ◌^◌, length, IfOk, MatchResult};
 ghost use Rattle.gix_hash_core.specs.Digest.{digest_of};
 
-use crate::file::verify::tally::Tally;
+use crate::file::verify::statistics::Statistics;
 use crate::file::{Commit, File, Position};
 use gix_hash_core::{ObjectId, digest};
 use graph_format::fault::{CommitFault, LayerFault};
@@ -218,12 +218,12 @@ impl File {
         }
         let commits = self.num_commits();
         let counts = self.count_lists(alloc)?;
-        let mut tally = Tally::new(alloc);
+        let mut statistics = Statistics::new(alloc);
         for number in 0..commits {
             let commit = self.commit_at(Position(number));
             let parents = commit.check(&counts, processor)?;
-            tally.add(&commit, parents)?;
+            statistics.add(&commit, parents)?;
         }
-        Ok(tally.outcome(alloc)?)
+        Ok(statistics.outcome(alloc)?)
     }
 }

@@ -1,5 +1,5 @@
 use Rattle.std.proofs.Common.{◌≡◌, None}
-use Rattle.first_faults.specs.First.{first_below}
+use Rattle.gix_chunk_core.specs.FirstFault.{first_below}
 use Rattle.gix_chunk_core.specs.FirstBytes.{filled}
 use Rattle.gix_chunk_core.specs.Fault.{entry_fault}
 use Rattle.gix_chunk_core.proofs.index.table_fault.Given as goal

@@ -1,8 +1,8 @@
 use Rattle.std.proofs.Common.{◌≡◌, ℕ, ◌+◌, ◌-◌, true, false, Some, length, slice_get, refl, sym, ap, ◌∙◌, arith}
-use Rattle.first_faults.specs.First.{first_below}
+use Rattle.gix_chunk_core.specs.FirstFault.{first_below}
 use Rattle.graph_format.specs.declared.error.GraphError.TheVariants.{HashMismatch}
 use Rattle.std.proofs.lemmas.Option.{slice_get_read}
-use Rattle.first_faults.proofs.FirstLemmas.{first_below-none, first_below-none_more, first_below-found}
+use Rattle.gix_chunk_core.proofs.FirstFaultLemmas.{first_below-none, first_below-none_more, first_below-found}
 use Rattle.gix_commitgraph.specs.GraphRefusal.{mismatch_after, mismatch_refusal}
 use Rattle.gix_commitgraph.proofs.layers.LayerListLemmas.{mismatch-is}
 use Rattle.gix_commitgraph.proofs.init.check_kinds.Goals as goal

@@ -1,5 +1,5 @@
 use Rattle.std.proofs.Common.{◌≡◌, None}
-use Rattle.first_faults.specs.First.{first_below}
+use Rattle.gix_chunk_core.specs.FirstFault.{first_below}
 use Rattle.gix_commitgraph.specs.GraphRefusal.{mismatch_after}
 use Rattle.gix_commitgraph.proofs.init.check_kinds.Given as goal
 

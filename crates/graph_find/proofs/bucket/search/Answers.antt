@@ -2,7 +2,7 @@
 use Rattle.std.proofs.Common.{ℕ, ◌+◌, ◌-◌, ◌/◌, ◌^◌, ◌<◌, ◌≤◌, sym, arith}
 use Rattle.graph_format.proofs.DigitLemmas.{digits-enough, digits-lower}
 use Rattle.graph_format.specs.Lookup.{digits}
-use Rattle.graph_layer.proofs.SearchLemmas.{stands_within-lower, stands_within-upper, found-equal, found-none}
+use Rattle.graph_layer.proofs.LookupLemmas.{stands_within-lower, stands_within-upper, found-equal, found-none}
 use Rattle.graph_find.proofs.bucket.search.Goals as goal
 
 -- one comparison, after which at most half is left

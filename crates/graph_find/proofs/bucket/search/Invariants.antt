@@ -2,7 +2,7 @@
 use Rattle.std.proofs.Common.{◌+◌, ◌-◌, ◌≤◌}
 use Rattle.graph_format.specs.Layer.{Layer}
 use Rattle.graph_format.specs.Lookup.{digits}
-use Rattle.graph_layer.proofs.SearchLemmas.{StandsWithin}
+use Rattle.graph_layer.proofs.LookupLemmas.{StandsWithin}
 use Rattle.graph_find.specs.Bucket.{IsBucket}
 use Rattle.graph_find.proofs.bucket.search.Given as goal
 

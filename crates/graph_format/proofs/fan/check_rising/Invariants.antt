@@ -1,5 +1,5 @@
 use Rattle.std.proofs.Common.{◌≡◌, None}
-use Rattle.first_faults.specs.First.{first_below}
+use Rattle.gix_chunk_core.specs.FirstFault.{first_below}
 use Rattle.gix_chunk_core.specs.FirstBytes.{filled}
 use Rattle.graph_format.specs.Format.{fan_of}
 use Rattle.graph_format.specs.Refusal.{fall_after}

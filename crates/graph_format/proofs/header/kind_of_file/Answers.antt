@@ -2,7 +2,7 @@
 use Rattle.std.proofs.Common.{◌≡◌, ℕ, ◌≤◌, List, length, take, slice_index, not, is_none}
 use Rattle.std.proofs.Common.{nat_lt, bytes_eq, refl, rules, arith}
 use Rattle.std.specs.Prelude.{◌==◌}
-use Rattle.first_faults.specs.First.{◌when◌, ◌otherwise◌}
+use Rattle.gix_chunk_core.specs.FirstFault.{◌when◌, ◌otherwise◌}
 use Rattle.gix_chunk_core.specs.FirstBytes.{filled}
 use Rattle.gix_chunk_core.proofs.HeadLemmas.{filled-len, filled-take, filled-index}
 use Rattle.gix_hash_core.specs.Kind.{kind_of}

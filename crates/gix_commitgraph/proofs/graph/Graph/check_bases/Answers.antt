@@ -1,6 +1,6 @@
 use Rattle.std.proofs.Common.{◌≡◌, ◌<◌, true, false, Some, length, slice_get, refl, sym, ap, ◌∙◌, arith, rules}
 use Rattle.std.proofs.lemmas.Option.{slice_get_read, slice_get_within}
-use Rattle.first_faults.proofs.FirstLemmas.{first_below-none, first_below-none_more, first_below-found}
+use Rattle.gix_chunk_core.proofs.FirstFaultLemmas.{first_below-none, first_below-none_more, first_below-found}
 use Rattle.gix_commitgraph.specs.Verify.{base_refusal}
 use Rattle.gix_commitgraph.proofs.check.BaseIdLemmas.{base-tested, bases-counted}
 use Rattle.gix_commitgraph.proofs.graph.Graph.check_bases.Goals as goal

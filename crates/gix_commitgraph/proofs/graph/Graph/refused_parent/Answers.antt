@@ -1,6 +1,6 @@
 use Rattle.std.proofs.Common.{◌≡◌, ℕ, ◌<◌, ◌≤◌, Bool, not, List, [], ◌∷◌, Some, None, Result, Ok, Err, map, sym, ap, ◌∙◌}
 use Rattle.std.proofs.lemmas.Bool.{lt-ltb, le-ltb}
-use Rattle.first_faults.specs.First.{◌when◌}
+use Rattle.gix_chunk_core.specs.FirstFault.{◌when◌}
 use Rattle.graph_format.specs.Parents.{position_of, items_of}
 use Rattle.graph_format.specs.Points.{first_some}
 use Rattle.graph_format.specs.declared.Position.{Position}

@@ -1,6 +1,6 @@
 use Rattle.std.proofs.Common.{◌≡◌, ◌+◌, ℕ, List, length, None, sym, ap, ◌∙◌, subst, arith}
-use Rattle.first_faults.specs.First.{first_below}
-use Rattle.first_faults.proofs.FirstLemmas.{first_below-none}
+use Rattle.gix_chunk_core.specs.FirstFault.{first_below}
+use Rattle.gix_chunk_core.proofs.FirstFaultLemmas.{first_below-none}
 use Rattle.graph_format.specs.Layer.{Layer}
 use Rattle.graph_format.specs.StoredHistory.{history_of}
 use Rattle.gix_commitgraph.specs.Graph.{start}

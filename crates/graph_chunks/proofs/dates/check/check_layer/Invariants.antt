@@ -1,5 +1,5 @@
 use Rattle.std.proofs.Common.{◌≡◌, ◌+◌, None}
-use Rattle.first_faults.specs.First.{first_below}
+use Rattle.gix_chunk_core.specs.FirstFault.{first_below}
 use Rattle.graph_format.specs.StoredHistory.{history_of}
 use Rattle.graph_chunks.specs.GraphStoredDates.{times_of}
 use Rattle.graph_chunks.specs.GraphDates.{wrong_date}

@@ -1,5 +1,5 @@
 use Rattle.std.proofs.Common.{◌≡◌, ◌<◌, ◌^◌, All, None}
-use Rattle.first_faults.specs.First.{first_below}
+use Rattle.gix_chunk_core.specs.FirstFault.{first_below}
 use Rattle.graph_chunks.specs.GraphDates.{reading_fault}
 use Rattle.graph_chunks.proofs.StoredDateLemmas.{dates_below}
 use Rattle.graph_chunks.proofs.dates.stored.read_dates.Given as goal

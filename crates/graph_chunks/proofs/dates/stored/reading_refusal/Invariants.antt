@@ -1,5 +1,5 @@
 use Rattle.std.proofs.Common.{◌≡◌, None}
-use Rattle.first_faults.specs.First.{first_below}
+use Rattle.gix_chunk_core.specs.FirstFault.{first_below}
 use Rattle.gix_commitgraph.specs.Graph.{start}
 use Rattle.graph_chunks.specs.GraphDates.{reading_fault}
 use Rattle.graph_chunks.proofs.dates.stored.reading_refusal.Given as goal

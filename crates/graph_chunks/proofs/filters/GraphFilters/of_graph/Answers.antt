@@ -2,7 +2,7 @@ use Rattle.std.proofs.Common.{◌≡◌, ◌<◌, ◌+◌, ◌&&◌, Bool, true,
 use Rattle.std.proofs.Common.{refl, sym, ap, subst, ◌∙◌, arith, inl, inr}
 use Rattle.std.specs.Option.{option_or}
 use Rattle.std.specs.Result.{is_ok}
-use Rattle.first_faults.proofs.FirstLemmas.{first_below-none, first_below-none_more}
+use Rattle.gix_chunk_core.proofs.FirstFaultLemmas.{first_below-none, first_below-none_more}
 use Rattle.graph_format.specs.Layer.{Layer}
 use Rattle.gix_commitgraph.proofs.layers.LayerListLemmas.{start-none, start-more, counted-fits}
 use Rattle.gix_commitgraph.proofs.layers.LayerStartLemmas.{layer-kept}

@@ -1,6 +1,6 @@
 -- The layers so far are not refused, and are kept where there was memory.
 use Rattle.std.proofs.Common.{◌≡◌, true, None, take}
-use Rattle.first_faults.specs.First.{first_below}
+use Rattle.gix_chunk_core.specs.FirstFault.{first_below}
 use Rattle.gix_commitgraph.specs.Graph.{start}
 use Rattle.graph_chunks.specs.GraphFilters.{filters_fault, settings_of}
 use Rattle.graph_chunks.specs.KeptFilters.{AreKept}

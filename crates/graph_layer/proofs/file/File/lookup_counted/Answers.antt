@@ -3,8 +3,8 @@ use Rattle.gix_hash_core.specs.Kind.{id_len}
 use Rattle.graph_format.specs.Lookup.{bucket_size}
 use Rattle.graph_layer.proofs.BucketLemmas.{view-other_len}
 use Rattle.graph_format.proofs.DigitLemmas.{digits-enough, digits-lower}
-use Rattle.graph_layer.proofs.SearchLemmas.{stands_within-bucket, stands_within-lower, stands_within-upper, found-equal}
-use Rattle.graph_layer.proofs.SearchLemmas.{found-none, found-other_len}
+use Rattle.graph_layer.proofs.LookupLemmas.{stands_within-bucket, stands_within-lower, stands_within-upper, found-equal}
+use Rattle.graph_layer.proofs.LookupLemmas.{found-none, found-other_len}
 use Rattle.graph_format.proofs.LayoutLemmas.{view-kind}
 use Rattle.graph_layer.proofs.file.File.lookup_counted.Goals as goal
 

@@ -1,6 +1,6 @@
 use Rattle.std.proofs.Common.{◌+◌, ◌-◌, ◌≤◌, length, slice_index}
 use Rattle.graph_format.specs.Lookup.{bucket_size, digits}
-use Rattle.graph_layer.proofs.SearchLemmas.{StandsWithin}
+use Rattle.graph_layer.proofs.LookupLemmas.{StandsWithin}
 use Rattle.graph_layer.proofs.file.File.lookup_counted.Given as goal
 
 abbrev pub invariant-loop-low : goal.invariant-loop-low

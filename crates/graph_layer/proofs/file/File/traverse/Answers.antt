@@ -1,7 +1,7 @@
 use Rattle.std.proofs.Common.{◌≡◌, refl, ◌+◌, ◌<◌, ◌≤◌, length, take, arith}
 use Rattle.std.proofs.lemmas.Result.{err_from_is_err_and}
 use Rattle.graph_format.specs.StoredHistory.{layer_history}
-use Rattle.graph_layer.specs.LayerTallies.{LayerTallies}
+use Rattle.graph_layer.specs.LayerStatistics.{AreLayerStatistics}
 use Rattle.graph_layer.proofs.TraverseLemmas.{reached_first, reached_next, stops_at_commit, said_there, stands_there, few_there}
 use Rattle.graph_layer.proofs.TraverseLemmas.{reached_end}
 use Rattle.graph_layer.proofs.LayerStatisticsLemmas.{stats_of_all}
@@ -14,7 +14,7 @@ count_lists-requires g c = c.num_commits-commits.ensures.layer.few_edges
 pub loop-number-init : goal.loop-number-init
 loop-number-init g c = record {
   reached = reached_first g.F.FnMut c.args.self.now c.args.processor.now c.in_default.ensures;
-  tally = c.new-tally.ensures;
+  statistics = c.new-statistics.ensures;
 }
 
 pub check-requires : goal.check-requires
@@ -68,7 +68,8 @@ loop-number-preserved g c =
       reached =
           reached_next g.F.FnMut c.args.self.now c.args.processor.now commit c.loop-number.number at.layer at.pos inside _ _
           c.loop-number.invariant.reached c.in_ok-parents.ensures.agrees;
-      tally = said_there commit at.layer at.pos (λ layer pos. LayerTallies (take (pos + 1) (layer_history layer)) c.add.new.self)
+      statistics = said_there commit at.layer at.pos
+          (λ layer pos. AreLayerStatistics (take (pos + 1) (layer_history layer)) c.add.new.self)
           c.in_ok-add.ensures;
     }
 
@@ -88,4 +89,4 @@ returns-clause-outcome g c =
     let all : c.loop-number.number ≡ length c.args.self.now.ids =
     omega (arith, c.loop-number-test.false, c.loop-number.auto.number-end, c.num_commits-commits.ensures.ids) in
     stats_of_all c.args.self.now c.loop-number.number _ c.num_commits-commits.ensures.layer all
-    (c.in_ok-outcome.ensures _ c.loop-number.invariant.tally)
+    (c.in_ok-outcome.ensures _ c.loop-number.invariant.statistics)

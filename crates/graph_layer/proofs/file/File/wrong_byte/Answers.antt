@@ -1,5 +1,5 @@
 use Rattle.std.proofs.Common.{◌∙◌, sym, arith}
-use Rattle.first_faults.proofs.FirstLemmas.{first_below-none, first_below-none_more, first_below-found}
+use Rattle.gix_chunk_core.proofs.FirstFaultLemmas.{first_below-none, first_below-none_more, first_below-found}
 use Rattle.graph_format.specs.Faults.{wrong_fan}
 use Rattle.graph_format.specs.declared.fault.LayerFault.TheVariants.{Fan}
 use Rattle.graph_layer.proofs.FirstByteLemmas.{ids_below-zero, ids_below-next, ids_up_to-small, sum-is, wrong-at, right-at}

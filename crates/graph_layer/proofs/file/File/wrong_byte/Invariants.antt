@@ -1,5 +1,5 @@
 use Rattle.std.proofs.Common.{◌≡◌, None}
-use Rattle.first_faults.specs.First.{first_below}
+use Rattle.gix_chunk_core.specs.FirstFault.{first_below}
 use Rattle.graph_format.specs.Faults.{wrong_fan}
 use Rattle.graph_layer.proofs.FirstByteLemmas.{ids_below}
 use Rattle.graph_layer.proofs.file.File.wrong_byte.Given as goal

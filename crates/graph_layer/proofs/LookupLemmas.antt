@@ -1,4 +1,4 @@
--- laws of a search that halves a bucket
+-- laws of a lookup that halves a bucket
 use Rattle.std.proofs.Common.{◌≡◌, ℕ, ◌+◌, ◌-◌, ◌<◌, ◌≤◌, List, length, Some, None, slice_get, slice_index, refl, sym, ap, ◌∙◌}
 use Rattle.std.proofs.Common.{arith, ⊎_elim}
 use Rattle.std.specs.Ordering.{ordering_reverse}

@@ -8,7 +8,7 @@ use Rattle.std.proofs.lemmas.Map.Keys.{IsDistinct-from_sorted}
 use Rattle.std.proofs.lemmas.Map.Made.{update_all_none}
 use Rattle.std.proofs.lemmas.Iterator.Adapters.{fact_from_extend}
 use Rattle.std.proofs.lemmas.Iterator.Consumers.{YieldsList-from_rest}
-use Rattle.graph_layer.proofs.file.verify.tally.hashed.Goals as goal
+use Rattle.graph_layer.proofs.file.verify.statistics.hashed.Goals as goal
 
 -- the pairs of the one map go into the other, which is empty before
 pub returns : goal.returns

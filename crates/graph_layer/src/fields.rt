@@ -4,37 +4,13 @@
 ghost use Rattle.std.specs.Prelude.{◌≡◌, ◌<◌, length, map, slice_get, option_map, Some};
 ghost use Rattle.gix_hash_core.specs.Oid.{oid_bytes};
 ghost use Rattle.graph_format.specs.DecodedRecords.{stored_parents};
-ghost use Rattle.graph_format.specs.Faults.{layer_fault, id_fault, tree_fault};
 ghost use Rattle.graph_format.specs.Format.{words};
 ghost use Rattle.graph_format.specs.Parents.{edge_of};
-ghost use Rattle.graph_layer.specs.Commit.{commit_layer, commit_pos, commit_record};
+ghost use Rattle.graph_layer.specs.Commit.{commit_record};
 
 use crate::file::{Commit, File};
 use gix_hash_core::oid;
-use graph_format::fault::{CommitFault, LayerFault};
 use graph_format::parents::ParentEdge;
-
-/// The first thing that is wrong with a layer as a whole: its checksum ("TRAILER"), the name of its
-/// file ("Commit-Graphs Chains" of Git's commit-graph design), or its fan ("OID Fanout").
-pub fn layer_fault(file: &File) -> Option<LayerFault>
-    ensures { result ≡ layer_fault file.now }
-{
-    file.layer_fault()
-}
-
-/// The first thing that is wrong with a commit's own id ("OID Lookup").
-pub fn id_fault(commit: &Commit<'_>) -> Option<CommitFault>
-    ensures { result ≡ id_fault (commit_layer commit.now) (commit_pos commit.now) }
-{
-    commit.id_fault()
-}
-
-/// What is wrong with the id of a commit's root tree ("Commit Data").
-pub fn tree_fault(commit: &Commit<'_>) -> Option<CommitFault>
-    ensures { result ≡ tree_fault (commit_layer commit.now) (commit_pos commit.now) }
-{
-    commit.tree_fault()
-}
 
 /// What both parent fields of a commit say ("Commit Data").
 pub fn parent_edges(commit: &Commit<'_>) -> (ParentEdge, ParentEdge)

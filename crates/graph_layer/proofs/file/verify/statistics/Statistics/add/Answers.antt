@@ -1,14 +1,14 @@
 use Rattle.std.proofs.Common.{refl, ◌∙◌, ap, max, min, arith}
 use Rattle.graph_layer.specs.Commit.{commit_layer, commit_pos}
-use Rattle.graph_layer.proofs.LayerStatisticsLemmas.{Tallies-more}
-use Rattle.graph_layer.proofs.file.verify.tally.Tally.add.Goals as goal
-use Rattle.graph_layer.proofs.file.verify.tally.Tally.add.Goals.{then-self-eq0, else-self-eq0}
+use Rattle.graph_layer.proofs.LayerStatisticsLemmas.{statistics-more}
+use Rattle.graph_layer.proofs.file.verify.statistics.Statistics.add.Goals as goal
+use Rattle.graph_layer.proofs.file.verify.statistics.Statistics.add.Goals.{then-self-eq0, else-self-eq0}
 
 pub returns : goal.returns
 returns c =
     let before = c.args.self.now in
     let generation = c.generation-generation.ensures in
-    Tallies-more (commit_layer c.args.commit.now) (commit_pos c.args.commit.now) c.requires.record before _ c.args.parents
+    statistics-more (commit_layer c.args.commit.now) (commit_pos c.args.commit.now) c.requires.record before _ c.args.parents
     c.requires.parents c.requires.before (record {
       max_generation = c.max-self.ensures ∙ ap (max before.max_generation) generation;
       first = λ none.

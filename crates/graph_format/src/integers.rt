@@ -1,9 +1,9 @@
-//! The numbers in a file: unsigned and big-endian.
+//! The integers in a file: unsigned and big-endian.
 
 ghost use Rattle.std.specs.Prelude.{◌≡◌, ◌+◌, ◌≤◌, length, slice_range};
 ghost use Rattle.std.specs.Int.{w32, w64, from_be_bytes};
 
-/// The number of four bytes at an offset.
+/// The integer of four bytes at an offset.
 pub fn word_at(bytes: &[u8], at: usize) -> u32
     requires { at + 4 ≤ length bytes.now }
     ensures { result ≡ from_be_bytes w32 (slice_range bytes.now at (at + 4)) }
@@ -12,7 +12,7 @@ pub fn word_at(bytes: &[u8], at: usize) -> u32
     u32::from_be_bytes([word[0], word[1], word[2], word[3]])
 }
 
-/// The number of eight bytes at an offset.
+/// The integer of eight bytes at an offset.
 pub fn long_at(bytes: &[u8], at: usize) -> u64
     requires { at + 8 ≤ length bytes.now }
     ensures { result ≡ from_be_bytes w64 (slice_range bytes.now at (at + 8)) }

@@ -14,7 +14,7 @@ use std::collections::{BTreeMap, HashMap};
 
 /// The statistics of the commits so far.
 #[derive(Drop)]
-pub(super) struct Tally {
+pub(super) struct Statistics {
     max_generation: u32,
     min_generation: u32,
     max_parents: u32,
@@ -22,18 +22,18 @@ pub(super) struct Tally {
     parent_counts: ParentCounts,
 }
 
-impl Tally {
+impl Statistics {
     ghost use Rattle.graph_walks.specs.History.{Node};
     ghost use Rattle.graph_layer.specs.Commit.{commit_layer, commit_pos, commit_parents};
     ghost use Rattle.graph_format.specs.StoredHistory.{layer_history};
-    ghost use Rattle.graph_layer.specs.LayerTallies.{LayerTallies};
+    ghost use Rattle.graph_layer.specs.LayerStatistics.{AreLayerStatistics};
     ghost use Rattle.graph_layer.specs.Traverse.{SummarizesLayer};
 
     /// The statistics of no commits.
-    pub(super) fn new(alloc: Global) -> Tally
-        ensures { LayerTallies [] result }
+    pub(super) fn new(alloc: Global) -> Statistics
+        ensures { AreLayerStatistics [] result }
     {
-        Tally {
+        Statistics {
             max_generation: 0,
             min_generation: 0,
             max_parents: 0,
@@ -47,10 +47,10 @@ impl Tally {
         requires small { commit_pos commit.now + 1 < 2 ^ 32 }
         requires record { commit_pos commit.now < length (commit_layer commit.now).records }
         requires parents { parents ≡ length (commit_parents commit.now).positions }
-        requires before { LayerTallies
+        requires before { AreLayerStatistics
             (take (commit_pos commit.now) (layer_history (commit_layer commit.now))) self.old }
         ensures { OnOk result
-            (LayerTallies
+            (AreLayerStatistics
             (take (commit_pos commit.now + 1) (layer_history (commit_layer commit.now))) self.new) }
     {
         self.parent_counts.add(parents)?;
@@ -69,7 +69,7 @@ impl Tally {
     /// The statistics as an outcome, once all commits are added.
     pub(super) fn outcome(self, alloc: Global) -> Result<Outcome, AllocError>
         ensures { IfOk result (λ outcome.
-            (seen : List Node) → LayerTallies seen self → SummarizesLayer seen outcome) }
+            (seen : List Node) → AreLayerStatistics seen self → SummarizesLayer seen outcome) }
     {
         Ok(Outcome {
             max_generation: self.max_generation,

@@ -8,7 +8,7 @@ use Rattle.std.specs.List.{find, range_with_len}
 use Rattle.std.proofs.lemmas.Bool.{cases_eq}
 use Rattle.std.proofs.lemmas.List.Folds.{find-append}
 use Rattle.std.proofs.lemmas.List.FromFn.{map-range_with_len_more}
-use Rattle.first_faults.specs.First.{◌when◌, ◌otherwise◌, first_below, IsLeastGiving}
+use Rattle.gix_chunk_core.specs.FirstFault.{◌when◌, ◌otherwise◌, first_below, IsLeastGiving}
 
 pub option_or-none_left : {X : Type 0} (a b : Option X) → option_or a b ≡ None → a ≡ None
 option_or-none_left None b h = refl
@@ -72,9 +72,6 @@ pub first_below-none_from : {X : Type 0} (f : ℕ → Option X) (n : ℕ) → ((
 unfolding first_below
 first_below-none_from f zero h = refl
 first_below-none_from f (suc n) h = rw (first_below-none_from f n (λ i k. h i (omega (arith, k)))) (h n (omega arith))
-
-some_injective : {X : Type 0} {x y : X} → Some x ≡ Some y → x ≡ y
-some_injective h = cc
 
 -- what is given first is given at the least number
 pub first_below-least : {X : Type 0} (f : ℕ → Option X) (n : ℕ) (x : X) → first_below f n ≡ Some x → (i : ℕ)

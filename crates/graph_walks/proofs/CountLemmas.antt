@@ -66,13 +66,13 @@ none_counted (suc m) h = cc
 -- entries whose keys are told apart by e, which is `==`
 module _ (e : ℕ → ℕ → Bool) (ties : (a b : ℕ) → e a b ≡ (a == b)) where
   -- each key has the count of its number, and each number is a key
-  abbrev pub Tallies : List (ℕ × ℕ) → List ℕ → Type 0
-  Tallies entries numbers = (k : ℕ) → lookup (e k) entries ≡ count_of numbers k
+  abbrev pub AreCounts : List (ℕ × ℕ) → List ℕ → Type 0
+  AreCounts entries numbers = (k : ℕ) → lookup (e k) entries ≡ count_of numbers k
 
-  no_numbers : (numbers : List ℕ) → Tallies [] numbers → length numbers ≡ 0
-  no_numbers [] tallies = refl
-  no_numbers (n ∷ numbers) tallies =
-      let none : count n (n ∷ numbers) ≡ 0 = none_counted _ (sym (tallies n)) in
+  no_numbers : (numbers : List ℕ) → AreCounts [] numbers → length numbers ≡ 0
+  no_numbers [] counts = refl
+  no_numbers (n ∷ numbers) counts =
+      let none : count n (n ∷ numbers) ≡ 0 = none_counted _ (sym (counts n)) in
       let more : count n (n ∷ numbers) ≡ 1 + count n numbers = count-same n n numbers (eq-eqb n n refl) in
       absurd (omega (arith, none, more))
 
@@ -81,9 +81,9 @@ module _ (e : ℕ → ℕ → Bool) (ties : (a b : ℕ) → e a b ≡ (a == b)) 
   none_at k (entry ∷ entries) apart = cond-false _ _ _ apart.0 ∙ none_at k entries apart.1
 
   -- without the first key, its number is left out
-  tallies-rest : (entry : ℕ × ℕ) (entries : List (ℕ × ℕ)) (numbers : List ℕ) → IsDistinct e (keys_of (entry ∷ entries))
-      → Tallies (entry ∷ entries) numbers → Tallies entries (others entry.0 numbers)
-  tallies-rest entry entries numbers apart tallies q = ⊎_elim same other (cases_Bool (q == entry.0))
+  counts-rest : (entry : ℕ × ℕ) (entries : List (ℕ × ℕ)) (numbers : List ℕ) → IsDistinct e (keys_of (entry ∷ entries))
+      → AreCounts (entry ∷ entries) numbers → AreCounts entries (others entry.0 numbers)
+  counts-rest entry entries numbers apart counts q = ⊎_elim same other (cases_Bool (q == entry.0))
     where
       none_left : lookup (e entry.0) entries ≡ None
       none_left = none_at entry.0 entries (IsDistinct-head e entry.0 (keys_of entries) apart)
@@ -98,17 +98,17 @@ module _ (e : ℕ → ℕ → Bool) (ties : (a b : ℕ) → e a b ≡ (a == b)) 
       other : (q == entry.0) ≡ false → lookup (e q) entries ≡ count_of (others entry.0 numbers) q
       other h =
           sym (cond-false _ _ _ (ties q entry.0 ∙ h))
-          ∙ tallies q
+          ∙ counts q
           ∙ sym (ap above_zero (count-others entry.0 q numbers (nat_eq_equiv.symm entry.0 q ∙ h)))
 
   -- where the keys differ, the values add up to how many numbers there are
-  pub tallied : (entries : List (ℕ × ℕ)) (numbers : List ℕ) → IsDistinct e (keys_of entries) → Tallies entries numbers
+  pub counts_add_up : (entries : List (ℕ × ℕ)) (numbers : List ℕ) → IsDistinct e (keys_of entries) → AreCounts entries numbers
       → sum (values_of entries) ≡ length numbers
-  tallied [] numbers apart tallies = sym (no_numbers numbers tallies)
-  tallied (entry ∷ entries) numbers apart tallies =
+  counts_add_up [] numbers apart counts = sym (no_numbers numbers counts)
+  counts_add_up (entry ∷ entries) numbers apart counts =
       let here : e entry.0 entry.0 ≡ true = ties entry.0 entry.0 ∙ eq-eqb entry.0 entry.0 refl in
-      let value : count entry.0 numbers ≡ entry.1 = counted _ _ (sym (tallies entry.0) ∙ cond-true _ _ _ here) in
+      let value : count entry.0 numbers ≡ entry.1 = counted _ _ (sym (counts entry.0) ∙ cond-true _ _ _ here) in
       let rest : sum (values_of entries) ≡ length (others entry.0 numbers) =
-      tallied entries (others entry.0 numbers) (IsDistinct-tail e entry.0 (keys_of entries) apart)
-      (tallies-rest entry entries numbers apart tallies) in
+      counts_add_up entries (others entry.0 numbers) (IsDistinct-tail e entry.0 (keys_of entries) apart)
+      (counts-rest entry entries numbers apart counts) in
       omega (arith, sum_by-cons (λ (x : ℕ). x) entry.1 (values_of entries), rest, value, length-others entry.0 numbers)

@@ -5,14 +5,14 @@ use Rattle.std.proofs.lemmas.List.{length-map}
 use Rattle.graph_format.specs.Layer.{Layer}
 use Rattle.graph_format.specs.StoredHistory.{layer_history}
 use Rattle.graph_walks.specs.History.{parent_numbers}
-use Rattle.graph_walks.proofs.TallyLemmas.{tallied}
+use Rattle.graph_walks.proofs.CountLemmas.{counts_add_up}
 use Rattle.graph_layer.specs.Traverse.{FileStats}
 use Rattle.graph_layer.specs.declared.file.verify.Outcome as file
 
-pub layer_tallied : (layer : Layer) (outcome : file.Outcome) → hash.IsUnique nat_eq outcome.parent_counts
+pub layer_counts_add_up : (layer : Layer) (outcome : file.Outcome) → hash.IsUnique nat_eq outcome.parent_counts
     → FileStats layer outcome → sum (hash.values outcome.parent_counts) ≡ outcome.num_commits
-layer_tallied layer outcome unique stats =
+layer_counts_add_up layer outcome unique stats =
     let history = layer_history layer in
-    tallied nat_eq (λ a b. refl) outcome.parent_counts.entries (parent_numbers history) unique stats.commits.parent_counts
+    counts_add_up nat_eq (λ a b. refl) outcome.parent_counts.entries (parent_numbers history) unique stats.commits.parent_counts
     ∙ length-map history (λ node. length node.parents)
     ∙ sym stats.commits.num_commits
