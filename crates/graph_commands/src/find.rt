@@ -15,7 +15,7 @@ use gix_commitgraph::opening::{
 };
 use gix_commitgraph::{Graph, Position};
 use gix_hash_core::oid;
-use graph_find::search::{Place, Search, find_in_chain, find_in_file};
+use graph_find::search::{FoundCommit, Search, find_in_chain, find_in_file};
 use graph_folder::folder::Folder;
 use std::alloc::Global;
 
@@ -76,7 +76,7 @@ fn find_in_one<T: Folder>(
         ≡ failures_after_opening result (T.failure_count folder.old) }
 {
     match find_in_file(alloc, folder, path, id)? {
-        Search::Found(place) => Ok(Some(found_at(place))),
+        Search::Found(commit) => Ok(Some(found_at(commit))),
         Search::Missing => Ok(None),
         Search::NotByParts => {
             let graph = open_file_in(alloc, folder, path)?;
@@ -99,7 +99,7 @@ fn find_in_layers<T: Folder>(
         ≡ failures_after_opening result (T.failure_count folder.old) }
 {
     match find_in_chain(alloc, folder, path, id)? {
-        Search::Found(place) => Ok(Some(found_at(place))),
+        Search::Found(commit) => Ok(Some(found_at(commit))),
         Search::Missing => Ok(None),
         Search::NotByParts => {
             let graph = open_chain_dir_in(alloc, folder, path)?;
@@ -109,15 +109,15 @@ fn find_in_layers<T: Folder>(
 }
 
 /// What is reported of a commit that was found by parts.
-fn found_at(place: Place) -> Found
-    ensures pos { result.pos.0 ≡ place.pos }
-    ensures generation { result.generation ≡ place.generation }
-    ensures time { result.time ≡ place.time }
+fn found_at(commit: FoundCommit) -> Found
+    ensures pos { result.pos.0 ≡ commit.pos }
+    ensures generation { result.generation ≡ commit.generation }
+    ensures time { result.time ≡ commit.time }
 {
     Found {
-        pos: Position(place.pos),
-        generation: place.generation,
-        time: place.time,
+        pos: Position(commit.pos),
+        generation: commit.generation,
+        time: commit.time,
     }
 }
 
