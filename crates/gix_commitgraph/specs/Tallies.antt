@@ -27,21 +27,21 @@ pub record ParentsTally (history : List Node) (p : ℕ) (tally : ParentTally) : 
   pub count : tally.count ≡ length (parents_at history p)
   pub max_generation : tally.max_generation ≡ greatest (map (generation_at history) (parents_at history p))
 
--- the parents of the commit at a place of a layer
+-- the parents of the commit at a position of a layer
 abbrev pub decoded_at : Layer → ℕ → DecodedParents
-decoded_at layer place = parents_of (record_at layer place) layer.edges
+decoded_at layer layer_pos = parents_of (record_at layer layer_pos) layer.edges
 
--- The tally of the parents of the commit at a place of a layer: `Some` exactly where they are decoded without a fault and stand
--- before the layer's end.
+-- The tally of the parents of the commit at a position of a layer: `Some` exactly where they are decoded without a fault and
+-- stand before the layer's end.
 abbrev pub IsGathered : List Layer → LayerSpan → ℕ → Option ParentTally → Type 0
-IsGathered layers span place gathered = IsTally (history_of layers) span.stop (decoded_at span.file.now place) gathered
+IsGathered layers span layer_pos gathered = IsTally (history_of layers) span.stop (decoded_at span.file.now layer_pos) gathered
 
--- A block has the tallies of 256 commits of a layer, among which the one at a place is, or of as many of them as there are.
+-- A block has the tallies of 256 commits of a layer, among which the one at a position is, or of as many of them as there are.
 abbrev pub AreGathered : List Layer → LayerSpan → ℕ → List (Option ParentTally) → Type 0
 AreGathered layers span among block =
-    (place : ℕ) → place < length span.file.now.ids → place / 256 ≡ among / 256
-    → IsGathered layers span place (slice_index_or block (place % 256) None)
+    (layer_pos : ℕ) → layer_pos < length span.file.now.ids → layer_pos / 256 ≡ among / 256
+    → IsGathered layers span layer_pos (slice_index_or block (layer_pos % 256) None)
 
--- This was gathered before the check of the commit at a place, if that is not the first of its block.
+-- This was gathered before the check of the commit at a position, if that is not the first of its block.
 abbrev pub IsBlock : List Layer → LayerSpan → ℕ → List (Option ParentTally) → Type 0
-IsBlock layers span place block = place % 256 ≢ 0 → AreGathered layers span place block
+IsBlock layers span layer_pos block = layer_pos % 256 ≢ 0 → AreGathered layers span layer_pos block

@@ -33,7 +33,7 @@ impl Graph {
     ghost use Rattle.gix_commitgraph.specs.Tallies.{IsGathered, AreGathered, IsBlock};
     ghost use Rattle.gix_commitgraph.specs.ListedTallies.{AreTallied, IsTally};
 
-    /// The tally of the parents of the commit at this place of a layer, and `None` exactly where
+    /// The tally of the parents of the commit at this position of a layer, and `None` exactly where
     /// they cannot be decoded or do not all stand before the end of the layer. At the first commit
     /// of a block, the whole block is gathered.
     #[inline(always)]
@@ -41,24 +41,24 @@ impl Graph {
         &self,
         span: LayerSpan<'_>,
         tallies: &[ListedTally],
-        place: u32,
+        layer_pos: u32,
         block: &mut Block,
     ) -> Option<ParentTally>
         requires span { IsSpan self.now span }
         requires tallies { AreTallied self.now span tallies.now }
-        requires within { place < length span.file.now.ids }
-        requires before { IsBlock self.now span place block.old }
-        ensures result { IsGathered self.now span.entry place result }
-        ensures after { IsBlock self.now span.entry (place + 1) block.new }
+        requires within { layer_pos < length span.file.now.ids }
+        requires before { IsBlock self.now span layer_pos block.old }
+        ensures result { IsGathered self.now span.entry layer_pos result }
+        ensures after { IsBlock self.now span.entry (layer_pos + 1) block.new }
     {
-        let index = place as usize % BLOCK;
+        let index = layer_pos as usize % BLOCK;
         if index == 0 {
-            self.gather(span, tallies, place, block);
+            self.gather(span, tallies, layer_pos, block);
         }
         block[index]
     }
 
-    /// Gathers as many commits as a block has, from this place on.
+    /// Gathers as many commits as a block has, from this position on.
     #[inline(never)]
     fn gather(&self, span: LayerSpan<'_>, tallies: &[ListedTally], first: u32, block: &mut Block)
         requires span { IsSpan self.now span }
@@ -71,17 +71,18 @@ impl Graph {
         let numbers = generations(span.file);
         let count = (span.file.num_commits() - first).min(BLOCK as u32);
         for index in 0..count {
-            let place = first + index;
-            let (parent1, parent2) = fields[place as usize];
-            match self.tally_within(span, place, parent1, parent2, numbers) {
+            let layer_pos = first + index;
+            let (parent1, parent2) = fields[layer_pos as usize];
+            match self.tally_within(span, layer_pos, parent1, parent2, numbers) {
                 Some(tally) => block[index as usize] = Some(tally),
-                None => self.gather_any(span, tallies, place, &mut block[index as usize]),
+                None => self.gather_any(span, tallies, layer_pos, &mut block[index as usize]),
             }
         }
     }
 
-    /// The tally of the parents of the commit at this place, with these parent fields, where there
-    /// are one or two, and they stand in its own layer ("Commit Data"). Of others it is `None`.
+    /// The tally of the parents of the commit at this position, with these parent fields, where
+    /// there are one or two, and they stand in its own layer ("Commit Data"). Of others it is
+    /// `None`.
     ///
     /// A field that is a position of the layer is neither "no parent" nor an index, since all
     /// positions are below those. One that stands before the layer wraps to a number past its end.
@@ -89,17 +90,17 @@ impl Graph {
     fn tally_within(
         &self,
         span: LayerSpan<'_>,
-        place: u32,
+        layer_pos: u32,
         first: u32,
         second: u32,
         numbers: &[u32],
     ) -> Option<ParentTally>
         requires span { IsSpan self.now span }
-        requires within { place < length span.file.now.ids }
-        requires first { first ≡ (record_at span.file.now place).parent1 }
-        requires second { second ≡ (record_at span.file.now place).parent2 }
+        requires within { layer_pos < length span.file.now.ids }
+        requires first { first ≡ (record_at span.file.now layer_pos).parent1 }
+        requires second { second ≡ (record_at span.file.now layer_pos).parent2 }
         requires numbers { numbers.now ≡ map (λ r. r.generation) span.file.now.records }
-        ensures { IfSome result (λ tally. IsGathered self.now span.entry place (Some tally)) }
+        ensures { IfSome result (λ tally. IsGathered self.now span.entry layer_pos (Some tally)) }
     {
         let (count, last) = if second == NO_PARENT {
             (1, first)
@@ -124,15 +125,15 @@ impl Graph {
         &self,
         span: LayerSpan<'_>,
         tallies: &[ListedTally],
-        place: u32,
+        layer_pos: u32,
         gathered: &mut Option<ParentTally>,
     )
         requires span { IsSpan self.now span }
         requires tallies { AreTallied self.now span tallies.now }
-        requires within { place < length span.file.now.ids }
-        ensures { IsGathered self.now span.entry place gathered.new }
+        requires within { layer_pos < length span.file.now.ids }
+        ensures { IsGathered self.now span.entry layer_pos gathered.new }
     {
-        *gathered = self.gather_one(span, tallies, place);
+        *gathered = self.gather_one(span, tallies, layer_pos);
     }
 
     /// The tally of the parents of one commit.
@@ -141,14 +142,14 @@ impl Graph {
         &self,
         span: LayerSpan<'_>,
         tallies: &[ListedTally],
-        place: u32,
+        layer_pos: u32,
     ) -> Option<ParentTally>
         requires span { IsSpan self.now span }
         requires tallies { AreTallied self.now span tallies.now }
-        requires within { place < length span.file.now.ids }
-        ensures { IsGathered self.now span.entry place result }
+        requires within { layer_pos < length span.file.now.ids }
+        ensures { IsGathered self.now span.entry layer_pos result }
     {
-        let commit = span.file.commit_at(file::Position(place));
+        let commit = span.file.commit_at(file::Position(layer_pos));
         match parent_edges(&commit) {
             (ParentEdge::None, ParentEdge::None) => Some(NO_PARENTS),
             (ParentEdge::GraphPosition(first), second) => {

@@ -55,9 +55,9 @@ impl Graph {
         let tallies = self.tally_lists(span, alloc)?;
         let mut block = NOTHING;
         for commit in span.file.iter_commits() {
-            let place = commit.position().0;
-            let gathered = self.gathered(span, &tallies, place, &mut block);
-            let pos = Position(span.start + place);
+            let layer_pos = commit.position().0;
+            let gathered = self.gathered(span, &tallies, layer_pos, &mut block);
+            let pos = Position(span.start + layer_pos);
             let parents = self.verify_commit(options, span, &commit, pos, gathered, processor)?;
             tally.add(commit.generation(), parents)?;
         }

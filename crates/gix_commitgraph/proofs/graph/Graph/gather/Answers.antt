@@ -11,8 +11,8 @@ use Rattle.gix_commitgraph.proofs.graph.Graph.gather.Goals as goal
 pub loop-index-init : goal.loop-index-init
 loop-index-init c = record { sized = c.told-block; gathered = λ i below. absurd (omega (arith, below)) }
 
-pub bounds-fields-place : goal.bounds-fields-place
-bounds-fields-place c =
+pub bounds-fields-layer_pos : goal.bounds-fields-layer_pos
+bounds-fields-layer_pos c =
     let below = c.loop-index-test.true in
     omega (
       arith,
@@ -49,9 +49,9 @@ loop-index-preserved c =
     }
 
 pub returns : goal.returns
-returns c = λ place within near.
-    let i : ℕ = place % 256 in
-    let whole : c.args.first + i ≡ place = omega (arith, near, c.requires.begins) in
+returns c = λ layer_pos within near.
+    let i : ℕ = layer_pos % 256 in
+    let whole : c.args.first + i ≡ layer_pos = omega (arith, near, c.requires.begins) in
     let below : i < c.loop-index.index =
     omega (arith, whole, within, c.loop-index-test.false, c.min-count.ensures, c.num_commits.ensures.ids) in
     subst (λ (p : ℕ). IsGathered c.args.self.now c.args.span p (slice_index_or c.loop-index.block i None)) whole

@@ -37,40 +37,40 @@ loop-commit-init g c = record {
 pub gathered-gathered-requires-clause-within : goal.gathered-gathered-requires-clause-within
 gathered-gathered-requires-clause-within g c =
     let this =
-    turn c.args.span c.in-Some-commit.commit (length c.loop-commit.yielded) (c.args.span.start + c.position-place.result.0) _
-    _ _ c.loop-commit.invariant.left c.in-Some-commit.ensures.steps c.position-place.ensures.value refl in
-    omega (arith, c.position-place.ensures.value, this.pos, this.below)
+    turn c.args.span c.in-Some-commit.commit (length c.loop-commit.yielded) (c.args.span.start + c.position-layer_pos.result.0) _
+    _ _ c.loop-commit.invariant.left c.in-Some-commit.ensures.steps c.position-layer_pos.ensures.value refl in
+    omega (arith, c.position-layer_pos.ensures.value, this.pos, this.below)
 
 pub gathered-gathered-requires-clause-before : goal.gathered-gathered-requires-clause-before
 gathered-gathered-requires-clause-before g c =
     let this =
-    turn c.args.span c.in-Some-commit.commit (length c.loop-commit.yielded) (c.args.span.start + c.position-place.result.0) _
-    _ _ c.loop-commit.invariant.left c.in-Some-commit.ensures.steps c.position-place.ensures.value refl in
-    let place : c.position-place.result.0 ≡ length c.loop-commit.yielded =
-    omega (arith, c.position-place.ensures.value, this.pos) in
+    turn c.args.span c.in-Some-commit.commit (length c.loop-commit.yielded) (c.args.span.start + c.position-layer_pos.result.0) _
+    _ _ c.loop-commit.invariant.left c.in-Some-commit.ensures.steps c.position-layer_pos.ensures.value refl in
+    let place : c.position-layer_pos.result.0 ≡ length c.loop-commit.yielded =
+    omega (arith, c.position-layer_pos.ensures.value, this.pos) in
     rw place c.loop-commit.invariant.block
 
 pub overflow_add-pos : goal.overflow_add-pos
 overflow_add-pos g c =
     let this =
-    turn c.args.span c.in-Some-commit.commit (length c.loop-commit.yielded) (c.args.span.start + c.position-place.result.0) _
-    _ _ c.loop-commit.invariant.left c.in-Some-commit.ensures.steps c.position-place.ensures.value refl in
-    omega (arith, this.below, this.pos, c.position-place.ensures.value, span-stop c.args.self.now c.args.span c.requires.span)
+    turn c.args.span c.in-Some-commit.commit (length c.loop-commit.yielded) (c.args.span.start + c.position-layer_pos.result.0) _
+    _ _ c.loop-commit.invariant.left c.in-Some-commit.ensures.steps c.position-layer_pos.ensures.value refl in
+    omega (arith, this.below, this.pos, c.position-layer_pos.ensures.value, span-stop c.args.self.now c.args.span c.requires.span)
 
 pub verify_commit-requires : goal.verify_commit-requires
 verify_commit-requires g c κs =
     let this =
-    turn c.args.span c.in-Some-commit.commit (length c.loop-commit.yielded) (c.args.span.start + c.position-place.result.0) _
-    _ _ c.loop-commit.invariant.left c.in-Some-commit.ensures.steps c.position-place.ensures.value refl in
+    turn c.args.span c.in-Some-commit.commit (length c.loop-commit.yielded) (c.args.span.start + c.position-layer_pos.result.0) _
+    _ _ c.loop-commit.invariant.left c.in-Some-commit.ensures.steps c.position-layer_pos.ensures.value refl in
     let stands = span-commit c.args.self.now c.args.span c.in-Some-commit.commit _ c.requires.span this.in_span in
-    let known = rw c.position-place.ensures.value at c.gathered-gathered.ensures.result in
+    let known = rw c.position-layer_pos.ensures.value at c.gathered-gathered.ensures.result in
     (search rules, (c.requires.span, (this.in_span, (known, (c.requires.below, λ state. c.requires.callable state _ _ stands)))))
 
 pub returns-in_err-parents-clause-agrees : goal.returns-in_err-parents-clause-agrees
 returns-in_err-parents-clause-agrees g c =
     let this =
-    turn c.args.span c.in-Some-commit.commit (length c.loop-commit.yielded) (c.args.span.start + c.position-place.result.0) _
-    _ _ c.loop-commit.invariant.left c.in-Some-commit.ensures.steps c.position-place.ensures.value refl in
+    turn c.args.span c.in-Some-commit.commit (length c.loop-commit.yielded) (c.args.span.start + c.position-layer_pos.result.0) _
+    _ _ c.loop-commit.invariant.left c.in-Some-commit.ensures.steps c.position-layer_pos.ensures.value refl in
     let handed = err_from_is_err_and c.from_residual-in_err-parents.result c.from_residual-in_err-parents.ensures.1 in
     rw (handed.1, handed.2)
     (stops_at_commit g.F.FnMut c.args.options c.args.self.now c.args.span _ (length c.loop-commit.yielded) c.in-Some-commit.commit
@@ -79,8 +79,8 @@ returns-in_err-parents-clause-agrees g c =
 pub add-requires : goal.add-requires
 add-requires g c =
     let this =
-    turn c.args.span c.in-Some-commit.commit (length c.loop-commit.yielded) (c.args.span.start + c.position-place.result.0) _
-    _ _ c.loop-commit.invariant.left c.in-Some-commit.ensures.steps c.position-place.ensures.value refl in (
+    turn c.args.span c.in-Some-commit.commit (length c.loop-commit.yielded) (c.args.span.start + c.position-layer_pos.result.0) _
+    _ _ c.loop-commit.invariant.left c.in-Some-commit.ensures.steps c.position-layer_pos.ensures.value refl in (
       take (c.args.span.start + length c.loop-commit.yielded) (history_of c.args.self.now),
       c.loop-commit.invariant.tally,
       take-fits c.args.self.now c.args.span (length c.loop-commit.yielded) c.requires.span this.below,
@@ -89,8 +89,8 @@ add-requires g c =
 pub returns-in_err-add-clause-agrees : goal.returns-in_err-add-clause-agrees
 returns-in_err-add-clause-agrees g c =
     let this =
-    turn c.args.span c.in-Some-commit.commit (length c.loop-commit.yielded) (c.args.span.start + c.position-place.result.0) _
-    _ _ c.loop-commit.invariant.left c.in-Some-commit.ensures.steps c.position-place.ensures.value refl in
+    turn c.args.span c.in-Some-commit.commit (length c.loop-commit.yielded) (c.args.span.start + c.position-layer_pos.result.0) _
+    _ _ c.loop-commit.invariant.left c.in-Some-commit.ensures.steps c.position-layer_pos.ensures.value refl in
     let next =
     reached_next g.F.FnMut c.args.options c.args.self.now c.args.span _ (length c.loop-commit.yielded) c.in-Some-commit.commit
     this.pos this.below _ _ c.loop-commit.invariant.reached c.in_ok-parents.ensures.agrees in
@@ -100,10 +100,10 @@ returns-in_err-add-clause-agrees g c =
 pub loop-commit-preserved : goal.loop-commit-preserved
 loop-commit-preserved g c =
     let this =
-    turn c.args.span c.in-Some-commit.commit (length c.loop-commit.yielded) (c.args.span.start + c.position-place.result.0) _
-    _ _ c.loop-commit.invariant.left c.in-Some-commit.ensures.steps c.position-place.ensures.value refl in
-    let place : c.position-place.result.0 ≡ length c.loop-commit.yielded =
-    omega (arith, c.position-place.ensures.value, this.pos) in
+    turn c.args.span c.in-Some-commit.commit (length c.loop-commit.yielded) (c.args.span.start + c.position-layer_pos.result.0) _
+    _ _ c.loop-commit.invariant.left c.in-Some-commit.ensures.steps c.position-layer_pos.ensures.value refl in
+    let place : c.position-layer_pos.result.0 ≡ length c.loop-commit.yielded =
+    omega (arith, c.position-layer_pos.ensures.value, this.pos) in
     let more : length (c.loop-commit.yielded ++ c.in-Some-commit.commit ∷ []) ≡ length c.loop-commit.yielded + 1 =
     length_push c.loop-commit.yielded c.in-Some-commit.commit in
     let stands = span-commit c.args.self.now c.args.span c.in-Some-commit.commit _ c.requires.span this.in_span in
@@ -117,7 +117,7 @@ loop-commit-preserved g c =
     c.in_ok-parents.ensures.parents) in
     let seen =
     take-next c.args.self.now c.args.span c.in-Some-commit.commit (length c.loop-commit.yielded) _ _ c.requires.span stands
-    (omega (arith, c.position-place.ensures.value, this.pos)) more in
+    (omega (arith, c.position-layer_pos.ensures.value, this.pos)) more in
     record {
       left = this.left ∙ ap (positions_from c.args.span.file.now) (sym more);
       within = omega (arith, more, this.below);
