@@ -36,12 +36,12 @@ decoded_at layer layer_pos = parents_of (record_at layer layer_pos) layer.edges
 abbrev pub IsGathered : List Layer → LayerSpan → ℕ → Option ParentTally → Type 0
 IsGathered layers span layer_pos gathered = IsTally (history_of layers) span.stop (decoded_at span.file.now layer_pos) gathered
 
--- A block has the tallies of 256 commits of a layer, among which the one at a position is, or of as many of them as there are.
+-- A batch has the tallies of 256 commits of a layer, among which the one at a position is, or of as many of them as there are.
 abbrev pub AreGathered : List Layer → LayerSpan → ℕ → List (Option ParentTally) → Type 0
-AreGathered layers span among block =
+AreGathered layers span among batch =
     (layer_pos : ℕ) → layer_pos < length span.file.now.ids → layer_pos / 256 ≡ among / 256
-    → IsGathered layers span layer_pos (slice_index_or block (layer_pos % 256) None)
+    → IsGathered layers span layer_pos (slice_index_or batch (layer_pos % 256) None)
 
--- This was gathered before the check of the commit at a position, if that is not the first of its block.
-abbrev pub IsBlock : List Layer → LayerSpan → ℕ → List (Option ParentTally) → Type 0
-IsBlock layers span layer_pos block = layer_pos % 256 ≢ 0 → AreGathered layers span layer_pos block
+-- This was gathered before the check of the commit at a position, if that is not the first of its batch.
+abbrev pub IsBatch : List Layer → LayerSpan → ℕ → List (Option ParentTally) → Type 0
+IsBatch layers span layer_pos batch = layer_pos % 256 ≢ 0 → AreGathered layers span layer_pos batch

@@ -17,65 +17,65 @@ use graph_format::parents::NO_PARENT;
 use graph_layer::check::{generations, parent_edges, parent_fields};
 
 /// For how many commits parents are gathered at a time.
-const BLOCK: usize = 256;
+const BATCH: usize = 256;
 
-/// What is gathered of the commits of a block.
-pub(super) type Block = [Option<ParentTally>; BLOCK];
+/// What is gathered of the commits of a batch.
+pub(super) type Batch = [Option<ParentTally>; BATCH];
 
-/// What is gathered before the first block.
-pub(super) const NOTHING: Block = [None; BLOCK];
+/// What is gathered before the first batch.
+pub(super) const NOTHING: Batch = [None; BATCH];
 
 impl Graph {
     ghost use Rattle.graph_format.specs.Layer.{record_at};
     ghost use Rattle.graph_format.specs.Parents.{second_parents};
     ghost use Rattle.graph_format.specs.StoredHistory.{history_of};
     ghost use Rattle.gix_commitgraph.specs.LayerSpans.{IsSpan};
-    ghost use Rattle.gix_commitgraph.specs.Tallies.{IsGathered, AreGathered, IsBlock};
+    ghost use Rattle.gix_commitgraph.specs.Tallies.{IsGathered, AreGathered, IsBatch};
     ghost use Rattle.gix_commitgraph.specs.ListedTallies.{AreTallied, IsTally};
 
     /// The tally of the parents of the commit at this position of a layer, and `None` exactly where
     /// they cannot be decoded or do not all stand before the end of the layer. At the first commit
-    /// of a block, the whole block is gathered.
+    /// of a batch, the whole batch is gathered.
     #[inline(always)]
     pub(super) fn gathered(
         &self,
         span: LayerSpan<'_>,
         tallies: &[ListedTally],
         layer_pos: u32,
-        block: &mut Block,
+        batch: &mut Batch,
     ) -> Option<ParentTally>
         requires span { IsSpan self.now span }
         requires tallies { AreTallied self.now span tallies.now }
         requires within { layer_pos < length span.file.now.ids }
-        requires before { IsBlock self.now span layer_pos block.old }
+        requires before { IsBatch self.now span layer_pos batch.old }
         ensures result { IsGathered self.now span.entry layer_pos result }
-        ensures after { IsBlock self.now span.entry (layer_pos + 1) block.new }
+        ensures after { IsBatch self.now span.entry (layer_pos + 1) batch.new }
     {
-        let index = layer_pos as usize % BLOCK;
+        let index = layer_pos as usize % BATCH;
         if index == 0 {
-            self.gather(span, tallies, layer_pos, block);
+            self.gather(span, tallies, layer_pos, batch);
         }
-        block[index]
+        batch[index]
     }
 
-    /// Gathers as many commits as a block has, from this position on.
+    /// Gathers as many commits as a batch has, from this position on.
     #[inline(never)]
-    fn gather(&self, span: LayerSpan<'_>, tallies: &[ListedTally], first: u32, block: &mut Block)
+    fn gather(&self, span: LayerSpan<'_>, tallies: &[ListedTally], first: u32, batch: &mut Batch)
         requires span { IsSpan self.now span }
         requires tallies { AreTallied self.now span tallies.now }
         requires within { first < length span.file.now.ids }
         requires begins { first % 256 ≡ 0 }
-        ensures { AreGathered self.now span.entry first block.new }
+        ensures { AreGathered self.now span.entry first batch.new }
     {
         let fields = parent_fields(span.file);
         let numbers = generations(span.file);
-        let count = (span.file.num_commits() - first).min(BLOCK as u32);
+        let count = (span.file.num_commits() - first).min(BATCH as u32);
         for index in 0..count {
             let layer_pos = first + index;
             let (parent1, parent2) = fields[layer_pos as usize];
             match self.tally_within(span, layer_pos, parent1, parent2, numbers) {
-                Some(tally) => block[index as usize] = Some(tally),
-                None => self.gather_any(span, tallies, layer_pos, &mut block[index as usize]),
+                Some(tally) => batch[index as usize] = Some(tally),
+                None => self.gather_any(span, tallies, layer_pos, &mut batch[index as usize]),
             }
         }
     }

@@ -53,10 +53,10 @@ impl Graph {
             });
         }
         let tallies = self.tally_lists(span, alloc)?;
-        let mut block = NOTHING;
+        let mut batch = NOTHING;
         for commit in span.file.iter_commits() {
             let layer_pos = commit.position().0;
-            let gathered = self.gathered(span, &tallies, layer_pos, &mut block);
+            let gathered = self.gathered(span, &tallies, layer_pos, &mut batch);
             let pos = Position(span.start + layer_pos);
             let parents = self.verify_commit(options, span, &commit, pos, gathered, processor)?;
             tally.add(commit.generation(), parents)?;

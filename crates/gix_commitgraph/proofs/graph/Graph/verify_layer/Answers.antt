@@ -31,7 +31,7 @@ loop-commit-init g c = record {
   within = omega arith;
   reached = reached_first g.F.FnMut c.args.options c.args.self.now c.args.span _ c.in_ok-check_bases.ensures c.in_default.ensures;
   tally = rw add-zero c.requires.tally;
-  block = λ not_first. absurd (not_first (omega arith));
+  batch = λ not_first. absurd (not_first (omega arith));
 }
 
 pub gathered-gathered-requires-clause-within : goal.gathered-gathered-requires-clause-within
@@ -48,7 +48,7 @@ gathered-gathered-requires-clause-before g c =
     _ _ c.loop-commit.invariant.left c.in-Some-commit.ensures.steps c.position-layer_pos.ensures.value refl in
     let place : c.position-layer_pos.result.0 ≡ length c.loop-commit.yielded =
     omega (arith, c.position-layer_pos.ensures.value, this.pos) in
-    rw place c.loop-commit.invariant.block
+    rw place c.loop-commit.invariant.batch
 
 pub overflow_add-pos : goal.overflow_add-pos
 overflow_add-pos g c =
@@ -123,7 +123,7 @@ loop-commit-preserved g c =
       within = omega (arith, more, this.below);
       reached = rw more next;
       tally = rw seen added;
-      block = rw more (rw (← place) c.gathered-gathered.ensures.after);
+      batch = rw more (rw (← place) c.gathered-gathered.ensures.after);
     }
 
 pub returns-clause-agrees : goal.returns-clause-agrees
