@@ -1,26 +1,13 @@
--- what the tally of some commits is
-use Rattle.std.specs.Prelude.{◌≡◌, ◌≢◌, ℕ, ◌/◌, ◌%◌, ◌<◌, ◌≤◌, All, List, Option, None, length, map, slice_index_or}
-use Rattle.graph_walks.specs.Counts.{greatest, count_of}
-use Rattle.graph_layer.specs.ParentCounts.{counted}
-use Rattle.graph_walks.specs.History.{Node, generations, parent_numbers, generation_at, parents_at}
-use Rattle.graph_walks.specs.declared.TheConstants.{GENERATION_NUMBER_MAX}
+-- the tallies of the parents of commits
+use Rattle.std.specs.Prelude.{◌≡◌, ◌≢◌, ℕ, ◌/◌, ◌%◌, ◌<◌, List, Option, None, length, map, slice_index_or}
+use Rattle.graph_walks.specs.Counts.{greatest}
+use Rattle.graph_walks.specs.History.{Node, generation_at, parents_at}
 use Rattle.graph_format.specs.Layer.{Layer, record_at}
 use Rattle.graph_format.specs.Parents.{DecodedParents, parents_of}
 use Rattle.graph_format.specs.StoredHistory.{history_of}
 use Rattle.gix_commitgraph.specs.declared.verify.span.LayerSpan.{LayerSpan}
-use Rattle.gix_commitgraph.specs.declared.verify.tally.Tally.{Tally}
 use Rattle.gix_commitgraph.specs.declared.verify.parents.ParentTally.{ParentTally}
 use Rattle.gix_commitgraph.specs.ListedTallies.{IsTally}
-
--- The statistics of the commits so far.
-pub record Tallies (seen : List Node) (tally : Tally) : Type 0 where
-  pub max_generation : tally.max_generation ≡ greatest (generations seen)
-  pub num_commits : tally.num_commits ≡ length seen
-  pub parent_counts : (k : ℕ) → counted tally.parent_counts k ≡ count_of (parent_numbers seen) k
-
--- each generation number is at least 1, and at most the cap
-abbrev pub AreNumbered : List Node → Type 0
-AreNumbered seen = All (λ node. (0 < node.generation) × (node.generation ≤ GENERATION_NUMBER_MAX)) seen
 
 -- The number of the parents of the commit at a position, and the greatest of their generation numbers.
 pub record ParentsTally (history : List Node) (p : ℕ) (tally : ParentTally) : Type 0 where

@@ -30,7 +30,7 @@ loop-commit-init g c = record {
   left = ap commits_left c.into_iter-commit-iterator.ensures.into_iter_gives ∙ c.iter_commits-commit-items.ensures;
   within = omega arith;
   reached = reached_first g.F.FnMut c.args.options c.args.self.now c.args.span _ c.in_ok-check_bases.ensures c.in_default.ensures;
-  tally = rw add-zero c.requires.tally;
+  statistics = rw add-zero c.requires.statistics;
   batch = λ not_first. absurd (not_first (omega arith));
 }
 
@@ -82,7 +82,7 @@ add-requires g c =
     turn c.args.span c.in-Some-commit.commit (length c.loop-commit.yielded) (c.args.span.start + c.position-layer_pos.result.0) _
     _ _ c.loop-commit.invariant.left c.in-Some-commit.ensures.steps c.position-layer_pos.ensures.value refl in (
       take (c.args.span.start + length c.loop-commit.yielded) (history_of c.args.self.now),
-      c.loop-commit.invariant.tally,
+      c.loop-commit.invariant.statistics,
       take-fits c.args.self.now c.args.span (length c.loop-commit.yielded) c.requires.span this.below,
     )
 
@@ -111,7 +111,7 @@ loop-commit-preserved g c =
     reached_next g.F.FnMut c.args.options c.args.self.now c.args.span _ (length c.loop-commit.yielded) c.in-Some-commit.commit
     this.pos this.below _ _ c.loop-commit.invariant.reached c.in_ok-parents.ensures.agrees in
     let added =
-    c.in_ok-add.ensures _ (node_at (layer_and_position c.in-Some-commit.commit)) c.loop-commit.invariant.tally
+    c.in_ok-add.ensures _ (node_at (layer_and_position c.in-Some-commit.commit)) c.loop-commit.invariant.statistics
     c.generation.ensures
     (parents-told c.args.self.now c.args.span c.in-Some-commit.commit _ _ c.requires.span stands
     c.in_ok-parents.ensures.parents) in
@@ -122,7 +122,7 @@ loop-commit-preserved g c =
       left = this.left ∙ ap (positions_from c.args.span.file.now) (sym more);
       within = omega (arith, more, this.below);
       reached = rw more next;
-      tally = rw seen added;
+      statistics = rw seen added;
       batch = rw more (rw (← place) c.gathered-gathered.ensures.after);
     }
 
@@ -132,10 +132,10 @@ returns-clause-agrees g c =
     (place-none c.args.span.file.now (length c.loop-commit.yielded) _ c.loop-commit.invariant.left c.in-None.ensures.steps.0)
     c.loop-commit.invariant.reached
 
-pub returns-clause-tally : goal.returns-clause-tally
-returns-clause-tally g c =
+pub returns-clause-statistics : goal.returns-clause-statistics
+returns-clause-statistics g c =
     let past =
     place-none c.args.span.file.now (length c.loop-commit.yielded) _ c.loop-commit.invariant.left c.in-None.ensures.steps.0 in
     let end : c.args.span.stop ≡ c.args.span.start + length c.loop-commit.yielded =
     omega (arith, past, c.loop-commit.invariant.within, span-stop c.args.self.now c.args.span c.requires.span) in
-    rw end c.loop-commit.invariant.tally
+    rw end c.loop-commit.invariant.statistics
