@@ -10,7 +10,7 @@ use Rattle.gix_commitgraph.specs.declared.verify.parents.ParentTally.{ParentTall
 use Rattle.gix_commitgraph.specs.ListedTallies.{IsTally}
 
 -- The number of the parents of the commit at a position, and the greatest of their generation numbers.
-pub record ParentsTally (history : List Node) (p : ℕ) (tally : ParentTally) : Type 0 where
+pub record IsParentTally (history : List Node) (p : ℕ) (tally : ParentTally) : Type 0 where
   pub count : tally.count ≡ length (parents_at history p)
   pub max_generation : tally.max_generation ≡ greatest (map (generation_at history) (parents_at history p))
 
