@@ -37,6 +37,7 @@ pub mod Sound
 pub mod Paths
 pub mod OpenAlways
 pub mod Opening
+pub mod Statistics
 pub mod Tallies
 pub mod ListedTallies
 pub mod LayerSpans

@@ -2,9 +2,8 @@
 use Rattle.std.specs.Prelude.{◌≡◌, ◌<◌, ◌⊎◌, ℕ, List, [], ◌∷◌, All, map, ⊤}
 use Rattle.graph_format.specs.Layer.{Layer}
 use Rattle.gix_commitgraph.specs.GraphLaw.{IsRefusal}
-use Rattle.gix_commitgraph.specs.Opening.{info_file, info_chain}
 use Rattle.graph_layer.specs.LayerOpening.{IsLayerError}
-use Rattle.gix_commitgraph.specs.Paths.{layer_path}
+use Rattle.gix_commitgraph.specs.Paths.{info_chain, info_file, layer_path}
 use Rattle.graph_format.specs.declared.TheConstants.{MAX_COMMITS}
 use Rattle.graph_format.specs.declared.error.GraphError.TheVariants.{NoFiles, TooManyCommits, HashMismatch}
 use Rattle.graph_format.specs.declared.error.GraphError.TheVariants.{OutOfMemory as graph_OutOfMemory}

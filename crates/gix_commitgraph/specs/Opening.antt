@@ -1,6 +1,5 @@
 -- What the openers answer for the contents of a tree. ("Commit-Graphs Chains" of Git's commit-graph design.)
-use Rattle.std.specs.Prelude.{◌≡◌, ℕ, ◌<◌, ◌≤◌, ◌-◌, ◌^◌, List, [], ◌∷◌, Option, Some, None, map, codes, if◌then◌else◌, IsErrOf}
-use Rattle.std.specs.Bool.{MatchBool}
+use Rattle.std.specs.Prelude.{◌≡◌, ℕ, ◌<◌, ◌≤◌, ◌-◌, ◌^◌, List, [], ◌∷◌, Option, Some, None, map, if◌then◌else◌, IsErrOf}
 use Rattle.std.specs.List.{enumerate_from}
 use Rattle.std.specs.Result.{result_or}
 use Rattle.std.specs.Str.{is_utf8}
@@ -13,7 +12,9 @@ use Rattle.graph_format.specs.Layer.{Layer}
 use Rattle.graph_layer.specs.LayerOpening.{bytes_at, layer_at}
 use Rattle.graph_layer.specs.OpenAnswer.{and_then, all_values, IsAsExpected, failures_after_opening}
 use Rattle.graph_layer.specs.OpenRefusals.{graph_refused}
-use Rattle.gix_commitgraph.specs.Paths.{join_path, chain_path, layer_path}
+use Rattle.gix_commitgraph.specs.Paths.{chain_path, info_chain, info_file, layer_path}
+use Rattle.gix_commitgraph.specs.declared.opening.Standing.{Standing}
+use Rattle.gix_commitgraph.specs.declared.opening.Standing.TheVariants.{File, ChainDir, InfoDir, Nothing}
 use Rattle.graph_format.specs.declared.error.GraphError.{GraphError}
 use Rattle.graph_layer.specs.declared.opening.error.OpenError.{OpenError}
 use Rattle.graph_layer.specs.declared.opening.error.OpenError.TheVariants.{NothingFound, Device, ChainNotText, OutOfMemory}
@@ -43,13 +44,6 @@ abbrev pub chain_opened : Tree → List ℕ → Result (List Layer) OpenError
 chain_opened tree folder =
     and_then (bytes_at tree (chain_path folder)) (λ text. and_then (layers_of_lines tree folder (lines text)) graph_of_layers)
 
--- the file and the chain folder of an info folder
-abbrev pub info_file : List ℕ → List ℕ
-info_file folder = join_path folder (codes "commit-graph")
-
-abbrev pub info_chain : List ℕ → List ℕ
-info_chain folder = join_path folder (codes "commit-graphs")
-
 -- an info folder's graph is that of its file, and else that of its chain folder
 abbrev pub info_opened : Tree → List ℕ → Result (List Layer) OpenError
 info_opened tree folder = result_or (file_opened tree (info_file folder)) (chain_opened tree (info_chain folder))
@@ -76,20 +70,25 @@ InfoOpens tree folder old new answer =
     (MetNoFailure old new → IsAsExpected answer (info_opened tree folder))
     × (MetFailure old new → IsAsExpected answer (chain_opened tree (info_chain folder)))
 
--- a folder with a chain file is a chain folder, and else an info folder
-abbrev pub FolderOpens : Tree → List ℕ → ℕ → ℕ → Result (List Layer) OpenError → Type 0
-FolderOpens tree path old new answer =
-    MatchBool (is_file tree (chain_path path)) (StopsAtFailure (chain_opened tree path) old new answer)
-    (InfoOpens tree path old new answer)
-
 -- what an opener answers where nothing stands at the path: it reads nothing, so no device fails
 abbrev pub NothingOpens : ℕ → ℕ → Result (List Layer) OpenError → Type 0
 NothingOpens old new (Err NothingFound) = new ≡ old
 NothingOpens old new (Err OutOfMemory) = new ≡ old
 NothingOpens old new answer = ⊥
 
+-- what stands at a path: a folder with a chain file is a chain folder, and any other is taken for an info folder
+abbrev pub standing_at : Tree → List ℕ → Standing
+standing_at tree path =
+    if is_file tree path then File
+    else (if is_folder tree path then (if is_file tree (chain_path path) then ChainDir else InfoDir) else Nothing)
+
+-- what an opener answers for what stands at the path
+abbrev pub StandingOpens : Standing → Tree → List ℕ → ℕ → ℕ → Result (List Layer) OpenError → Type 0
+StandingOpens File tree path old new answer = StopsAtFailure (file_opened tree path) old new answer
+StandingOpens ChainDir tree path old new answer = StopsAtFailure (chain_opened tree path) old new answer
+StandingOpens InfoDir tree path old new answer = InfoOpens tree path old new answer
+StandingOpens Nothing tree path old new answer = NothingOpens old new answer
+
 -- a file and a folder are opened as such, and nothing is found at any other path
 abbrev pub Opens : Tree → List ℕ → ℕ → ℕ → Result (List Layer) OpenError → Type 0
-Opens tree path old new answer =
-    MatchBool (is_file tree path) (StopsAtFailure (file_opened tree path) old new answer)
-    (MatchBool (is_folder tree path) (FolderOpens tree path old new answer) (NothingOpens old new answer))
+Opens tree path old new answer = StandingOpens (standing_at tree path) tree path old new answer

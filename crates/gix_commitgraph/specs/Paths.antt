@@ -12,3 +12,10 @@ chain_path folder = join_path folder (codes "commit-graph-chain")
 -- the file of the layer that a line of the chain names
 abbrev pub layer_path : List ℕ → List ℕ → List ℕ
 layer_path folder line = join_path folder (codes "graph-" ++ (line ++ codes ".graph"))
+
+-- the file and the chain folder of an info folder
+abbrev pub info_file : List ℕ → List ℕ
+info_file folder = join_path folder (codes "commit-graph")
+
+abbrev pub info_chain : List ℕ → List ℕ
+info_chain folder = join_path folder (codes "commit-graphs")

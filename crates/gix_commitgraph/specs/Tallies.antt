@@ -1,47 +1,34 @@
--- what the tally of some commits is
-use Rattle.std.specs.Prelude.{◌≡◌, ◌≢◌, ℕ, ◌/◌, ◌%◌, ◌<◌, ◌≤◌, All, List, Option, None, length, map, slice_index_or}
-use Rattle.graph_walks.specs.Counts.{greatest, count_of}
-use Rattle.graph_layer.specs.ParentCounts.{counted}
-use Rattle.graph_walks.specs.History.{Node, generations, parent_numbers, generation_at, parents_at}
-use Rattle.graph_walks.specs.declared.TheConstants.{GENERATION_NUMBER_MAX}
+-- the tallies of the parents of commits
+use Rattle.std.specs.Prelude.{◌≡◌, ◌≢◌, ℕ, ◌/◌, ◌%◌, ◌<◌, List, Option, None, length, map, slice_index_or}
+use Rattle.graph_walks.specs.Counts.{greatest}
+use Rattle.graph_walks.specs.History.{Node, generation_at, parents_at}
 use Rattle.graph_format.specs.Layer.{Layer, record_at}
 use Rattle.graph_format.specs.Parents.{DecodedParents, parents_of}
 use Rattle.graph_format.specs.StoredHistory.{history_of}
 use Rattle.gix_commitgraph.specs.declared.verify.span.LayerSpan.{LayerSpan}
-use Rattle.gix_commitgraph.specs.declared.verify.tally.Tally.{Tally}
 use Rattle.gix_commitgraph.specs.declared.verify.parents.ParentTally.{ParentTally}
 use Rattle.gix_commitgraph.specs.ListedTallies.{IsTally}
 
--- The statistics of the commits so far.
-pub record Tallies (seen : List Node) (tally : Tally) : Type 0 where
-  pub max_generation : tally.max_generation ≡ greatest (generations seen)
-  pub num_commits : tally.num_commits ≡ length seen
-  pub parent_counts : (k : ℕ) → counted tally.parent_counts k ≡ count_of (parent_numbers seen) k
-
--- each generation number is at least 1, and at most the cap
-abbrev pub AreNumbered : List Node → Type 0
-AreNumbered seen = All (λ node. (0 < node.generation) × (node.generation ≤ GENERATION_NUMBER_MAX)) seen
-
 -- The number of the parents of the commit at a position, and the greatest of their generation numbers.
-pub record ParentsTally (history : List Node) (p : ℕ) (tally : ParentTally) : Type 0 where
+pub record IsParentTally (history : List Node) (p : ℕ) (tally : ParentTally) : Type 0 where
   pub count : tally.count ≡ length (parents_at history p)
   pub max_generation : tally.max_generation ≡ greatest (map (generation_at history) (parents_at history p))
 
--- the parents of the commit at a place of a layer
+-- the parents of the commit at a position of a layer
 abbrev pub decoded_at : Layer → ℕ → DecodedParents
-decoded_at layer place = parents_of (record_at layer place) layer.edges
+decoded_at layer layer_pos = parents_of (record_at layer layer_pos) layer.edges
 
--- The tally of the parents of the commit at a place of a layer: `Some` exactly where they are decoded without a fault and stand
--- before the layer's end.
+-- The tally of the parents of the commit at a position of a layer: `Some` exactly where they are decoded without a fault and
+-- stand before the layer's end.
 abbrev pub IsGathered : List Layer → LayerSpan → ℕ → Option ParentTally → Type 0
-IsGathered layers span place gathered = IsTally (history_of layers) span.stop (decoded_at span.file.now place) gathered
+IsGathered layers span layer_pos gathered = IsTally (history_of layers) span.stop (decoded_at span.file.now layer_pos) gathered
 
--- A block has the tallies of 256 commits of a layer, among which the one at a place is, or of as many of them as there are.
+-- A batch has the tallies of 256 commits of a layer, among which the one at a position is, or of as many of them as there are.
 abbrev pub AreGathered : List Layer → LayerSpan → ℕ → List (Option ParentTally) → Type 0
-AreGathered layers span among block =
-    (place : ℕ) → place < length span.file.now.ids → place / 256 ≡ among / 256
-    → IsGathered layers span place (slice_index_or block (place % 256) None)
+AreGathered layers span among batch =
+    (layer_pos : ℕ) → layer_pos < length span.file.now.ids → layer_pos / 256 ≡ among / 256
+    → IsGathered layers span layer_pos (slice_index_or batch (layer_pos % 256) None)
 
--- This was gathered before the check of the commit at a place, if that is not the first of its block.
-abbrev pub IsBlock : List Layer → LayerSpan → ℕ → List (Option ParentTally) → Type 0
-IsBlock layers span place block = place % 256 ≢ 0 → AreGathered layers span place block
+-- This was gathered before the check of the commit at a position, if that is not the first of its batch.
+abbrev pub IsBatch : List Layer → LayerSpan → ℕ → List (Option ParentTally) → Type 0
+IsBatch layers span layer_pos batch = layer_pos % 256 ≢ 0 → AreGathered layers span layer_pos batch

@@ -59,8 +59,8 @@ impl Graph {
         requires { pos.0 < total self.now }
         ensures { slice_get (graph_ids self.now) pos.0 ≡ Some (oid_bytes result) }
     {
-        let (file, place) = self.layer_at(pos);
-        file.id_at(place)
+        let (file, layer_pos) = self.layer_at(pos);
+        file.id_at(layer_pos)
     }
 
     /// The commit at a position, which is below `num_commits()`.
@@ -68,8 +68,8 @@ impl Graph {
         requires { pos.0 < total self.now }
         ensures { slice_get (graph_commits self.now) pos.0 ≡ Some (layer_and_position result) }
     {
-        let (file, place) = self.layer_at(pos);
-        file.commit_at(place)
+        let (file, layer_pos) = self.layer_at(pos);
+        file.commit_at(layer_pos)
     }
 
     /// The ids, in order.
@@ -155,8 +155,8 @@ impl Graph {
         ensures within { result.1.0 < length result.0.now.ids }
     {
         let (layer, _) = self.layer_of_counted(pos);
-        let place = file::Position(pos.0 - self.starts[layer]);
-        (&self.files[layer], place)
+        let layer_pos = file::Position(pos.0 - self.starts[layer]);
+        (&self.files[layer], layer_pos)
     }
 
     /// The first layer below this one that finds an id, and where.

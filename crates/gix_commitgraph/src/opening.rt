@@ -6,29 +6,65 @@
 //! [`Disk`](graph_folder::folder::Disk), the same openers are [`Graph::at`], [`Graph::from_file`],
 //! [`Graph::from_info_dir`] and [`Graph::from_commit_graphs_dir`].
 
-ghost use Rattle.std.specs.Prelude.{◌≡◌, ◌⊎◌, IfOk, IfErr, MatchResult};
+ghost use Rattle.std.specs.Prelude.{◌≡◌, IfOk, IfErr, IsErrOf, MatchResult};
 ghost use Rattle.std.specs.Option.{ForSome};
 ghost use Rattle.gix_commitgraph.specs.Graph.{IsGraph};
-ghost use Rattle.gix_commitgraph.specs.OpenAlways.{IsFromChain, IsFromInfo, IsFolderError};
-ghost use Rattle.gix_commitgraph.specs.OpenAlways.{IsFromPath, IsPathError};
-ghost use Rattle.gix_commitgraph.specs.Opening.{FolderOpens, Opens, MetFailureIfDevice};
+ghost use Rattle.gix_commitgraph.specs.OpenAlways.{IsErrorOfLayers, IsFromPath, IsPathError};
+ghost use Rattle.gix_commitgraph.specs.Opening.{Opens, MetFailureIfDevice};
+ghost use Rattle.gix_commitgraph.specs.Opening.{graph_of_layers, standing_at};
+ghost use Rattle.graph_layer.specs.OpenAnswer.{IsAsExpected};
 ghost use Rattle.graph_layer.specs.OpenRefusals.{OutOfMemoryStandsAlone};
 
 mod by_path;
 mod chain;
 mod file;
-mod graph;
 mod info;
 pub mod path;
 
+use crate::file::File;
 use crate::graph::Graph;
 use chain::has_chain;
 pub use chain::open_chain_dir_in;
 pub use file::open_file_in;
 use graph_folder::folder::Folder;
 pub use graph_layer::opening::OpenError;
-pub use info::open_info_dir_in;
-use std::alloc::Global;
+pub use info::{is_settled, open_info_dir_in};
+use std::alloc::{AllocError, Global};
+
+/// What stands at a path.
+#[derive(Clone, Copy, Debug, PartialEq, Eq)]
+pub enum Standing {
+    /// A file.
+    File,
+    /// A chain folder: a file `commit-graph-chain` stands in it.
+    ChainDir,
+    /// Any other folder, which is taken for an info folder.
+    InfoDir,
+    /// Neither a file nor a folder.
+    Nothing,
+}
+
+/// What stands at the path. `AllocError` comes only where an allocation failed.
+pub fn stands_at<T: Folder>(
+    alloc: Global,
+    folder: &mut T,
+    path: &str,
+) -> Result<Standing, AllocError>
+    ensures answer { ForSome (T.tree folder.old) (λ tree.
+        IfOk result (λ standing. standing ≡ standing_at tree path.now)) }
+    ensures tree { T.tree folder.new ≡ T.tree folder.old }
+    ensures failures { T.failure_count folder.new ≡ T.failure_count folder.old }
+{
+    if folder.is_file(alloc, path)? {
+        Ok(Standing::File)
+    } else if !folder.is_dir(alloc, path)? {
+        Ok(Standing::Nothing)
+    } else if has_chain(alloc, folder, path)? {
+        Ok(Standing::ChainDir)
+    } else {
+        Ok(Standing::InfoDir)
+    }
+}
 
 /// Opens what stands at the path: a file as [`open_file_in`] does, a folder in which a file
 /// `commit-graph-chain` stands as [`open_chain_dir_in`] does, and any other folder as
@@ -50,31 +86,22 @@ pub fn open_in<T: Folder>(alloc: Global, folder: &mut T, path: &str) -> Result<G
     ensures graph { IfOk result IsGraph }
     ensures memory { IfErr result OutOfMemoryStandsAlone }
 {
-    if folder.is_file(alloc, path)? {
-        return open_file_in(alloc, folder, path);
+    match stands_at(alloc, folder, path)? {
+        Standing::File => open_file_in(alloc, folder, path),
+        Standing::ChainDir => open_chain_dir_in(alloc, folder, path),
+        Standing::InfoDir => open_info_dir_in(alloc, folder, path),
+        Standing::Nothing => Err(OpenError::NothingFound),
     }
-    if folder.is_dir(alloc, path)? {
-        return open_folder_in(alloc, folder, path);
-    }
-    Err(OpenError::NothingFound)
 }
 
-/// Opens the chain folder or the info folder at the path.
-fn open_folder_in<T: Folder>(alloc: Global, folder: &mut T, path: &str) -> Result<Graph, OpenError>
-    ensures opens { ForSome (T.tree folder.old)
-        (λ tree. FolderOpens tree path.now (T.failure_count folder.old) (T.failure_count folder.new)
-        result) }
-    ensures device { MetFailureIfDevice result (T.failure_count folder.old)
-        (T.failure_count folder.new) }
-    ensures tree { T.tree folder.new ≡ T.tree folder.old }
-    ensures from { MatchResult result
-        (λ graph. IsFromChain path.now graph ⊎ IsFromInfo path.now graph) IsFolderError }
+/// The graph of the layers that an opener has read.
+fn new_graph(alloc: Global, files: Vec<File>) -> Result<Graph, OpenError>
+    ensures opens { IsAsExpected result (graph_of_layers files.items) }
+    ensures no_device { ¬ (IsErrOf result OpenError.Device) }
+    ensures layers { IfOk result (λ layers. layers ≡ files.items) }
+    ensures errors { IfErr result (IsErrorOfLayers files.items) }
     ensures graph { IfOk result IsGraph }
     ensures memory { IfErr result OutOfMemoryStandsAlone }
 {
-    if has_chain(alloc, folder, path)? {
-        open_chain_dir_in(alloc, folder, path)
-    } else {
-        open_info_dir_in(alloc, folder, path)
-    }
+    Ok(Graph::new(alloc, files)?)
 }

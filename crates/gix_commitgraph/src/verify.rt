@@ -8,7 +8,7 @@ mod layer;
 mod lists;
 mod parents;
 mod span;
-mod tally;
+mod statistics;
 
 ghost use Rattle.std.specs.Prelude.{◌≤◌, All, IfOk, IsTrue, MatchResult, length, take};
 
@@ -16,7 +16,7 @@ use crate::Position;
 use crate::file::Commit;
 use crate::file::commit::ParentError;
 use crate::graph::Graph;
-use crate::verify::tally::Tally;
+use crate::verify::statistics::Statistics;
 pub use graph_format::fault::{CommitFault, LayerFault};
 use std::alloc::{AllocError, Global};
 use std::collections::BTreeMap;
@@ -122,7 +122,7 @@ impl Graph {
     ghost use Rattle.gix_commitgraph.specs.Verify.{graph_points, points_from, points_with};
     ghost use Rattle.gix_commitgraph.specs.Verify.{cause_of, Summarizes};
     ghost use Rattle.gix_commitgraph.specs.GraphLaw.{IsOrdered};
-    ghost use Rattle.gix_commitgraph.specs.Tallies.{Tallies};
+    ghost use Rattle.gix_commitgraph.specs.Statistics.{AreStatistics};
     ghost use Rattle.gix_commitgraph.specs.Distinct.{IsSoundWith, IsDeservedWith, LookupsAreExact};
     ghost use Rattle.gix_commitgraph.specs.Graph.{IsGraph};
     ghost use Rattle.gix_commitgraph.specs.Sound.{Sound};
@@ -185,7 +185,7 @@ impl Graph {
         let plain = VerifyOptions {
             distinct_ids: false,
         };
-        self.verify_layers(alloc, plain, 0, Tally::new(alloc), processor)
+        self.verify_layers(alloc, plain, 0, Statistics::new(alloc), processor)
     }
 
     /// Checks the graph as [`Graph::verify_integrity`] does, and for what the options ask besides.
@@ -226,7 +226,7 @@ impl Graph {
         ensures distinct { IfOk result (λ _.
             IsTrue options.distinct_ids → LookupsAreExact self.now) }
     {
-        self.verify_layers(alloc, options, 0, Tally::new(alloc), processor)
+        self.verify_layers(alloc, options, 0, Statistics::new(alloc), processor)
     }
 
     /// Goes on with a check where the layers below one were checked with the same options, and
@@ -268,18 +268,18 @@ impl Graph {
         // In a graph that passes, the statistics are exact.
         ensures statistics { IfOk result (Stats self.now) }
     {
-        let tally = Tally::from_outcome(below)?;
-        self.verify_layers(alloc, options, layer, tally, processor)
+        let statistics = Statistics::from_outcome(below)?;
+        self.verify_layers(alloc, options, layer, statistics, processor)
     }
 
-    /// Checks the layers from one on, whose tally is that of the layers below it. What its answer
+    /// Checks the layers from one on, given the statistics of the layers below it. What its answer
     /// says of the graph as a whole is left to its callers.
     fn verify_layers<'a, F, E>(
         &'a self,
         alloc: Global,
         options: VerifyOptions,
         first: usize,
-        tally: Tally,
+        statistics: Statistics,
         processor: &mut F,
     ) -> Result<Outcome, VerifyError<E>>
     where
@@ -287,7 +287,7 @@ impl Graph {
         requires callable { MayBeCalled F.FnMut (InGraph self.now) }
         requires first { first ≤ length self.now }
         requires ordered { All IsOrdered (take first self.now) }
-        requires tally { Tallies (history_of (take first self.now)) tally }
+        requires statistics { AreStatistics (history_of (take first self.now)) statistics }
         ensures agrees { Agrees (CalledOn F.FnMut (InGraph self.now))
             (points_from options self.now first) processor.old processor.new cause_of result }
         ensures outcome { IfOk result (Summarizes (history_of self.now)) }
@@ -297,11 +297,11 @@ impl Graph {
             return Err(VerifyError::TooManyFiles);
         }
         let distinct = self.distinct_below(options, first, alloc)?;
-        let mut tally = tally;
+        let mut statistics = statistics;
         for layer in first..self.files.len() {
             let span = self.span_at(layer, distinct);
-            self.verify_layer(options, span, alloc, &mut tally, processor)?;
+            self.verify_layer(options, span, alloc, &mut statistics, processor)?;
         }
-        Ok(tally.outcome()?)
+        Ok(statistics.outcome()?)
     }
 }

@@ -1,13 +1,14 @@
--- what is found in a folder: in its chain, or its file, or else the chain in it
+-- what is found at a path: in a file, in a chain folder, or in an info folder's file or else its chain
 use Rattle.std.proofs.Common.{◌≡◌, ℕ, ◌<◌, ◌≤◌, ◌-◌, ◌^◌, Bool, true, false, List, Result, Ok, Err, Option, refl, subst, ◌∙◌}
 use Rattle.std.proofs.Common.{arith}
 use Rattle.std.specs.Option.{ForSome}
-use Rattle.graph_folder.specs.Tree.{Tree, is_file, is_folder}
+use Rattle.graph_folder.specs.Tree.{Tree}
 use Rattle.graph_format.specs.Layer.{Layer}
 use Rattle.graph_layer.specs.OpenAnswer.{failures_after_opening, is_settled}
-use Rattle.gix_commitgraph.specs.Opening.{FolderOpens, InfoOpens, MetFailureIfDevice, chain_opened, file_opened}
-use Rattle.gix_commitgraph.specs.Opening.{info_chain, info_file}
-use Rattle.gix_commitgraph.specs.Paths.{chain_path}
+use Rattle.gix_commitgraph.specs.Opening.{InfoOpens, MetFailureIfDevice, StandingOpens, StopsAtFailure, chain_opened}
+use Rattle.gix_commitgraph.specs.Opening.{file_opened, standing_at}
+use Rattle.gix_commitgraph.specs.Paths.{info_chain, info_file}
+use Rattle.gix_commitgraph.specs.declared.opening.Standing.{Standing}
 use Rattle.gix_commitgraph.proofs.opening.InfoOpeningLemmas.{info_opens-file, info_opens-chain}
 use Rattle.graph_layer.specs.declared.opening.error.OpenError.{OpenError}
 use Rattle.graph_layer.specs.declared.opening.error.OpenError.TheVariants.{NothingFound, NotOpened, Device, ChainNotText}
@@ -80,33 +81,40 @@ finds-wider : (P Q : Result (List Layer) OpenError → Type 0) (id : List ℕ) (
 finds-wider P Q id (Ok found) wider finds = (finds.0, wider (Ok finds.0) finds.1, finds.2)
 finds-wider P Q id (Err error) wider finds = wider (Err error) finds
 
-module _ (known seen : Option Tree) (id path : List ℕ) (old from new : ℕ) (result : Result (Option Found) OpenError)
-    (same : seen ≡ known) (counted : from ≡ old) where
-  -- a folder stands at the path
-  pub finds-folder : ForSome known (λ (tree : Tree). is_file tree path ≡ false)
-      → ForSome known (λ (tree : Tree). is_folder tree path ≡ true)
-      → FindsBy (MayOpenBy seen (λ tree. FolderOpens tree path from new) from new) id result
-      → FindsBy (MayOpen known path old new) id result
-  finds-folder file folder finds =
-      let kept =
-      subst (λ (count : ℕ). FindsBy (MayOpenBy known (λ tree. FolderOpens tree path count new) count new) id result) counted
-      (subst (λ (trees : Option Tree). FindsBy (MayOpenBy trees (λ tree. FolderOpens tree path from new) from new) id result) same
-      finds) in
-      finds-wider (MayOpenBy known (λ tree. FolderOpens tree path old new) old new) (MayOpen known path old new) id result
-      (λ answer may. (λ tree is. rw (file tree is, folder tree is) (may.0 tree is), may.1, may.2)) kept
+-- What stands at the path says what may be found there.
+pub finds-at : (known seen : Option Tree) (id path : List ℕ) (old from new : ℕ) (result : Result (Option Found) OpenError)
+    (standing : Standing) → seen ≡ known → from ≡ old → ForSome known (λ (tree : Tree). standing ≡ standing_at tree path)
+    → FindsBy (MayOpenBy seen (λ tree. StandingOpens standing tree path from new) from new) id result
+    → FindsBy (MayOpen known path old new) id result
+finds-at known seen id path old from new result standing same counted stands finds =
+    let kept =
+    subst (λ (count : ℕ). FindsBy (MayOpenBy known (λ tree. StandingOpens standing tree path count new) count new) id result)
+    counted
+    (subst
+    (λ (trees : Option Tree). FindsBy (MayOpenBy trees (λ tree. StandingOpens standing tree path from new) from new) id result)
+    same finds) in
+    finds-wider (MayOpenBy known (λ tree. StandingOpens standing tree path old new) old new) (MayOpen known path old new) id
+    result
+    (λ answer may. (
+      λ tree is. subst (λ (at : Standing). StandingOpens at tree path old new answer) (stands tree is) (may.0 tree is),
+      may.1,
+      may.2,
+    ))
+    kept
 
-  -- it has no chain file
-  pub finds-info_dir : ForSome known (λ (tree : Tree). is_file tree (chain_path path) ≡ false)
-      → FindsBy (MayOpenBy seen (λ tree. InfoOpens tree path from new) from new) id result
-      → FindsBy (MayOpenBy known (λ tree. FolderOpens tree path old new) old new) id result
-  finds-info_dir file finds =
-      let kept =
-      subst (λ (count : ℕ). FindsBy (MayOpenBy known (λ tree. InfoOpens tree path count new) count new) id result) counted
-      (subst (λ (trees : Option Tree). FindsBy (MayOpenBy trees (λ tree. InfoOpens tree path from new) from new) id result) same
-      finds) in
-      finds-wider (MayOpenBy known (λ tree. InfoOpens tree path old new) old new)
-      (MayOpenBy known (λ tree. FolderOpens tree path old new) old new) id result
-      (λ answer may. (λ tree is. rw (file tree is) (may.0 tree is), may.1, may.2)) kept
+-- A search that stops at the first failure of a device finds what its opener may open.
+pub finds-stopping : (known : Option Tree) (id : List ℕ) (old new : ℕ) (opens : Tree → Result (List Layer) OpenError)
+    (result : Result (Option Found) OpenError) → new ≡ failures_after_opening result old
+    → FindsBy (OpensAs known opens) id result
+    → FindsBy (MayOpenBy known (λ tree. StopsAtFailure (opens tree) old new) old new) id result
+finds-stopping known id old new opens (Ok found) counted finds = (
+  finds.0,
+  (λ tree is. (finds.1.0 tree is, counted), finds.1.1, met-none finds.0 old new),
+  finds.2,
+)
+finds-stopping known id old new opens (Err error) counted finds =
+    let count : new ≡ failures_after_opening (opened error) old = counted ∙ counted-error error old in
+    (λ tree is. (finds.0 tree is, count), tt, met-error error old old new (λ small. omega arith) count)
 
 module _ (known : Option Tree) (id path : List ℕ) where
   -- the file decides

@@ -8,17 +8,16 @@ use Rattle.gix_commitgraph.specs.Opening.{Opens, MetFailureIfDevice}
 use Rattle.graph_layer.specs.OpenAnswer.{IsAsExpected}
 use Rattle.graph_layer.specs.declared.opening.error.OpenError.{OpenError}
 
--- in a call that took the count of device failures from old to new: what the tree has at the path, where the tree is known; and
--- in every folder the layers of a graph, and a failed device only where one failed
-abbrev pub MayOpen : Option Tree → List ℕ → ℕ → ℕ → Result (List Layer) OpenError → Type 0
-MayOpen known path old new answer =
-    ForSome known (λ tree. Opens tree path old new answer) × IfOk answer IsGraph × MetFailureIfDevice answer old new
-
--- the same of an opener that opens so in a known tree
+-- in a call that took the count of device failures from old to new, of an opener that opens so in a known tree: that, where the
+-- tree is known; and in every folder the layers of a graph, and a failed device only where one failed
 abbrev pub MayOpenBy : Option Tree → (Tree → Result (List Layer) OpenError → Type 0) → ℕ → ℕ → Result (List Layer) OpenError
     → Type 0
 MayOpenBy known OpensSo old new answer =
     ForSome known (λ tree. OpensSo tree answer) × IfOk answer IsGraph × MetFailureIfDevice answer old new
+
+-- of the opener of what stands at the path
+abbrev pub MayOpen : Option Tree → List ℕ → ℕ → ℕ → Result (List Layer) OpenError → Type 0
+MayOpen known path old new answer = MayOpenBy known (λ tree. Opens tree path old new) old new answer
 
 -- and of one that opens this in a known tree, and stops at a failure
 abbrev pub OpensAs : Option Tree → (Tree → Result (List Layer) OpenError) → Result (List Layer) OpenError → Type 0

@@ -3,17 +3,19 @@
 
 ghost use Rattle.std.specs.Prelude.{◌≡◌};
 ghost use Rattle.gix_hash_core.specs.Oid.{oid_bytes};
-ghost use Rattle.graph_layer.specs.OpenAnswer.{failures_after_opening, is_settled};
-ghost use Rattle.gix_commitgraph.specs.Opening.{file_opened, chain_opened, FolderOpens, InfoOpens};
+ghost use Rattle.graph_layer.specs.OpenAnswer.{failures_after_opening};
+ghost use Rattle.gix_commitgraph.specs.Opening.{file_opened, chain_opened, InfoOpens};
 ghost use Rattle.graph_commands.specs.OpenerAnswer.{MayOpen, MayOpenBy, OpensAs};
 ghost use Rattle.graph_commands.specs.Find.{FindsBy, MayBeFound};
 
 use crate::report::Found;
-use gix_commitgraph::opening::{OpenError, open_chain_dir_in, open_file_in};
+use gix_commitgraph::opening::path::{info_chain_path, info_file_path};
+use gix_commitgraph::opening::{
+    OpenError, Standing, is_settled, open_chain_dir_in, open_file_in, stands_at,
+};
 use gix_commitgraph::{Graph, Position};
 use gix_hash_core::oid;
-use graph_find::paths::{chain_path, info_chain_path, info_file_path};
-use graph_find::search::{Place, Search, find_in_chain, find_in_file};
+use graph_find::search::{FoundCommit, Search, find_in_chain, find_in_file};
 use graph_folder::folder::Folder;
 use std::alloc::Global;
 
@@ -29,34 +31,11 @@ pub(crate) fn find_at<T: Folder>(
         (T.failure_count folder.new)) (oid_bytes id.entry) result }
     ensures tree { T.tree folder.new ≡ T.tree folder.old }
 {
-    if folder.is_file(alloc, path)? {
-        return find_in_one(alloc, folder, path, id);
-    }
-    if folder.is_dir(alloc, path)? {
-        return find_in_folder(alloc, folder, path, id);
-    }
-    Err(OpenError::NothingFound)
-}
-
-/// The commit with an id, in the graph of the chain folder or the info folder at the path.
-fn find_in_folder<T: Folder>(
-    alloc: Global,
-    folder: &mut T,
-    path: &str,
-    id: oid<'_>,
-) -> Result<Option<Found>, OpenError>
-    ensures finds { FindsBy
-        (MayOpenBy (T.tree folder.old)
-        (λ tree. FolderOpens tree path.now (T.failure_count folder.old)
-        (T.failure_count folder.new))
-        (T.failure_count folder.old) (T.failure_count folder.new)) (oid_bytes id.entry) result }
-    ensures tree { T.tree folder.new ≡ T.tree folder.old }
-{
-    let chain = chain_path(alloc, path)?;
-    if folder.is_file(alloc, chain.as_str())? {
-        find_in_layers(alloc, folder, path, id)
-    } else {
-        find_in_info(alloc, folder, path, id)
+    match stands_at(alloc, folder, path)? {
+        Standing::File => find_in_one(alloc, folder, path, id),
+        Standing::ChainDir => find_in_layers(alloc, folder, path, id),
+        Standing::InfoDir => find_in_info(alloc, folder, path, id),
+        Standing::Nothing => Err(OpenError::NothingFound),
     }
 }
 
@@ -83,13 +62,6 @@ fn find_in_info<T: Folder>(
     find_in_layers(alloc, folder, chain.as_str(), id)
 }
 
-/// Whether nothing else is tried after this answer.
-fn is_settled(answer: &Result<Option<Found>, OpenError>) -> bool
-    ensures { result ≡ is_settled answer.now }
-{
-    matches!(answer, Ok(_) | Err(OpenError::OutOfMemory))
-}
-
 /// The commit with an id, in the graph of the file at the path.
 fn find_in_one<T: Folder>(
     alloc: Global,
@@ -104,7 +76,7 @@ fn find_in_one<T: Folder>(
         ≡ failures_after_opening result (T.failure_count folder.old) }
 {
     match find_in_file(alloc, folder, path, id)? {
-        Search::Found(place) => Ok(Some(found_at(place))),
+        Search::Found(commit) => Ok(Some(found_at(commit))),
         Search::Missing => Ok(None),
         Search::NotByParts => {
             let graph = open_file_in(alloc, folder, path)?;
@@ -127,7 +99,7 @@ fn find_in_layers<T: Folder>(
         ≡ failures_after_opening result (T.failure_count folder.old) }
 {
     match find_in_chain(alloc, folder, path, id)? {
-        Search::Found(place) => Ok(Some(found_at(place))),
+        Search::Found(commit) => Ok(Some(found_at(commit))),
         Search::Missing => Ok(None),
         Search::NotByParts => {
             let graph = open_chain_dir_in(alloc, folder, path)?;
@@ -137,15 +109,15 @@ fn find_in_layers<T: Folder>(
 }
 
 /// What is reported of a commit that was found by parts.
-fn found_at(place: Place) -> Found
-    ensures pos { result.pos.0 ≡ place.pos }
-    ensures generation { result.generation ≡ place.generation }
-    ensures time { result.time ≡ place.time }
+fn found_at(commit: FoundCommit) -> Found
+    ensures pos { result.pos.0 ≡ commit.pos }
+    ensures generation { result.generation ≡ commit.generation }
+    ensures time { result.time ≡ commit.time }
 {
     Found {
-        pos: Position(place.pos),
-        generation: place.generation,
-        time: place.time,
+        pos: Position(commit.pos),
+        generation: commit.generation,
+        time: commit.time,
     }
 }
 

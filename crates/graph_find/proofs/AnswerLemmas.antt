@@ -14,7 +14,7 @@ use Rattle.graph_find.specs.ReadHead.{BeginsAt, IsHead, IsBucketSpan}
 use Rattle.graph_find.specs.LayerFinding.{AnswersOfLayer, AnswersInLayer, IsLayerOfHead}
 use Rattle.graph_find.specs.declared.head.Head.{Head}
 use Rattle.graph_find.specs.declared.head.Span.{Span}
-use Rattle.graph_find.specs.declared.answer.Place.{Place}
+use Rattle.graph_find.specs.declared.answer.FoundCommit.{FoundCommit}
 use Rattle.graph_find.specs.declared.answer.Search.{Search}
 use Rattle.graph_find.specs.declared.answer.Search.TheVariants.{Found as found_at, Missing}
 use Rattle.graph_find.proofs.LayerLemmas.{found-other_kind, is-bucket, tells-record}
@@ -99,17 +99,17 @@ module _ (known : Option Tree) (path id : List ℕ) (head : Head) (is : IsHead h
             (nowhere (decoded_layer seen.0 path) (bucket seen.0 seen.2.begins seen.2.has))
 
         -- the id is there, and its record was read
-        pub found-place : (pos : ℕ) → pos < span.end
+        pub found-commit : (pos : ℕ) → pos < span.end
             → ((layer : Layer) → IsBucket layer id span.first span.end bytes → Found layer id (Some pos))
             → (later more_len : ℕ) → more_len ≡ id_len head.layout.kind + 16
             → later ≡ head.layout.chunks.records.start + more_len * pos
             → (more : List ℕ) → length more ≡ more_len
             → ForSome known (λ (tree : Tree). IsSomeAnd (file_at tree path)
             (λ file. slice_range file later (later + more_len) ≡ more))
-            → (place : Place) → place.pos ≡ pos
-            → place.generation ≡ (record_of head.layout.kind more).generation
-            → place.time ≡ (record_of head.layout.kind more).time → AnswersInLayer known path head id (found_at place)
-        found-place pos below there later more_len is_len is_later more more_sized more_seen place at generation time =
+            → (commit : FoundCommit) → commit.pos ≡ pos
+            → commit.generation ≡ (record_of head.layout.kind more).generation
+            → commit.time ≡ (record_of head.layout.kind more).time → AnswersInLayer known path head id (found_at commit)
+        found-commit pos below there later more_len is_len is_later more more_sized more_seen commit at generation time =
             let R : ℕ → Type 0 = λ n. ForSome known (λ (tree : Tree). IsSomeAnd (file_at tree path) (λ file.
             slice_range file later (later + n) ≡ more)) in
             let rows : more_len * pos + more_len ≤ more_len * head.layout.commits =
@@ -126,20 +126,20 @@ module _ (known : Option Tree) (path id : List ℕ) (head : Head) (is : IsHead h
             let found : Found (decoded_layer file path) id (Some pos) =
             there (decoded_layer file path) (bucket file begins seen.2.first.has) in
             let F : ℕ → Type 0 = λ n. Found (decoded_layer file path) id (Some n) in
-            let here : F place.pos = subst F (sym at) found in
+            let here : F commit.pos = subst F (sym at) found in
             let wide = id_len head.layout.kind + 16 in
             let Q : ℕ → ℕ → Type 0 = λ n m. slice_range file n m ≡ more in
-            let shift : more_len * pos ≡ wide * place.pos = ap (λ (n : ℕ). n * pos) is_len ∙ ap (λ (n : ℕ). wide * n) (sym at) in
-            let from : later ≡ head.layout.chunks.records.start + wide * place.pos = omega (arith, is_later, shift) in
-            let stop : later + length more ≡ head.layout.chunks.records.start + wide * place.pos + wide =
+            let shift : more_len * pos ≡ wide * commit.pos = ap (λ (n : ℕ). n * pos) is_len ∙ ap (λ (n : ℕ). wide * n) (sym at) in
+            let from : later ≡ head.layout.chunks.records.start + wide * commit.pos = omega (arith, is_later, shift) in
+            let stop : later + length more ≡ head.layout.chunks.records.start + wide * commit.pos + wide =
             omega (arith, from, more_sized, is_len) in
-            let moved : Q (head.layout.chunks.records.start + wide * place.pos)
-            (head.layout.chunks.records.start + wide * place.pos + wide) =
-            subst (λ (n : ℕ). Q n (head.layout.chunks.records.start + wide * place.pos + wide)) from
+            let moved : Q (head.layout.chunks.records.start + wide * commit.pos)
+            (head.layout.chunks.records.start + wide * commit.pos + wide) =
+            subst (λ (n : ℕ). Q n (head.layout.chunks.records.start + wide * commit.pos + wide)) from
             (subst (Q later) stop seen.2.has) in
-            answers-in (found_at place) file seen.1 begins (
+            answers-in (found_at commit) file seen.1 begins (
               here,
-              tells-record file path head.layout kept id more place here moved generation time,
+              tells-record file path head.layout kept id more commit here moved generation time,
             )
 
 -- Some layer of a head that was read.

@@ -145,7 +145,7 @@ module _ (known : Option Tree) where
   pub finds-in_chain : (folder : List ℕ) (heads : List ChainLayer) (id : List ℕ) (search : Search)
       → AreHeadsOfChain known folder heads → SayGraph heads → FindsInLayers known heads id search
       → FindsInChain known folder id search
-  finds-in_chain folder heads id (Found place) chain says found = chain-answers folder heads id (Found place) chain says found
+  finds-in_chain folder heads id (Found commit) chain says found = chain-answers folder heads id (Found commit) chain says found
   finds-in_chain folder heads id Missing chain says found = chain-answers folder heads id Missing chain says found
   finds-in_chain folder heads id NotByParts chain says found = tt
 

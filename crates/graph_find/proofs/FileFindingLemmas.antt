@@ -23,8 +23,8 @@ use Rattle.graph_find.proofs.LayerLemmas.{keeps-head, opens-head}
 
 -- the answer of one layer is that of the graph
 answers-one : (layer : Layer) (id : List ℕ) (search : Search) → AnswersOfLayer layer id search → Answers (layer ∷ []) id search
-answers-one layer id (Found place) there =
-    answers-found id [] [] layer place place (All-nil (Misses id)) there (omega arith) refl refl
+answers-one layer id (Found commit) there =
+    answers-found id [] [] layer commit commit (All-nil (Misses id)) there (omega arith) refl refl
 answers-one layer id Missing there = answers-missing id (layer ∷ []) (All-cons (Misses id) layer [] there (All-nil (Misses id)))
 answers-one layer id NotByParts there = tt
 
@@ -50,7 +50,7 @@ module _ (known : Option Tree) (path : List ℕ) (head : Head) (is : IsHead head
       }
 
   pub finds-in_file : (search : Search) → FindsInLayer known path head id search → FindsInFile known path id search
-  finds-in_file (Found place) found = file-answers (Found place) found
+  finds-in_file (Found commit) found = file-answers (Found commit) found
   finds-in_file Missing found = file-answers Missing found
   finds-in_file NotByParts found = tt
 

@@ -19,7 +19,7 @@ use Rattle.gix_commitgraph.proofs.layers.LayerListLemmas.{get-front, graph_commi
 use Rattle.gix_commitgraph.proofs.lookup.GraphLookupLemmas.{IsMissed, found_in-counted, found_in-none}
 use Rattle.graph_find.specs.Finding.{Answers}
 use Rattle.graph_find.specs.LayerFinding.{AnswersOfLayer}
-use Rattle.graph_find.specs.declared.answer.Place.{Place}
+use Rattle.graph_find.specs.declared.answer.FoundCommit.{FoundCommit}
 use Rattle.graph_find.specs.declared.answer.Search.TheVariants.{Found as found_at, Missing}
 
 -- a layer in which the id is not found
@@ -43,23 +43,23 @@ missed-front id front rest missed = record {
 }
 
 -- the first layer that has the id
-pub answers-found : (id : List ℕ) (front rest : List Layer) (layer : Layer) (place answer : Place)
-    → All (Misses id) front → AnswersOfLayer layer id (found_at place)
-    → answer.pos ≡ total front + place.pos → answer.generation ≡ place.generation → answer.time ≡ place.time
+pub answers-found : (id : List ℕ) (front rest : List Layer) (layer : Layer) (commit answer : FoundCommit)
+    → All (Misses id) front → AnswersOfLayer layer id (found_at commit)
+    → answer.pos ≡ total front + commit.pos → answer.generation ≡ commit.generation → answer.time ≡ commit.time
     → Answers (front ++ layer ∷ rest) id (found_at answer)
-answers-found id front rest layer place answer missed there pos generation time =
+answers-found id front rest layer commit answer missed there pos generation time =
     let layers = front ++ layer ∷ rest in
     let before = start-middle front (layer ∷ rest) in
     let here = get-middle front layer rest in
-    let inside : place.pos < length layer.ids = slice_get_within layer.ids place.pos id there.0.holds in
+    let inside : commit.pos < length layer.ids = slice_get_within layer.ids commit.pos id there.0.holds in
     let P : ℕ → Type 0 = λ n. FoundIn layers id (Some n) in (
       subst P (sym pos)
-          (found_in-counted layers id (length front) (total front) place.pos layer before
+          (found_in-counted layers id (length front) (total front) commit.pos layer before
           (missed-front id front (layer ∷ rest) missed) here there.0),
       record {
         layer = layer;
-        pos = place.pos;
-        stands = rw pos (graph_commits-counted layers (length front) (total front) place.pos layer before here inside);
+        pos = commit.pos;
+        stands = rw pos (graph_commits-counted layers (length front) (total front) commit.pos layer before here inside);
         generation = generation ∙ there.1.generation;
         time = time ∙ there.1.time;
       },

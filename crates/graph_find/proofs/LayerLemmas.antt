@@ -26,7 +26,7 @@ use Rattle.graph_layer.proofs.LookupLemmas.{stands_within-bucket, found-other_le
 use Rattle.graph_find.specs.Bucket.{IsBucket}
 use Rattle.graph_find.specs.LayerFinding.{IsLayerOfHead, TellsOfRecord}
 use Rattle.graph_find.specs.ReadHead.{IsBucketSpan, IsHead}
-use Rattle.graph_find.specs.declared.answer.Place.{Place}
+use Rattle.graph_find.specs.declared.answer.FoundCommit.{FoundCommit}
 use Rattle.graph_find.specs.declared.head.Head.{Head}
 use Rattle.graph_find.specs.declared.head.Span.{Span}
 
@@ -84,19 +84,19 @@ module _ (file path : List ℕ) (layout : Layout) (kept : IsLayout file layout) 
       one_more size k n h = omega (arith, mul-le-mul_left {m = k + 1} {n = n} size (omega arith), mul-add size k 1)
 
   -- what its record says
-  pub tells-record : (id bytes : List ℕ) (place : Place) → Found (decoded_layer file path) id (Some place.pos)
-      → slice_range file (layout.chunks.records.start + (id_len layout.kind + 16) * place.pos)
-      (layout.chunks.records.start + (id_len layout.kind + 16) * place.pos + (id_len layout.kind + 16)) ≡ bytes
-      → place.generation ≡ (record_of layout.kind bytes).generation → place.time ≡ (record_of layout.kind bytes).time
-      → TellsOfRecord (decoded_layer file path) place
-  tells-record id bytes place found same generation time =
+  pub tells-record : (id bytes : List ℕ) (commit : FoundCommit) → Found (decoded_layer file path) id (Some commit.pos)
+      → slice_range file (layout.chunks.records.start + (id_len layout.kind + 16) * commit.pos)
+      (layout.chunks.records.start + (id_len layout.kind + 16) * commit.pos + (id_len layout.kind + 16)) ≡ bytes
+      → commit.generation ≡ (record_of layout.kind bytes).generation → commit.time ≡ (record_of layout.kind bytes).time
+      → TellsOfRecord (decoded_layer file path) commit
+  tells-record id bytes commit found same generation time =
       let one = decoded_layer file path in
-      let inside : place.pos < length one.ids = slice_get_within one.ids place.pos id found.holds in
+      let inside : commit.pos < length one.ids = slice_get_within one.ids commit.pos id found.holds in
       let kind = view-kind file path layout one kept refl in
-      let says : record_at one place.pos ≡ record_of layout.kind bytes =
-      view-record_at file path layout one kept refl place.pos (id_len layout.kind + 16) inside
+      let says : record_at one commit.pos ≡ record_of layout.kind bytes =
+      view-record_at file path layout one kept refl commit.pos (id_len layout.kind + 16) inside
       (ap (λ (k : Kind). id_len k + 16) kind)
-      ∙ ap (λ (k : Kind). record_of k (part file (layout.chunks.records.start + (id_len layout.kind + 16) * place.pos)
+      ∙ ap (λ (k : Kind). record_of k (part file (layout.chunks.records.start + (id_len layout.kind + 16) * commit.pos)
       (id_len layout.kind + 16))) (sym kind)
       ∙ ap (record_of layout.kind) same in
       record {

@@ -12,7 +12,7 @@ use Rattle.graph_format.specs.Layer.{Layer}
 use Rattle.graph_find.specs.ChainFinding.{AnswersInLayers, IsLayerOfChain}
 use Rattle.graph_find.specs.ChainHeads.{IsHeadOfLayer}
 use Rattle.graph_find.specs.LayerFinding.{AnswersInLayer}
-use Rattle.graph_find.specs.declared.answer.Place.{Place}
+use Rattle.graph_find.specs.declared.answer.FoundCommit.{FoundCommit}
 use Rattle.graph_find.specs.declared.answer.Search.TheVariants.{Found, Missing}
 use Rattle.graph_find.specs.declared.chain.ChainLayer.{ChainLayer}
 use Rattle.graph_find.proofs.AnswerLemmas.{some-layer}
@@ -83,17 +83,17 @@ module _ (known : Option Tree) (heads : List ChainLayer) (id : List ℕ) where
         let one : counts head ≡ counts (get_or heads count head) = ap counts here in
         omega (arith, searched.counted, sum_by_more_le counts heads count head within, one)
 
-    pub place-fits : (place : Place) → AnswersInLayer known (string_bytes head.path) head.head id (Found place)
-        → place.pos < head.head.layout.commits
-    place-fits place found =
+    pub commit-fits : (commit : FoundCommit) → AnswersInLayer known (string_bytes head.path) head.head id (Found commit)
+        → commit.pos < head.head.layout.commits
+    commit-fits commit found =
         let keeps = keeps-head known (string_bytes head.path) head.head head-read.head found.layer found.is in
-        omega (arith, slice_get_within found.layer.ids place.pos id found.answers.0.holds, keeps.size)
+        omega (arith, slice_get_within found.layer.ids commit.pos id found.answers.0.holds, keeps.size)
 
     -- the id is in the next layer
-    pub searched-found : (place answer : Place) → AnswersInLayer known (string_bytes head.path) head.head id (Found place)
-        → answer.pos ≡ commits + place.pos → answer.generation ≡ place.generation → answer.time ≡ place.time
+    pub searched-found : (commit answer : FoundCommit) → AnswersInLayer known (string_bytes head.path) head.head id (Found commit)
+        → answer.pos ≡ commits + commit.pos → answer.generation ≡ commit.generation → answer.time ≡ commit.time
         → AnswersInLayers known heads id (Found answer)
-    searched-found place answer found pos generation time =
+    searched-found commit answer found pos generation time =
         let rest = some-layers (drop (suc count) heads) (All-drop (IsHeadOfLayer known) (suc count) heads read) in
         let cut : take count heads ++ (head ∷ drop (suc count) heads) ≡ heads =
         ap (λ (h : ChainLayer). take count heads ++ (h ∷ drop (suc count) heads)) here
@@ -106,6 +106,6 @@ module _ (known : Option Tree) (heads : List ChainLayer) (id : List ℕ) where
           each = subst (λ (hs : List ChainLayer). AllZip (IsLayerOfChain known) hs (searched.layers ++ found.layer ∷ rest.0)) cut
               (zip-append (IsLayerOfChain known) (take count heads) (head ∷ drop (suc count) heads) searched.layers
               (found.layer ∷ rest.0) searched.each (found.is, rest.1));
-          answers = answers-found id searched.layers rest.0 found.layer place answer searched.missed found.answers
+          answers = answers-found id searched.layers rest.0 found.layer commit answer searched.missed found.answers
               (omega (arith, pos, searched.counted, before)) generation time;
         }

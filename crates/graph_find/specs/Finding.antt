@@ -8,21 +8,21 @@ use Rattle.gix_commitgraph.specs.GraphLookup.{FoundIn}
 use Rattle.gix_commitgraph.specs.OpenAlways.{IsFromFile, IsFromChain}
 use Rattle.gix_commitgraph.specs.Opening.{file_opened, chain_opened}
 use Rattle.graph_layer.specs.declared.opening.error.OpenError.{OpenError}
-use Rattle.graph_find.specs.declared.answer.Place.{Place}
+use Rattle.graph_find.specs.declared.answer.FoundCommit.{FoundCommit}
 use Rattle.graph_find.specs.declared.answer.Search.{Search}
 use Rattle.graph_find.specs.declared.answer.Search.TheVariants.{Found, Missing, NotByParts}
 
 -- What is told of a commit of a graph: where it stands, and the numbers of its record.
-pub record Tells (layers : List Layer) (place : Place) : Type 0 where
+pub record Tells (layers : List Layer) (commit : FoundCommit) : Type 0 where
   pub layer : Layer
   pub pos : ℕ
-  pub stands : slice_get (graph_commits layers) place.pos ≡ Some (layer, pos)
-  pub generation : place.generation ≡ (record_at layer pos).generation
-  pub time : place.time ≡ (record_at layer pos).time
+  pub stands : slice_get (graph_commits layers) commit.pos ≡ Some (layer, pos)
+  pub generation : commit.generation ≡ (record_at layer pos).generation
+  pub time : commit.time ≡ (record_at layer pos).time
 
 -- an answer of the lookup of an id in a graph, with the commit there
 abbrev pub Answers : List Layer → List ℕ → Search → Type 0
-Answers layers id (Found place) = FoundIn layers id (Some place.pos) × Tells layers place
+Answers layers id (Found commit) = FoundIn layers id (Some commit.pos) × Tells layers commit
 Answers layers id Missing = FoundIn layers id None
 Answers layers id NotByParts = Unit
 
@@ -37,7 +37,7 @@ pub record AnswersIn (known : Option Tree) (opened : Tree → Result (List Layer
 
 -- nothing is said of what is not read by parts
 abbrev pub IfByParts : Search → Type 0 → Type 0
-IfByParts (Found place) P = P
+IfByParts (Found commit) P = P
 IfByParts Missing P = P
 IfByParts NotByParts P = Unit
 

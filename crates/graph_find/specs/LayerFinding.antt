@@ -6,7 +6,7 @@ use Rattle.graph_format.specs.Head.{BeginsWith}
 use Rattle.graph_format.specs.Layer.{Layer, decoded_layer, record_at}
 use Rattle.graph_format.specs.Lookup.{Found}
 use Rattle.graph_find.specs.Finding.{IfByParts}
-use Rattle.graph_find.specs.declared.answer.Place.{Place}
+use Rattle.graph_find.specs.declared.answer.FoundCommit.{FoundCommit}
 use Rattle.graph_find.specs.declared.answer.Search.{Search}
 use Rattle.graph_find.specs.declared.answer.Search.TheVariants.{Found as found_at, Missing, NotByParts}
 use Rattle.graph_find.specs.declared.head.Head.{Head}
@@ -19,13 +19,13 @@ pub record IsLayerOfHead (known : Option Tree) (path : List ℕ) (head : Head) (
   pub decoded : layer ≡ decoded_layer file path
 
 -- What is told of a commit of the layer.
-pub record TellsOfRecord (layer : Layer) (place : Place) : Type 0 where
-  pub generation : place.generation ≡ (record_at layer place.pos).generation
-  pub time : place.time ≡ (record_at layer place.pos).time
+pub record TellsOfRecord (layer : Layer) (commit : FoundCommit) : Type 0 where
+  pub generation : commit.generation ≡ (record_at layer commit.pos).generation
+  pub time : commit.time ≡ (record_at layer commit.pos).time
 
 -- an answer of the lookup of an id in the layer, with the commit there
 abbrev pub AnswersOfLayer : Layer → List ℕ → Search → Type 0
-AnswersOfLayer layer id (found_at place) = Found layer id (Some place.pos) × TellsOfRecord layer place
+AnswersOfLayer layer id (found_at commit) = Found layer id (Some commit.pos) × TellsOfRecord layer commit
 AnswersOfLayer layer id Missing = Found layer id None
 AnswersOfLayer layer id NotByParts = Unit
 

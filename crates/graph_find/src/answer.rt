@@ -2,7 +2,7 @@
 
 /// A commit of a graph.
 #[derive(Clone, Copy, Debug, PartialEq, Eq)]
-pub struct Place {
+pub struct FoundCommit {
     /// Its position in the graph.
     pub pos: u32,
     /// Its generation number.
@@ -15,7 +15,7 @@ pub struct Place {
 #[derive(Clone, Copy, Debug, PartialEq, Eq)]
 pub enum Search {
     /// The commit that has the id.
-    Found(Place),
+    Found(FoundCommit),
     /// No commit with the id is found.
     Missing,
     /// The graph is to be opened whole: it is refused, or not read by parts, or the parts of a file

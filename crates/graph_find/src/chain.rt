@@ -7,10 +7,9 @@ ghost use Rattle.graph_folder.specs.Failures.{failures_after};
 ghost use Rattle.graph_find.specs.ChainHeads.{AreHeadsOfChain, IsHeadOfLine, SayGraph};
 
 use crate::head::Head;
-use crate::paths::chain_path;
 use crate::reading::read_head;
 use gix_commitgraph::MAX_COMMITS;
-use gix_commitgraph::opening::path::layer_path;
+use gix_commitgraph::opening::path::{chain_path, layer_path};
 use gix_hash_core::Kind;
 use graph_folder::folder::{Folder, ReadError};
 use graph_folder::lines::Lines;

@@ -10,7 +10,7 @@ ghost use Rattle.graph_format.specs.Format.{record_of};
 ghost use Rattle.graph_find.specs.ReadHead.{IsHead, BeginsAt};
 ghost use Rattle.graph_find.specs.LayerFinding.{FindsInLayer};
 
-use crate::answer::{Place, Search};
+use crate::answer::{FoundCommit, Search};
 use crate::bucket::search;
 use crate::head::Head;
 use crate::reading::read_range;
@@ -63,19 +63,19 @@ pub(crate) fn find_in_layer<T: Folder>(
     let Some(record) = read_range(alloc, folder, path, file_len, start, len)? else {
         return Ok(Search::NotByParts);
     };
-    Ok(Search::Found(place_of(layout.kind, pos, &record)))
+    Ok(Search::Found(commit_of(layout.kind, pos, &record)))
 }
 
 /// What the bytes of a record say of the commit at a position.
 #[tactic(auto, unfolding(graph_format::specs::Format::record_of))]
-fn place_of(kind: Kind, pos: u32, fields: &[u8]) -> Place
+fn commit_of(kind: Kind, pos: u32, fields: &[u8]) -> FoundCommit
     requires { length fields.now ≡ id_len kind + 16 }
     ensures pos { result.pos ≡ pos }
     ensures generation { result.generation ≡ (record_of kind fields.now).generation }
     ensures time { result.time ≡ (record_of kind fields.now).time }
 {
     let generation_and_time = long_at(fields, kind.len_in_bytes() + 8);
-    Place {
+    FoundCommit {
         pos,
         generation: (generation_and_time >> TIME_BITS) as u32,
         time: generation_and_time % (1 << TIME_BITS),

@@ -7,6 +7,5 @@ mod bucket;
 mod chain;
 mod head;
 mod layer;
-pub mod paths;
 mod reading;
 pub mod search;

@@ -9,7 +9,7 @@ ghost use Rattle.graph_find.specs.ChainHeads.{IsHeadOfLayer, SayGraph};
 ghost use Rattle.graph_find.specs.ChainFinding.{FindsInLayers};
 ghost use Rattle.graph_find.specs.Finding.{FindsInFile, FindsInChain};
 
-pub use crate::answer::{Place, Search};
+pub use crate::answer::{FoundCommit, Search};
 use crate::chain::{ChainLayer, make_graph, read_layers};
 use crate::layer::find_in_layer;
 use crate::reading::read_head;
@@ -108,10 +108,10 @@ fn find_in_layers<T: Folder>(
     let mut start = 0;
     for layer in layers {
         match find_in_layer(alloc, folder, layer.path.as_str(), &layer.head, id)? {
-            Search::Found(place) => {
-                return Ok(Search::Found(Place {
-                    pos: start + place.pos,
-                    ..place
+            Search::Found(commit) => {
+                return Ok(Search::Found(FoundCommit {
+                    pos: start + commit.pos,
+                    ..commit
                 }));
             }
             Search::Missing => start += layer.head.layout.commits,

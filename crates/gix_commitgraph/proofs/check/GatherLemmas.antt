@@ -18,7 +18,7 @@ use Rattle.gix_commitgraph.specs.Graph.{start}
 use Rattle.gix_commitgraph.specs.Verify.{item_refusal, parents_refusal}
 use Rattle.gix_commitgraph.specs.LayerSpans.{IsSpan, IsInSpan}
 use Rattle.gix_commitgraph.specs.ListedTallies.{AreWithin}
-use Rattle.gix_commitgraph.specs.Tallies.{ParentsTally, IsGathered, decoded_at}
+use Rattle.gix_commitgraph.specs.Tallies.{IsParentTally, IsGathered, decoded_at}
 use Rattle.gix_commitgraph.specs.declared.verify.parents.ParentTally.{ParentTally}
 use Rattle.gix_commitgraph.specs.declared.verify.span.LayerSpan.{LayerSpan}
 use Rattle.gix_commitgraph.proofs.history.HistoryLemmas.{parents-at}
@@ -55,7 +55,7 @@ within-unrefused {E} layers span place is none =
 -- and the tally is that of the commit at this position of the graph
 pub gathered-tally : (layers : List Layer) (span : LayerSpan) (commit : Commit) (p : ℕ) (tally : ParentTally)
     → IsSpan layers span → IsInSpan span commit p → IsGathered layers span (commit_pos commit) (Some tally)
-    → ParentsTally (history_of layers) p tally
+    → IsParentTally (history_of layers) p tally
 gathered-tally layers span commit p tally is at known =
     let here = span-commit layers span commit p is at in
     let parents : DecodedParents = decoded_at span.file.now (commit_pos commit) in

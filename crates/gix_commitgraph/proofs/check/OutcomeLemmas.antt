@@ -9,7 +9,7 @@ use Rattle.graph_walks.specs.Generations.{longest_path}
 use Rattle.graph_walks.specs.History.{Node, generations}
 use Rattle.graph_walks.specs.declared.TheConstants.{GENERATION_NUMBER_MAX}
 use Rattle.graph_walks.proofs.GreatestLemmas.{greatest-cons}
-use Rattle.gix_commitgraph.specs.Tallies.{AreNumbered}
+use Rattle.gix_commitgraph.specs.Statistics.{AreNumbered}
 
 -- the numbers of one commit
 abbrev IsNumbered : Node → Type 0

@@ -5,7 +5,8 @@ use Rattle.graph_folder.specs.Failures.{one_more}
 use Rattle.graph_folder.specs.Tree.{Tree}
 use Rattle.graph_layer.specs.OpenAnswer.{IsAsExpected, is_settled, failures_after_opening}
 use Rattle.graph_format.specs.Layer.{Layer}
-use Rattle.gix_commitgraph.specs.Opening.{file_opened, chain_opened, info_file, info_chain, InfoOpens}
+use Rattle.gix_commitgraph.specs.Opening.{file_opened, chain_opened, InfoOpens}
+use Rattle.gix_commitgraph.specs.Paths.{info_chain, info_file}
 use Rattle.graph_layer.specs.declared.opening.error.OpenError.{OpenError}
 use Rattle.graph_layer.specs.declared.opening.error.OpenError.TheVariants.{NothingFound, NotOpened, Device, ChainNotText}
 use Rattle.graph_layer.specs.declared.opening.error.OpenError.TheVariants.{Layer as layer_error, Graph as graph_error}

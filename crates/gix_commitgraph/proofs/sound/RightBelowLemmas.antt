@@ -25,7 +25,8 @@ use Rattle.graph_format.proofs.PointLemmas.{first_fault-append}
 use Rattle.gix_commitgraph.specs.Distinct.{IsSoundWith}
 use Rattle.gix_commitgraph.specs.Graph.{graph_ids, total, start, stop}
 use Rattle.gix_commitgraph.specs.Sound.{Sound}
-use Rattle.gix_commitgraph.specs.Tallies.{AreNumbered, decoded_at}
+use Rattle.gix_commitgraph.specs.Statistics.{AreNumbered}
+use Rattle.gix_commitgraph.specs.Tallies.{decoded_at}
 use Rattle.gix_commitgraph.specs.Verify.{duplicate_refusal, generation_refusal, layer_points, layers_from, points_from}
 use Rattle.gix_commitgraph.specs.ListedTallies.{AreWithin}
 use Rattle.gix_commitgraph.specs.Verify.{points_with}

@@ -16,15 +16,12 @@ ghost use Rattle.gix_commitgraph.specs.Paths.{chain_path, layer_path};
 
 use crate::file::File;
 use crate::graph::Graph;
-use crate::opening::OpenError;
-use crate::opening::graph::new_graph;
-use crate::opening::path::{join, layer_path};
+use crate::opening::path::{chain_path, layer_path};
+use crate::opening::{OpenError, new_graph};
 use graph_folder::folder::Folder;
 use graph_folder::lines::Lines;
 use graph_layer::opening::{open_layer, read_file};
 use std::alloc::{AllocError, Global};
-
-const CHAIN: &str = "commit-graph-chain";
 
 /// Opens the chain folder at the path: the graph of the layers that the lines of its file
 /// `commit-graph-chain` name, the lowest first. The line L names the file `graph-L.graph` in the
@@ -75,7 +72,7 @@ pub(super) fn has_chain<T: Folder>(
     ensures tree { T.tree folder.new ≡ T.tree folder.old }
     ensures failures { T.failure_count folder.new ≡ T.failure_count folder.old }
 {
-    let chain = join(alloc, path, CHAIN)?;
+    let chain = chain_path(alloc, path)?;
     folder.is_file(alloc, chain.as_str())
 }
 
@@ -90,7 +87,7 @@ fn read_chain<T: Folder>(alloc: Global, folder: &mut T, path: &str) -> Result<Ve
     ensures errors { IfErr result IsReadError }
     ensures memory { IfErr result OutOfMemoryStandsAlone }
 {
-    let chain = join(alloc, path, CHAIN)?;
+    let chain = chain_path(alloc, path)?;
     read_file(alloc, folder, chain.as_str())
 }
 

@@ -9,8 +9,7 @@ ghost use Rattle.gix_commitgraph.specs.Opening.{file_opened};
 ghost use Rattle.graph_layer.specs.OpenRefusals.{OutOfMemoryStandsAlone};
 
 use crate::graph::Graph;
-use crate::opening::OpenError;
-use crate::opening::graph::new_graph;
+use crate::opening::{OpenError, new_graph};
 use graph_folder::folder::Folder;
 use graph_layer::opening::open_layer;
 use std::alloc::Global;

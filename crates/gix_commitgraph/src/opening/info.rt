@@ -12,7 +12,7 @@ use crate::graph::Graph;
 use crate::opening::OpenError;
 use crate::opening::chain::open_chain_dir_in;
 use crate::opening::file::open_file_in;
-use crate::opening::path::join;
+use crate::opening::path::{info_chain_path, info_file_path};
 use graph_folder::folder::Folder;
 use std::alloc::Global;
 
@@ -39,17 +39,18 @@ pub fn open_info_dir_in<T: Folder>(
     ensures graph { IfOk result IsGraph }
     ensures memory { IfErr result OutOfMemoryStandsAlone }
 {
-    let file = join(alloc, path, "commit-graph")?;
+    let file = info_file_path(alloc, path)?;
     let answer = open_file_in(alloc, folder, file.as_str());
     if is_settled(&answer) {
         return answer;
     }
-    let chain = join(alloc, path, "commit-graphs")?;
+    let chain = info_chain_path(alloc, path)?;
     open_chain_dir_in(alloc, folder, chain.as_str())
 }
 
-/// Whether nothing else is tried after this answer.
-fn is_settled(answer: &Result<Graph, OpenError>) -> bool
+/// Whether this answer of an info folder's file is that of the folder: the chain folder is not
+/// tried after an answer that is no refusal, nor where memory ran out.
+pub fn is_settled<A>(answer: &Result<A, OpenError>) -> bool
     ensures { result ≡ is_settled answer.now }
 {
     matches!(answer, Ok(_) | Err(OpenError::OutOfMemory))

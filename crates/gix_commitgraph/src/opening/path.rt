@@ -1,7 +1,8 @@
 //! The paths of a graph's files and folders.
 
 ghost use Rattle.std.specs.Prelude.{◌≡◌, IfOk, string_bytes};
-ghost use Rattle.gix_commitgraph.specs.Paths.{join_path, layer_path};
+ghost use Rattle.gix_commitgraph.specs.Paths.{join_path, chain_path, layer_path};
+ghost use Rattle.gix_commitgraph.specs.Paths.{info_file, info_chain};
 
 use std::alloc::{AllocError, Global};
 
@@ -16,6 +17,27 @@ pub fn join(alloc: Global, folder: &str, name: &str) -> Result<String, AllocErro
     }
     path.push_str(name)?;
     Ok(path)
+}
+
+/// The path of the file of an info folder. `AllocError` comes where an allocation failed.
+pub fn info_file_path(alloc: Global, folder: &str) -> Result<String, AllocError>
+    ensures { IfOk result (λ path. string_bytes path ≡ info_file folder.now) }
+{
+    join(alloc, folder, "commit-graph")
+}
+
+/// The path of the chain folder of an info folder. `AllocError` comes where an allocation failed.
+pub fn info_chain_path(alloc: Global, folder: &str) -> Result<String, AllocError>
+    ensures { IfOk result (λ path. string_bytes path ≡ info_chain folder.now) }
+{
+    join(alloc, folder, "commit-graphs")
+}
+
+/// The path of the chain file of a chain folder. `AllocError` comes where an allocation failed.
+pub fn chain_path(alloc: Global, folder: &str) -> Result<String, AllocError>
+    ensures { IfOk result (λ path. string_bytes path ≡ chain_path folder.now) }
+{
+    join(alloc, folder, "commit-graph-chain")
 }
 
 /// The path of the layer that a line of the folder's chain file names. `AllocError` comes where an

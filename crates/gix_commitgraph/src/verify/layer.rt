@@ -8,7 +8,7 @@ use crate::file::Commit;
 use crate::graph::Graph;
 use crate::verify::gather::NOTHING;
 use crate::verify::span::LayerSpan;
-use crate::verify::tally::Tally;
+use crate::verify::statistics::Statistics;
 use crate::verify::{VerifyError, VerifyOptions};
 use graph_layer::faults::layer_fault;
 use graph_layer::fields::base_id_at;
@@ -20,7 +20,7 @@ impl Graph {
     ghost use Rattle.graph_layer.specs.Called.{MayBeCalled, CalledOn};
     ghost use Rattle.gix_commitgraph.specs.InGraph.{InGraph};
     ghost use Rattle.gix_commitgraph.specs.Verify.{base_ids_refusal, layer_points, cause_of};
-    ghost use Rattle.gix_commitgraph.specs.Tallies.{Tallies};
+    ghost use Rattle.gix_commitgraph.specs.Statistics.{AreStatistics};
     ghost use Rattle.gix_commitgraph.specs.GraphLaw.{IsOrdered};
     ghost use Rattle.gix_commitgraph.specs.LayerSpans.{IsSpan};
 
@@ -31,7 +31,7 @@ impl Graph {
         options: VerifyOptions,
         span: LayerSpan<'a>,
         alloc: Global,
-        tally: &mut Tally,
+        statistics: &mut Statistics,
         processor: &mut F,
     ) -> Result<(), VerifyError<E>>
     where
@@ -39,12 +39,12 @@ impl Graph {
         requires span { IsSpan self.now span }
         requires below { All IsOrdered (take span.layer self.now) }
         requires callable { MayBeCalled F.FnMut (InGraph self.now) }
-        requires tally { Tallies (take span.start (history_of self.now)) tally.old }
+        requires statistics { AreStatistics (take span.start (history_of self.now)) statistics.old }
         ensures agrees { Agrees (CalledOn F.FnMut (InGraph self.now))
             (layer_points options self.now span.entry.layer span.entry.file.now)
             processor.old processor.new cause_of result }
-        ensures tally { OnOk result
-            (Tallies (take span.entry.stop (history_of self.now)) tally.new) }
+        ensures statistics { OnOk result
+            (AreStatistics (take span.entry.stop (history_of self.now)) statistics.new) }
     {
         self.check_bases(span)?;
         if let Some(fault) = layer_fault(span.file) {
@@ -54,13 +54,13 @@ impl Graph {
             });
         }
         let tallies = self.tally_lists(span, alloc)?;
-        let mut block = NOTHING;
+        let mut batch = NOTHING;
         for commit in span.file.iter_commits() {
-            let place = commit.position().0;
-            let gathered = self.gathered(span, &tallies, place, &mut block);
-            let pos = Position(span.start + place);
+            let layer_pos = commit.position().0;
+            let gathered = self.gathered(span, &tallies, layer_pos, &mut batch);
+            let pos = Position(span.start + layer_pos);
             let parents = self.verify_commit(options, span, &commit, pos, gathered, processor)?;
-            tally.add(commit.generation(), parents)?;
+            statistics.add(commit.generation(), parents)?;
         }
         Ok(())
     }

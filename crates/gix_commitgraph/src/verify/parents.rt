@@ -20,7 +20,7 @@ impl Graph {
     ghost use Rattle.graph_layer.specs.Commit.{commit_pos};
     ghost use Rattle.graph_format.specs.StoredHistory.{history_of};
     ghost use Rattle.gix_commitgraph.specs.Verify.{parents_refusal};
-    ghost use Rattle.gix_commitgraph.specs.Tallies.{ParentsTally, IsGathered};
+    ghost use Rattle.gix_commitgraph.specs.Tallies.{IsParentTally, IsGathered};
     ghost use Rattle.gix_commitgraph.specs.LayerSpans.{IsSpan, IsInSpan};
 
     /// The parents of a commit, as they were gathered, or why they are refused.
@@ -37,7 +37,7 @@ impl Graph {
         ensures refusal { result_err result
             ≡ parents_refusal self.now span.entry.layer span.entry.file.now
             (commit_pos commit.now) }
-        ensures parents { IfOk result (ParentsTally (history_of self.now) pos.0) }
+        ensures parents { IfOk result (IsParentTally (history_of self.now) pos.0) }
     {
         match gathered {
             Some(parents) => Ok(parents),

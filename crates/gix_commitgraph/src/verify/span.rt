@@ -51,8 +51,8 @@ impl Graph {
         ensures { result ≡ generation_at (history_of self.now) pos.0 }
     {
         if pos.0 >= span.start {
-            let place = file::Position(pos.0 - span.start);
-            span.file.commit_at(place).generation()
+            let layer_pos = file::Position(pos.0 - span.start);
+            span.file.commit_at(layer_pos).generation()
         } else {
             self.commit_at(pos).generation()
         }

@@ -1,6 +1,6 @@
 -- What was read says what the lookup answers.
 use Rattle.std.proofs.Common.{◌+◌, ◌*◌, ◌-◌, refl, sym, ◌∙◌, arith}
-use Rattle.graph_find.proofs.AnswerLemmas.{missing-kind, missing-bucket, found-place}
+use Rattle.graph_find.proofs.AnswerLemmas.{missing-kind, missing-bucket, found-commit}
 use Rattle.graph_find.proofs.layer.find_in_layer.Goals as goal
 
 pub returns-then-wanted-size-clause-found : goal.returns-then-wanted-size-clause-found
@@ -35,7 +35,7 @@ returns-clause-found g c =
     let pos = c.in-Some-found.pos in
     let len = c.record_len-len.result in
     rw (← c.as_bytes-wanted.ensures.bytes)
-    (found-place (g.T.Folder.tree c.args.folder.now) c.args.path.now c.as_bytes-wanted.result.now head
+    (found-commit (g.T.Folder.tree c.args.folder.now) c.args.path.now c.as_bytes-wanted.result.now head
     c.requires.head c.requires.begins
     size c.if-wanted-size.false c.len_in_bytes-size.ensures
     (rw c.as_bytes-wanted.ensures.bytes (omega (arith, c.first_byte.ensures)))
@@ -50,6 +50,6 @@ returns-clause-found g c =
     c.in-Some-2.record.items (rw c.in-Some-2.is at c.in_ok-record.ensures.size)
     (λ tree is. rw c.in-Some-2.is at
     (c.in_ok-record.ensures.part tree (c.in_ok-ids.ensures.tree ∙ is)))
-    c.place_of.result c.place_of.ensures.pos
-    (rw c.deref-2.ensures.value at c.place_of.ensures.generation)
-    (rw c.deref-2.ensures.value at c.place_of.ensures.time))
+    c.commit_of.result c.commit_of.ensures.pos
+    (rw c.deref-2.ensures.value at c.commit_of.ensures.generation)
+    (rw c.deref-2.ensures.value at c.commit_of.ensures.time))

@@ -9,7 +9,7 @@ pub returns : goal.returns
 returns c =
     let layers = c.args.self.now in
     let span = c.args.span in
-    let place : ℕ = c.args.place in
+    let layer_pos : ℕ = c.args.layer_pos in
     let first = c.args.first in
     let second = c.args.second in
     let long =
@@ -21,12 +21,12 @@ returns c =
       | then-second-eq-NO_PARENT w ↦
           let most = rw w.count-is at c.max.ensures in
           rw w.count-is
-          (one-near layers span c.requires.span c.args.numbers.now c.requires.numbers place first second c.max.result
+          (one-near layers span c.requires.span c.args.numbers.now c.requires.numbers layer_pos first second c.max.result
           c.requires.first c.requires.second w.if-second-eq-NO_PARENT.true fits below (omega (arith, most)))
       | else-second-eq-NO_PARENT w ↦
           let other = rw w.count-is at c.if-other-numbers.false in
           rw w.count-is
-          (two-near layers span c.requires.span c.args.numbers.now c.requires.numbers place first second c.max.result
+          (two-near layers span c.requires.span c.args.numbers.now c.requires.numbers layer_pos first second c.max.result
           c.requires.first c.requires.second fits (omega (arith, c.ranges.second.fits)) below
           (subst (λ (n : ℕ). past_start span second < n) long other)
           (rw w.count-is at c.max.ensures))

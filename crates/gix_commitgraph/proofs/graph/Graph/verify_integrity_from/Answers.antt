@@ -13,7 +13,7 @@ verify_layers-requires g c κs = (
       c.requires.layer,
       (
         ordered-all _ c.requires.sound.sound,
-        c.in_ok-tally.ensures _ (numbered _ c.requires.sound.sound) c.requires.below,
+        c.in_ok-statistics.ensures _ (numbered _ c.requires.sound.sound) c.requires.below,
       ),
     ),
   ),

@@ -30,47 +30,47 @@ loop-commit-init g c = record {
   left = ap commits_left c.into_iter-commit-iterator.ensures.into_iter_gives ∙ c.iter_commits-commit-items.ensures;
   within = omega arith;
   reached = reached_first g.F.FnMut c.args.options c.args.self.now c.args.span _ c.in_ok-check_bases.ensures c.in_default.ensures;
-  tally = rw add-zero c.requires.tally;
-  block = λ not_first. absurd (not_first (omega arith));
+  statistics = rw add-zero c.requires.statistics;
+  batch = λ not_first. absurd (not_first (omega arith));
 }
 
 pub gathered-gathered-requires-clause-within : goal.gathered-gathered-requires-clause-within
 gathered-gathered-requires-clause-within g c =
     let this =
-    turn c.args.span c.in-Some-commit.commit (length c.loop-commit.yielded) (c.args.span.start + c.position-place.result.0) _
-    _ _ c.loop-commit.invariant.left c.in-Some-commit.ensures.steps c.position-place.ensures.value refl in
-    omega (arith, c.position-place.ensures.value, this.pos, this.below)
+    turn c.args.span c.in-Some-commit.commit (length c.loop-commit.yielded) (c.args.span.start + c.position-layer_pos.result.0) _
+    _ _ c.loop-commit.invariant.left c.in-Some-commit.ensures.steps c.position-layer_pos.ensures.value refl in
+    omega (arith, c.position-layer_pos.ensures.value, this.pos, this.below)
 
 pub gathered-gathered-requires-clause-before : goal.gathered-gathered-requires-clause-before
 gathered-gathered-requires-clause-before g c =
     let this =
-    turn c.args.span c.in-Some-commit.commit (length c.loop-commit.yielded) (c.args.span.start + c.position-place.result.0) _
-    _ _ c.loop-commit.invariant.left c.in-Some-commit.ensures.steps c.position-place.ensures.value refl in
-    let place : c.position-place.result.0 ≡ length c.loop-commit.yielded =
-    omega (arith, c.position-place.ensures.value, this.pos) in
-    rw place c.loop-commit.invariant.block
+    turn c.args.span c.in-Some-commit.commit (length c.loop-commit.yielded) (c.args.span.start + c.position-layer_pos.result.0) _
+    _ _ c.loop-commit.invariant.left c.in-Some-commit.ensures.steps c.position-layer_pos.ensures.value refl in
+    let place : c.position-layer_pos.result.0 ≡ length c.loop-commit.yielded =
+    omega (arith, c.position-layer_pos.ensures.value, this.pos) in
+    rw place c.loop-commit.invariant.batch
 
 pub overflow_add-pos : goal.overflow_add-pos
 overflow_add-pos g c =
     let this =
-    turn c.args.span c.in-Some-commit.commit (length c.loop-commit.yielded) (c.args.span.start + c.position-place.result.0) _
-    _ _ c.loop-commit.invariant.left c.in-Some-commit.ensures.steps c.position-place.ensures.value refl in
-    omega (arith, this.below, this.pos, c.position-place.ensures.value, span-stop c.args.self.now c.args.span c.requires.span)
+    turn c.args.span c.in-Some-commit.commit (length c.loop-commit.yielded) (c.args.span.start + c.position-layer_pos.result.0) _
+    _ _ c.loop-commit.invariant.left c.in-Some-commit.ensures.steps c.position-layer_pos.ensures.value refl in
+    omega (arith, this.below, this.pos, c.position-layer_pos.ensures.value, span-stop c.args.self.now c.args.span c.requires.span)
 
 pub verify_commit-requires : goal.verify_commit-requires
 verify_commit-requires g c κs =
     let this =
-    turn c.args.span c.in-Some-commit.commit (length c.loop-commit.yielded) (c.args.span.start + c.position-place.result.0) _
-    _ _ c.loop-commit.invariant.left c.in-Some-commit.ensures.steps c.position-place.ensures.value refl in
+    turn c.args.span c.in-Some-commit.commit (length c.loop-commit.yielded) (c.args.span.start + c.position-layer_pos.result.0) _
+    _ _ c.loop-commit.invariant.left c.in-Some-commit.ensures.steps c.position-layer_pos.ensures.value refl in
     let stands = span-commit c.args.self.now c.args.span c.in-Some-commit.commit _ c.requires.span this.in_span in
-    let known = rw c.position-place.ensures.value at c.gathered-gathered.ensures.result in
+    let known = rw c.position-layer_pos.ensures.value at c.gathered-gathered.ensures.result in
     (search rules, (c.requires.span, (this.in_span, (known, (c.requires.below, λ state. c.requires.callable state _ _ stands)))))
 
 pub returns-in_err-parents-clause-agrees : goal.returns-in_err-parents-clause-agrees
 returns-in_err-parents-clause-agrees g c =
     let this =
-    turn c.args.span c.in-Some-commit.commit (length c.loop-commit.yielded) (c.args.span.start + c.position-place.result.0) _
-    _ _ c.loop-commit.invariant.left c.in-Some-commit.ensures.steps c.position-place.ensures.value refl in
+    turn c.args.span c.in-Some-commit.commit (length c.loop-commit.yielded) (c.args.span.start + c.position-layer_pos.result.0) _
+    _ _ c.loop-commit.invariant.left c.in-Some-commit.ensures.steps c.position-layer_pos.ensures.value refl in
     let handed = err_from_is_err_and c.from_residual-in_err-parents.result c.from_residual-in_err-parents.ensures.1 in
     rw (handed.1, handed.2)
     (stops_at_commit g.F.FnMut c.args.options c.args.self.now c.args.span _ (length c.loop-commit.yielded) c.in-Some-commit.commit
@@ -79,18 +79,18 @@ returns-in_err-parents-clause-agrees g c =
 pub add-requires : goal.add-requires
 add-requires g c =
     let this =
-    turn c.args.span c.in-Some-commit.commit (length c.loop-commit.yielded) (c.args.span.start + c.position-place.result.0) _
-    _ _ c.loop-commit.invariant.left c.in-Some-commit.ensures.steps c.position-place.ensures.value refl in (
+    turn c.args.span c.in-Some-commit.commit (length c.loop-commit.yielded) (c.args.span.start + c.position-layer_pos.result.0) _
+    _ _ c.loop-commit.invariant.left c.in-Some-commit.ensures.steps c.position-layer_pos.ensures.value refl in (
       take (c.args.span.start + length c.loop-commit.yielded) (history_of c.args.self.now),
-      c.loop-commit.invariant.tally,
+      c.loop-commit.invariant.statistics,
       take-fits c.args.self.now c.args.span (length c.loop-commit.yielded) c.requires.span this.below,
     )
 
 pub returns-in_err-add-clause-agrees : goal.returns-in_err-add-clause-agrees
 returns-in_err-add-clause-agrees g c =
     let this =
-    turn c.args.span c.in-Some-commit.commit (length c.loop-commit.yielded) (c.args.span.start + c.position-place.result.0) _
-    _ _ c.loop-commit.invariant.left c.in-Some-commit.ensures.steps c.position-place.ensures.value refl in
+    turn c.args.span c.in-Some-commit.commit (length c.loop-commit.yielded) (c.args.span.start + c.position-layer_pos.result.0) _
+    _ _ c.loop-commit.invariant.left c.in-Some-commit.ensures.steps c.position-layer_pos.ensures.value refl in
     let next =
     reached_next g.F.FnMut c.args.options c.args.self.now c.args.span _ (length c.loop-commit.yielded) c.in-Some-commit.commit
     this.pos this.below _ _ c.loop-commit.invariant.reached c.in_ok-parents.ensures.agrees in
@@ -100,10 +100,10 @@ returns-in_err-add-clause-agrees g c =
 pub loop-commit-preserved : goal.loop-commit-preserved
 loop-commit-preserved g c =
     let this =
-    turn c.args.span c.in-Some-commit.commit (length c.loop-commit.yielded) (c.args.span.start + c.position-place.result.0) _
-    _ _ c.loop-commit.invariant.left c.in-Some-commit.ensures.steps c.position-place.ensures.value refl in
-    let place : c.position-place.result.0 ≡ length c.loop-commit.yielded =
-    omega (arith, c.position-place.ensures.value, this.pos) in
+    turn c.args.span c.in-Some-commit.commit (length c.loop-commit.yielded) (c.args.span.start + c.position-layer_pos.result.0) _
+    _ _ c.loop-commit.invariant.left c.in-Some-commit.ensures.steps c.position-layer_pos.ensures.value refl in
+    let place : c.position-layer_pos.result.0 ≡ length c.loop-commit.yielded =
+    omega (arith, c.position-layer_pos.ensures.value, this.pos) in
     let more : length (c.loop-commit.yielded ++ c.in-Some-commit.commit ∷ []) ≡ length c.loop-commit.yielded + 1 =
     length_push c.loop-commit.yielded c.in-Some-commit.commit in
     let stands = span-commit c.args.self.now c.args.span c.in-Some-commit.commit _ c.requires.span this.in_span in
@@ -111,19 +111,19 @@ loop-commit-preserved g c =
     reached_next g.F.FnMut c.args.options c.args.self.now c.args.span _ (length c.loop-commit.yielded) c.in-Some-commit.commit
     this.pos this.below _ _ c.loop-commit.invariant.reached c.in_ok-parents.ensures.agrees in
     let added =
-    c.in_ok-add.ensures _ (node_at (layer_and_position c.in-Some-commit.commit)) c.loop-commit.invariant.tally
+    c.in_ok-add.ensures _ (node_at (layer_and_position c.in-Some-commit.commit)) c.loop-commit.invariant.statistics
     c.generation.ensures
     (parents-told c.args.self.now c.args.span c.in-Some-commit.commit _ _ c.requires.span stands
     c.in_ok-parents.ensures.parents) in
     let seen =
     take-next c.args.self.now c.args.span c.in-Some-commit.commit (length c.loop-commit.yielded) _ _ c.requires.span stands
-    (omega (arith, c.position-place.ensures.value, this.pos)) more in
+    (omega (arith, c.position-layer_pos.ensures.value, this.pos)) more in
     record {
       left = this.left ∙ ap (positions_from c.args.span.file.now) (sym more);
       within = omega (arith, more, this.below);
       reached = rw more next;
-      tally = rw seen added;
-      block = rw more (rw (← place) c.gathered-gathered.ensures.after);
+      statistics = rw seen added;
+      batch = rw more (rw (← place) c.gathered-gathered.ensures.after);
     }
 
 pub returns-clause-agrees : goal.returns-clause-agrees
@@ -132,10 +132,10 @@ returns-clause-agrees g c =
     (place-none c.args.span.file.now (length c.loop-commit.yielded) _ c.loop-commit.invariant.left c.in-None.ensures.steps.0)
     c.loop-commit.invariant.reached
 
-pub returns-clause-tally : goal.returns-clause-tally
-returns-clause-tally g c =
+pub returns-clause-statistics : goal.returns-clause-statistics
+returns-clause-statistics g c =
     let past =
     place-none c.args.span.file.now (length c.loop-commit.yielded) _ c.loop-commit.invariant.left c.in-None.ensures.steps.0 in
     let end : c.args.span.stop ≡ c.args.span.start + length c.loop-commit.yielded =
     omega (arith, past, c.loop-commit.invariant.within, span-stop c.args.self.now c.args.span c.requires.span) in
-    rw end c.loop-commit.invariant.tally
+    rw end c.loop-commit.invariant.statistics

@@ -19,7 +19,7 @@ loop-layer-init g c =
     record {
       reached = reached_layers g.F.FnMut c.args.options c.args.self.now c.args.first _ few;
       ordered = c.requires.ordered;
-      tally = rw (history-below c.args.self.now c.args.first opened) c.requires.tally;
+      statistics = rw (history-below c.args.self.now c.args.first opened) c.requires.statistics;
     }
 
 pub verify_layer-requires : goal.verify_layer-requires
@@ -34,7 +34,7 @@ verify_layer-requires g c κs =
           (
             c.requires.callable,
             rw (c.span_at-span.ensures.span.start, c.span_at-span.ensures.layer)
-                c.loop-layer.invariant.tally,
+                c.loop-layer.invariant.statistics,
           ),
         ),
       ),
@@ -72,7 +72,7 @@ loop-layer-preserved g c =
       ordered =
           All-more IsOrdered layers at file (slice_get_within layers at file there) c.loop-layer.invariant.ordered
           (subst IsOrdered (sym (get_or_from_slice_get layers at file file there)) ordered);
-      tally = rw (c.span_at-span.ensures.span.stop, c.span_at-span.ensures.layer) at c.in_ok-verify_layer.ensures.tally;
+      statistics = rw (c.span_at-span.ensures.span.stop, c.span_at-span.ensures.layer) at c.in_ok-verify_layer.ensures.statistics;
     }
 
 pub returns-in_err-outcome-clause-agrees : goal.returns-in_err-outcome-clause-agrees
@@ -92,4 +92,4 @@ returns-clause-outcome g c =
     omega (arith, c.len-layer-end.ensures, c.self.inside.files.ok.0, ap length c.self.view_is, c.loop-layer-test.false) in
     let graph : IsGraph c.args.self.now = subst IsGraph c.self.view_is c.self.invariant.graph in
     let all = take-all c.args.self.now c.loop-layer.layer graph.opened past in
-    rw all at (c.in_ok-outcome.ensures _ c.loop-layer.invariant.tally)
+    rw all at (c.in_ok-outcome.ensures _ c.loop-layer.invariant.statistics)

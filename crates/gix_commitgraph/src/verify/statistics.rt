@@ -9,22 +9,22 @@ use std::alloc::{AllocError, Global};
 
 /// The statistics of the commits so far.
 #[derive(Drop)]
-pub(super) struct Tally {
+pub(super) struct Statistics {
     max_generation: u32,
     num_commits: u32,
     parent_counts: ParentCounts,
 }
 
-impl Tally {
+impl Statistics {
     ghost use Rattle.graph_walks.specs.History.{Node};
     ghost use Rattle.gix_commitgraph.specs.Verify.{Summarizes};
-    ghost use Rattle.gix_commitgraph.specs.Tallies.{AreNumbered, Tallies};
+    ghost use Rattle.gix_commitgraph.specs.Statistics.{AreNumbered, AreStatistics};
 
     /// The statistics of no commits.
-    pub(super) fn new(alloc: Global) -> Tally
-        ensures { Tallies [] result }
+    pub(super) fn new(alloc: Global) -> Statistics
+        ensures { AreStatistics [] result }
     {
-        Tally {
+        Statistics {
             max_generation: 0,
             num_commits: 0,
             parent_counts: ParentCounts::new(alloc),
@@ -32,17 +32,17 @@ impl Tally {
     }
 
     /// The statistics of the commits that have this outcome.
-    pub(super) fn from_outcome(outcome: &Outcome) -> Result<Tally, AllocError>
+    pub(super) fn from_outcome(outcome: &Outcome) -> Result<Statistics, AllocError>
         requires { (seen : List Node) × Summarizes seen outcome.now }
-        ensures { IfOk result (λ tally. (seen : List Node) → AreNumbered seen
-            → Summarizes seen outcome.now → Tallies seen tally) }
+        ensures { IfOk result (λ statistics. (seen : List Node) → AreNumbered seen
+            → Summarizes seen outcome.now → AreStatistics seen statistics) }
     {
         let max_generation = match outcome.longest_path_length {
             Some(_) if outcome.num_commits == 0 => 0,
             Some(edges) => edges.saturating_add(1),
             None => GENERATION_NUMBER_MAX,
         };
-        Ok(Tally {
+        Ok(Statistics {
             max_generation,
             num_commits: outcome.num_commits,
             parent_counts: ParentCounts::from_map(outcome.try_clone()?.parent_counts),
@@ -51,10 +51,10 @@ impl Tally {
 
     /// Adds a commit with this generation number and this number of parents.
     pub(super) fn add(&mut self, generation: u32, parents: u32) -> Result<(), AllocError>
-        requires { (seen : List Node) × Tallies seen self.old × (length seen + 1 < 2 ^ 32) }
-        ensures { OnOk result ((seen : List Node) (node : Node) → Tallies seen self.old
+        requires { (seen : List Node) × AreStatistics seen self.old × (length seen + 1 < 2 ^ 32) }
+        ensures { OnOk result ((seen : List Node) (node : Node) → AreStatistics seen self.old
             → generation ≡ node.generation → parents ≡ length node.parents
-            → Tallies (seen ++ node ∷ []) self.new) }
+            → AreStatistics (seen ++ node ∷ []) self.new) }
     {
         self.parent_counts.add(parents)?;
         self.max_generation = self.max_generation.max(generation);
@@ -65,7 +65,7 @@ impl Tally {
     /// The statistics as an outcome, once all commits are added.
     pub(super) fn outcome(self) -> Result<Outcome, AllocError>
         ensures { IfOk result (λ outcome.
-            (seen : List Node) → Tallies seen self → Summarizes seen outcome) }
+            (seen : List Node) → AreStatistics seen self → Summarizes seen outcome) }
     {
         Ok(Outcome {
             longest_path_length: if self.max_generation < GENERATION_NUMBER_MAX {

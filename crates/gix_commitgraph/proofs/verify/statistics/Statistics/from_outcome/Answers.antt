@@ -1,11 +1,11 @@
 use Rattle.std.proofs.Common.{◌≡◌, ◌+◌, ◌<◌, length, List, refl, sym, ◌∙◌, arith}
 use Rattle.graph_walks.specs.Counts.{greatest}
 use Rattle.graph_walks.specs.History.{Node, generations}
-use Rattle.gix_commitgraph.specs.Tallies.{AreNumbered}
+use Rattle.gix_commitgraph.specs.Statistics.{AreNumbered}
 use Rattle.gix_commitgraph.specs.Verify.{Summarizes}
 use Rattle.gix_commitgraph.proofs.check.OutcomeLemmas.{greatest-capped, greatest_of_none, greatest_of_edges, greatest_at_cap}
-use Rattle.gix_commitgraph.proofs.verify.tally.Tally.from_outcome.Goals.{in-Some, in-Some-2, in-None}
-use Rattle.gix_commitgraph.proofs.verify.tally.Tally.from_outcome.Goals as goal
+use Rattle.gix_commitgraph.proofs.verify.statistics.Statistics.from_outcome.Goals.{in-Some, in-Some-2, in-None}
+use Rattle.gix_commitgraph.proofs.verify.statistics.Statistics.from_outcome.Goals as goal
 
 pub returns : goal.returns
 returns c = λ (seen : List Node) (numbered : AreNumbered seen) (sums : Summarizes seen c.args.outcome.now). record {

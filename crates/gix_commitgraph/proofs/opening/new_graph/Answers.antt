@@ -1,6 +1,6 @@
 use Rattle.std.proofs.lemmas.Result.{err_from_is_err_and}
 use Rattle.gix_commitgraph.proofs.opening.OpenErrorLemmas.{layers_error}
-use Rattle.gix_commitgraph.proofs.opening.graph.new_graph.Goals as goal
+use Rattle.gix_commitgraph.proofs.opening.new_graph.Goals as goal
 
 pub returns-in_err-new-clause-errors : goal.returns-in_err-new-clause-errors
 returns-in_err-new-clause-errors c =
