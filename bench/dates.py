@@ -25,7 +25,7 @@ import lookup
 import processes
 
 NAME = "dates"
-LIBRARIES = "gix_commitgraph graph_layer changed_paths corrected_dates graph_chunks anyhow".split()
+LIBRARIES = "gix_commitgraph graph_layer changed_paths graph_chunks anyhow".split()
 ROUNDS = 7
 """How often each program is run. They take turns."""
 FARTHEST = {"near": 20, "far": 2**32}

@@ -1,13 +1,11 @@
 -- the check of the dates of a graph
-use Rattle.std.proofs.Common.{◌≡◌, ℕ, ◌+◌, ◌<◌, not, max, Bool, true, false, List, map, length, All, Some, None}
-use Rattle.std.proofs.Common.{option_map, get_or, slice_get, refl, sym, ap, subst, ◌∙◌, arith}
-use Rattle.std.specs.Bool.{then_some}
+use Rattle.std.proofs.Common.{◌≡◌, ◌==◌, ℕ, ◌+◌, ◌<◌, not, max, Bool, true, false, List, map, length, All}
+use Rattle.std.proofs.Common.{Option, Some, None, option_map, get_or, slice_get, refl, sym, ap, subst, ◌∙◌, arith}
 use Rattle.std.specs.Option.{option_or}
-use Rattle.std.proofs.lemmas.Bool.{eqb-true, eq-eqb, ne_eqb}
+use Rattle.std.proofs.lemmas.Bool.{eqb-true}
 use Rattle.std.proofs.lemmas.Option.{slice_get-map, slice_get_within, get_or_from_slice_get}
-use Rattle.gix_chunk_core.specs.FirstFault.{first_below}
+use Rattle.gix_chunk_core.specs.FirstFault.{◌when◌, first_below}
 use Rattle.gix_chunk_core.proofs.FirstFaultLemmas.{first_below-none_more, first_below-found, first_below-none_at, then_some-none}
-use Rattle.gix_chunk_core.proofs.FirstFaultLemmas.{then_some-false}
 use Rattle.graph_walks.specs.Counts.{greatest}
 use Rattle.graph_walks.specs.History.{parents_at}
 use Rattle.graph_walks.specs.Dates.{number_at, expected_date, AreRight}
@@ -39,26 +37,11 @@ time-at layers p j layer here =
     slice_get-map time (graph_commits layers) p ∙ ap (option_map time) here in
     sym (get_or_from_slice_get (map time (graph_commits layers)) p (record_at layer j).time 0 at)
 
-pub date-fine : (layers : List Layer) (dates : List ℕ) (p : ℕ)
-    → first_below (wrong_date (history_of layers) (times_of layers) dates) p ≡ None
-    → number_at dates p ≡ expected_date (history_of layers) (times_of layers) dates p
-    → first_below (wrong_date (history_of layers) (times_of layers) dates) (p + 1) ≡ None
-date-fine layers dates p none same =
-    first_below-none_more (wrong_date (history_of layers) (times_of layers) dates) p none
-    (then_some-false _ _ (ap not (eq-eqb _ _ same)))
-
-pub date-found : (layers : List Layer) (dates : List ℕ) (p expected : ℕ)
-    → first_below (wrong_date (history_of layers) (times_of layers) dates) p ≡ None
-    → expected ≡ expected_date (history_of layers) (times_of layers) dates p → (number_at dates p ≡ expected → ⊥)
-    → p < total layers
-    → first_below (wrong_date (history_of layers) (times_of layers) dates) (total layers) ≡ Some (Date (position_of p) expected)
-date-found layers dates p expected none is apart below =
-    let other : number_at dates p ≡ expected_date (history_of layers) (times_of layers) dates p → ⊥ =
-    λ same. apart (same ∙ sym is) in
-    first_below-found (wrong_date (history_of layers) (times_of layers) dates) p (total layers) _ none
-    (ap (λ (b : Bool). then_some (not b) (Date (position_of p) (expected_date (history_of layers) (times_of layers) dates p)))
-    (ne_eqb _ _ other)
-    ∙ ap (λ (n : ℕ). Some (Date (position_of p) n)) (sym is)) below
+-- what is wrong with the date of a commit that was read, whose position of the graph is n
+abbrev pub read_fault : List ℕ → ℕ → Commit → Option DatesError
+read_fault dates n commit =
+    let expected = max (commit_record commit).time (1 + latest_of dates (commit_parents commit)) in
+    Date (position_of n) expected when not (number_at dates n == expected)
 
 pub dates-right : (layers : List Layer) (dates : List ℕ) → All IsOpened layers → length dates ≡ total layers
     → first_below (wrong_date (history_of layers) (times_of layers) dates) (total layers) ≡ None
@@ -118,6 +101,38 @@ expected-of layers dates p place expected layer commit opened there in_layer at 
     let told = parents-at layers p (commit_pos commit) (commit_layer commit) opened here in
     let latest = ap (λ (ps : List ℕ). greatest (map (number_at dates) ps)) told in
     omega (arith, is, time, latest)
+
+-- what is wrong with the date of the commit at a place is what the graph says of it
+fault-at : (layers : List Layer) (dates : List ℕ) (before place n : ℕ) (layer : Layer) (commit : Commit) → All IsOpened layers
+    → IsPlace layers before place layer → commit_layer commit ≡ layer → commit_pos commit ≡ place → n ≡ before + place
+    → read_fault dates n commit ≡ wrong_date (history_of layers) (times_of layers) dates (before + place)
+fault-at layers dates before place n layer commit opened there in_layer at is =
+    let expected = max (commit_record commit).time (1 + latest_of dates (commit_parents commit)) in
+    ap (λ (p : ℕ). read_fault dates p commit) is
+    ∙ ap (λ (d : ℕ). Date (position_of (before + place)) d when not (number_at dates (before + place) == d))
+    (expected-of layers dates (before + place) place expected layer commit opened there.commit in_layer at refl)
+
+pub date-fine : (layers : List Layer) (dates : List ℕ) (before place n : ℕ) (layer : Layer) (commit : Commit)
+    → All IsOpened layers → IsPlace layers before place layer → commit_layer commit ≡ layer → commit_pos commit ≡ place
+    → n ≡ before + place → first_below (wrong_date (history_of layers) (times_of layers) dates) (before + place) ≡ None
+    → read_fault dates n commit ≡ None
+    → first_below (wrong_date (history_of layers) (times_of layers) dates) (before + (place + 1)) ≡ None
+date-fine layers dates before place n layer commit opened there in_layer at is none fine =
+    let fault = wrong_date (history_of layers) (times_of layers) dates in
+    let next : before + place + 1 ≡ before + (place + 1) = omega arith in
+    subst (λ (m : ℕ). first_below fault m ≡ None) next
+    (first_below-none_more fault (before + place) none
+    (sym (fault-at layers dates before place n layer commit opened there in_layer at is) ∙ fine))
+
+pub date-found : (layers : List Layer) (dates : List ℕ) (before place n : ℕ) (layer : Layer) (commit : Commit)
+    (error : DatesError) → All IsOpened layers → IsPlace layers before place layer → commit_layer commit ≡ layer
+    → commit_pos commit ≡ place → n ≡ before + place
+    → first_below (wrong_date (history_of layers) (times_of layers) dates) (before + place) ≡ None
+    → read_fault dates n commit ≡ Some error
+    → first_below (wrong_date (history_of layers) (times_of layers) dates) (total layers) ≡ Some error
+date-found layers dates before place n layer commit error opened there in_layer at is none found =
+    first_below-found (wrong_date (history_of layers) (times_of layers) dates) (before + place) (total layers) error none
+    (sym (fault-at layers dates before place n layer commit opened there in_layer at is) ∙ found) there.below
 
 -- in a right graph the dates follow from all parents
 pub follow-all : (layers : List Layer) (dates : List ℕ) → All IsOpened layers → Sound layers

@@ -1,3 +1,4 @@
+pub mod DecodingLemmas
 pub mod StoredDateLemmas
 pub mod LatestLemmas
 pub mod DateCheckLemmas

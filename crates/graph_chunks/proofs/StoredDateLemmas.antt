@@ -11,8 +11,8 @@ use Rattle.std.proofs.lemmas.List.FromFn.{length-map-range_with_len}
 use Rattle.std.proofs.lemmas.Option.{slice_get-get_or}
 use Rattle.gix_chunk_core.specs.FirstFault.{first_below}
 use Rattle.gix_chunk_core.proofs.FirstFaultLemmas.{first_below-none, first_below-none_more, first_below-found}
-use Rattle.corrected_dates.specs.StoredDates.{date_of, stored_dates}
-use Rattle.corrected_dates.specs.declared.LayerDatesError.{LayerDatesError}
+use Rattle.graph_chunks.specs.StoredDates.{date_of, stored_dates}
+use Rattle.graph_chunks.specs.declared.dates.layer.LayerDatesError.{LayerDatesError}
 use Rattle.graph_format.specs.Layer.{Layer, IsOpened}
 use Rattle.graph_walks.specs.Dates.{number_at}
 use Rattle.gix_commitgraph.specs.Graph.{IsGraph, start, total}

@@ -2,8 +2,8 @@
 use Rattle.std.specs.Prelude.{◌≡◌, ◌==◌, ◌⊎◌, ℕ, ◌+◌, ◌<◌, not, max, List, All, length, map, slice_get, Option, None, Some}
 use Rattle.std.specs.Prelude.{option_map}
 use Rattle.std.specs.Option.{option_and_then}
-use Rattle.corrected_dates.specs.declared.LayerDatesError.{LayerDatesError}
-use Rattle.corrected_dates.specs.declared.LayerDatesError.TheVariants as layer_error
+use Rattle.graph_chunks.specs.declared.dates.layer.LayerDatesError.{LayerDatesError}
+use Rattle.graph_chunks.specs.declared.dates.layer.LayerDatesError.TheVariants as layer_error
 use Rattle.gix_chunk_core.specs.FirstFault.{◌when◌, ◌otherwise◌, first_below}
 use Rattle.graph_walks.specs.History.{Node}
 use Rattle.graph_walks.specs.Counts.{greatest}

@@ -1,8 +1,8 @@
 -- The corrected commit dates that a graph stores ("Generation Data", "Generation Data Overflow").
 use Rattle.std.specs.Prelude.{◌≢◌, ℕ, List, [], map, codes, unwrap_or, Option, None}
 use Rattle.std.specs.List.{flat_map}
-use Rattle.corrected_dates.specs.StoredDates.{stored_dates, dates_refusal}
-use Rattle.corrected_dates.specs.declared.LayerDatesError.{LayerDatesError}
+use Rattle.graph_chunks.specs.StoredDates.{stored_dates, dates_refusal}
+use Rattle.graph_chunks.specs.declared.dates.layer.LayerDatesError.{LayerDatesError}
 use Rattle.graph_format.specs.Format.{chunk_of}
 use Rattle.graph_format.specs.Layer.{Layer, record_at, bytes_of}
 use Rattle.gix_commitgraph.specs.Graph.{graph_commits}

@@ -1,3 +1,4 @@
+pub mod StoredDates
 pub mod GraphStoredDates
 pub mod GraphDates
 pub mod Latest

@@ -11,6 +11,7 @@ ghost use Rattle.graph_chunks.specs.GraphDates.{AreRightByDecodedParents, Follow
 
 mod check;
 mod latest;
+pub mod layer;
 mod stored;
 
 use crate::dates::check::check_dates;

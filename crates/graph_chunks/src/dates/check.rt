@@ -1,8 +1,9 @@
 //! Whether corrected dates are right.
 
-ghost use Rattle.std.specs.Prelude.{◌≡◌, ◌+◌, ◌<◌, ◌^◌, ℕ, None, Some, IfOk, IfErr, length};
-ghost use Rattle.std.specs.Prelude.{max};
-ghost use Rattle.gix_chunk_core.specs.FirstFault.{first_below};
+ghost use Rattle.std.specs.Prelude.{◌≡◌, ◌==◌, ◌+◌, ◌<◌, ◌^◌, ℕ, None, Some, IfOk, IfErr, length};
+ghost use Rattle.std.specs.Prelude.{max, not};
+ghost use Rattle.gix_chunk_core.specs.FirstFault.{◌when◌, first_below};
+ghost use Rattle.graph_format.specs.Reports.{Reports};
 ghost use Rattle.graph_format.specs.StoredHistory.{history_of};
 ghost use Rattle.graph_walks.specs.Dates.{number_at, AreRight};
 ghost use Rattle.graph_layer.specs.Commit.{commit_layer, commit_record, commit_parents};
@@ -26,6 +27,28 @@ fn expected_date(dates: &[u64], latest: &[u64], commit: &Commit<'_>) -> u64
 {
     let after_parents = 1 + latest_of_parents(dates, latest, commit);
     commit.committer_timestamp().max(after_parents)
+}
+
+/// Whether the date of the commit at a position is the expected one.
+fn check_date(
+    dates: &[u64],
+    latest: &[u64],
+    commit: &Commit<'_>,
+    pos: Position,
+) -> Result<(), DatesError>
+    requires latest { AreLatest dates.now (commit_layer commit.now).edges latest.now }
+    requires small { (p : ℕ) → number_at dates.now p < 2 ^ 63 }
+    requires within { pos.0 < length dates.now }
+    ensures { let expected = max (commit_record commit.now).time
+        (1 + latest_of dates.now (commit_parents commit.now)) in
+        Reports result (DatesError.Date pos expected
+        when not (number_at dates.now pos.0 == expected)) }
+{
+    let expected = expected_date(dates, latest, commit);
+    if dates[pos.0 as usize] != expected {
+        return Err(DatesError::Date { pos, expected });
+    }
+    Ok(())
 }
 
 /// Whether the dates of the commits of a layer are the expected ones, before which so many commits
@@ -58,11 +81,8 @@ fn check_layer(
     let latest = &room[..words];
     for place in 0..file.num_commits() {
         let commit = file.commit_at(file::Position(place));
-        let expected = expected_date(dates, latest, &commit);
         let pos = Position(before + place);
-        if dates[pos.0 as usize] != expected {
-            return Err(DatesError::Date { pos, expected });
-        }
+        check_date(dates, latest, &commit, pos)?;
     }
     Ok(())
 }

@@ -3,14 +3,14 @@
 ghost use Rattle.std.specs.Prelude.{◌≡◌, ◌+◌, ◌<◌, ◌^◌, ◌++◌, All, None, IsTrue, length};
 ghost use Rattle.std.specs.Bool.{OnTrue, OnFalse};
 ghost use Rattle.std.specs.Prelude.{IfOk, IfErr, IfSome};
-ghost use Rattle.corrected_dates.specs.StoredDates.{NamesOneOf};
 ghost use Rattle.gix_chunk_core.specs.FirstFault.{first_below};
+ghost use Rattle.graph_chunks.specs.StoredDates.{NamesOneOf};
 ghost use Rattle.graph_chunks.specs.GraphStoredDates.{HasDates, dates_in, dates_of, layer_refusal};
 ghost use Rattle.graph_chunks.specs.GraphStoredDates.{offsets_in, overflow_in};
 ghost use Rattle.graph_chunks.specs.GraphDates.{in_graph, reading_fault, AreReadable, MayNotRead};
 
 use crate::dates::DatesError;
-use corrected_dates::{LayerDatesError, decode_dates, refusal_of};
+use crate::dates::layer::{LayerDatesError, decode_dates, refusal_of};
 use gix_commitgraph::file::File;
 use gix_commitgraph::{Graph, Position};
 use graph_layer::fields::times;

@@ -1,7 +1,0 @@
-use Rattle.std.proofs.Common.{◌≡◌, None}
-use Rattle.gix_chunk_core.specs.FirstFault.{first_below}
-use Rattle.corrected_dates.specs.StoredDates.{date_fault}
-use Rattle.corrected_dates.proofs.refusal_of.Given as goal
-
-abbrev pub invariant-loop-pos : goal.invariant-loop-pos
-invariant-loop-pos l = first_below (date_fault l.offsets l.overflow l.times) l.pos ≡ None
