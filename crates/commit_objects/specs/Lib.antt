@@ -1,0 +1,4 @@
+pub mod Commit
+pub mod Lines
+pub mod Object
+pub mod Time
