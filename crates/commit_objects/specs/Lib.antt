@@ -1,4 +1,4 @@
-pub mod Commit
+pub mod CommitContents
 pub mod Lines
 pub mod Object
 pub mod Time

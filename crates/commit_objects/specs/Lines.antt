@@ -6,10 +6,10 @@ use Rattle.hex.specs.Hex.{decode_of}
 use Rattle.gix_hash_core.specs.declared.kind.Kind.{Kind}
 use Rattle.gix_hash_core.specs.Kind.{id_len}
 use Rattle.gix_hash_core.specs.Hexadecimal.{SpellsId}
-use Rattle.commit_objects.specs.Commit.{IsIdLine, parent_word}
+use Rattle.commit_objects.specs.CommitContents.{IsIdLine, parent_word}
 
-abbrev pub BeginsWith : List ℕ → List ℕ → Type 0
-BeginsWith bytes word = (next : List ℕ) × (bytes ≡ word ++ next)
+abbrev pub BeginsWithWord : List ℕ → List ℕ → Type 0
+BeginsWithWord bytes word = (next : List ℕ) × (bytes ≡ word ++ next)
 
 -- The bytes begin with the line of an id, and this is next.
 pub record BeginsWithLine (kind : Kind) (word bytes id next : List ℕ) : Type 0 where
@@ -20,7 +20,7 @@ pub record BeginsWithLine (kind : Kind) (word bytes id next : List ℕ) : Type 0
 
 -- the bytes are a line for each of these parents, and then a rest with which the lines end
 abbrev pub AreLinesAndRest : Kind → List ℕ → List (List ℕ) → List ℕ → Type 0
-AreLinesAndRest kind bytes [] rest = (bytes ≡ rest) × (0 < length rest) × ¬ BeginsWith rest parent_word
+AreLinesAndRest kind bytes [] rest = (bytes ≡ rest) × (0 < length rest) × ¬ BeginsWithWord rest parent_word
 AreLinesAndRest kind bytes (id ∷ ids) rest =
     (next : List ℕ) × BeginsWithLine kind parent_word bytes id next × AreLinesAndRest kind next ids rest
 

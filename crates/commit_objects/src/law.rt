@@ -1,7 +1,7 @@
 //! The law of what commits say.
 
 ghost use Rattle.std.specs.Prelude.{◌≡◌, ℕ, List};
-ghost use Rattle.commit_objects.specs.Commit.{Said, Says};
+ghost use Rattle.commit_objects.specs.CommitContents.{Said, Says};
 ghost use Rattle.gix_hash_core.specs.declared.kind.Kind.{Kind};
 
 /// Bytes say one thing at most.

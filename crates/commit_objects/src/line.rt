@@ -1,13 +1,13 @@
 //! Lines with ids.
 
 ghost use Rattle.std.specs.Prelude.{◌≡◌, ◌++◌, ℕ, List, MatchOption};
-ghost use Rattle.commit_objects.specs.Lines.{BeginsWith, BeginsWithLine};
+ghost use Rattle.commit_objects.specs.Lines.{BeginsWithWord, BeginsWithLine};
 
 use gix_hash_core::{Kind, ObjectId};
 
 /// What follows a word, where the bytes begin with it.
 pub(crate) fn strip<'a>(bytes: &'a [u8], word: &[u8]) -> Option<&'a [u8]>
-    ensures { MatchOption result (¬ BeginsWith bytes.now word.now)
+    ensures { MatchOption result (¬ BeginsWithWord bytes.now word.now)
         (λ next. bytes.now ≡ word.now ++ next.now) }
 {
     bytes.strip_prefix(word)

@@ -1,7 +1,7 @@
 //! Parsing commits.
 
 ghost use Rattle.std.specs.Prelude.{◌≡◌, ℕ, List, MatchResult, MatchOption};
-ghost use Rattle.commit_objects.specs.Commit.{Said, Says};
+ghost use Rattle.commit_objects.specs.CommitContents.{Said, Says};
 ghost use Rattle.commit_objects.specs.Lines.{AreLinesAndRest};
 ghost use Rattle.commit_objects.specs.Time as spec;
 
@@ -28,7 +28,7 @@ pub struct CommitObject<'a> {
 }
 
 impl<'a> Model for CommitObject<'a> {
-    ghost use Rattle.commit_objects.specs.Commit.{Said};
+    ghost use Rattle.commit_objects.specs.CommitContents.{Said};
 
     ghost Value = { Said };
 
