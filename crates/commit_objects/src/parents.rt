@@ -58,7 +58,9 @@ impl<'a> Iterator for Parents<'a> {
     ghost remaining = { item_count {S = List (List ℕ)} (λ left. left) };
 
     fn next(&mut self) -> Option<ObjectId> {
-        let line = split_id_line(self.kind, b"parent ", self.lines)?;
+        let Some(line) = split_id_line(self.kind, b"parent ", self.lines) else {
+            return None;
+        };
         self.lines = line.next;
         Some(line.id)
     }

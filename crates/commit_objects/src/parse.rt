@@ -42,8 +42,12 @@ impl<'a> CommitObject<'a> {
         ensures { MatchResult result (Says kind contents.now)
             (λ _. (said : Said) → ¬ Says kind contents.now said) }
     {
-        let tree = split_id_line(kind, b"tree ", contents).ok_or(Unreadable)?;
-        let rest = after_parents(kind, tree.next).ok_or(Unreadable)?;
+        let Some(tree) = split_id_line(kind, b"tree ", contents) else {
+            return Err(Unreadable);
+        };
+        let Some(rest) = after_parents(kind, tree.next) else {
+            return Err(Unreadable);
+        };
         let lines = &tree.next[..tree.next.len() - rest.len()];
         Ok(CommitObject {
             tree: tree.id,
@@ -92,7 +96,10 @@ fn after_parents(kind: Kind, lines: &[u8]) -> Option<&[u8]>
 {
     let mut rest = lines;
     while strip(rest, b"parent ").is_some() {
-        rest = split_id_line(kind, b"parent ", rest)?.next;
+        let Some(line) = split_id_line(kind, b"parent ", rest) else {
+            return None;
+        };
+        rest = line.next;
     }
     if rest.is_empty() {
         return None;
