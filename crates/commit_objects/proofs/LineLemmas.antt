@@ -1,12 +1,14 @@
 -- Lines with ids: one line begins given bytes at most, and a commit says one thing at most.
-use Rattle.std.proofs.Common.{◌≡◌, ℕ, ◌*◌, ◌<◌, List, [], ◌∷◌, ◌++◌, length, take, drop, Bor, true, false}
+use Rattle.std.proofs.Common.{◌≡◌, ◌≢◌, ℕ, ◌*◌, ◌<◌, List, [], ◌∷◌, ◌++◌, length, take, drop, Bor, Bool, true, false}
 use Rattle.std.proofs.Common.{refl, sym, ap, ◌∙◌, arith, take-append-drop, append_assoc}
 use Rattle.std.proofs.lemmas.List.{append_cancel_left, length-append}
 use Rattle.std.proofs.Math.Seq.{take-append_seam}
 use Rattle.hex.proofs.HexLemmas.{decode_of-ok, decode_of-same}
 use Rattle.hex.specs.Hex.{decode_of}
-use Rattle.std.specs.Prelude.{Ok, Option, Some, None, MatchOption, is_some, codes}
-use Rattle.std.specs.List.{IsSplitAt}
+use Rattle.std.specs.Prelude.{Ok, Option, Some, None, MatchOption, codes, nat_eq}
+use Rattle.std.specs.List.{IsSplitAt, starts_with}
+use Rattle.std.proofs.lemmas.Slice.Eq.{starts_is}
+use Rattle.std.proofs.lemmas.Bool.Decides.{Decides-eqb}
 use Rattle.gix_hash_core.specs.declared.kind.Kind.{Kind}
 use Rattle.gix_hash_core.specs.Kind.{id_len}
 use Rattle.gix_hash_core.specs.Hexadecimal.{SpellsId, SpellsNone}
@@ -99,19 +101,31 @@ pub no_word : (kind : Kind) (word bytes : List ℕ) → ¬ BeginsWithWord bytes 
     → ¬ (BeginsWithLine kind word bytes id next)
 no_word kind word bytes none id next line = none (line.digits ++ 10 ∷ next, line.whole)
 
-pub put_together : (n : ℕ) (s front back : List ℕ) → IsSplitAt s n front back → front ++ back ≡ s
-put_together n s front back split =
-    ap (λ l. l ++ back) split.1 ∙ ap (λ l. take n s ++ l) split.2 ∙ take-append-drop n s
+-- what stands behind a word, cut in two
+pub cut_behind : (word bytes rest front back : List ℕ) (n : ℕ) → bytes ≡ word ++ rest → IsSplitAt rest n front back
+    → bytes ≡ word ++ (front ++ back)
+cut_behind word bytes rest front back n e split =
+    let whole : front ++ back ≡ rest =
+    ap (λ l. l ++ back) split.1 ∙ ap (λ l. take n rest ++ l) split.2 ∙ take-append-drop n rest in
+    e ∙ ap (λ l. word ++ l) (sym whole)
 
+-- what `strip_prefix` tells
 pub begins_where_some : (bytes word : List ℕ) (r : Option (Bor (List ℕ)))
-    → MatchOption r (¬ BeginsWithWord bytes word) (λ x. bytes ≡ word ++ x.now) → true ≡ is_some r → BeginsWithWord bytes word
-begins_where_some bytes word (Some x) h e = (x.now, h)
-begins_where_some bytes word None h e = cc e
+    → MatchOption r ((rest : List ℕ) → bytes ≢ word ++ rest) (λ x. bytes ≡ word ++ x.now)
+    → MatchOption r (¬ BeginsWithWord bytes word) (λ x. bytes ≡ word ++ x.now)
+begins_where_some bytes word (Some x) h = h
+begins_where_some bytes word None h = λ begins. h begins.0 begins.1
 
-pub none_begins : (bytes word : List ℕ) (r : Option (Bor (List ℕ)))
-    → MatchOption r (¬ BeginsWithWord bytes word) (λ x. bytes ≡ word ++ x.now) → false ≡ is_some r → ¬ BeginsWithWord bytes word
-none_begins bytes word (Some x) h e = cc e
-none_begins bytes word None h e = h
+-- what `starts_with` tells
+pub begins_where : (bytes word : List ℕ) (r : Bool) → r ≡ starts_with nat_eq bytes word → r ≡ true
+    → BeginsWithWord bytes word
+begins_where bytes word r e is_true = (drop (length word) bytes, (starts_is Decides-eqb bytes word r e).0 is_true)
+
+pub begins_nowhere : (bytes word : List ℕ) (r : Bool) → r ≡ starts_with nat_eq bytes word → r ≡ false
+    → ¬ BeginsWithWord bytes word
+begins_nowhere bytes word r e is_false begins =
+    let is_true = (starts_is Decides-eqb bytes word r e).1 begins.0 begins.1 in
+    cc (is_true, is_false)
 
 -- a line is longer than what is next
 pub line_shorter : (kind : Kind) (word bytes id next : List ℕ) → BeginsWithLine kind word bytes id next

@@ -1,8 +1,9 @@
 -- The committer's time, in seconds since 1970-01-01 00:00:00 UTC, by what follows the lines of the parents (git-commit-tree,
 -- "DATE FORMATS", "Git internal format"). It is 0 where none is found. Git up to 2.40 finds it in one way; Git from 2.41 on,
 -- as libgit2, in another.
-use Rattle.std.specs.Prelude.{◌≡◌, ◌⊎◌, ℕ, ◌+◌, ◌-◌, ◌^◌, ◌==◌, ◌||◌, ◌&&◌, nat_eq, nat_le, nat_lt, Bool, if◌then◌else◌, List, length}
-use Rattle.std.specs.Prelude.{codes, Option, Some, None, min, option_map, option_and_then, position, take, drop, take_while, unwrap_or, []}
+use Rattle.std.specs.Prelude.{◌≡◌, ◌⊎◌, ℕ, ◌+◌, ◌-◌, ◌^◌, ◌==◌, ◌||◌, ◌&&◌, min, nat_eq, nat_le, nat_lt, Bool}
+use Rattle.std.specs.Prelude.{if◌then◌else◌, List, [], length, take, drop, take_while, position, codes, Option, Some, None}
+use Rattle.std.specs.Prelude.{option_map, option_and_then, unwrap_or}
 use Rattle.std.specs.List.{starts_with, prefix_len, after_last}
 use Rattle.std.specs.Str.Parse.{digits_value}
 

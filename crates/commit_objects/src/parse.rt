@@ -5,7 +5,7 @@ ghost use Rattle.commit_objects.specs.CommitContents.{Said, Says};
 ghost use Rattle.commit_objects.specs.Lines.{AreLinesAndRest};
 ghost use Rattle.commit_objects.specs.Time as spec;
 
-use crate::line::{split_id_line, strip};
+use crate::line::split_id_line;
 use crate::parents::Parents;
 use crate::time;
 use gix_hash_core::{Kind, ObjectId};
@@ -95,7 +95,7 @@ fn after_parents(kind: Kind, lines: &[u8]) -> Option<&[u8]>
         (λ rest. (ids : List (List ℕ)) × AreLinesAndRest kind lines.now ids rest.now) }
 {
     let mut rest = lines;
-    while strip(rest, b"parent ").is_some() {
+    while rest.starts_with(b"parent ") {
         let Some(line) = split_id_line(kind, b"parent ", rest) else {
             return None;
         };

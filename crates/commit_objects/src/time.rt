@@ -1,7 +1,10 @@
 //! Reading the time of a commit.
 
-ghost use Rattle.std.specs.Prelude.{◌≡◌, ◌<◌, ◌==◌, option_map, option_and_then, position, length, codes, IfSome};
+ghost use Rattle.std.specs.Prelude.{◌≡◌, ◌<◌, ◌==◌, option_map, option_and_then, position};
+ghost use Rattle.std.specs.Prelude.{length, IfSome};
 ghost use Rattle.commit_objects.specs.Time as spec;
+
+use crate::line::behind_word;
 
 /// The time as Git from 2.41 on reads it, from what follows the parents.
 #[tactic(auto, unfolding(crate::specs::Time::newer_time))]
@@ -51,13 +54,6 @@ fn behind_committer(rest: &[u8]) -> Option<&[u8]>
     let author = behind_word(b"author", rest)?;
     let line = behind_byte(b'\n', author)?;
     behind_word(b"committer", line)
-}
-
-/// What follows a word, where the bytes begin with it.
-fn behind_word<'a>(word: &[u8], bytes: &'a [u8]) -> Option<&'a [u8]>
-    ensures { option_map (λ x. x.now) result ≡ spec.behind_word word.now bytes.now }
-{
-    bytes.strip_prefix(word)
 }
 
 /// Whether a line feed is there, and a byte behind it.

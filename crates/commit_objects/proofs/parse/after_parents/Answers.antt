@@ -1,14 +1,14 @@
 use Rattle.std.proofs.Common.{arith}
 use Rattle.std.proofs.lemmas.Bool.Decides.{nat_tests}
 use Rattle.commit_objects.specs.CommitContents.{parent_word}
-use Rattle.commit_objects.proofs.LineLemmas.{begins_where_some, none_begins}
+use Rattle.commit_objects.proofs.LineLemmas.{begins_where, begins_nowhere}
 use Rattle.commit_objects.proofs.ParentLemmas.{one_passed, ended, refused, nothing_left}
 use Rattle.commit_objects.proofs.parse.after_parents.Goals as goal
 
 pub returns-in_default : goal.returns-in_default
 returns-in_default c =
     refused c.args.kind c.args.lines.now c.loop-kind.rest.now c.loop-kind.invariant
-    (begins_where_some c.loop-kind.rest.now parent_word c.strip.result c.strip.ensures c.loop-kind-test.ensures)
+    (begins_where c.loop-kind.rest.now parent_word c.starts_with.result c.starts_with.ensures.value c.loop-kind-test.true)
     c.in_default.ensures
 
 pub loop-kind-preserved : goal.loop-kind-preserved
@@ -24,5 +24,5 @@ returns-then-is_empty c =
 pub returns : goal.returns
 returns c =
     ended c.args.kind c.args.lines.now c.loop-kind.rest.now c.loop-kind.invariant
-    (none_begins c.loop-kind.rest.now parent_word c.strip.result c.strip.ensures c.loop-kind-test.ensures)
+    (begins_nowhere c.loop-kind.rest.now parent_word c.starts_with.result c.starts_with.ensures.value c.loop-kind-test.false)
     (grind (arith, nat_tests, c.is_empty.ensures, c.if-is_empty.false))

@@ -15,7 +15,8 @@ pub invariant_of-self : goal.invariant_of-self
 invariant_of-self c =
     let left = c.self.invariant in
     let cut =
-    first_line c.self.inside.kind left.0 c.self.inside.lines.now c.in-Some.line.id c.in-Some.line.next.now left.1 c.in-Some.ensures in
+    first_line c.self.inside.kind left.0 c.self.inside.lines.now c.in-Some.line.id c.in-Some.line.next.now left.1
+    c.in-Some.ensures in
     (cut.0, cut.2)
 
 pub returns-clause-steps : goal.returns-clause-steps
