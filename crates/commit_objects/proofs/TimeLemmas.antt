@@ -1,0 +1,126 @@
+-- What the words of times come to.
+use Rattle.std.proofs.Common.{◌≡◌, ◌≢◌, ◌≤◌, ◌<◌, ℕ, ◌+◌, ◌-◌, ◌*◌, ◌^◌, Bool, true, false, not, List, [], ◌∷◌, ◌++◌}
+use Rattle.std.proofs.Common.{length, take, drop, get_or, Bor, min, cond, refl, sym, ap, ◌∙◌, arith, length-append}
+use Rattle.std.proofs.lemmas.Bool.Decides.{nat_tests, Decides-eqb}
+use Rattle.std.proofs.lemmas.Bool.{eqb-true, eq-eqb}
+use Rattle.std.proofs.lemmas.Grind.{common_steps}
+use Rattle.std.proofs.lemmas.Slice.Eq.{starts_is}
+use Rattle.std.proofs.lemmas.List.Sums.{split_at_first, passes_at_first, fails_before_first, suffix_len_is, prefix_len_is}
+use Rattle.std.proofs.Math.Seq.{drop-append_seam}
+use Rattle.std.specs.Prelude.{MatchOption, Option, Some, None, option_map, position, nat_eq, nat_lt, nat_le, ◌==◌, ◌&&◌}
+use Rattle.std.specs.List.{starts_with, after_last, before_first, after_first, position_or_len, suffix_len}
+use Rattle.std.specs.Str.Parse.{digits_value}
+use Rattle.std.specs.Char.{digit_value}
+use Rattle.std.proofs.lemmas.Int.Digits.{digits_value_push}
+use Rattle.commit_objects.specs.Time.{behind_word, behind_byte, behind_last_byte, leading_number}
+
+-- what a word is followed by, as `strip_prefix` tells it
+pub behind_word_is : (word bytes : List ℕ) (r : Option (Bor (List ℕ)))
+    → MatchOption r ((rest : List ℕ) → bytes ≢ word ++ rest) (λ x. bytes ≡ word ++ x.now)
+    → option_map (λ (x : Bor (List ℕ)). x.now) r ≡ behind_word word bytes
+behind_word_is word bytes r h = by (starts_with nat_eq bytes word) refl r h
+  where
+    by : (v : Bool) → starts_with nat_eq bytes word ≡ v → (r : Option (Bor (List ℕ)))
+        → MatchOption r ((rest : List ℕ) → bytes ≢ word ++ rest) (λ x. bytes ≡ word ++ x.now)
+        → option_map (λ (x : Bor (List ℕ)). x.now) r ≡ cond v (Some (drop (length word) bytes)) None
+    by true e (Some x) h =
+        let same : drop (length word) bytes ≡ x.now = ap (drop (length word)) h ∙ drop-append_seam word x.now in
+        ap (λ l. Some l) (sym same)
+    by true e None h = absurd (h (drop (length word) bytes) ((starts_is Decides-eqb bytes word _ refl).0 e))
+    by false e (Some x) h = let yes = (starts_is Decides-eqb bytes word _ refl).1 x.now h in cc (yes, e)
+    by false e None h = refl
+
+-- what stands behind the first byte with a value stands behind that byte
+pub behind_byte-some : (value : ℕ) (bytes rest : List ℕ) → Some rest ≡ behind_byte value bytes
+    → (front : List ℕ) × (bytes ≡ front ++ value ∷ rest)
+behind_byte-some value bytes rest e = by (nat_lt (position_or_len (λ b. b == value) bytes) (length bytes)) refl e
+  where
+    by : (v : Bool) → nat_lt (position_or_len (λ b. b == value) bytes) (length bytes) ≡ v
+        → Some rest ≡ option_map (λ place. drop (place + 1) bytes) (cond v (Some (position_or_len (λ b. b == value) bytes)) None)
+        → (front : List ℕ) × (bytes ≡ front ++ value ∷ rest)
+    by true lt e =
+        let within : position_or_len (λ b. b == value) bytes < length bytes = grind (arith, nat_tests, lt) in
+        let here : get_or bytes (position_or_len (λ b. b == value) bytes) 0 ≡ value =
+        eqb-true _ _ (passes_at_first (λ b. b == value) bytes 0 within) in
+        let behind : after_first (λ b. b == value) bytes ≡ rest = cc e in (
+          before_first (λ b. b == value) bytes,
+          split_at_first (λ b. b == value) bytes 0 within
+              ∙ ap (λ x. before_first (λ b. b == value) bytes ++ x ∷ after_first (λ b. b == value) bytes) here
+              ∙ ap (λ l. before_first (λ b. b == value) bytes ++ value ∷ l) behind,
+        )
+    by false lt e = cc e
+
+-- where nothing stands behind, no byte has the value
+pub behind_byte-none : (value : ℕ) (bytes : List ℕ) → None ≡ behind_byte value bytes → (k : ℕ) → k < length bytes
+    → (get_or bytes k 0 == value) ≡ false
+behind_byte-none value bytes e k within = by (nat_lt (position_or_len (λ b. b == value) bytes) (length bytes)) refl e
+  where
+    by : (v : Bool) → nat_lt (position_or_len (λ b. b == value) bytes) (length bytes) ≡ v
+        → None ≡ option_map (λ place. drop (place + 1) bytes) (cond v (Some (position_or_len (λ b. b == value) bytes)) None)
+        → (get_or bytes k 0 == value) ≡ false
+    by true lt e = cc e
+    by false lt e =
+        let all : length bytes ≤ position_or_len (λ b. b == value) bytes = grind (arith, nat_tests, lt) in
+        fails_before_first (λ b. b == value) bytes k 0 (omega arith)
+
+pub behind_last_byte-none : (value : ℕ) (bytes : List ℕ) → None ≡ behind_byte value bytes
+    → None ≡ behind_last_byte value bytes
+behind_last_byte-none value bytes e = by (position (λ b. b == value) bytes) e
+  where
+    by : (o : Option ℕ) → None ≡ option_map (λ place. drop (place + 1) bytes) o
+        → None ≡ option_map (λ place. after_last (λ b. b == value) bytes) o
+    by (Some place) e = cc e
+    by None e = refl
+
+-- the last byte with a value is the one behind which there is none
+pub behind_last_byte-some : (value : ℕ) (bytes front rest : List ℕ) → bytes ≡ front ++ value ∷ rest
+    → None ≡ behind_byte value rest → Some rest ≡ behind_last_byte value bytes
+behind_last_byte-some value bytes front rest e none =
+    let len : length bytes ≡ length front + 1 + length rest =
+    omega (arith, ap length e, length-append front (value ∷ rest)) in
+    let later : (k : ℕ) → length front + 1 ≤ k → k < length bytes → not (get_or bytes k 0 == value) ≡ true =
+    λ k from to.
+    let at : get_or bytes k 0 ≡ get_or rest (k - (length front + 1)) 0 = rw e (grind (arith, common_steps)) in
+    let other = behind_byte-none value rest none (k - (length front + 1)) (omega arith) in
+    ap not (ap (λ x. x == value) at ∙ other) in
+    let here : get_or bytes (length front) 0 ≡ value = rw e (grind (arith, common_steps)) in
+    let there : not (get_or bytes (length front + 1 - 1) 0 == value) ≡ false =
+    let n : length front + 1 - 1 ≡ length front = omega arith in
+    ap (λ k. not (get_or bytes k 0 == value)) n ∙ ap (λ x. not (x == value)) here ∙ ap not (eq-eqb value value refl) in
+    let suffix = suffix_len_is (λ b. not (b == value)) bytes (length front + 1) 0 (omega arith) later (λ some. there) in
+    let place : length bytes - suffix_len (λ b. not (b == value)) bytes ≡ length front + 1 = omega (arith, suffix, len) in
+    let last : after_last (λ b. b == value) bytes ≡ rest =
+    ap (λ n. drop n bytes) place ∙ rw e (grind (arith, common_steps)) in
+    by last (nat_lt (position_or_len (λ b. b == value) bytes) (length bytes)) refl
+  where
+    by : after_last (λ b. b == value) bytes ≡ rest → (v : Bool)
+        → nat_lt (position_or_len (λ b. b == value) bytes) (length bytes) ≡ v
+        → Some rest
+        ≡ option_map (λ place. after_last (λ b. b == value) bytes) (cond v (Some (position_or_len (λ b. b == value) bytes)) None)
+    by last true lt = ap (λ l. Some l) (sym last)
+    by last false lt =
+        let all : length bytes ≤ position_or_len (λ b. b == value) bytes = grind (arith, nat_tests, lt) in
+        let within : length front < position_or_len (λ b. b == value) bytes =
+        omega (arith, all, ap length e, length-append front (value ∷ rest)) in
+        let other = fails_before_first (λ b. b == value) bytes (length front) 0 within in
+        let here : get_or bytes (length front) 0 ≡ value = rw e (grind (arith, common_steps)) in
+        let same : (get_or bytes (length front) 0 == value) ≡ true = eq-eqb _ _ here in
+        cc (same, other)
+
+-- one more digit
+pub one_more_digit : (bytes : List ℕ) (i : ℕ) → i < length bytes → 48 ≤ get_or bytes i 0 → get_or bytes i 0 ≤ 57
+    → digits_value 10 (take (i + 1) bytes) ≡ digits_value 10 (take i bytes) * 10 + (get_or bytes i 0 - 48)
+one_more_digit bytes i within low high =
+    let digit : digit_value (get_or bytes i 0) ≡ get_or bytes i 0 - 48 = grind (arith, nat_tests) in
+    let last : take (i + 1) bytes ≡ take i bytes ++ (get_or bytes i 0 ∷ []) = grind (arith, common_steps) in
+    ap (digits_value 10) last ∙ digits_value_push 10 (take i bytes) (get_or bytes i 0)
+    ∙ ap (λ n. digits_value 10 (take i bytes) * 10 + n) digit
+
+-- where the digits end, the number is theirs
+pub number_ends : (bytes : List ℕ) (i : ℕ) → i ≤ length bytes
+    → ((k : ℕ) → k < i → (nat_le 48 (get_or bytes k 0) && nat_le (get_or bytes k 0) 57) ≡ true)
+    → (i < length bytes → (nat_le 48 (get_or bytes i 0) && nat_le (get_or bytes i 0) 57) ≡ false)
+    → min (digits_value 10 (take i bytes)) (2 ^ 64 - 1) ≡ leading_number bytes
+number_ends bytes i within digits other =
+    ap (λ n. min (digits_value 10 (take n bytes)) (2 ^ 64 - 1))
+    (sym (prefix_len_is (λ byte. nat_le 48 byte && nat_le byte 57) bytes i 0 within digits other))

@@ -1,0 +1,4 @@
+pub mod CommitContents
+pub mod Lines
+pub mod Object
+pub mod Time

@@ -1,0 +1,16 @@
+//! Commit objects: what the bytes of one say (its root tree, its parents, its time), and its id.
+//!
+//! Nothing here allocates.
+#![tactic(auto)]
+
+mod digest;
+pub mod law;
+mod line;
+mod parents;
+mod parse;
+mod time;
+
+pub use digest::object_id;
+pub use parents::Parents;
+pub use parse::{CommitObject, Unreadable};
+pub use time::leading_number;

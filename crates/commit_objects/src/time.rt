@@ -1,0 +1,136 @@
+//! Reading the time of a commit.
+
+ghost use Rattle.std.specs.Prelude.{◌≡◌, ◌<◌, ◌==◌, option_map, option_and_then, position};
+ghost use Rattle.std.specs.Prelude.{length, IfSome};
+ghost use Rattle.commit_objects.specs.Time as spec;
+
+use crate::line::behind_word;
+
+/// The time as Git from 2.41 on reads it, from what follows the parents.
+#[tactic(auto, unfolding(crate::specs::Time::newer_time))]
+pub(crate) fn newer_time(rest: &[u8]) -> u64
+    ensures { result ≡ spec.newer_time rest.now }
+{
+    match newer_date(rest) {
+        Some(date) => leading_number(without_spaces(date)),
+        None => 0,
+    }
+}
+
+/// What follows the last `>` in the committer's line.
+fn newer_date(rest: &[u8]) -> Option<&[u8]>
+    ensures { option_map (λ x. x.now) result
+        ≡ option_and_then (spec.behind_last_byte 62)
+        (option_and_then (spec.before_byte 10) (spec.behind_committer rest.now)) }
+{
+    let line = before_byte(b'\n', behind_committer(rest)?)?;
+    behind_last_byte(b'>', line)
+}
+
+/// The time as Git up to 2.40 reads it, from what follows the parents.
+#[tactic(auto, unfolding(crate::specs::Time::older_time))]
+pub(crate) fn older_time(rest: &[u8]) -> u64
+    ensures { result ≡ spec.older_time rest.now }
+{
+    match older_date(rest) {
+        Some(date) if goes_on(date) => leading_number(without_plus(without_spaces(date))),
+        _ => 0,
+    }
+}
+
+/// What follows the first `>` behind the word of the committer.
+fn older_date(rest: &[u8]) -> Option<&[u8]>
+    ensures { option_map (λ x. x.now) result
+        ≡ option_and_then (spec.behind_byte 62) (spec.behind_committer rest.now) }
+{
+    behind_byte(b'>', behind_committer(rest)?)
+}
+
+/// What follows the word of the committer.
+#[tactic(auto, unfolding(crate::specs::Time::behind_committer))]
+fn behind_committer(rest: &[u8]) -> Option<&[u8]>
+    ensures { option_map (λ x. x.now) result ≡ spec.behind_committer rest.now }
+{
+    let author = behind_word(b"author", rest)?;
+    let line = behind_byte(b'\n', author)?;
+    behind_word(b"committer", line)
+}
+
+/// Whether a line feed is there, and a byte behind it.
+fn goes_on(bytes: &[u8]) -> bool
+    ensures { result ≡ spec.goes_on bytes.now }
+{
+    match behind_byte(b'\n', bytes) {
+        Some(rest) => !rest.is_empty(),
+        None => false,
+    }
+}
+
+/// Where the first byte with this value stands.
+fn place_of(value: u8, bytes: &[u8]) -> Option<usize>
+    ensures value { result ≡ position (λ byte. byte == value) bytes.now }
+    ensures inside { IfSome result (λ place. place < length bytes.now) }
+{
+    bytes.iter().position(|byte| *byte == value)
+}
+
+/// What stands before the first byte with this value.
+fn before_byte(value: u8, bytes: &[u8]) -> Option<&[u8]>
+    ensures { option_map (λ x. x.now) result ≡ spec.before_byte value bytes.now }
+{
+    let place = place_of(value, bytes)?;
+    Some(&bytes[..place])
+}
+
+/// What stands behind the first byte with this value.
+fn behind_byte(value: u8, bytes: &[u8]) -> Option<&[u8]>
+    ensures { option_map (λ x. x.now) result ≡ spec.behind_byte value bytes.now }
+{
+    let place = place_of(value, bytes)?;
+    Some(&bytes[place + 1..])
+}
+
+/// What stands behind the last byte with this value.
+fn behind_last_byte(value: u8, bytes: &[u8]) -> Option<&[u8]>
+    ensures { option_map (λ x. x.now) result ≡ spec.behind_last_byte value bytes.now }
+{
+    let mut rest = behind_byte(value, bytes)?;
+    while let Some(next) = behind_byte(value, rest) {
+        rest = next;
+    }
+    Some(rest)
+}
+
+/// The bytes without the spaces at their front.
+fn without_spaces(bytes: &[u8]) -> &[u8]
+    ensures { result.now ≡ spec.without_spaces bytes.now }
+{
+    let mut rest = bytes;
+    while let [b' ' | b'\t'..=b'\r', next @ ..] = rest {
+        rest = next;
+    }
+    rest
+}
+
+/// The bytes without a plus sign at their front.
+fn without_plus(bytes: &[u8]) -> &[u8]
+    ensures { result.now ≡ spec.without_plus bytes.now }
+{
+    behind_word(b"+", bytes).unwrap_or(bytes)
+}
+
+/// The number that the decimal digits at the front of the bytes spell: 0 where no digit stands
+/// there, and 2^64 - 1 where it is greater than that.
+pub fn leading_number(bytes: &[u8]) -> u64
+    ensures { result ≡ spec.leading_number bytes.now }
+{
+    let mut number = 0u64;
+    for byte in bytes {
+        if !byte.is_ascii_digit() {
+            break;
+        }
+        let digit = (*byte - b'0') as u64;
+        number = number.saturating_mul(10).saturating_add(digit);
+    }
+    number
+}
