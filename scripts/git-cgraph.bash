@@ -5,15 +5,18 @@ _git_cgraph() {
     local commands='verify check distinct list find is-ancestor walk merge-base'
     local command
     command=$(__git_find_on_cmdline "$commands")
-    if [ "$prev" = -C ]; then
+    local options='-C --object-dir --quiet --help --version'
+    case $prev in
+    -C | --object-dir)
         compopt -o filenames 2>/dev/null
         mapfile -t COMPREPLY < <(compgen -d -- "$cur")
         return
-    fi
+        ;;
+    esac
     case $command,$cur in
-    ,-*) __gitcomp '-C --help --version' ;;
-    merge-base,-*) __gitcomp '--verbose --help --version' ;;
-    *,-*) __gitcomp '--help --version' ;;
+    merge-base,-*) __gitcomp "--all --verbose $options" ;;
+    verify,-*) __gitcomp "--all-checks $options" ;;
+    *,-*) __gitcomp "$options" ;;
     ,*) __gitcomp "$commands" ;;
     find,* | is-ancestor,* | walk,* | merge-base,*) __git_complete_refs ;;
     esac

@@ -143,11 +143,16 @@ def check_completion(results, clone, repository):
         ("ver",): {"verify"},
         ("",): {command.word for command in commands() if command.by_git},
         ("--h",): {"--help"},
+        ("--q",): {"--quiet"},
         ("find", "anno"): {"annotated"},
         ("-C", "..", "walk", "HEAD", "HE"): {"HEAD"},
         ("merge-base", "--v"): {"--verbose", "--version"},
         ("-C", "su"): {"sub"},
         ("verify", ""): set(),
+        ("verify", "--a"): {"--all-checks"},
+        ("merge-base", "--a"): {"--all"},
+        ("find", "-q", "anno"): {"annotated"},
+        ("--object-dir", "su"): {"sub"},
     }.items():
         command = [shutil.which("bash"), "-c", COMPLETE, "bash", theirs, ours, "git", "cgraph", *words]
         folder = os.path.join(repository, b"sub") if "-C" in words and ".." in words else repository

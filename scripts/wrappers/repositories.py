@@ -62,7 +62,7 @@ def check_all(results):
     with tempfile.TemporaryDirectory() as folder:
         clone = Clone(folder)
         own, other = Repository(clone, folder), Repository(clone, folder, b"a pool's \"\n\xff")
-        for check in (check_places, check_scattered, check_named, check_quarantine, check_refused, check_quiet, check_written):
+        for check in (check_places, check_scattered, check_named, check_quarantine, check_refused, check_quiet, check_written, check_all_checks):
             check(results, own, other)
             own.clear()
             other.clear()
@@ -185,3 +185,24 @@ def check_written(results, own, _other):
     right = answer == (128, "", err) and os.path.getsize(tries) == 3
     results.check("git cgraph verify, written anew each time", None if right else "it is %r, not %r" % (answer, err))
     os.remove(tries)
+
+
+def check_all_checks(results, own, _other):
+    """`verify --all-checks` asks `distinct` and then `check`: the lines are those of `check`, or the first refusal."""
+    own.put("commit-graph", HEADS["sha1"])
+    info = os.path.join(os.fsdecode(own.objects), "info")
+    right = "ok commits 2 longest 1\n"
+    for distinct, check, word, status, out in (
+        ("ok commits 2 longest 1", "ok commits 2 longest 1", "check", 0, right),
+        ("refused verify 1", "ok commits 2 longest 1", "distinct", 1, "refused verify 1\n"),
+        ("ok commits 2 longest 1", "refused filters 8 layer 0", "check", 1, "refused filters 8 layer 0\n"),
+    ):
+        for program, name, line in (("graphtool", "distinct", distinct), ("historytool", "check", check)):
+            text = '[ "$1" = %s ] || exit 9\necho "%s"\nexit %d\n' % (name, line, line.startswith("refused"))
+            own.clone.put_program(program, text)
+        where = "the file is '%s/commit-graph'" % info if "layer" in out else ""
+        known = refusals.Known(where, "", anew(info, "commit-graph"))
+        err = said(refusals.sentences(refusals.read_rows(), out.strip(), word, known)) if status else ""
+        answer = own.ask("verify", "--all-checks")
+        results.check("git cgraph verify --all-checks, %r and %r" % (distinct, check), exactly(answer, status, out, err))
+        results.check("git cgraph verify --all-checks -q", exactly(own.ask("verify", "--all-checks", "-q"), status, "", err))

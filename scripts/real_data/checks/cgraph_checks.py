@@ -75,6 +75,7 @@ def check_all(programs, results, folder, new):
     check_empty(installed, results, new("sha1", "asked, empty"))
     check_abbreviation(installed, results, new("sha1", "asked, abbreviations"))
     check_session(installed, results, os.path.join(folder, "repository"))
+    check_recipes(installed, results, os.path.join(folder, "recipes"), new("sha1", "asked, recipes.git"))
     check_damage(installed, results, new("sha1", "asked, damaged"))
     check_damaged_trees(installed, results, new("sha1", "asked, damaged folders"))
     results.check("git cgraph, nothing is left over", installed.clone.left_over())
@@ -100,6 +101,28 @@ def check_session(installed, results, folder):
         expected = "".join(line + "\n" for line in lines[at + 1 : end]).replace("/repository", os.path.realpath(folder))
         complaint = None if answer.out == expected else "it is %r, expected %r" % (answer, expected)
         results.check("README.md: %s" % command, complaint)
+
+
+def check_recipes(installed, results, folder, repository):
+    """The recipes of the manual, for a folder of repositories, where all is right and where a commit-graph is damaged."""
+    recipes = re.search(r"## Recipes\n(.*?)\n## ", read("docs", "MANUAL.md"), re.DOTALL).group(1)
+    repository.add(shapes.diamonds(2))
+    repository.write_graph()
+    os.mkdir(folder)
+    os.symlink(repository.folder, os.path.join(folder, "project.git"))
+    for damaged in (False, True):
+        for line in re.findall(r"^    (?:0 3 \* \* \* )?(.*)$", recipes, re.MULTILINE):
+            if damaged and " write " not in line:
+                content = read_bytes(repository.graph_path())
+                write_bytes(repository.graph_path(), content[:-1] + bytes([content[-1] ^ 1]))
+            command = line.replace("/srv/git", "'%s'" % folder).replace("-prune", "-follow -prune")
+            answer = run(["sh", "-c", command], installed.variables, cwd=repository.folder)
+            told = repository.graph_path() in answer.err if damaged and " write " not in line else not answer.err
+            ends = bool(answer.status) == (damaged and " write " not in line and not line.startswith("find"))
+            right = told and ends and not answer.out
+            title = "the recipe %r, of a %s commit-graph" % (line, "damaged" if damaged else "right")
+            results.check(title, None if right else "it is %r" % (answer,))
+            repository.write_graph()
 
 
 def add_names(repository, ids):
