@@ -5,7 +5,7 @@ use Rattle.std.specs.Prelude.{Option, Some, None, is_none, unwrap_or, nat_lt, if
 use Rattle.std.specs.List.{range_with_len}
 use Rattle.gix_chunk_core.specs.FirstFault.{◌when◌, ◌otherwise◌, first_below}
 use Rattle.graph_format.specs.declared.file.Position.{Position}
-use Rattle.graph_format.specs.Numbers.{word_in, long_in}
+use Rattle.graph_format.specs.Integers.{word_in, long_in}
 use Rattle.graph_chunks.specs.declared.dates.layer.LayerDatesError.{LayerDatesError}
 use Rattle.graph_chunks.specs.declared.dates.layer.LayerDatesError.TheVariants.{DataSize, OverflowSize, OverflowIndex, TooLarge}
 use Rattle.graph_chunks.specs.declared.dates.layer.LayerDatesError.TheVariants.{OutOfMemory}
