@@ -7,10 +7,10 @@ use Rattle.std.proofs.lemmas.Grind.{common_steps}
 use Rattle.std.proofs.lemmas.Slice.Eq.{starts_is}
 use Rattle.std.proofs.lemmas.List.Sums.{split_at_first, passes_at_first, fails_before_first, suffix_len_is, prefix_len_is}
 use Rattle.std.proofs.Math.Seq.{drop-append_seam}
-use Rattle.std.specs.Prelude.{MatchOption, Option, Some, None, option_map, position, nat_eq, nat_lt, nat_le, ◌==◌, ◌&&◌}
+use Rattle.std.specs.Prelude.{MatchOption, Option, Some, None, option_map, position, nat_eq, nat_lt, ◌==◌}
 use Rattle.std.specs.List.{starts_with, after_last, before_first, after_first, position_or_len, suffix_len}
 use Rattle.std.specs.Str.Parse.{digits_value}
-use Rattle.std.specs.Char.{digit_value}
+use Rattle.std.specs.Char.{digit_value, is_ascii_digit}
 use Rattle.std.proofs.lemmas.Int.Digits.{digits_value_push}
 use Rattle.commit_objects.specs.Time.{behind_word, behind_byte, behind_last_byte, leading_number}
 
@@ -118,9 +118,9 @@ one_more_digit bytes i within low high =
 
 -- where the digits end, the number is theirs
 pub number_ends : (bytes : List ℕ) (i : ℕ) → i ≤ length bytes
-    → ((k : ℕ) → k < i → (nat_le 48 (get_or bytes k 0) && nat_le (get_or bytes k 0) 57) ≡ true)
-    → (i < length bytes → (nat_le 48 (get_or bytes i 0) && nat_le (get_or bytes i 0) 57) ≡ false)
+    → ((k : ℕ) → k < i → is_ascii_digit (get_or bytes k 0) ≡ true)
+    → (i < length bytes → is_ascii_digit (get_or bytes i 0) ≡ false)
     → min (digits_value 10 (take i bytes)) (2 ^ 64 - 1) ≡ leading_number bytes
 number_ends bytes i within digits other =
     ap (λ n. min (digits_value 10 (take n bytes)) (2 ^ 64 - 1))
-    (sym (prefix_len_is (λ byte. nat_le 48 byte && nat_le byte 57) bytes i 0 within digits other))
+    (sym (prefix_len_is is_ascii_digit bytes i 0 within digits other))

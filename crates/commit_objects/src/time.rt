@@ -20,8 +20,8 @@ pub(crate) fn newer_time(rest: &[u8]) -> u64
 /// What follows the last `>` in the committer's line.
 fn newer_date(rest: &[u8]) -> Option<&[u8]>
     ensures { option_map (λ x. x.now) result
-        ≡ option_and_then (spec.behind_last_byte 62)
-        (option_and_then (spec.before_byte 10) (spec.behind_committer rest.now)) }
+        ≡ option_and_then (spec.behind_last_byte spec.end_of_address)
+        (option_and_then (spec.before_byte spec.line_feed) (spec.behind_committer rest.now)) }
 {
     let line = before_byte(b'\n', behind_committer(rest)?)?;
     behind_last_byte(b'>', line)
@@ -41,7 +41,7 @@ pub(crate) fn older_time(rest: &[u8]) -> u64
 /// What follows the first `>` behind the word of the committer.
 fn older_date(rest: &[u8]) -> Option<&[u8]>
     ensures { option_map (λ x. x.now) result
-        ≡ option_and_then (spec.behind_byte 62) (spec.behind_committer rest.now) }
+        ≡ option_and_then (spec.behind_byte spec.end_of_address) (spec.behind_committer rest.now) }
 {
     behind_byte(b'>', behind_committer(rest)?)
 }

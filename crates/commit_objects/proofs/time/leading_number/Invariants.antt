@@ -1,10 +1,10 @@
 use Rattle.std.proofs.Common.{◌≡◌, ◌<◌, ◌-◌, ◌^◌, ℕ, min, take, get_or, true}
-use Rattle.std.specs.Prelude.{nat_le, ◌&&◌}
+use Rattle.std.specs.Char.{is_ascii_digit}
 use Rattle.std.specs.Str.Parse.{digits_value}
 use Rattle.commit_objects.proofs.time.leading_number.Given as goal
 
 abbrev pub invariant-loop-byte : goal.invariant-loop-byte
 invariant-loop-byte l = record {
   number : l.number ≡ min (digits_value 10 (take l.byte-index l.bytes)) (2 ^ 64 - 1);
-  digits : (k : ℕ) → k < l.byte-index → (nat_le 48 (get_or l.bytes k 0) && nat_le (get_or l.bytes k 0) 57) ≡ true;
+  digits : (k : ℕ) → k < l.byte-index → is_ascii_digit (get_or l.bytes k 0) ≡ true;
 }
