@@ -12,14 +12,14 @@ use thiserror::Error;
 pub enum QueryError {
     /// No graph was opened.
     #[error("the graph was not opened: {0}")]
-    Open(#[from] OpenError),
+    Open(OpenError),
     /// The graph failed its check.
     #[error("the graph failed its check: {0}")]
-    Check(#[from] VerifyError<NoFault>),
+    Check(VerifyError<NoFault>),
     /// The text spells no id.
     #[error("the text spells no id: {0}")]
-    Id(#[from] IdError),
+    Id(IdError),
     /// An allocation failed.
     #[error("out of memory")]
-    OutOfMemory(#[from(alloc)] AllocError),
+    OutOfMemory(AllocError),
 }

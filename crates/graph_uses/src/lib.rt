@@ -10,6 +10,7 @@ pub mod checked;
 pub mod comparing;
 pub mod error;
 pub mod finding;
+mod ids;
 pub mod in_memory;
 pub mod parents;
 pub mod query;

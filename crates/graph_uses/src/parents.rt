@@ -1,13 +1,12 @@
 //! Going over parents.
 
-ghost use Rattle.std.specs.Prelude.{◌≡◌, ◌<◌, [], IfOk, map};
-ghost use Rattle.std.specs.Option.{option_map_or};
+ghost use Rattle.std.specs.Prelude.{◌≡◌, ◌≢◌, ◌<◌, [], IfOk, OnErr, map};
 ghost use Rattle.gix_hash_core.specs.Oid.{oid_bytes};
-ghost use Rattle.gix_commitgraph.specs.Graph.{graph_ids, total};
+ghost use Rattle.gix_commitgraph.specs.Graph.{total};
 ghost use Rattle.gix_commitgraph.specs.History.{parents_at};
 ghost use Rattle.gix_commitgraph.specs.IdWalks.{ids_at};
-ghost use Rattle.gix_commitgraph.specs.Lookup.{scan};
 ghost use Rattle.gix_commitgraph.specs.StoredHistory.{history_of};
+ghost use Rattle.graph_uses.specs.IdAnswers.{parent_ids_of};
 
 use gix_commitgraph::Position;
 use gix_hash_core::{ObjectId, oid};
@@ -29,15 +28,16 @@ pub fn parents_of(
 }
 
 /// The ids of the parents of the commit with an id, none where the graph has no such commit. The
-/// error is that an allocation failed.
+/// error is that an allocation failed; it comes only where there are parents.
 pub fn parent_ids(
     alloc: Global,
     graph: &Checked<'_>,
     id: oid<'_>,
 ) -> Result<Vec<ObjectId>, AllocError>
-    ensures { IfOk result (λ ids. ids.items ≡ option_map_or
-        (λ p. ids_at graph.now.layers (parents_at (history_of graph.now.layers) p))
-        (scan (graph_ids graph.now.layers) (oid_bytes id.entry)) []) }
+    ensures answer { IfOk result (λ ids.
+        ids.items ≡ parent_ids_of graph.now.layers (oid_bytes id.entry)) }
+    ensures refused { OnErr result
+        (parent_ids_of graph.now.layers (oid_bytes id.entry) ≢ []) }
 {
     match graph.find(id) {
         Some(pos) => ids_of_parents(alloc, graph, pos),
@@ -52,8 +52,10 @@ fn ids_of_parents(
     pos: Position,
 ) -> Result<Vec<ObjectId>, AllocError>
     requires { pos.0 < total graph.now.layers }
-    ensures { IfOk result (λ ids. ids.items ≡ ids_at graph.now.layers
+    ensures answer { IfOk result (λ ids. ids.items ≡ ids_at graph.now.layers
         (parents_at (history_of graph.now.layers) pos.0)) }
+    ensures refused { OnErr result (ids_at graph.now.layers
+        (parents_at (history_of graph.now.layers) pos.0) ≢ []) }
 {
     let mut ids = Vec::new(alloc);
     for parent in graph.parents(pos) {

@@ -1,9 +1,11 @@
 //! Asking which commits are ancestors of another.
 
-ghost use Rattle.std.specs.Prelude.{◌↔◌, ◌<◌, IfOk, IsTrue};
+ghost use Rattle.std.specs.Prelude.{◌↔◌, ◌<◌, IfOk, IsTrue, OnErr};
+ghost use Rattle.gix_hash_core.specs.Oid.{oid_bytes};
 ghost use Rattle.gix_commitgraph.specs.Graph.{total};
 ghost use Rattle.gix_commitgraph.specs.StoredHistory.{history_of};
 ghost use Rattle.gix_commitgraph.specs.Walks.{Reaches};
+ghost use Rattle.graph_uses.specs.IdAnswers.{AreThose, HasCommitWithId, IsMergedInto};
 
 use gix_commitgraph::Position;
 use gix_hash_core::{ObjectId, oid};
@@ -27,24 +29,41 @@ pub fn reaches(
     Ok(reached.walk.is_some())
 }
 
-/// Of some commits, those that are merged into the one with an id: its ancestors, and itself. The
-/// error is that an allocation failed.
+/// Of some commits, those that are merged into the one with an id: its ancestors, and itself; in
+/// their order, and none where the graph has no such commit. The error is that an allocation
+/// failed; it comes only where the graph has that commit.
 pub fn merged(
     alloc: Global,
     graph: &Checked<'_>,
     into: oid<'_>,
     commits: &[ObjectId],
-) -> Result<Vec<ObjectId>, AllocError> {
+) -> Result<Vec<ObjectId>, AllocError>
+    ensures answer { IfOk result (λ merged. AreThose
+        (IsMergedInto graph.now.layers (oid_bytes into.entry)) commits.now merged.items) }
+    ensures refused { OnErr result (HasCommitWithId graph.now.layers (oid_bytes into.entry)) }
+{
     let mut merged = Vec::new(alloc);
-    let Some(from) = graph.find(into) else {
-        return Ok(merged);
-    };
     for commit in commits {
-        if let Some(to) = graph.find(commit.as_oid())
-            && reaches(alloc, graph, from, to)?
-        {
+        if is_merged(alloc, graph, into, commit.as_oid())? {
             merged.push(*commit)?;
         }
     }
     Ok(merged)
+}
+
+/// Whether the graph has commits with both ids, and the second is merged into the first.
+fn is_merged(
+    alloc: Global,
+    graph: &Checked<'_>,
+    into: oid<'_>,
+    commit: oid<'_>,
+) -> Result<bool, AllocError>
+    ensures answer { IfOk result (λ found. IsTrue found
+        ↔ IsMergedInto graph.now.layers (oid_bytes into.entry) (oid_bytes commit.entry)) }
+    ensures refused { OnErr result (HasCommitWithId graph.now.layers (oid_bytes into.entry)) }
+{
+    let (Some(from), Some(to)) = (graph.find(into), graph.find(commit)) else {
+        return Ok(false);
+    };
+    reaches(alloc, graph, from, to)
 }

@@ -1,0 +1,7 @@
+use Rattle.std.proofs.Common.{◌≡◌, take}
+use Rattle.gix_commitgraph.specs.IdWalks.{ids_at}
+use Rattle.graph_ancestors.specs.WalkAnswer.{numbers_of}
+use Rattle.graph_uses.proofs.ids.ids_of.Given as goal
+
+abbrev pub invariant-loop-pos : goal.invariant-loop-pos
+invariant-loop-pos l = l.ids.items ≡ ids_at l.graph.layers (numbers_of (take l.pos-index l.positions))

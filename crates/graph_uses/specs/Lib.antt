@@ -1,0 +1,3 @@
+pub mod IdAnswers
+pub mod PathRefusals
+pub mod Walking
