@@ -13,8 +13,8 @@ ghost use Rattle.commitgraph_c.specs.Files.{no_error, told_file, told_graph};
 ghost use Rattle.commitgraph_c.specs.Verdict.{FailsCheck, TellsCounts, TellsStats, options_of};
 
 use crate::check::{CgCount, CgVerdict, right, wrong};
+use crate::fault_numbers::chunk_fault;
 use crate::handle::CgOwner;
-use crate::numbers::chunk_fault;
 use crate::opened::Opened;
 use gix_commitgraph::verify::VerifyOptions;
 use gix_commitgraph::{File, FileError, Graph, GraphError};
