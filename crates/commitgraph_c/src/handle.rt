@@ -88,7 +88,7 @@ impl Model for CgOwned {
 }
 
 impl CgOwned {
-    /// The address of a block.
+    /// The address of what a box holds.
     fn of(graph: Box<Opened>) -> CgOwned
         ensures { result.held ≡ Some graph.value }
     {
@@ -99,7 +99,7 @@ impl CgOwned {
         }
     }
 
-    /// The block at the address.
+    /// The box at the address.
     unsafe fn into_box(self) -> Box<Opened>
         requires { IsSome self.held }
         ensures { self.held ≡ Some result.value }
@@ -109,7 +109,7 @@ impl CgOwned {
     }
 }
 
-// The block may be freed by any thread.
+// The box may be freed by any thread.
 unsafe impl Send for CgOwned {}
 
 /// A graph that C owns, or none.
@@ -121,7 +121,7 @@ pub struct CgOwner {
 }
 
 impl Drop for CgOwner {
-    /// None is let go while it holds a graph: its block is taken out and freed before.
+    /// None is let go while it holds a graph: its box is taken out and freed before.
     fn drop(self)
         requires { self.address.held ≡ None }
     {
@@ -133,7 +133,7 @@ impl Drop for CgOwner {
 }
 
 impl CgOwner {
-    /// Writes a graph, in its block. What was there before is not freed.
+    /// Writes a graph, in its box. What was there before is not freed.
     pub(crate) fn write(&mut self, graph: Box<Opened>)
         ensures { self.new.address.held ≡ Some graph.value }
     {
@@ -141,7 +141,7 @@ impl CgOwner {
         let _before = unsafe { ManuallyDrop::new_unchecked(before) };
     }
 
-    /// A graph, in its block.
+    /// A graph, in its box.
     fn of(graph: Box<Opened>) -> CgOwner
         ensures { result.address.held ≡ Some graph.value }
     {
@@ -151,7 +151,7 @@ impl CgOwner {
         }
     }
 
-    /// The graph, in its block, if there is one.
+    /// The graph, in its box, if there is one.
     pub(crate) fn into_box(self) -> Option<Box<Opened>>
         ensures { self.address.held ≡ option_map (λ graph. graph.value) result }
     {
