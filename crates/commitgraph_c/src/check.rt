@@ -10,8 +10,8 @@ ghost use Rattle.commitgraph_c.specs.Verdict.{TellsCalls, closed_verdict, refusa
 ghost use Rattle.commitgraph_c.specs.Verdict.{commits_before, refusal_in_layer};
 ghost use Rattle.commitgraph_c.specs.Verdict.{options_of, refusal_at, refusal_of, told_count};
 
-use crate::handle::CgGraph;
 use crate::fault_numbers::{fan_byte, whole_number};
+use crate::handle::CgGraph;
 use gix_commitgraph::verify::{Outcome, VerifyError, VerifyOptions};
 use gix_commitgraph::{Graph, Position};
 use graph_format::error_numbers::{commit_number, parent_number};
