@@ -1,0 +1,12 @@
+pub mod ParentLemmas
+pub mod CommitLemmas
+pub mod LineLemmas
+pub mod EntryLemmas
+pub mod TakingLemmas
+pub mod StreamLemmas
+pub mod CommitLineLemmas
+pub mod OnceLemmas
+pub mod DigestLemmas
+pub mod MatchLemmas
+pub mod RightStreamLemmas
+pub mod CommitWalkLemmas

@@ -1,0 +1,204 @@
+-- No refusal holds of a stream that is right.
+use Rattle.std.proofs.Common.{◌≡◌, ◌≢◌, ℕ, ◌+◌, ◌<◌, ◌≤◌, ◌⊎◌, List, [], ◌∷◌, ◌++◌, length, take, get_or, refl, sym, ap, ◌∙◌}
+use Rattle.std.proofs.Common.{arith}
+use Rattle.std.proofs.Common.{⊎_elim, append_assoc, append-nil, subst}
+use Rattle.std.specs.Prelude.{All}
+use Rattle.std.proofs.lemmas.List.{length-append, get_or_at, nil_from_length}
+use Rattle.graph_format.specs.Layer.{Layer}
+use Rattle.graph_objects.specs.Entry.{line_of_commit, commit_entry, longest_line, HasNoFeed, IsLine, IsOtherLine}
+use Rattle.graph_objects.specs.Entry.{IsCommitHead, BeginsWithEntry}
+use Rattle.graph_objects.specs.Matching.{MatchesAt}
+use Rattle.graph_objects.specs.Mismatches.{MismatchesAt}
+use Rattle.graph_objects.specs.Stream.{graph_id_at, entries_of, AllMatch, IsStreamUpTo, IsStreamOf, IsEntryError, IsStreamRefusal}
+use Rattle.graph_objects.specs.declared.error.EntryError.{EntryError}
+use Rattle.graph_objects.specs.declared.error.EntryError.TheVariants as error
+use Rattle.graph_objects.specs.declared.error.ObjectsError.{ObjectsError}
+use Rattle.graph_objects.specs.declared.error.ObjectsError.TheVariants.{Entry, LeftOver, Device, OutOfMemory}
+use Rattle.graph_objects.proofs.DigestLemmas.{AreBytes, matched-bytes, matched-short}
+use Rattle.graph_objects.proofs.MatchLemmas.{excluded}
+use Rattle.graph_objects.proofs.OnceLemmas.{line_once, no_line, no_line_at_all, not_other, entry_head, head_once, entry_once}
+
+-- an entry that matches is not refused
+module _ (layers : List Layer) (p : ℕ) (bytes contents next : List ℕ)
+    (entry : BeginsWithEntry (graph_id_at layers p) bytes contents next)
+    (matches : MatchesAt layers p contents) where
+  id : List ℕ
+  id = graph_id_at layers p
+
+  abbrev whole : List ℕ
+  whole = contents ++ 10 ∷ next
+
+  head : IsCommitHead (graph_id_at layers p) bytes (length contents) (contents ++ 10 ∷ next)
+  head = entry_head (graph_id_at layers p) bytes contents next (matched-bytes layers p contents matches)
+      (matched-short layers p contents matches) entry
+
+  not_by_line : (line rest : List ℕ) (e : EntryError) → IsLine bytes line rest → ¬ (IsOtherLine (graph_id_at layers p) line e)
+  not_by_line line rest e is other =
+      let same = line_once bytes (line_of_commit (graph_id_at layers p) (length contents)) line whole rest head.line is in
+      not_other (graph_id_at layers p) (length contents) e (matched-bytes layers p contents matches) head.fits (rw same.0 other)
+
+  pub not_refused : (e : EntryError) → ¬ (IsEntryError layers p bytes e)
+  not_refused error.Ends refused = ⊎_elim
+      (λ (none : HasNoFeed bytes × (length bytes < longest_line)).
+      no_line_at_all bytes (line_of_commit (graph_id_at layers p) (length contents)) whole none.0 none.1 head.line)
+      (λ (cut : (size : ℕ) × (rest : List ℕ) × IsCommitHead (graph_id_at layers p) bytes size rest × (length rest ≤ size)).
+      let same = head_once (graph_id_at layers p) bytes (length contents) cut.0 whole cut.1 head cut.2 in
+      omega (arith, same.0, ap length same.1, cut.3, length-append contents (10 ∷ next)))
+      refused
+  not_refused error.NoEntry refused = ⊎_elim
+      (λ (none : HasNoFeed (take longest_line bytes) × (longest_line ≤ length bytes)).
+      no_line bytes (line_of_commit (graph_id_at layers p) (length contents)) whole none.0 head.line)
+      (λ (others : ((line : List ℕ) × (rest : List ℕ) × IsLine bytes line rest
+      × IsOtherLine (graph_id_at layers p) line error.NoEntry)
+      ⊎ ((size : ℕ) × (rest : List ℕ) × IsCommitHead (graph_id_at layers p) bytes size rest × (size < length rest)
+      × (get_or rest size 0 ≢ 10))). ⊎_elim
+      (λ (other : (line : List ℕ) × (rest : List ℕ) × IsLine bytes line rest
+      × IsOtherLine (graph_id_at layers p) line error.NoEntry).
+      not_by_line other.0 other.1 error.NoEntry other.2 other.3)
+      (λ (feed : (size : ℕ) × (rest : List ℕ) × IsCommitHead (graph_id_at layers p) bytes size rest × (size < length rest)
+      × (get_or rest size 0 ≢ 10)).
+      let same = head_once (graph_id_at layers p) bytes (length contents) feed.0 whole feed.1 head feed.2 in
+      feed.4 (ap (λ l. get_or l feed.0 0) (sym same.1) ∙ get_or_at contents 10 next 0 feed.0 same.0))
+      others)
+      refused
+  not_refused error.OtherId refused = not_by_line refused.0 refused.1 error.OtherId refused.2 refused.3
+  not_refused error.Missing refused = not_by_line refused.0 refused.1 error.Missing refused.2 refused.3
+  not_refused error.NotACommit refused = not_by_line refused.0 refused.1 error.NotACommit refused.2 refused.3
+  not_refused (error.Mismatch m) refused =
+      let same = entry_once (graph_id_at layers p) bytes contents refused.0 next refused.1
+      (matched-bytes layers p contents matches)
+      (matched-short layers p contents matches) entry refused.2 in
+      excluded layers p contents m matches (rw same.0 refused.3)
+
+-- two passages over the same bytes: what the longer one has more stands behind the shorter one
+record HasMore (layers : List Layer) (p : ℕ) (count : ℕ) (next end : List ℕ) : Type 0 where
+  more : List (List ℕ)
+  counted : length more ≡ count
+  agree : AllMatch layers p more
+  whole : next ≡ entries_of layers p more ++ end
+
+has_more : (layers : List Layer) (first : ℕ) (some all : List (List ℕ)) (bytes next end : List ℕ) → AllMatch layers first some
+    → AllMatch layers first all
+    → bytes ≡ entries_of layers first some ++ next → bytes ≡ entries_of layers first all ++ end → length some ≤ length all
+    → (count : ℕ) × (length some + count ≡ length all) × HasMore layers (first + length some) count next end
+has_more layers first [] all bytes next end one two e f fewer = (
+  length all,
+  omega arith,
+  record {
+    more = all;
+    counted = refl;
+    agree = subst (λ k. AllMatch layers k all) (sym same) two;
+    whole = sym e ∙ f
+        ∙ ap (λ k. entries_of layers k all ++ end) (sym same);
+  },
+)
+  where
+    same : first + length {A = List ℕ} [] ≡ first
+    same = omega arith
+has_more layers first (c ∷ some) [] bytes next end one two e f fewer = absurd (omega (arith, fewer))
+has_more layers first (c ∷ some) (d ∷ all) bytes next end one two e f fewer =
+    let id = graph_id_at layers first in
+    let rest = entries_of layers (first + 1) some ++ next in
+    let others = entries_of layers (first + 1) all ++ end in
+    let front : BeginsWithEntry id bytes c rest = record {
+      whole = e
+          ∙ append_assoc (commit_entry id c) (entries_of layers (first + 1) some) next;
+      fits = one.1;
+    } in
+    let back : BeginsWithEntry id bytes d others = record {
+      whole = f
+          ∙ append_assoc (commit_entry id d) (entries_of layers (first + 1) all) end;
+      fits = two.1;
+    } in
+    let same = entry_once id bytes c d rest others (matched-bytes layers first c one.0) (matched-short layers first c one.0)
+    front back in
+    let later = has_more layers (first + 1) some all rest next end one.2 two.2 refl same.1 (omega (arith, fewer)) in
+    let place : first + 1 + length some ≡ first + length (c ∷ some) = omega arith in
+    (later.0, omega (arith, later.1), rw place at later.2)
+
+-- what stands at a position of a right stream matches
+entry_there : (layers : List Layer) (first p end : ℕ) (bytes next : List ℕ) → IsStreamOf layers first end bytes
+    → IsStreamUpTo layers first p bytes next
+    → p < end → (contents : List ℕ) × (rest : List ℕ) × BeginsWithEntry (graph_id_at layers p) next contents rest
+    × MatchesAt layers p contents
+entry_there layers first p end bytes next right passed within =
+    let all = has_more layers first passed.contents right.contents bytes next [] passed.agree right.agree passed.whole right.whole
+    (omega (arith, passed.counted, right.counted, within)) in
+    by all.0 (omega (arith, all.1, passed.counted, right.counted, within)) (rw passed.counted at all.2)
+  where
+    by : (count : ℕ) → 0 < count → HasMore layers p count next []
+        → (contents : List ℕ) × (rest : List ℕ) × BeginsWithEntry (graph_id_at layers p) next contents rest
+        × MatchesAt layers p contents
+    by count some more = cases more.more more.counted more.agree more.whole
+      where
+        cases : (more : List (List ℕ)) → length more ≡ count → AllMatch layers p more → next ≡ entries_of layers p more ++ []
+            → (contents : List ℕ) × (rest : List ℕ) × BeginsWithEntry (graph_id_at layers p) next contents rest
+            × MatchesAt layers p contents
+        cases [] counted agree whole = absurd (omega (arith, counted, some))
+        cases (c ∷ later) counted agree whole = (
+          c,
+          entries_of layers (p + 1) later ++ [],
+          record {
+            whole = whole ∙ append_assoc (commit_entry (graph_id_at layers p) c) (entries_of layers (p + 1) later)
+                [];
+            fits = agree.1;
+          },
+          agree.0,
+        )
+
+nothing_left : (layers : List Layer) (first end : ℕ) (bytes next : List ℕ) → IsStreamOf layers first end bytes
+    → IsStreamUpTo layers first end bytes next → next ≡ []
+nothing_left layers first end bytes next right passed =
+    let all = has_more layers first passed.contents right.contents bytes next [] passed.agree right.agree passed.whole right.whole
+    (omega (arith, passed.counted, right.counted)) in
+    let none : all.2.more ≡ [] = nil_from_length all.2.more (omega (arith, all.1, all.2.counted, passed.counted, right.counted))
+    in
+    all.2.whole ∙ ap (λ l. entries_of layers (first + length passed.contents) l ++ []) none
+
+pub right_not_refused : (layers : List Layer) (first end : ℕ) (bytes : List ℕ) (e : ObjectsError)
+    → IsStreamOf layers first end bytes
+    → ¬ (IsStreamRefusal layers first end bytes e)
+right_not_refused layers first end bytes (Entry pos e) right refused =
+    let there = entry_there layers first pos.0 end bytes refused.0 right refused.2 refused.1 in
+    not_refused layers pos.0 refused.0 there.0 there.1 there.2 there.3 e refused.3
+right_not_refused layers first end bytes LeftOver right refused =
+    refused.2 (nothing_left layers first end bytes refused.0 right refused.1)
+right_not_refused layers first end bytes Device right refused = refused
+right_not_refused layers first end bytes OutOfMemory right refused = refused
+
+-- two parts that join are a whole
+AllMatch-append : (layers : List Layer) (p : ℕ) (some others : List (List ℕ)) → AllMatch layers p some
+    → AllMatch layers (p + length some) others
+    → AllMatch layers p (some ++ others)
+AllMatch-append layers p [] others one two = let same : p + length {A = List ℕ} [] ≡ p = omega arith in rw same at two
+AllMatch-append layers p (c ∷ some) others one two =
+    let same : p + length (c ∷ some) ≡ p + 1 + length some = omega arith in
+    (one.0, one.1, AllMatch-append layers (p + 1) some others one.2 (rw same at two))
+
+entries_of-append : (layers : List Layer) (p : ℕ) (some others : List (List ℕ))
+    → entries_of layers p (some ++ others) ≡ entries_of layers p some ++ entries_of layers (p + length some) others
+entries_of-append layers p [] others = let same : p ≡ p + length {A = List ℕ} [] =
+    omega arith in ap (λ k. entries_of layers k others) same
+entries_of-append layers p (c ∷ some) others =
+    let same : p + 1 + length some ≡ p + length (c ∷ some) = omega arith in
+    ap (λ l. commit_entry (graph_id_at layers p) c ++ l)
+    (entries_of-append layers (p + 1) some others ∙ ap (λ k. entries_of layers (p + 1) some ++ entries_of layers k others) same)
+    ∙ sym (append_assoc (commit_entry (graph_id_at layers p) c) (entries_of layers (p + 1) some)
+    (entries_of layers (p + length (c ∷ some)) others))
+
+pub parts_join : (layers : List Layer) (first mid end : ℕ) (front back : List ℕ) → IsStreamOf layers first mid front
+    → IsStreamOf layers mid end back
+    → IsStreamOf layers first end (front ++ back)
+parts_join layers first mid end front back one two =
+    let here : AllMatch layers (first + length one.contents) two.contents = rw one.counted two.agree in
+    let a : front ≡ entries_of layers first one.contents = one.whole ∙ append-nil (entries_of layers first one.contents) in
+    let b : back ≡ entries_of layers (first + length one.contents) two.contents =
+    two.whole ∙ append-nil (entries_of layers mid two.contents) ∙ ap (λ k. entries_of layers k two.contents) (sym one.counted) in
+    record {
+      contents = one.contents ++ two.contents;
+      counted = omega (arith, length-append one.contents two.contents, one.counted, two.counted);
+      agree = AllMatch-append layers first one.contents two.contents one.agree here;
+      whole = ap (λ l. l ++ back) a ∙ ap (λ l. entries_of layers first one.contents ++ l) b
+          ∙ sym (entries_of-append layers first one.contents two.contents)
+          ∙ sym (append-nil (entries_of layers first (one.contents ++ two.contents)));
+    }

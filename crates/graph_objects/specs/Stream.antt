@@ -1,0 +1,79 @@
+-- A stream of the commits of a graph, and why bytes are none.
+use Rattle.std.specs.Prelude.{◌≡◌, ◌≢◌, ◌⊎◌, ◌<◌, ◌≤◌, ◌^◌, ℕ, ◌+◌, List, [], ◌∷◌, ◌++◌, length, take, slice_index}
+use Rattle.std.specs.Prelude.{slice_index_or}
+use Rattle.graph_format.specs.Layer.{Layer}
+use Rattle.gix_commitgraph.specs.Graph.{graph_ids}
+use Rattle.graph_objects.specs.Entry.{line_of_commit, commit_entry, longest_line, HasNoFeed, IsLine, IsOtherLine}
+use Rattle.graph_objects.specs.Entry.{IsCommitHead, BeginsWithEntry}
+use Rattle.graph_objects.specs.Matching.{MatchesAt}
+use Rattle.graph_objects.specs.Mismatches.{MismatchesAt}
+use Rattle.graph_objects.specs.declared.error.EntryError.{EntryError}
+use Rattle.graph_objects.specs.declared.error.EntryError.TheVariants.{Ends, NoEntry, OtherId, Missing, NotACommit, Mismatch}
+use Rattle.graph_objects.specs.declared.error.ObjectsError.{ObjectsError}
+use Rattle.graph_objects.specs.declared.error.ObjectsError.TheVariants.{Entry, LeftOver, Device, OutOfMemory}
+
+-- the id at a position
+abbrev pub graph_id_at : List Layer → ℕ → List ℕ
+graph_id_at layers p = slice_index_or (graph_ids layers) p []
+
+-- the entries of commits with these contents, for the positions from p on
+abbrev pub entries_of : List Layer → ℕ → List (List ℕ) → List ℕ
+entries_of layers p [] = []
+entries_of layers p (contents ∷ later) = commit_entry (graph_id_at layers p) contents ++ entries_of layers (p + 1) later
+
+-- each of the contents matches the commit at its position, from p on; sizes have 64 bits
+abbrev pub AllMatch : List Layer → ℕ → List (List ℕ) → Type 0
+AllMatch layers p [] = Unit {0}
+AllMatch layers p (contents ∷ later) = MatchesAt layers p contents × (length contents < 2 ^ 64) × AllMatch layers (p + 1) later
+
+-- The bytes begin with the entries of the positions from first up to p, which match, and this is next.
+pub record IsStreamUpTo (layers : List Layer) (first p : ℕ) (bytes next : List ℕ) : Type 0 where
+  pub contents : List (List ℕ)
+  pub counted : first + length contents ≡ p
+  pub agree : AllMatch layers first contents
+  pub whole : bytes ≡ entries_of layers first contents ++ next
+
+-- the bytes are the entries of the positions from first up to end, which match, and nothing else
+abbrev pub IsStreamOf : List Layer → ℕ → ℕ → List ℕ → Type 0
+IsStreamOf layers first end bytes = IsStreamUpTo layers first end bytes []
+
+-- why the bytes do not begin with the entry of a position that matches: the first reason, in this order
+abbrev pub IsEntryError : List Layer → ℕ → List ℕ → EntryError → Type 0
+IsEntryError layers p bytes Ends =
+    (HasNoFeed bytes × (length bytes < longest_line))
+    ⊎ ((size : ℕ) × (next : List ℕ) × IsCommitHead (graph_id_at layers p) bytes size next × (length next ≤ size))
+IsEntryError layers p bytes NoEntry =
+    (HasNoFeed (take longest_line bytes) × (longest_line ≤ length bytes))
+    ⊎ (((line : List ℕ) × (next : List ℕ) × IsLine bytes line next × IsOtherLine (graph_id_at layers p) line NoEntry)
+    ⊎ ((size : ℕ) × (next : List ℕ) × IsCommitHead (graph_id_at layers p) bytes size next × (size < length next)
+    × (slice_index next size ≢ 10)))
+IsEntryError layers p bytes (Mismatch mismatch) =
+    (contents : List ℕ) × (next : List ℕ) × BeginsWithEntry (graph_id_at layers p) bytes contents next
+    × MismatchesAt layers p contents mismatch
+IsEntryError layers p bytes error =
+    (line : List ℕ) × (next : List ℕ) × IsLine bytes line next × IsOtherLine (graph_id_at layers p) line error
+
+-- the bytes begin with the line of an entry of more than 64 KiB
+abbrev pub IsLong : List Layer → ℕ → List ℕ → Type 0
+IsLong layers p bytes =
+    let id = graph_id_at layers p in
+    (size : ℕ) × (next : List ℕ) × IsCommitHead id bytes size next × (65536 < length (line_of_commit id size) + 1 + size + 1)
+
+-- why the bytes are not the stream of the positions from first up to end: the first entry that is refused, or what is left over
+abbrev pub IsStreamRefusal : List Layer → ℕ → ℕ → List ℕ → ObjectsError → Type 0
+IsStreamRefusal layers first end bytes (Entry pos error) =
+    (next : List ℕ) × (pos.0 < end) × IsStreamUpTo layers first pos.0 bytes next × IsEntryError layers pos.0 next error
+IsStreamRefusal layers first end bytes LeftOver = (next : List ℕ) × IsStreamUpTo layers first end bytes next × (next ≢ [])
+IsStreamRefusal layers first end bytes Device = ⊥
+IsStreamRefusal layers first end bytes OutOfMemory = ⊥
+
+-- the bytes may be refused so: any read may fail
+abbrev pub MayRefuseStream : List Layer → ℕ → ℕ → List ℕ → ObjectsError → Type 0
+MayRefuseStream layers first end bytes Device = Unit {0}
+MayRefuseStream layers first end bytes OutOfMemory = Unit {0}
+MayRefuseStream layers first end bytes error = IsStreamRefusal layers first end bytes error
+
+-- the entries before some position match, and the entry there is long
+abbrev pub HasLong : List Layer → ℕ → ℕ → List ℕ → Type 0
+HasLong layers first end bytes = (p : ℕ) × (next : List ℕ) × (p < end) × IsStreamUpTo layers first p bytes next
+    × IsLong layers p next

@@ -1,0 +1,70 @@
+//! One commit and its bytes.
+
+ghost use Rattle.std.specs.Prelude.{◌≡◌, ◌↔◌, ◌≤◌, ◌^◌, ℕ, Some, length, slice_get};
+ghost use Rattle.std.specs.Prelude.{IsTrue, MatchResult};
+ghost use Rattle.gix_hash_core.specs.Oid.{oid_bytes};
+ghost use Rattle.graph_format.specs.Parents.{items_of};
+ghost use Rattle.graph_layer.specs.Commit.{commit_layer, commit_pos, commit_parents};
+ghost use Rattle.graph_layer.specs.Commit.{layer_and_position};
+ghost use Rattle.gix_commitgraph.specs.Graph.{graph_commits};
+ghost use Rattle.graph_objects.specs.Matching.{Matches};
+ghost use Rattle.graph_objects.specs.Mismatches.{Mismatches, IsAmiss, Agree};
+
+use crate::Mismatch;
+use crate::parents::differing_parent;
+use commit_objects::{CommitObject, object_id};
+use gix_commitgraph::Graph;
+use gix_commitgraph::file::Commit;
+use gix_hash_core::{ObjectId, oid};
+
+/// Compares a commit of the graph with bytes.
+pub(crate) fn matches_commit(
+    graph: &Graph,
+    commit: Commit<'_>,
+    contents: &[u8],
+) -> Result<(), Mismatch>
+    requires { (p : ℕ)
+        × (slice_get (graph_commits graph.now) p ≡ Some (layer_and_position commit)) }
+    ensures { MatchResult result
+        (λ _. Matches graph.now (commit_layer commit.entry) (commit_pos commit.entry) contents.now)
+        (Mismatches graph.now (commit_layer commit.entry) (commit_pos commit.entry) contents.now) }
+{
+    // its contract says besides that each layer was opened
+    let _commits = graph.num_commits();
+    let kind = graph.object_hash();
+    let id = object_id(kind, contents);
+    if !is_same(&id, commit.id()) {
+        return Err(Mismatch::OtherContents);
+    }
+    match CommitObject::parse(kind, contents) {
+        Ok(object) => compare(graph, commit, &object),
+        Err(_) => Err(Mismatch::Unreadable),
+    }
+}
+
+/// Compares a commit of the graph with what was read.
+fn compare(graph: &Graph, commit: Commit<'_>, object: &CommitObject<'_>) -> Result<(), Mismatch>
+    requires few { length (items_of (commit_parents commit)) ≤ 2 ^ 32 }
+    ensures { MatchResult result
+        (λ _. Agree graph.now (commit_layer commit.entry) (commit_pos commit.entry) object.now)
+        (IsAmiss graph.now (commit_layer commit.entry) (commit_pos commit.entry) object.now) }
+{
+    if !is_same(&object.tree(), commit.root_tree_id()) {
+        return Err(Mismatch::Tree);
+    }
+    if let Some(index) = differing_parent(graph, commit, object) {
+        return Err(Mismatch::Parent { index });
+    }
+    let time = commit.committer_timestamp();
+    if time != object.newer_time() && time != object.older_time() {
+        return Err(Mismatch::Time);
+    }
+    Ok(())
+}
+
+/// Whether two ids are the same.
+pub(crate) fn is_same(one: &ObjectId, other: oid<'_>) -> bool
+    ensures { IsTrue result ↔ (oid_bytes other.entry ≡ one.now) }
+{
+    other == one.as_oid()
+}

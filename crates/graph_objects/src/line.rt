@@ -1,0 +1,145 @@
+//! Reading the line before the contents.
+
+ghost use Rattle.std.specs.Prelude.{◌≡◌, ◌≢◌, ◌↔◌, ◌<◌, ◌^◌, ◌++◌, ℕ, List, IsTrue, take};
+ghost use Rattle.std.specs.Prelude.{MatchOption, MatchResult, Some, codes, decimal};
+ghost use Rattle.std.specs.List.{AllPass};
+ghost use Rattle.hex.specs.Hex.{encode_lower};
+ghost use Rattle.gix_hash_core.specs.Oid.{oid_bytes};
+ghost use Rattle.graph_objects.specs.Entry.{IsTail, IsOtherLine, line_of_commit, is_lower_digit};
+ghost use Rattle.graph_objects.specs.Entry.{HasNoFeed, IsLineEnd, longest_line};
+ghost use Rattle.graph_objects.specs.declared.heading.Heading as told;
+
+use crate::error::EntryError;
+use crate::heading::Heading;
+use gix_hash_core::oid;
+use itoa::Buffer;
+use std::str;
+
+/// How many bytes the longest line has, its line feed among them: the digits of an id, a type and
+/// a size.
+pub(crate) const LINE: usize = 64 + 8 + 20 + 1;
+
+/// Where the first line ends, if it is no longer than the longest.
+pub(crate) fn line_end(bytes: &[u8]) -> Option<usize>
+    ensures { MatchOption result (HasNoFeed (take longest_line bytes.now))
+        (IsLineEnd bytes.now) }
+{
+    let front = &bytes[..bytes.len().min(LINE)];
+    for (end, byte) in front.iter().enumerate() {
+        if *byte == b'\n' {
+            return Some(end);
+        }
+    }
+    None
+}
+
+/// The size that a line, without its line feed, tells of the commit with an id.
+pub(crate) fn commit_size(id: oid<'_>, line: &[u8]) -> Result<u64, EntryError>
+    ensures { MatchResult result (λ size. line.now ≡ line_of_commit (oid_bytes id.entry) size)
+        (IsOtherLine (oid_bytes id.entry) line.now) }
+{
+    let Some((digits, tail)) = line.split_at_checked(2 * id.as_bytes().len()) else {
+        return Err(EntryError::NoEntry);
+    };
+    let Some(heading) = heading_of(tail) else {
+        return Err(EntryError::NoEntry);
+    };
+    if !are_digits(digits) {
+        return Err(EntryError::NoEntry);
+    }
+    if !spells(digits, id) {
+        return Err(EntryError::OtherId);
+    }
+    match heading {
+        Heading::Missing => Err(EntryError::Missing),
+        Heading::Other => Err(EntryError::NotACommit),
+        Heading::Commit(size) => Ok(size),
+    }
+}
+
+/// What a line says behind the id, if it is of a right form.
+fn heading_of(tail: &[u8]) -> Option<Heading>
+    ensures { MatchOption result ((heading : told.Heading) → ¬ IsTail tail.now heading)
+        (IsTail tail.now) }
+{
+    if let Some(size) = size_behind(b" commit ", tail) {
+        return Some(Heading::Commit(size));
+    }
+    if is_missing(tail) {
+        return Some(Heading::Missing);
+    }
+    if size_behind(b" tree ", tail).is_some()
+        || size_behind(b" blob ", tail).is_some()
+        || size_behind(b" tag ", tail).is_some()
+    {
+        return Some(Heading::Other);
+    }
+    None
+}
+
+/// Whether the tail says that the object is missing.
+fn is_missing(tail: &[u8]) -> bool
+    ensures { IsTrue result ↔ (tail.now ≡ codes " missing") }
+{
+    tail == b" missing".as_slice()
+}
+
+/// The size that is told behind a word.
+fn size_behind(word: &[u8], tail: &[u8]) -> Option<u64>
+    ensures { MatchOption result ((n : ℕ) → n < 2 ^ 64 → tail.now ≢ word.now ++ decimal n)
+        (λ n. tail.now ≡ word.now ++ decimal n) }
+{
+    match tail.strip_prefix(word) {
+        Some(text) => size_of(text),
+        None => None,
+    }
+}
+
+/// The number that the text is in decimal, as Git writes it.
+fn size_of(text: &[u8]) -> Option<u64>
+    ensures { MatchOption result ((n : ℕ) → n < 2 ^ 64 → text.now ≢ decimal n)
+        (λ n. text.now ≡ decimal n) }
+{
+    let number = number_in(text)?;
+    if is_decimal(number, text) {
+        Some(number)
+    } else {
+        None
+    }
+}
+
+/// The number that the text spells, also with a sign or leading zeros.
+fn number_in(text: &[u8]) -> Option<u64>
+    ensures { (n : ℕ) → n < 2 ^ 64 → text.now ≡ decimal n → result ≡ Some n }
+{
+    match str::from_utf8(text) {
+        Ok(digits) => digits.parse::<u64>().ok(),
+        Err(_) => None,
+    }
+}
+
+/// Whether the text is the number in decimal.
+fn is_decimal(number: u64, text: &[u8]) -> bool
+    ensures { IsTrue result ↔ (text.now ≡ decimal number) }
+{
+    let mut buffer = Buffer::new();
+    buffer.format(number).as_bytes() == text
+}
+
+/// Whether the text is of lower-case hexadecimal digits.
+fn are_digits(text: &[u8]) -> bool
+    ensures { IsTrue result ↔ AllPass is_lower_digit text.now }
+{
+    text.iter()
+        .all(|byte| matches!(*byte, b'0'..=b'9' | b'a'..=b'f'))
+}
+
+/// Whether the text is the id in lower-case digits.
+fn spells(text: &[u8], id: oid<'_>) -> bool
+    ensures { IsTrue result ↔ (text.now ≡ encode_lower (oid_bytes id.entry)) }
+{
+    let mut digits = [0u8; 64];
+    let digits = &mut digits[..2 * id.as_bytes().len()];
+    hex::encode_to_slice(id.as_bytes(), digits).unwrap();
+    text == &*digits
+}
