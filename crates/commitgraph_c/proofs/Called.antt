@@ -14,7 +14,7 @@ use Rattle.graph_format.specs.declared.Position.{Position}
 use Rattle.graph_format.specs.declared.parents.ParentError.{ParentError}
 use Rattle.graph_format.proofs.CallRangeLemmas.{calls-range}
 use Rattle.graph_history.specs.Checked.{MayRefuseWith}
-use Rattle.graph_ancestors.specs.declared.no_fault.NoFault.{NoFault}
+use Rattle.graph_ancestors.specs.declared.checking.NoFault.{NoFault}
 use Rattle.gix_commitgraph.specs.Graph.{start, stop}
 use Rattle.gix_commitgraph.specs.Verify.{base_ids_refusal, commit_points, ids_refusal, item_refusal}
 use Rattle.gix_commitgraph.specs.Verify.{layer_points, points_with}

@@ -16,7 +16,7 @@ use Rattle.gix_commitgraph.specs.declared.verify.VerifyError.{VerifyError}
 use Rattle.gix_commitgraph.specs.declared.verify.VerifyError.TheVariants as error
 use Rattle.gix_commitgraph.specs.declared.verify.VerifyOptions.{VerifyOptions}
 use Rattle.graph_history.specs.Checked.{MayRefuseWith}
-use Rattle.graph_ancestors.specs.declared.no_fault.NoFault.{NoFault}
+use Rattle.graph_ancestors.specs.declared.checking.NoFault.{NoFault}
 use Rattle.commitgraph_c.specs.Answers.{written}
 use Rattle.commitgraph_c.specs.Files.{IsOpenedFrom}
 use Rattle.commitgraph_c.specs.FaultNumbers.{fan_byte, whole_number}

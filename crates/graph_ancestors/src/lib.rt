@@ -8,18 +8,18 @@
 
 mod ahead;
 mod ancestor;
+mod checking;
 pub mod commits;
 pub mod law;
 mod lists;
 mod marks;
-mod no_fault;
 mod search;
 mod searcher;
 mod walk;
 mod words;
 
+pub use checking::{NoFault, check};
 use gix_commitgraph::Position;
-pub use no_fault::{NoFault, check};
 pub use searcher::Searcher;
 
 /// The answer of a query for a walk from one commit to another.

@@ -13,7 +13,7 @@ use Rattle.gix_commitgraph.specs.declared.verify.VerifyError.{VerifyError}
 use Rattle.gix_commitgraph.specs.declared.verify.VerifyError.TheVariants as error
 use Rattle.gix_commitgraph.specs.declared.verify.VerifyOptions.{VerifyOptions}
 use Rattle.graph_history.specs.Checked.{MayRefuseWith}
-use Rattle.graph_ancestors.specs.declared.no_fault.NoFault.{NoFault}
+use Rattle.graph_ancestors.specs.declared.checking.NoFault.{NoFault}
 
 -- what stood below the highest element of a list
 same_below : {X : Type 0} (xs ys : List X) (x y : X) → xs ++ x ∷ [] ≡ ys ++ y ∷ [] → ys ≡ xs
