@@ -15,19 +15,19 @@ use Rattle.graph_history.specs.Painting.{IsSpread, IsDone, IsPainted}
 use Rattle.graph_history.proofs.ReachLemmas.{proper_reaches, proper_then, reaches_then, from_some_then, IsBelowQueued, carried}
 use Rattle.graph_history.proofs.ReachLemmas.{first_step}
 use Rattle.graph_history.proofs.PaintLemmas.{stale_first, stale_others, both_of, first_of, others_of, is_both, is_first}
-use Rattle.graph_history.proofs.PaintLemmas.{is_others, passed_first, passed_others}
-use Rattle.graph_history.proofs.PaintLemmas.{passed_stale, first_painted, others_painted}
+use Rattle.graph_history.proofs.PaintLemmas.{is_others, passed_says}
+use Rattle.graph_history.proofs.PaintLemmas.{first_painted, others_painted}
 
 -- what a commit passes on
 module _ (x y : Paint) (grows : Grows (passed x) y) where
   pub passes_first : first_leads x ≡ true → first_leads y ≡ true
-  passes_first e = grows.first (passed_first x ∙ e)
+  passes_first e = grows.first ((passed_says x).0 ∙ e)
 
   pub passes_others : others_lead x ≡ true → others_lead y ≡ true
-  passes_others e = grows.others (passed_others x ∙ e)
+  passes_others e = grows.others ((passed_says x).1 ∙ e)
 
   pub passes_both : first_leads x ≡ true → others_lead x ≡ true → is_stale y ≡ true
-  passes_both e f = grows.stale (passed_stale x ∙ and_from (first_leads x) (others_lead x) e f)
+  passes_both e f = grows.stale ((passed_says x).2 ∙ and_from (first_leads x) (others_lead x) e f)
 
 module _ (h : List Node) (a : ℕ) (bs : List ℕ) (coats : List Coat) (paint : IsPaint h a bs coats) (spread : IsSpread h a bs coats)
     (done : IsDone h coats) (never_rises : (p q : ℕ) → Reaches h p q → generation_at h q ≤ generation_at h p)

@@ -1,6 +1,6 @@
 -- What paint says, joined and passed on.
 use Rattle.std.proofs.Common.{◌≡◌, ℕ, ◌<◌, List, true, false, ◌&&◌, ◌||◌, refl, sym, ◌∙◌, subst, ⊎_elim}
-use Rattle.std.proofs.Common.{◌⊎◌, inl, inr, lit<}
+use Rattle.std.proofs.Common.{◌⊎◌, lit<}
 use Rattle.std.proofs.lemmas.Bool.{both_ways, false_from_ne_true, true≢false, false≢true, or_cases, or_left, or_right}
 use Rattle.std.proofs.lemmas.Bool.{and_parts, cond-true}
 use Rattle.graph_walks.specs.History.{Node, IsParent}
@@ -59,41 +59,19 @@ pub is_others : (x : Paint) → is_behind x ≡ true → x ≡ Others
 is_others Others e = refl
 is_others _ e = absurd (false≢true e)
 
-joined_first : (x y : Paint) → first_leads (joined x y) ≡ (first_leads x || first_leads y)
-joined_first Bare Bare = refl
-joined_first Bare _ = refl
-joined_first First Bare = refl
-joined_first First _ = refl
-joined_first Others Bare = refl
-joined_first Others _ = refl
-joined_first Both Bare = refl
-joined_first Both _ = refl
-joined_first Stale Bare = refl
-joined_first Stale _ = refl
-
-joined_others : (x y : Paint) → others_lead (joined x y) ≡ (others_lead x || others_lead y)
-joined_others Bare Bare = refl
-joined_others Bare _ = refl
-joined_others First Bare = refl
-joined_others First _ = refl
-joined_others Others Bare = refl
-joined_others Others _ = refl
-joined_others Both Bare = refl
-joined_others Both _ = refl
-joined_others Stale Bare = refl
-joined_others Stale _ = refl
-
-joined_stale : (x y : Paint) → is_stale (joined x y) ≡ (is_stale x || is_stale y)
-joined_stale Bare Bare = refl
-joined_stale Bare _ = refl
-joined_stale First Bare = refl
-joined_stale First _ = refl
-joined_stale Others Bare = refl
-joined_stale Others _ = refl
-joined_stale Both Bare = refl
-joined_stale Both _ = refl
-joined_stale Stale Bare = refl
-joined_stale Stale _ = refl
+-- two say together what one of them says
+joined_says : (x y : Paint) → (first_leads (joined x y) ≡ (first_leads x || first_leads y))
+    × (others_lead (joined x y) ≡ (others_lead x || others_lead y)) × (is_stale (joined x y) ≡ (is_stale x || is_stale y))
+joined_says Bare Bare = (refl, refl, refl)
+joined_says Bare _ = (refl, refl, refl)
+joined_says First Bare = (refl, refl, refl)
+joined_says First _ = (refl, refl, refl)
+joined_says Others Bare = (refl, refl, refl)
+joined_says Others _ = (refl, refl, refl)
+joined_says Both Bare = (refl, refl, refl)
+joined_says Both _ = (refl, refl, refl)
+joined_says Stale Bare = (refl, refl, refl)
+joined_says Stale _ = (refl, refl, refl)
 
 -- paint that is joined to what does not say it leaves less unknown
 pub joined_knows : (x y : Paint) → covers x y ≡ false → unknown (joined x y) < unknown x
@@ -146,7 +124,7 @@ joined_painted Stale _ e = refl
 pub joined_fresh : (x y : Paint) → is_stale (joined x y) ≡ false → is_stale y ≡ false
 joined_fresh x y e =
     false_from_ne_true (is_stale y) (λ (stale : is_stale y ≡ true).
-    both_ways (is_stale (joined x y)) e (joined_stale x y ∙ or_right (is_stale x) (is_stale y) stale))
+    both_ways (is_stale (joined x y)) e ((joined_says x y).2 ∙ or_right (is_stale x) (is_stale y) stale))
 
 pub one_side_painted : (x : Paint) → is_on_one_side x ≡ true → is_painted x ≡ true
 one_side_painted First e = refl
@@ -161,24 +139,16 @@ passed_one_side Both p e = absurd (true≢false e)
 passed_one_side Stale p e = absurd (true≢false e)
 
 pub painted_leads : (x : Paint) → is_painted x ≡ true → (first_leads x ≡ true) ⊎ (others_lead x ≡ true)
-painted_leads Bare e = absurd (false≢true e)
-painted_leads First e = inl refl
-painted_leads Others e = inr refl
-painted_leads Both e = inl refl
-painted_leads Stale e = inl refl
+painted_leads x e = or_cases (first_leads x) (others_lead x) e
 
 pub first_painted : (x : Paint) → first_leads x ≡ true → is_painted x ≡ true
-first_painted Bare e = e
-first_painted _ e = refl
+first_painted x e = or_left (first_leads x) (others_lead x) e
 
 pub others_painted : (x : Paint) → others_lead x ≡ true → is_painted x ≡ true
-others_painted Bare e = e
-others_painted _ e = refl
+others_painted x e = or_right (first_leads x) (others_lead x) e
 
 pub one_side : (x : Paint) → is_on_one_side x ≡ true → (is_ahead x ≡ true) ⊎ (is_behind x ≡ true)
-one_side First e = inl refl
-one_side Others e = inr refl
-one_side _ e = absurd (false≢true e)
+one_side x e = or_cases (is_ahead x) (is_behind x) e
 
 pub ahead_live : (x : Paint) → is_ahead x ≡ true → (is_painted x ≡ true) × (is_stale x ≡ false)
 ahead_live First e = (refl, refl)
@@ -192,26 +162,14 @@ pub base_live : (x : Paint) → is_base x ≡ true → (is_painted x ≡ true) �
 base_live Both e = (refl, refl)
 base_live _ e = absurd (false≢true e)
 
-pub passed_first : (x : Paint) → first_leads (passed x) ≡ first_leads x
-passed_first Bare = refl
-passed_first First = refl
-passed_first Others = refl
-passed_first Both = refl
-passed_first Stale = refl
-
-pub passed_others : (x : Paint) → others_lead (passed x) ≡ others_lead x
-passed_others Bare = refl
-passed_others First = refl
-passed_others Others = refl
-passed_others Both = refl
-passed_others Stale = refl
-
-pub passed_stale : (x : Paint) → is_stale (passed x) ≡ (first_leads x && others_lead x)
-passed_stale Bare = refl
-passed_stale First = refl
-passed_stale Others = refl
-passed_stale Both = refl
-passed_stale Stale = refl
+-- what a commit says of its parents
+pub passed_says : (x : Paint) → (first_leads (passed x) ≡ first_leads x) × (others_lead (passed x) ≡ others_lead x)
+    × (is_stale (passed x) ≡ (first_leads x && others_lead x))
+passed_says Bare = (refl, refl, refl)
+passed_says First = (refl, refl, refl)
+passed_says Others = (refl, refl, refl)
+passed_says Both = (refl, refl, refl)
+passed_says Stale = (refl, refl, refl)
 
 pub grows_refl : (x : Paint) → Grows x x
 grows_refl x = record { first = λ e. e; others = λ e. e; stale = λ e. e }
@@ -225,24 +183,24 @@ grows_trans x y z a b = record {
 
 pub grows_left : (x y : Paint) → Grows x (joined x y)
 grows_left x y = record {
-  first = λ e. joined_first x y ∙ or_left (first_leads x) (first_leads y) e;
-  others = λ e. joined_others x y ∙ or_left (others_lead x) (others_lead y) e;
-  stale = λ e. joined_stale x y ∙ or_left (is_stale x) (is_stale y) e;
+  first = λ e. (joined_says x y).0 ∙ or_left (first_leads x) (first_leads y) e;
+  others = λ e. (joined_says x y).1 ∙ or_left (others_lead x) (others_lead y) e;
+  stale = λ e. (joined_says x y).2 ∙ or_left (is_stale x) (is_stale y) e;
 }
 
 pub grows_right : (x y : Paint) → Grows y (joined x y)
 grows_right x y = record {
-  first = λ e. joined_first x y ∙ or_right (first_leads x) (first_leads y) e;
-  others = λ e. joined_others x y ∙ or_right (others_lead x) (others_lead y) e;
-  stale = λ e. joined_stale x y ∙ or_right (is_stale x) (is_stale y) e;
+  first = λ e. (joined_says x y).0 ∙ or_right (first_leads x) (first_leads y) e;
+  others = λ e. (joined_says x y).1 ∙ or_right (others_lead x) (others_lead y) e;
+  stale = λ e. (joined_says x y).2 ∙ or_right (is_stale x) (is_stale y) e;
 }
 
 -- no more than what two say together is what each says
 pub grows_joined : (x y z : Paint) → Grows x z → Grows y z → Grows (joined x y) z
 grows_joined x y z a b = record {
-  first = λ e. ⊎_elim a.first b.first (or_cases (first_leads x) (first_leads y) (sym (joined_first x y) ∙ e));
-  others = λ e. ⊎_elim a.others b.others (or_cases (others_lead x) (others_lead y) (sym (joined_others x y) ∙ e));
-  stale = λ e. ⊎_elim a.stale b.stale (or_cases (is_stale x) (is_stale y) (sym (joined_stale x y) ∙ e));
+  first = λ e. ⊎_elim a.first b.first (or_cases (first_leads x) (first_leads y) (sym (joined_says x y).0 ∙ e));
+  others = λ e. ⊎_elim a.others b.others (or_cases (others_lead x) (others_lead y) (sym (joined_says x y).1 ∙ e));
+  stale = λ e. ⊎_elim a.stale b.stale (or_cases (is_stale x) (is_stale y) (sym (joined_says x y).2 ∙ e));
 }
 
 pub covers_joined : (x y : Paint) → covers x y ≡ true → joined x y ≡ x
@@ -255,19 +213,19 @@ covers_grows x y e =
 pub so_joined : (h : List Node) (a : ℕ) (bs : List ℕ) (p : ℕ) (x y : Paint) → IsSo h a bs p x → IsSo h a bs p y
     → IsSo h a bs p (joined x y)
 so_joined h a bs p x y sx sy = record {
-  first = λ e. ⊎_elim sx.first sy.first (or_cases (first_leads x) (first_leads y) (sym (joined_first x y) ∙ e));
-  others = λ e. ⊎_elim sx.others sy.others (or_cases (others_lead x) (others_lead y) (sym (joined_others x y) ∙ e));
-  stale = λ e. ⊎_elim sx.stale sy.stale (or_cases (is_stale x) (is_stale y) (sym (joined_stale x y) ∙ e));
+  first = λ e. ⊎_elim sx.first sy.first (or_cases (first_leads x) (first_leads y) (sym (joined_says x y).0 ∙ e));
+  others = λ e. ⊎_elim sx.others sy.others (or_cases (others_lead x) (others_lead y) (sym (joined_says x y).1 ∙ e));
+  stale = λ e. ⊎_elim sx.stale sy.stale (or_cases (is_stale x) (is_stale y) (sym (joined_says x y).2 ∙ e));
 }
 
 -- what a commit says of a parent is so
 pub so_passed : (h : List Node) (a : ℕ) (bs : List ℕ) (p q : ℕ) (x : Paint) → IsSo h a bs p x → IsParent h p q
     → IsSo h a bs q (passed x)
 so_passed h a bs p q x so parent = record {
-  first = λ e. proper_reaches h a q (proper_step h a p q (so.first (sym (passed_first x) ∙ e)) parent);
-  others = λ e. from_some_then h bs p q (so.others (sym (passed_others x) ∙ e)) (step_reaches h p q parent);
+  first = λ e. proper_reaches h a q (proper_step h a p q (so.first (sym (passed_says x).0 ∙ e)) parent);
+  others = λ e. from_some_then h bs p q (so.others (sym (passed_says x).1 ∙ e)) (step_reaches h p q parent);
   stale = λ e.
-      let lead = and_parts (first_leads x) (others_lead x) (sym (passed_stale x) ∙ e) in
+      let lead = and_parts (first_leads x) (others_lead x) (sym (passed_says x).2 ∙ e) in
       let common : IsCommonAncestor h a bs p = (so.first lead.0, so.others lead.1) in
       (p, common, proper_step h p p q (reaches_itself h p parent.0) parent);
 }

@@ -1,6 +1,6 @@
 -- What is known of the ways to a commit from a commit and some others: its paint, which it passes on to its parents. For
 -- private contracts alone.
-use Rattle.std.specs.Prelude.{◌≡◌, ℕ, Bool, true, false, not, ◌&&◌, if◌then◌else◌, List, length, slice_index_or, count_by}
+use Rattle.std.specs.Prelude.{◌≡◌, ℕ, Bool, true, false, not, ◌&&◌, ◌||◌, if◌then◌else◌, List, length, slice_index_or, count_by}
 use Rattle.graph_walks.specs.History.{Node}
 use Rattle.graph_walks.specs.Walks.{Reaches, IsProperAncestor}
 use Rattle.graph_history.specs.Bases.{IsReachedFromSome, IsCommonAncestor}
@@ -12,65 +12,41 @@ use Rattle.graph_history.specs.Trails.{trail_at, trail_in}
 
 -- the first leads to the commit
 abbrev pub first_leads : Paint → Bool
-first_leads Bare = false
 first_leads First = true
-first_leads Others = false
 first_leads Both = true
 first_leads Stale = true
+first_leads _ = false
 
 -- some of the others leads to it
 abbrev pub others_lead : Paint → Bool
-others_lead Bare = false
-others_lead First = false
 others_lead Others = true
 others_lead Both = true
 others_lead Stale = true
+others_lead _ = false
 
 -- it is a proper ancestor of a common ancestor
 abbrev pub is_stale : Paint → Bool
-is_stale Bare = false
-is_stale First = false
-is_stale Others = false
-is_stale Both = false
 is_stale Stale = true
+is_stale _ = false
 
+-- some commit is known to lead to it
 abbrev pub is_painted : Paint → Bool
-is_painted Bare = false
-is_painted First = true
-is_painted Others = true
-is_painted Both = true
-is_painted Stale = true
+is_painted x = first_leads x || others_lead x
 
 -- it is ahead, or behind, or a merge base, as far as is known
 
 abbrev pub is_ahead : Paint → Bool
-is_ahead Bare = false
-is_ahead First = true
-is_ahead Others = false
-is_ahead Both = false
-is_ahead Stale = false
+is_ahead x = first_leads x && not (others_lead x)
 
 abbrev pub is_behind : Paint → Bool
-is_behind Bare = false
-is_behind First = false
-is_behind Others = true
-is_behind Both = false
-is_behind Stale = false
+is_behind x = others_lead x && not (first_leads x)
 
 abbrev pub is_base : Paint → Bool
-is_base Bare = false
-is_base First = false
-is_base Others = false
-is_base Both = true
-is_base Stale = false
+is_base x = (first_leads x && others_lead x) && not (is_stale x)
 
 -- one side alone leads to it, as far as is known
 abbrev pub is_on_one_side : Paint → Bool
-is_on_one_side Bare = false
-is_on_one_side First = true
-is_on_one_side Others = true
-is_on_one_side Both = false
-is_on_one_side Stale = false
+is_on_one_side x = is_ahead x || is_behind x
 
 -- x says all that y says
 abbrev pub covers : Paint → Paint → Bool
