@@ -21,7 +21,7 @@ use Rattle.graph_history.specs.declared.paint.Paint.{Paint}
 use Rattle.graph_history.specs.declared.paint.Paint.TheVariants.{First, Others}
 use Rattle.graph_history.specs.Paint.{is_base, first_leads, others_lead, is_stale, is_painted, covers, joined, passed, unknown}
 use Rattle.graph_history.specs.Paint.{is_fresh, bare, coat_at, paint_at, is_queued, IsSo, IsPaint, Grows}
-use Rattle.graph_history.specs.Painting.{AreBasesGathered, IsSpread, IsSpreadBut, entry_cmp, IsEntry, IsWaiting, IsLevel, Joins}
+use Rattle.graph_history.specs.Painting.{AreCandidates, IsSpread, IsSpreadBut, entry_cmp, IsEntry, IsWaiting, IsLevel, Joins}
 use Rattle.graph_history.specs.Painting.{Adds, IsDone}
 use Rattle.graph_history.specs.Painting.{work}
 use Rattle.graph_history.proofs.ReachLemmas.{reaches_itself}
@@ -59,7 +59,7 @@ pub record AddedBy (h : List Node) (a : ℕ) (bs : List ℕ) (p : ℕ) (x : Pain
     (old : List ℕ) : Type 0 where
   pub paint : IsPaint h a bs after
   pub waiting : IsWaiting h after more
-  pub gathered : AreBasesGathered after (if is_base (joined (paint_at coats p) x) then old ++ p ∷ [] else old)
+  pub candidates : AreCandidates after (if is_base (joined (paint_at coats p) x) then old ++ p ∷ [] else old)
   pub adds : Adds p x coats after
   pub here : coat_at after p ≡ record { paint = joined (paint_at coats p) x; queued = true }
   pub level : (level : ℕ) → generation_at h p ≤ level → IsLevel h coats queue level → IsLevel h after more level
@@ -140,16 +140,16 @@ module _ (h : List Node) (a : ℕ) (bs : List ℕ) (coats : List Coat) (queue mo
     below = joins.below level low is.below;
   }
 
-  -- where it is a merge base as far as is known, it is gathered
-  module _ (gathered : List ℕ) (are : AreBasesGathered coats gathered) where
+  -- where it is a merge base as far as is known, it becomes a candidate
+  module _ (candidates : List ℕ) (are : AreCandidates coats candidates) where
     grown : (q : ℕ) → Grows (paint_at coats q) (paint_at after q)
     grown q = added.grows q
 
     paint_here : (q : ℕ) → q ≡ p → paint_at after q ≡ joined (paint_at coats p) x
     paint_here q e = ap (λ (m : Coat). m.paint) (here q e)
 
-    added_gathered : is_base (joined (paint_at coats p) x) ≡ false → AreBasesGathered after gathered
-    added_gathered other = record {
+    added_other : is_base (joined (paint_at coats p) x) ≡ false → AreCandidates after candidates
+    added_other other = record {
       once = are.once;
       first = λ q contained. (grown q).first (are.first q contained);
       others = λ q contained. (grown q).others (are.others q contained);
@@ -161,38 +161,38 @@ module _ (h : List Node) (a : ℕ) (bs : List ℕ) (coats : List Coat) (queue mo
     }
 
     added_base : covers (paint_at coats p) x ≡ false → is_base (joined (paint_at coats p) x) ≡ true
-        → AreBasesGathered after (gathered ++ p ∷ [])
+        → AreCandidates after (candidates ++ p ∷ [])
     added_base uncovered base = record {
-      once = all_pairs_push (λ q r. q ≢ r) gathered p are.once
+      once = all_pairs_push (λ q r. q ≢ r) candidates p are.once
           (λ k d below same.
-          let was : Contains gathered p = subst (Contains gathered) same (Contains-get_or gathered k d below) in
+          let was : Contains candidates p = subst (Contains candidates) same (Contains-get_or candidates k d below) in
           base_is_new (paint_at coats p) x uncovered base (are.first p was) (are.others p was));
       first = λ q contained.
           ⊎_elim
-          (λ (was : Contains gathered q). (grown q).first (are.first q was))
+          (λ (was : Contains candidates q). (grown q).first (are.first q was))
           (λ (e : p ≡ q). ap first_leads (paint_here q (sym e)) ∙ base_first (joined (paint_at coats p) x) base)
-          (Contains-push_cases gathered p q contained);
+          (Contains-push_cases candidates p q contained);
       others = λ q contained.
           ⊎_elim
-          (λ (was : Contains gathered q). (grown q).others (are.others q was))
+          (λ (was : Contains candidates q). (grown q).others (are.others q was))
           (λ (e : p ≡ q). ap others_lead (paint_here q (sym e)) ∙ base_others (joined (paint_at coats p) x) base)
-          (Contains-push_cases gathered p q contained);
+          (Contains-push_cases candidates p q contained);
       all = λ q now.
           ⊎_elim
-          (λ (e : q ≡ p). subst (Contains (gathered ++ p ∷ [])) (sym e) (Contains-push gathered p))
+          (λ (e : q ≡ p). subst (Contains (candidates ++ p ∷ [])) (sym e) (Contains-push candidates p))
           (λ (apart : q ≢ p).
-          Contains-append_left gathered (p ∷ []) q
+          Contains-append_left candidates (p ∷ []) q
           (are.all q (ap (λ (m : Coat). is_base m.paint) (sym (there q apart)) ∙ now)))
           (cases_eq q p);
     }
 
     added_all : covers (paint_at coats p) x ≡ false
-        → AreBasesGathered after (if is_base (joined (paint_at coats p) x) then gathered ++ p ∷ [] else gathered)
+        → AreCandidates after (if is_base (joined (paint_at coats p) x) then candidates ++ p ∷ [] else candidates)
     added_all uncovered = by_cases (is_base (joined (paint_at coats p) x)) refl where
       by_cases : (b : Bool) → is_base (joined (paint_at coats p) x) ≡ b
-          → AreBasesGathered after (if b then gathered ++ p ∷ [] else gathered)
+          → AreCandidates after (if b then candidates ++ p ∷ [] else candidates)
       by_cases true e = added_base uncovered e
-      by_cases false e = added_gathered e
+      by_cases false e = added_other e
 
   added_work : covers (paint_at coats p) x ≡ false → work after more ≤ work coats queue
   added_work uncovered =
@@ -204,31 +204,31 @@ module _ (h : List Node) (a : ℕ) (bs : List ℕ) (coats : List Coat) (queue mo
       let longer = joins.longer in
       omega arith
 
-  pub added_by : length more ≡ length queue + cond (is_queued coats p) 0 1 → (gathered : List ℕ) → AreBasesGathered coats gathered
-      → covers (paint_at coats p) x ≡ false
-      → AddedBy h a bs p x coats after queue more gathered
-  added_by len gathered are uncovered = record {
+  pub added_by : length more ≡ length queue + cond (is_queued coats p) 0 1 → (candidates : List ℕ)
+      → AreCandidates coats candidates → covers (paint_at coats p) x ≡ false
+      → AddedBy h a bs p x coats after queue more candidates
+  added_by len candidates are uncovered = record {
     paint = added_paint;
     waiting = added_waiting len;
-    gathered = added_all gathered are uncovered;
+    candidates = added_all candidates are uncovered;
     adds = added;
     here = here p refl;
     level = added_level;
     work = added_work uncovered;
   }
 
--- Those that were gathered, where no paint changes, and where nothing is known.
-pub gathered_same : (coats after : List Coat) (gathered : List ℕ) → ((q : ℕ) → paint_at after q ≡ paint_at coats q)
-    → AreBasesGathered coats gathered → AreBasesGathered after gathered
-gathered_same coats after gathered same are = record {
+-- The candidates, where no paint changes, and where nothing is known.
+pub candidates_same : (coats after : List Coat) (candidates : List ℕ) → ((q : ℕ) → paint_at after q ≡ paint_at coats q)
+    → AreCandidates coats candidates → AreCandidates after candidates
+candidates_same coats after candidates same are = record {
   once = are.once;
   first = λ q contained. ap first_leads (same q) ∙ are.first q contained;
   others = λ q contained. ap others_lead (same q) ∙ are.others q contained;
   all = λ q base. are.all q (ap is_base (sym (same q)) ∙ base);
 }
 
-pub gathered_none : (coats : List Coat) → ((p : ℕ) → coat_at coats p ≡ bare) → AreBasesGathered coats []
-gathered_none coats none = record {
+pub candidates_none : (coats : List Coat) → ((p : ℕ) → coat_at coats p ≡ bare) → AreCandidates coats []
+candidates_none coats none = record {
   once = λ i j d lt lt'. absurd (omega arith);
   first = λ q (k, lt, at). absurd (omega arith);
   others = λ q (k, lt, at). absurd (omega arith);

@@ -23,7 +23,7 @@ use Rattle.graph_history.specs.Bases.{AreMergeBases, IsAhead, IsBehind}
 use Rattle.graph_ancestors.specs.Cardinality.{IsNumberOf}
 use Rattle.graph_history.specs.declared.paint.Coat.{Coat}
 use Rattle.graph_history.specs.Paint.{is_base, is_ahead, is_behind, first_leads, bare, coat_at, paint_at}
-use Rattle.graph_history.specs.Painting.{AreBasesGathered, AreBases, IsPainted}
+use Rattle.graph_history.specs.Painting.{AreCandidates, AreBases, IsPainted}
 use Rattle.graph_history.proofs.ReachLemmas.{reaches_within}
 use Rattle.graph_ancestors.proofs.ListLemmas.{head_contained, tail_contained, contained_cases}
 
@@ -163,7 +163,7 @@ bases_within h a bs n bases commits are =
           All-cons (λ (y : Position). y.0 < n) x xs (All-head (λ p. p < n) x.0 (numbers_of xs) all)
           (below xs (All-tail (λ p. p < n) x.0 (numbers_of xs) all))
 
--- The merge bases among those that were gathered.
+-- The merge bases among the candidates.
 
 -- a commit of which something is known
 pub known_within : (coats : List Coat) (p : ℕ) → first_leads (paint_at coats p) ≡ true → p < length coats
@@ -216,18 +216,18 @@ module _ (t : ℕ → Bool) (xs : List ℕ) (i : ℕ) (lt : i < length xs) where
       ∙ append-nil (filter t (take i xs))
 
 -- those of a sorted list that are merge bases
-pub sorted_bases : (coats : List Coat) (gathered sorted : List ℕ) → AreBasesGathered coats gathered
-    → IsPermutation gathered sorted → IsSorted nat_cmp sorted → AreBases coats (filter (λ p. is_base (paint_at coats p)) sorted)
-sorted_bases coats gathered sorted are moved up =
+pub sorted_bases : (coats : List Coat) (candidates sorted : List ℕ) → AreCandidates coats candidates
+    → IsPermutation candidates sorted → IsSorted nat_cmp sorted → AreBases coats (filter (λ p. is_base (paint_at coats p)) sorted)
+sorted_bases coats candidates sorted are moved up =
     let t : ℕ → Bool = λ p. is_base (paint_at coats p) in record {
       ascending =
           IsStrictlyIncreasing-filter t sorted
           (IsStrictlyIncreasing-from_distinct sorted (IsNonDecreasingBy-from_sort (λ x. x) sorted up)
-          (IsDistinct-IsPermutation _ nat_eq_equiv.symm gathered sorted moved
-          (IsDistinct-from_AllPairs unsigned_Decides gathered are.once)));
+          (IsDistinct-IsPermutation _ nat_eq_equiv.symm candidates sorted moved
+          (IsDistinct-from_AllPairs unsigned_Decides candidates are.once)));
       those = λ p. (
         (λ contained. filter_passed t sorted p contained),
-        (λ base. filter_contains t sorted p (Contains-permutation gathered sorted p moved (are.all p base)) base),
+        (λ base. filter_contains t sorted p (Contains-permutation candidates sorted p moved (are.all p base)) base),
       );
     }
 

@@ -235,7 +235,7 @@ passes_with s t p x r = record {
     };
     paint = r.painting.paint;
     waiting = r.painting.waiting;
-    gathered = r.painting.gathered;
+    candidates = r.painting.candidates;
     touched = r.painting.touched;
     visits = r.painting.visits;
     visiting = r.painting.visiting;

@@ -75,12 +75,12 @@ pub record Adds (p : ℕ) (paint : Paint) (old new : List Coat) : Type 0 where
   pub has : Grows paint (paint_at new p)
   pub others : (q : ℕ) → q ≢ p → coat_at new q ≡ coat_at old q
 
--- All commits that are merge bases as far as is known were gathered, with others to which both lead, each once.
-pub record AreBasesGathered (coats : List Coat) (gathered : List ℕ) : Type 0 where
-  pub once : AllPairs (λ p q. p ≢ q) gathered
-  pub first : (p : ℕ) → Contains gathered p → first_leads (paint_at coats p) ≡ true
-  pub others : (p : ℕ) → Contains gathered p → others_lead (paint_at coats p) ≡ true
-  pub all : (p : ℕ) → is_base (paint_at coats p) ≡ true → Contains gathered p
+-- Both sides lead to each of the candidates, none stands there twice, and each merge base, as far as is known, is one of them.
+pub record AreCandidates (coats : List Coat) (candidates : List ℕ) : Type 0 where
+  pub once : AllPairs (λ p q. p ≢ q) candidates
+  pub first : (p : ℕ) → Contains candidates p → first_leads (paint_at coats p) ≡ true
+  pub others : (p : ℕ) → Contains candidates p → others_lead (paint_at coats p) ≡ true
+  pub all : (p : ℕ) → is_base (paint_at coats p) ≡ true → Contains candidates p
 
 -- The painting may stop: all that are queued are stale, and stand below the cap and no higher than those that are painted
 -- and not queued.
@@ -133,7 +133,7 @@ pub record IsPainting (s : Painting) : Type 0 where
   pub counted : IsCounted s.coats
   pub paint : IsPaint (history_of s.graph.now.layers) s.first.0 (numbers_of s.others.now) s.coats.all.items
   pub waiting : IsWaiting (history_of s.graph.now.layers) s.coats.all.items (heap_items s.queue)
-  pub gathered : AreBasesGathered s.coats.all.items s.gathered.items
+  pub candidates : AreCandidates s.coats.all.items s.candidates.items
   pub touched : AreTouched s.coats.all.items s.taken.items (heap_items s.queue)
   pub visits : IsVisitCount s.coats.all.items s.visits
   pub visiting : AreBelowCap (history_of s.graph.now.layers) s.first.0 (numbers_of s.others.now)

@@ -15,7 +15,7 @@ ghost use Rattle.graph_history.specs.Paint.{is_painted, is_stale, is_queued};
 ghost use Rattle.graph_history.specs.Paint.{is_ahead, is_behind, is_base, bare, coat_at, paint_at};
 ghost use Rattle.graph_history.specs.Paint.{IsSo, IsCounted, IsPaint, AreIdle};
 ghost use Rattle.graph_history.specs.Painting.{IsSpread, IsLevel, Joins, Adds, ArePassed};
-ghost use Rattle.graph_history.specs.Painting.{AreBasesGathered, IsDone, IsPainting, IsPainted};
+ghost use Rattle.graph_history.specs.Painting.{AreCandidates, IsDone, IsPainting, IsPainted};
 ghost use Rattle.graph_history.specs.Painting.{AreBases, AreTouched, work};
 
 use crate::bases::Divergence;
@@ -39,9 +39,9 @@ pub(crate) struct Painting<'p, 'g> {
     /// The commits whose parents have not heard all that is known of them: of each its generation
     /// number and its position.
     queue: BinaryHeap<(u32, u32)>,
-    /// The positions of the commits that came to be merge bases as far as was known, and may still
-    /// be.
-    gathered: Vec<u32>,
+    /// The positions of commits to which both sides lead: each merge base is one of them. Others
+    /// turn out to be ancestors of another.
+    candidates: Vec<u32>,
     /// The positions of the commits that were taken from the queue.
     taken: Vec<u32>,
     /// How many commits were taken from the queue.
@@ -75,7 +75,7 @@ impl<'p, 'g> Painting<'p, 'g> {
             others,
             coats,
             queue: BinaryHeap::new(alloc),
-            gathered: Vec::new(alloc),
+            candidates: Vec::new(alloc),
             taken: Vec::new(alloc),
             visits: 0,
         }
@@ -89,7 +89,7 @@ impl<'p, 'g> Painting<'p, 'g> {
         ensures first { self.new.first ≡ self.old.first }
         ensures others { self.new.others.now ≡ self.old.others.now }
         ensures coats { self.new.coats ≡ self.old.coats }
-        ensures gathered { self.new.gathered.items ≡ self.old.gathered.items }
+        ensures candidates { self.new.candidates.items ≡ self.old.candidates.items }
         ensures taken { self.new.taken.items ≡ self.old.taken.items }
         ensures visits { self.new.visits ≡ self.old.visits }
         ensures len { OnOk result (length (heap_items self.new.queue)
@@ -105,8 +105,8 @@ impl<'p, 'g> Painting<'p, 'g> {
         Ok(())
     }
 
-    /// Gathers a commit with this paint, where that is the paint of a merge base.
-    fn gather(&mut self, commit: Position, paint: Paint) -> Result<(), AllocError>
+    /// Adds a commit with this paint to the candidates, where that is the paint of a merge base.
+    fn add_candidate(&mut self, commit: Position, paint: Paint) -> Result<(), AllocError>
         ensures graph { self.new.graph.now ≡ self.old.graph.now }
         ensures first { self.new.first ≡ self.old.first }
         ensures others { self.new.others.now ≡ self.old.others.now }
@@ -114,12 +114,12 @@ impl<'p, 'g> Painting<'p, 'g> {
         ensures queue { heap_items self.new.queue ≡ heap_items self.old.queue }
         ensures taken { self.new.taken.items ≡ self.old.taken.items }
         ensures visits { self.new.visits ≡ self.old.visits }
-        ensures gathered { OnOk result (self.new.gathered.items
-            ≡ (if is_base paint then self.old.gathered.items ++ commit.0 ∷ []
-            else self.old.gathered.items)) }
+        ensures candidates { OnOk result (self.new.candidates.items
+            ≡ (if is_base paint then self.old.candidates.items ++ commit.0 ∷ []
+            else self.old.candidates.items)) }
     {
         if paint.is_base() {
-            self.gathered.push(commit.0)?;
+            self.candidates.push(commit.0)?;
         }
         Ok(())
     }
@@ -160,7 +160,7 @@ impl<'p, 'g> Painting<'p, 'g> {
         }
         let paint = known.join(paint);
         self.enqueue(commit)?;
-        self.gather(commit, paint)?;
+        self.add_candidate(commit, paint)?;
         let queued = true;
         self.coats.set(commit, Coat { paint, queued });
         Ok(())
@@ -181,8 +181,8 @@ impl<'p, 'g> Painting<'p, 'g> {
         ensures counted { OnOk result (IsCounted self.new.coats) }
         ensures touched { OnOk result (AreTouched self.new.coats.all.items self.new.taken.items
             (heap_items self.new.queue)) }
-        ensures gathered { OnOk result (AreBasesGathered self.new.coats.all.items
-            self.new.gathered.items) }
+        ensures candidates { OnOk result (AreCandidates self.new.coats.all.items
+            self.new.candidates.items) }
         ensures paint { OnOk result (IsPaint (history_of self.old.graph.now.layers) self.old.first.0
             (numbers_of self.old.others.now) self.new.coats.all.items) }
         ensures spread { OnOk result (IsSpread (history_of self.old.graph.now.layers)
@@ -235,7 +235,7 @@ impl<'p, 'g> Painting<'p, 'g> {
 
     /// The commits that are merge bases as far as is known, in the order of their positions.
     pub(crate) fn bases(&mut self, alloc: Global) -> Result<Vec<Position>, AllocError>
-        requires { AreBasesGathered self.old.coats.all.items self.old.gathered.items }
+        requires { AreCandidates self.old.coats.all.items self.old.candidates.items }
         ensures coats { self.new.coats ≡ self.old.coats }
         ensures queue { heap_items self.new.queue ≡ heap_items self.old.queue }
         ensures taken { self.new.taken.items ≡ self.old.taken.items }
@@ -243,9 +243,9 @@ impl<'p, 'g> Painting<'p, 'g> {
         ensures bases { IfOk result (λ bases. AreBases self.old.coats.all.items
             (numbers_of bases.items)) }
     {
-        self.gathered.sort_unstable();
+        self.candidates.sort_unstable();
         let mut bases = Vec::new(alloc);
-        for number in self.gathered.iter() {
+        for number in self.candidates.iter() {
             let commit = Position(*number);
             if self.coats.at(commit).paint.is_base() {
                 bases.push(commit)?;
@@ -291,7 +291,7 @@ pub(crate) fn paint_from<'p, 'g>(
     ensures counted { IfOk result (λ s. IsCounted s.coats) }
     ensures touched { IfOk result (λ s. AreTouched s.coats.all.items s.taken.items
         (heap_items s.queue)) }
-    ensures gathered { IfOk result (λ s. AreBasesGathered s.coats.all.items s.gathered.items) }
+    ensures candidates { IfOk result (λ s. AreCandidates s.coats.all.items s.candidates.items) }
     ensures painted { IfOk result (λ s. IsPainted (history_of graph.now.layers) first.0
         (numbers_of others.now) s.coats.all.items) }
     ensures visits { IfOk result (λ s. AreVisits (history_of graph.now.layers) first.0

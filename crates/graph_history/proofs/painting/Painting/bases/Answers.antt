@@ -18,10 +18,10 @@ at-requires c =
     let sorted : Contains c.sort_unstable.new.self.items (get_or xs i 0) =
     subst (λ (ys : List ℕ). Contains ys (get_or xs i 0)) c.deref-number-items.ensures.value
     (Contains-get_or xs i 0 c.loop-number-test.true) in
-    let gathered =
-    Contains-permutation c.sort_unstable.new.self.items s.gathered.items (get_or xs i 0)
-    (IsPermutation-sym s.gathered.items c.sort_unstable.new.self.items c.sort_unstable.ensures.permutation) sorted in
-    known_within s.coats.all.items (get_or xs i 0) (c.requires.first (get_or xs i 0) gathered)
+    let candidates =
+    Contains-permutation c.sort_unstable.new.self.items s.candidates.items (get_or xs i 0)
+    (IsPermutation-sym s.candidates.items c.sort_unstable.new.self.items c.sort_unstable.ensures.permutation) sorted in
+    known_within s.coats.all.items (get_or xs i 0) (c.requires.first (get_or xs i 0) candidates)
 
 pub loop-number-preserved : goal.loop-number-preserved
 loop-number-preserved c =
@@ -49,5 +49,5 @@ returns-clause-bases c =
     l.invariant
     ∙ ap (filter t) (take_all l.number-index xs c.loop-number-test.false ∙ c.deref-number-items.ensures.value) in
     subst (AreBases s.coats.all.items) (sym all)
-    (sorted_bases s.coats.all.items s.gathered.items c.sort_unstable.new.self.items c.requires c.sort_unstable.ensures.permutation
-    c.sort_unstable.ensures.sorted)
+    (sorted_bases s.coats.all.items s.candidates.items c.sort_unstable.new.self.items c.requires
+    c.sort_unstable.ensures.permutation c.sort_unstable.ensures.sorted)

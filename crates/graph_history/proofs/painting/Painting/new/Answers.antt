@@ -2,7 +2,7 @@ use Rattle.std.proofs.Common.{◌≡◌, length, sym, ◌∙◌, heap_items, ari
 use Rattle.gix_commitgraph.specs.Graph.{total}
 use Rattle.graph_format.specs.StoredHistory.{history_of}
 use Rattle.graph_ancestors.specs.WalkAnswer.{numbers_of}
-use Rattle.graph_history.proofs.CoatLemmas.{gathered_none}
+use Rattle.graph_history.proofs.CoatLemmas.{candidates_none}
 use Rattle.graph_history.proofs.EdgeLemmas.{paint_none, waiting_none, visiting_none}
 use Rattle.graph_history.proofs.PassLemmas.{passed_none}
 use Rattle.graph_history.proofs.TouchLemmas.{touched_none}
@@ -27,7 +27,7 @@ returns-clause-painting c =
       counted = e.counted;
       paint = paint_none h a bs coats e.bare (e.coats_len ∙ commits);
       waiting = waiting_none h a bs coats e.bare (heap_items c.new.result) c.new.ensures.items c.new.ensures.heap_order;
-      gathered = rw c.new-2.ensures.items (gathered_none coats e.bare);
+      candidates = rw c.new-2.ensures.items (candidates_none coats e.bare);
       touched = touched_none coats c.new-3.result.items (heap_items c.new.result) e.bare;
       visits = count_none coats e.bare;
       visiting = λ _. visiting_none h a bs coats e.bare;

@@ -12,7 +12,7 @@ use Rattle.graph_walks.specs.History.{generation_at}
 use Rattle.graph_walks.specs.Walks.{Reaches}
 use Rattle.graph_history.specs.Paint.{is_painted, is_fresh, is_visited, paint_at, Grows}
 use Rattle.graph_history.proofs.EdgeLemmas.{next_queued, painted_below_cap, visiting_taken}
-use Rattle.graph_history.proofs.CoatLemmas.{coat_with, none_fresh, stops, taken_entry, all_low, taken_by, gathered_same}
+use Rattle.graph_history.proofs.CoatLemmas.{coat_with, none_fresh, stops, taken_entry, all_low, taken_by, candidates_same}
 use Rattle.graph_history.proofs.PaintLemmas.{grows_refl}
 use Rattle.graph_history.proofs.PassLemmas.{passed_kept}
 use Rattle.graph_history.proofs.TouchLemmas.{touched_taken}
@@ -94,7 +94,7 @@ visit-requires c =
         counted = c.set.ensures.counted;
         paint = after.paint;
         waiting = after.waiting;
-        gathered = gathered_same coats c.set.new.self.all.items s.gathered.items after.same i.painting.gathered;
+        candidates = candidates_same coats c.set.new.self.all.items s.candidates.items after.same i.painting.candidates;
         touched =
             touched_taken coats c.set.new.self.all.items s.taken.items c.push.new.self.items (heap_items s.queue)
             (heap_items c.pop.new.self) c.in-Some.next c.in-Some.ensures.permutation after.there i.painting.touched
