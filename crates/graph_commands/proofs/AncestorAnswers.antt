@@ -6,7 +6,7 @@ use Rattle.graph_format.specs.Layer.{Layer}
 use Rattle.graph_layer.specs.declared.opening.error.OpenError.{OpenError}
 use Rattle.graph_commands.specs.declared.ancestor.Ancestry.{Ancestry}
 use Rattle.graph_commands.specs.declared.refusal.Refusal.{Refusal}
-use Rattle.graph_commands.specs.declared.refusal.Refusal.TheVariants.{Id, Read, File, Open, Verify, Check, Walk}
+use Rattle.graph_commands.specs.declared.refusal.Refusal.TheVariants.{Id, Read, File, Open, Verify, Walk}
 use Rattle.graph_commands.specs.Ancestor.{MayAnswerIn, MayRelate, ancestor_text, ancestor_status}
 use Rattle.graph_commands.specs.WrittenAnswer.{WritesAnswer, WritesRefusal}
 
@@ -15,13 +15,12 @@ pub relates : (first second a b : List ℕ) (IsLeftAlone : Type 0) (MayOpen : Re
     → SpellsId first a → SpellsId second b → MayOpen (Ok layers) → MayAnswerIn layers a b answer
     → MayRelate first second IsLeftAlone MayOpen answer
 relates first second a b IsLeftAlone MayOpen layers (Ok ancestry) x y opens answers = (a, b, x, y, (layers, opens, answers))
-relates first second a b IsLeftAlone MayOpen layers (Err (Check error)) x y opens answers = (a, b, x, y, (layers, opens, answers))
+relates first second a b IsLeftAlone MayOpen layers (Err (Verify error)) x y opens answers = (a, b, x, y, (layers, opens, answers))
 relates first second a b IsLeftAlone MayOpen layers (Err Walk) x y opens answers = (a, b, x, y, (layers, opens, answers))
 relates first second a b IsLeftAlone MayOpen layers (Err (Id error)) x y opens answers = absurd answers
 relates first second a b IsLeftAlone MayOpen layers (Err (Read error)) x y opens answers = absurd answers
 relates first second a b IsLeftAlone MayOpen layers (Err (File error)) x y opens answers = absurd answers
 relates first second a b IsLeftAlone MayOpen layers (Err (Open error)) x y opens answers = absurd answers
-relates first second a b IsLeftAlone MayOpen layers (Err (Verify error)) x y opens answers = absurd answers
 
 -- a refusal that was written, if it was
 pub writes_refused : {E : Type 0} (MayAnswer : Result Ancestry Refusal → Type 0) (refusal : Refusal)

@@ -16,7 +16,7 @@ use Rattle.graph_ancestors.specs.RefusedGraph.{MayRefuseGraph}
 use Rattle.graph_commands.specs.declared.ancestor.Ancestry.{Ancestry}
 use Rattle.graph_commands.specs.declared.ancestor.Ancestry.TheVariants.{FirstUnknown, SecondUnknown, Known}
 use Rattle.graph_commands.specs.declared.refusal.Refusal.{Refusal}
-use Rattle.graph_commands.specs.declared.refusal.Refusal.TheVariants.{Id, Read, File, Open, Verify, Check, Walk}
+use Rattle.graph_commands.specs.declared.refusal.Refusal.TheVariants.{Id, Read, File, Open, Verify, Walk}
 use Rattle.graph_commands.specs.RefusalLines.{refusal_text, refusal_status}
 use Rattle.graph_commands.specs.Text.{◌⧺◌, newline}
 
@@ -33,13 +33,12 @@ MayFindBetween layers first second (Known reached) =
 -- the check refuses it
 abbrev pub MayAnswerIn : List Layer → List ℕ → List ℕ → Result Ancestry Refusal → Type 0
 MayAnswerIn layers first second (Ok ancestry) = Sound layers × MayFindBetween layers first second ancestry
-MayAnswerIn layers first second (Err (Check error)) = MayRefuseGraph layers error
+MayAnswerIn layers first second (Err (Verify error)) = MayRefuseGraph layers error
 MayAnswerIn layers first second (Err Walk) = Sound layers
 MayAnswerIn layers first second (Err (Id error)) = ⊥
 MayAnswerIn layers first second (Err (Read error)) = ⊥
 MayAnswerIn layers first second (Err (File error)) = ⊥
 MayAnswerIn layers first second (Err (Open error)) = ⊥
-MayAnswerIn layers first second (Err (Verify error)) = ⊥
 
 -- the texts are two ids, and this may be answered of a graph that the opener may answer
 abbrev pub MayAnswerOpened : List ℕ → List ℕ → (Result (List Layer) OpenError → Type 0) → Result Ancestry Refusal → Type 0

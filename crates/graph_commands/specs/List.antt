@@ -5,7 +5,7 @@ use Rattle.graph_format.specs.Layer.{Layer, IsLayer}
 use Rattle.graph_format.specs.Refusal.{refusal}
 use Rattle.graph_folder.specs.declared.folder.ReadError.TheVariants as read
 use Rattle.graph_commands.specs.declared.refusal.Refusal.{Refusal}
-use Rattle.graph_commands.specs.declared.refusal.Refusal.TheVariants.{Id, Read, File, Open, Verify, Check, Walk}
+use Rattle.graph_commands.specs.declared.refusal.Refusal.TheVariants.{Id, Read, File, Open, Verify, Walk}
 use Rattle.graph_commands.specs.RefusalLines.{refusal_text, refusal_status}
 use Rattle.graph_commands.specs.Listing.{listing_text}
 use Rattle.graph_commands.specs.Text.{◌⧺◌, newline}
@@ -23,7 +23,6 @@ MayList input (Err (File error)) = (refusal input ≡ Some error) ⊎ (error ≡
 MayList input (Err (Id error)) = ⊥
 MayList input (Err (Open error)) = ⊥
 MayList input (Err (Verify error)) = ⊥
-MayList input (Err (Check error)) = ⊥
 MayList input (Err Walk) = ⊥
 
 -- the listing of a layer, or the line of a refusal

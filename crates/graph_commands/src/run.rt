@@ -26,9 +26,9 @@ use gix_commitgraph::opening::open_in;
 use gix_commitgraph::verify::{Outcome, VerifyError, VerifyOptions};
 use gix_commitgraph::{File, FileError};
 use gix_hash_core::ObjectId;
+use graph_ancestors::NoFault;
 use graph_folder::folder::{Folder, read_all};
 use std::alloc::Global;
-use std::convert::Infallible;
 use std::io::{Read, Write};
 
 /// Writes the listing of the layer that the reader gives, or one line that says why it is refused.
@@ -122,7 +122,7 @@ pub fn run_distinct<T: Folder, W: Write>(
 /// status.
 fn write_answer<W: Write>(
     writer: &mut W,
-    answer: Result<Outcome, VerifyError<Infallible>>,
+    answer: Result<Outcome, VerifyError<NoFault>>,
 ) -> Result<u8, WriteFailed>
     ensures found { IfOk answer (λ outcome. IfOk result (λ status.
         Appends (W.contents writer.old) (W.contents writer.new) (outcome_text outcome)

@@ -22,7 +22,7 @@ use Rattle.graph_commands.specs.RefusalLines.{refusal_text}
 use Rattle.graph_commands.specs.Report.{outcome_text}
 use Rattle.graph_commands.specs.Text.{◌⧺◌, newline}
 use Rattle.graph_commands.specs.declared.refusal.Refusal.{Refusal}
-use Rattle.graph_commands.specs.declared.refusal.Refusal.TheVariants.{Id, Read, File, Open, Verify, Check, Walk}
+use Rattle.graph_commands.specs.declared.refusal.Refusal.TheVariants.{Id, Read, File, Open, Verify, Walk}
 use Rattle.history_commands.specs.declared.check.CheckRefusal.{CheckRefusal}
 use Rattle.history_commands.specs.declared.check.CheckRefusal.TheVariants.{Graph, Dates, Filters}
 
@@ -65,11 +65,10 @@ MayRefuseFilters layers error = MayRefuseGraphFilters layers error
 -- why no right graph is found, as `verify` may say: the path opens none, or the one that it opens fails its check
 abbrev pub MayRefuseToStart : (Result (List Layer) OpenError → Type 0) → Refusal → Type 0
 MayRefuseToStart MayOpen (Open error) = MayOpen (Err error)
-MayRefuseToStart MayOpen (Check error) = (layers : List Layer) × MayOpen (Ok layers) × MayRefuseGraph layers error
+MayRefuseToStart MayOpen (Verify error) = (layers : List Layer) × MayOpen (Ok layers) × MayRefuseGraph layers error
 MayRefuseToStart MayOpen (Id error) = ⊥
 MayRefuseToStart MayOpen (Read error) = ⊥
 MayRefuseToStart MayOpen (File error) = ⊥
-MayRefuseToStart MayOpen (Verify error) = ⊥
 MayRefuseToStart MayOpen Walk = ⊥
 
 -- why `check` may refuse what a path opens, given what the opener may answer: why there is no right graph; else why its dates are

@@ -22,7 +22,7 @@ use Rattle.graph_commands.specs.Ancestor.{visits_line}
 use Rattle.graph_commands.specs.RefusalLines.{refusal_text, refusal_status}
 use Rattle.graph_commands.specs.Text.{◌⧺◌, newline}
 use Rattle.graph_commands.specs.declared.refusal.Refusal.{Refusal}
-use Rattle.graph_commands.specs.declared.refusal.Refusal.TheVariants.{Id, Read, File, Open, Verify, Check, Walk}
+use Rattle.graph_commands.specs.declared.refusal.Refusal.TheVariants.{Id, Read, File, Open, Verify, Walk}
 use Rattle.history_commands.specs.Walk.{id_in}
 use Rattle.history_commands.specs.declared.bases.Compared.{Compared}
 use Rattle.history_commands.specs.declared.bases.Compared.TheVariants.{Unknown, Known}
@@ -70,14 +70,13 @@ MayBeAskedOfAll texts MayOpen layers ids = AllZip SpellsId texts ids × MayOpen 
 abbrev pub MayRefuseAll : List (List ℕ) → Type 0 → (Result (List Layer) OpenError → Type 0) → Refusal → Type 0
 MayRefuseAll texts IsLeftAlone MayOpen (Id error) = SpellNotAll texts error × IsLeftAlone
 MayRefuseAll texts IsLeftAlone MayOpen (Open error) = (ids : List (List ℕ)) × AllZip SpellsId texts ids × MayOpen (Err error)
-MayRefuseAll texts IsLeftAlone MayOpen (Check error) =
+MayRefuseAll texts IsLeftAlone MayOpen (Verify error) =
     (ids : List (List ℕ)) × (layers : List Layer) × AllZip SpellsId texts ids × MayOpen (Ok layers)
     × MayRefuseGraph layers error
 MayRefuseAll texts IsLeftAlone MayOpen Walk =
     IsLeftAlone ⊎ ((ids : List (List ℕ)) × (layers : List Layer) × MayBeAskedOfAll texts MayOpen layers ids)
 MayRefuseAll texts IsLeftAlone MayOpen (Read error) = ⊥
 MayRefuseAll texts IsLeftAlone MayOpen (File error) = ⊥
-MayRefuseAll texts IsLeftAlone MayOpen (Verify error) = ⊥
 
 -- what `merge-base` may answer for the texts of ids, given what the opener may answer: what is found of them in a right graph
 -- that it may open, with the layers of the graph; or a refusal
