@@ -20,9 +20,9 @@ use std::fmt;
 pub enum Refusal {
     /// The text that is to be an id is not one.
     Id(IdError),
-    /// The input could not be read.
+    /// The input could not be read, or memory ran out before it was.
     Read(ReadError),
-    /// The input is no layer, or opening or listing it ran out of memory.
+    /// The input is no layer, or decoding it ran out of memory.
     File(FileError),
     /// No graph was opened by the path.
     Open(OpenError),
