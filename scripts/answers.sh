@@ -28,10 +28,10 @@ find_program() {
     return 1
 }
 
-# Runs a program with some words, and passes on what it writes, through the command `filter` where that is not
-# empty. Sets `status` to its status, `line` to the first line that it wrote, and `said` to what it wrote on
-# standard error. Where the answer could not be written, or a signal ended the program, `line` and `said` tell of
-# that, and `status` is 2 or that of the signal; `passed` is more than 128 where nobody reads the answer any more.
+# Runs a program with some words, and passes on what it writes. Sets `status` to its status, `line` to the first
+# line that it wrote, and `said` to what it wrote on standard error. Where the answer could not be written, or a
+# signal ended the program, `line` and `said` tell of that, and `status` is 2 or that of the signal; `passed` is
+# more than 128 where nobody reads the answer any more.
 #
 # Standard output is 3 here, and 4 leads to the variable `told`.
 ask() {
@@ -53,19 +53,15 @@ ask() {
     said="$name: $line$newline"
 }
 
-# Copies standard input to standard output, through `filter`. Its first line goes to 4 before that, so that nothing
-# is written for a command that was ended meanwhile.
+# Copies standard input to standard output. Its first line goes to 4 before that, so that nothing is written for a
+# command that was ended meanwhile.
 pass_on() {
     if ! IFS= read -r line; then
         printf %s "$line"
         return
     fi
     printf 'line %s\n' "$line" >&4 || return
-    if [ -z "$filter" ]; then
-        printf '%s\n' "$line" && cat
-    else
-        { printf '%s\n' "$line" && cat; } | "$filter"
-    fi
+    printf '%s\n' "$line" && cat
 }
 
 # Sets `line`, `status` and `said` from the lines of what was told of a program.

@@ -1,4 +1,4 @@
--- the answers of `merge-base`, their texts and their exit statuses
+-- the answers of `merge-base` and of `merge-base-ids`, their texts and their exit statuses
 use Rattle.std.specs.Prelude.{◌≡◌, ◌⊎◌, ℕ, ◌+◌, ◌<◌, List, [], ◌∷◌, All, Some, None, Result, Ok, Err, ⊤, codes, decimal}
 use Rattle.std.specs.Prelude.{slice_get, take}
 use Rattle.std.specs.List.{AllZip, flat_map}
@@ -23,7 +23,7 @@ use Rattle.graph_commands.specs.RefusalLines.{refusal_text, refusal_status}
 use Rattle.graph_commands.specs.Text.{◌⧺◌, newline}
 use Rattle.graph_commands.specs.declared.refusal.Refusal.{Refusal}
 use Rattle.graph_commands.specs.declared.refusal.Refusal.TheVariants.{Id, Read, File, Open, Verify, Walk}
-use Rattle.history_commands.specs.Walk.{id_in}
+use Rattle.history_commands.specs.Walk.{id_in, id_line}
 use Rattle.history_commands.specs.declared.bases.Compared.{Compared}
 use Rattle.history_commands.specs.declared.bases.Compared.TheVariants.{Unknown, Known}
 
@@ -77,7 +77,7 @@ MayRefuseAll texts IsLeftAlone MayOpen Walk =
 MayRefuseAll texts IsLeftAlone MayOpen (Read error) = ⊥
 MayRefuseAll texts IsLeftAlone MayOpen (File error) = ⊥
 
--- what `merge-base` may answer for the texts of ids, given what the opener may answer: what is found of them
+-- what `merge-base` and `merge-base-ids` may answer for the texts of ids, given what the opener may answer: what is found of them
 -- in a right graph that it may open, with the layers of the graph; or a refusal
 abbrev pub MayCompare : List (List ℕ) → Type 0 → (Result (List Layer) OpenError → Type 0)
     → Result (List Layer × Compared) Refusal → Type 0
@@ -88,6 +88,10 @@ MayCompare texts IsLeftAlone MayOpen (Err refusal) = MayRefuseAll texts IsLeftAl
 -- the line of a base: its position and its id
 abbrev pub merge_base_line : List Layer → Position → List ℕ
 merge_base_line layers base = codes "base " ⧺ decimal base.0 ⧺ codes " " ⧺ encode_lower (id_in layers base.0) ⧺ newline
+
+-- the line of the id of a base alone
+abbrev pub base_id_line : List Layer → Position → List ℕ
+base_id_line layers base = id_line (id_in layers base.0)
 
 -- a line for each of the bases, or that there is none
 abbrev pub bases_text : (Position → List ℕ) → List Position → List ℕ
@@ -113,6 +117,11 @@ compared_text layers (Unknown number) = unknown_line number
 compared_text layers (Known comparison) =
     bases_text (merge_base_line layers) comparison.bases.positions.items ⧺ counts_text comparison
 
+-- the ids of the bases alone
+abbrev pub base_ids_text : List Layer → Compared → List ℕ
+base_ids_text layers (Unknown number) = unknown_line number
+base_ids_text layers (Known comparison) = bases_text (base_id_line layers) comparison.bases.positions.items
+
 -- 0 for bases, and 1 where there is none or an id is not there
 abbrev pub bases_status : List Position → ℕ
 bases_status [] = 1
@@ -126,6 +135,11 @@ compared_status (Known comparison) = bases_status comparison.bases.positions.ite
 abbrev pub merge_base_text : Result (List Layer × Compared) Refusal → List ℕ
 merge_base_text (Ok (layers, compared)) = compared_text layers compared
 merge_base_text (Err refusal) = refusal_text refusal ⧺ newline
+
+-- those of `merge-base-ids`
+abbrev pub merge_base_ids_text : Result (List Layer × Compared) Refusal → List ℕ
+merge_base_ids_text (Ok (layers, compared)) = base_ids_text layers compared
+merge_base_ids_text (Err refusal) = refusal_text refusal ⧺ newline
 
 -- the status of what is found, and else that of the refusal
 abbrev pub merge_base_status : Result (List Layer × Compared) Refusal → ℕ

@@ -1,5 +1,5 @@
-//! The command `merge-base`, and the lines that it writes. Writing them allocates nothing but a block
-//! for the lines of bases.
+//! The commands `merge-base` and `merge-base-ids`, and the lines that they write. Writing them
+//! allocates nothing but a block for the lines of bases.
 
 ghost use Rattle.std.specs.Prelude.{◌≡◌, ◌<◌, [], ◌∷◌, All, IfErr, IfOk, IfSome, IsNone};
 ghost use Rattle.std.specs.Prelude.{List, Ok, OnOk, length, map, string_bytes};
@@ -18,8 +18,9 @@ ghost use Rattle.history_commands.specs.MergeBases.{MayBeAskedOfAll, MayCompare,
 ghost use Rattle.history_commands.specs.MergeBases.{MayHaveBases, MayNotReadIds, MayRefuseAll};
 ghost use Rattle.history_commands.specs.MergeBases.{SpellNotAll, counts_text, merge_base_line};
 ghost use Rattle.history_commands.specs.MergeBases.{merge_base_text, merge_base_status};
-ghost use Rattle.history_commands.specs.MergeBases.{unknown_line};
+ghost use Rattle.history_commands.specs.MergeBases.{merge_base_ids_text, unknown_line};
 
+use crate::walk::{tell_none, write_ids};
 use gix_commitgraph::Position;
 use gix_commitgraph::opening::open_in;
 use gix_hash_core::{IdError, ObjectId, oid};
@@ -68,6 +69,31 @@ pub fn run_merge_base<T: Folder, W: Write>(
 {
     match compare(alloc, folder, path, first, others) {
         Ok((graph, compared)) => tell(alloc, writer, &graph.as_checked(), &compared),
+        Err(refusal) => refuse(writer, &refusal),
+    }
+}
+
+/// Compares commits as `run_merge_base` does, and writes the ids of the merge bases alone, a line
+/// for each, or `none`. Or it writes the number of the first id that is not in the graph, or why
+/// the question is refused. The answer is the exit status, which is that of `run_merge_base`.
+/// `WriteFailed` comes where the writer fails.
+pub fn run_merge_base_ids<T: Folder, W: Write>(
+    alloc: Global,
+    folder: &mut T,
+    path: &str,
+    first: &str,
+    others: &[String],
+    writer: &mut W,
+) -> Result<u8, WriteFailed>
+    ensures written { IfOk result (WritesAnswer merge_base_ids_text merge_base_status
+        (MayCompare (first.now ∷ map string_bytes others.now) (folder.new ≡ folder.old)
+        (MayOpen (T.tree folder.old) path.now (T.failure_count folder.old)
+        (T.failure_count folder.new)))
+        (W.contents writer.old) (W.contents writer.new)) }
+    ensures tree { T.tree folder.new ≡ T.tree folder.old }
+{
+    match compare(alloc, folder, path, first, others) {
+        Ok((graph, compared)) => tell_ids(alloc, writer, &graph.as_checked(), &compared),
         Err(refusal) => refuse(writer, &refusal),
     }
 }
@@ -242,6 +268,34 @@ fn tell<W: Write>(
             Ok(mut block) => {
                 write_bases(&mut block, writer, graph, &comparison.bases.positions)?;
                 write_counts(writer, comparison)?;
+                Ok(Status::Yes as u8)
+            }
+            Err(_) => refuse(writer, &Refusal::Walk),
+        },
+    }
+}
+
+/// Writes what is found, of the bases their ids alone, and answers the exit status. The ids go
+/// through a block, and where there is no memory for one, that is told in their place.
+fn tell_ids<W: Write>(
+    alloc: Global,
+    writer: &mut W,
+    graph: &Checked<'_>,
+    compared: &Compared,
+) -> Result<u8, WriteFailed>
+    requires { AreBasesWithin graph.now.layers compared.now }
+    ensures { IfOk result (WritesAnswer merge_base_ids_text merge_base_status
+        (IsToldOf MayHaveBases (graph.now.layers, compared.now))
+        (W.contents writer.old) (W.contents writer.new)) }
+{
+    match compared {
+        Compared::Unknown(number) => tell_unknown(writer, *number),
+        Compared::Known(comparison) if comparison.bases.positions.is_empty() => tell_none(
+            writer, "none",
+        ),
+        Compared::Known(comparison) => match Block::new(alloc) {
+            Ok(mut block) => {
+                write_ids(&mut block, writer, graph, &comparison.bases.positions)?;
                 Ok(Status::Yes as u8)
             }
             Err(_) => refuse(writer, &Refusal::Walk),

@@ -9,7 +9,7 @@ ghost use Rattle.history_commands.specs.Question.{MayAnswer, MayFindBoth};
 ghost use Rattle.history_commands.specs.IsAncestor.{IsTold, told_status, told_word};
 ghost use Rattle.history_commands.specs.IsAncestor.{is_ancestor_text, is_ancestor_status};
 
-pub use crate::bases::run_merge_base;
+pub use crate::bases::{run_merge_base, run_merge_base_ids};
 pub use crate::check::run_check;
 use crate::question::{Answer, ask};
 pub use crate::walk::run_walk;

@@ -159,7 +159,7 @@ fn tell_reached<W: Write>(
 }
 
 /// Writes a line that says that something is not there, and answers the exit status.
-fn tell_none<W: Write>(writer: &mut W, line: &str) -> Result<u8, WriteFailed>
+pub(crate) fn tell_none<W: Write>(writer: &mut W, line: &str) -> Result<u8, WriteFailed>
     ensures { IfOk result (λ status. Appends (W.contents writer.old) (W.contents writer.new)
         (line.now ⧺ newline) × (status ≡ 1)) }
 {
@@ -168,7 +168,7 @@ fn tell_none<W: Write>(writer: &mut W, line: &str) -> Result<u8, WriteFailed>
 }
 
 /// Writes the ids at these positions, a line for each.
-fn write_ids<W: Write>(
+pub(crate) fn write_ids<W: Write>(
     block: &mut Block,
     writer: &mut W,
     graph: &Checked<'_>,
