@@ -30,9 +30,10 @@ find_program() {
 }
 
 # Runs a program with some words, and passes on what it writes, through the command `filter` where that is not
-# empty, but for a refusal where `holds` is `yes`. Sets `status` to its status, `line` to the first line that it wrote, and `said` to what it wrote on
-# standard error. Where the answer could not be written, or a signal ended the program, `line` and `said` tell of
-# that, and `status` is 2 or that of the signal; `passed` is more than 128 where nobody reads the answer any more.
+# empty, but for a refusal where `holds` is `yes`. Sets `status` to its status, `line` to the first line that it
+# wrote, and `said` to what it wrote on standard error. Where the answer could not be written, or a signal ended the
+# program, `line` and `said` tell of that, and `status` is 2 or that of the signal; `passed` is more than 128 where
+# nobody reads the answer any more.
 #
 # Standard output is 3 here, and 4 leads to the variable `told`.
 ask() {

@@ -7,8 +7,8 @@
 #
 # A row is that of the line if a text in backquotes in its first cell has the line's words, where a capital
 # letter stands for any number, and the line may have more words at its end. Of several such rows the one with
-# the most words is taken, of those one for the command alone, which begins with “from `WORD`”, and of those the
-# one with the fewest letters. A `"` is what the row above says to do, and what it means to write a
+# the most words is taken, of those one for the command, which begins with “from `WORD`” or so with several words,
+# and of those the one with the fewest letters. A `"` is what the row above says to do, and what it means to write a
 # commit-graph anew stands in a row too.
 
 BEGIN {
@@ -96,9 +96,11 @@ function fit(text, wanted,    words, parts, count, number, letters) {
     return 100 * count - letters
 }
 
-function is_for_command(text,    parts) {
-    split(text, parts, "`")
-    return parts[2] == command
+function is_for_command(text,    parts, count, at) {
+    sub(/: .*/, "", text)
+    count = split(text, parts, "`")
+    for (at = 2; at <= count; at += 2) if (parts[at] == command) return 1
+    return 0
 }
 
 # The numbers that the letters of a text stand for in the line.

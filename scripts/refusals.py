@@ -7,11 +7,11 @@ from typing import List, NamedTuple, Optional, Sequence
 TOP = os.path.dirname(os.path.dirname(os.path.abspath(__file__)))
 ANEW = "write it anew"
 LETTER = re.compile(r"(?<![A-Za-z0-9])[A-Z](?![A-Za-z0-9])")
-FROM = re.compile(r"from `([^`]*)`[^:]*: ")
+FROM = re.compile(r"from (`[^:]*): ")
 
 
 class Row(NamedTuple):
-    """A row: a text for lines, its section, the one command that it is of, what happened and what to do."""
+    """A row: a text for lines, its section, a command that it is of, if not any, what happened and what to do."""
 
     text: str
     section: str
@@ -29,7 +29,7 @@ class Known(NamedTuple):
 
 
 def read_rows() -> List[Row]:
-    """The rows of all tables, one for each text in the first cell, in their order."""
+    """The rows of all tables, one for each text in the first cell and each command that is named, in their order."""
     with open(os.path.join(TOP, "docs", "REFUSALS.md"), encoding="utf-8") as file:
         lines = file.read().split("\n")
     rows, section, to_do = [], None, ""
@@ -39,9 +39,10 @@ def read_rows() -> List[Row]:
         elif line.startswith("| "):
             first, happened, *more = line.strip("| ").split(" | ")
             to_do = to_do if more[:1] == ['"'] else "".join(more[:1])
-            command = FROM.match(happened)
+            named = FROM.match(happened)
+            words = re.findall(r"`([^`]*)`", named.group(1)) if named else [None]
             for text in re.findall(r"`([^`]*)`", first):
-                rows.append(Row(text, section, command and command.group(1), FROM.sub("", happened, count=1), to_do))
+                rows += [Row(text, section, word, FROM.sub("", happened, count=1), to_do) for word in words]
     return rows
 
 

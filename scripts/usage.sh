@@ -83,7 +83,7 @@ HEX is the id of a commit in hexadecimal.
 END
     awk -v name="$name" '
         /^#/ || $2 != name { next }
-        { word = $1; for (field = 1; field <= 5; field++) sub(/^[^ ]+ +/, ""); printf "%-11s  %s\n", word, $0 }
+        { word = $1; for (field = 1; field <= 5; field++) sub(/^[^ ]+ +/, ""); printf "%-14s  %s\n", word, $0 }
     ' "$top/scripts/commands"
     cat <<'END'
 

@@ -13,7 +13,8 @@ usage: python3 scripts/real_data GRAPHTOOL HISTORYTOOL TEST_FILTERS [every-value
 - `merge-base`: the bases that `git merge-base --all` names, and how many commits are ahead and behind by the
   parents that Git lists; where times are in order, also as `git rev-list --left-right --count` counts them. How many
   were visited lies within the bounds that the parents and the generation numbers give.
-  Also of long histories, in a file and in a chain, and of small ones with cycles, beside all walks.
+  Also of long histories, in a file and in a chain, and of small ones with cycles, beside all walks. `merge-base-ids`
+  tells the ids of the same bases.
 - chains in which commits stand in several layers: the same questions beside all walks, which answers are not Git's, and
   what `git cgraph` says beside them. And a chain file with the line ends 0d 0a, which Git does not load.
 - `check`: the lines of `verify`, and those of the corrected dates and changed-path filters that Git writes; damaged

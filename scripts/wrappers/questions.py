@@ -29,6 +29,9 @@ WORDS = {
 }
 """The program that answers each word, and revisions after the word; `list` is by itself."""
 
+ASKED = {"merge-base": "merge-base-ids"}
+"""By which word a program is asked, where that is another."""
+
 WRONG = {
     "there is no command": [],
     "there is no command 'bogus'": ["bogus"],
@@ -166,7 +169,7 @@ def check_questions(results, clone, repository, shell):
         clone.put_program(program, ECHO + "exit 0\n")
     for word, (_, revisions) in WORDS.items():
         ids = [git(clone, repository, "rev-parse", revision) for revision in revisions]
-        written = "".join("<%s>" % part for part in [word, "info/commit-graph", *ids])
+        written = "".join("<%s>" % part for part in [ASKED.get(word, word), "info/commit-graph", *ids])
         expected = (0, written, objects + "\n")
         ways = {
             "at the top": ask(clone, [word, *revisions], repository, shell),
@@ -196,10 +199,11 @@ def check_statuses(results, clone, repository):
         if line == "unknown 1":
             sentences.insert(0, "id 1 is " + git(clone, repository, "rev-parse", revisions[0]))
         results.check("git cgraph %s, answered %r" % (word, line), exactly(answer, expected, line + "\n", said(sentences)))
-    clone.put_program("historytool", "printf '%s\\n' 'base 3 ab' 'base 14 cd' 'ahead 3 behind 4' 'visits 7'\n")
+    clone.put_program("historytool", "echo \"$1\"\n")
     for words, out in (
-        (["merge-base", "HEAD", "HEAD"], "ab\ncd\n"),
-        (["merge-base", "HEAD", "-v", "HEAD"], "base 3 ab\nbase 14 cd\nahead 3 behind 4\nvisits 7\n"),
+        (["merge-base", "HEAD", "HEAD"], "merge-base-ids\n"),
+        (["merge-base", "HEAD", "-v", "HEAD"], "merge-base\n"),
+        (["merge-base", "--verbose", "HEAD", "HEAD"], "merge-base\n"),
     ):
         results.check("git cgraph " + " ".join(words), exactly(ask(clone, words, repository), 0, out))
     clone.put_program("historytool", "echo 'usage: other words' >&2\nexit 2\n")
@@ -219,7 +223,8 @@ def check_repeated(results, clone, repository):
     twice, right = "echo 'refused verify 11 position 3 earlier 1'\nexit 1\n", "echo 'ok commits 4 longest 2'\n"
     for word, line, layers, distinct, is_said in (
         *((word, line, "aa\nbb\n", twice, True) for word, line in (("is-ancestor", "no"), ("walk", "none"), ("merge-base", "none"))),
-        *(("merge-base", "base 3 ab", "aa\nbb\n", twice, True), ("merge-base", "base 3 ab", "aa\nbb", twice, True)),
+        *(("merge-base", "ab", "aa\nbb\n", twice, True), ("merge-base", "ab", "aa\nbb", twice, True)),
+        ("merge-base -v", "base 3 ab", "aa\nbb\n", twice, True),
         *(("is-ancestor", "no", "aa\n", twice, False), ("is-ancestor", "no", "aa", twice, False)),
         *(("walk", "none", "aa\nbb\n", right, False), ("merge-base", "none", "aa\nbb\n", "exit 3\n", False)),
         *(("is-ancestor", "yes", "aa\nbb\n", twice, False), ("walk", "refused verify 10", "aa\nbb\n", twice, False)),
@@ -229,13 +234,13 @@ def check_repeated(results, clone, repository):
         status = int(line.startswith(("no", "refused")))
         clone.put_program("historytool", "echo '%s'\nexit %d\n" % (line, status))
         clone.put_program("graphtool", '[ "$*" = "distinct info" ] || exit 9\n' + distinct)
-        answer = ask(clone, [word, *WORDS[word][1]], repository)
+        words = word.split()
+        answer = ask(clone, [*words, *WORDS[words[0]][1]], repository)
         known = refusals.Known("", "", anew(folder, "commit-graphs", "--split"))
-        err = said(refusals.sentences(rows, "", word, known, differs)) if is_said else ""
+        err = said(refusals.sentences(rows, "", words[0], known, differs)) if is_said else ""
         if line.startswith("refused"):
-            err = said(refusals.sentences(rows, line, word))
-        out = line.replace("base 3 ", "") + "\n"
-        wanted = (128 if line.startswith("refused") else status, out, err)
+            err = said(refusals.sentences(rows, line, words[0]))
+        wanted = (128 if line.startswith("refused") else status, line + "\n", err)
         title = "git cgraph %s, answered %r of the chain %r, where distinct runs %r" % (word, line, layers, distinct)
         results.check(title, exactly(answer, *wanted))
     shutil.rmtree(os.path.join(info, b"commit-graphs"))

@@ -119,7 +119,7 @@ def check_told(results, wrapper, clone):
         for word in ("--help", "-h"):
             answer = clone.run([name, *before, word])
             right = answer.status == 0 and answer.out.startswith(usage_of(name) + "\n") and not answer.err
-            rows = ["%-11s  %s" % (command.word, command.about) for command in commands(name)]
+            rows = ["%-14s  %s" % (command.word, command.about) for command in commands(name)]
             missing = [row for row in rows if row not in answer.out.splitlines()]
             complaint = None if right and not missing else "it is %r" % (answer,)
             results.check(" ".join([name, *before, word]), complaint)

@@ -4,7 +4,6 @@ use Rattle.std.specs.Prelude.{Option, Result, Ok, Err, IfOk, IfErr, MatchResult}
 use Rattle.std.specs.BTreeMap.{IsOrdered}
 use Rattle.std.specs.Io.KnownBytes.{Appends}
 use Rattle.std.specs.Ordering.{nat_cmp}
-use Rattle.std.specs.declared.convert.Infallible.{Infallible}
 use Rattle.graph_format.specs.Layer.{Layer}
 use Rattle.graph_format.specs.Points.{Agrees}
 use Rattle.graph_format.specs.StoredHistory.{history_of}
@@ -17,6 +16,7 @@ use Rattle.gix_commitgraph.specs.declared.verify.Outcome.{Outcome}
 use Rattle.gix_commitgraph.specs.declared.verify.VerifyError.{VerifyError}
 use Rattle.gix_commitgraph.specs.declared.verify.VerifyError.TheVariants as error
 use Rattle.gix_commitgraph.specs.declared.verify.VerifyOptions.{VerifyOptions}
+use Rattle.graph_ancestors.specs.declared.no_fault.NoFault.{NoFault}
 use Rattle.graph_commands.specs.declared.refusal.Refusal.TheVariants.{Open, Verify}
 use Rattle.graph_commands.specs.WrittenAnswer.{WritesAnswer, WritesRefusal}
 use Rattle.graph_commands.specs.Report.{outcome_text}
@@ -34,12 +34,13 @@ writes_unopened options MayOpen refusal old new (Ok status) opens refused = (Err
 pub sound-plain : (layers : List Layer) → Sound layers → IsSoundWith (record { distinct_ids = false }) layers
 sound-plain layers sound = record { sound = sound; distinct = λ is. let never : false ≡ true = cc in cc }
 
-module _ {F : Type 0} (step : F → ℕ → Result (Unit {0}) Infallible → F → Type 0) (options : VerifyOptions) (layers : List Layer)
-    (f g : F) (Right : Type 0) where
-  -- the refusal of a check whose processor accepts each commit
-  fails : (x : VerifyError Infallible) → (IsSoundWith options layers → Right) → Disproves Right x
+-- A check whose processor accepts each commit.
+module _ {F : Type 0} (step : F → ℕ → Result (Unit {0}) NoFault → F → Type 0) (options : VerifyOptions) (layers : List Layer)
+    (f g : F) (never : (h k : F) (p : ℕ) (e : NoFault) → step h p (Err e) k → ⊥) (Right : Type 0) where
+  -- why it refuses a graph
+  fails : (x : VerifyError NoFault) → (IsSoundWith options layers → Right) → Disproves Right x
       → Agrees step (points_with options layers) f g {T = Outcome} cause_of (Err x) → Fails options layers x
-  fails (error.Processor pos never) from shown agrees = elim never [ ]
+  fails (error.Processor pos e) from shown agrees = absurd (never agrees.then g pos.0 e agrees.answered)
   fails error.OutOfMemory from shown agrees = record { deserved = tt; first = inr refl }
   fails error.TooManyFiles from shown agrees = record { deserved = λ s. shown (from s); first = inl agrees.fault }
   fails (error.BaseCount i) from shown agrees = record { deserved = λ s. shown (from s); first = inl agrees.fault }
@@ -54,7 +55,7 @@ module _ {F : Type 0} (step : F → ℕ → Result (Unit {0}) Infallible → F �
 
   -- what was written of the check of a graph that was opened
   pub writes_check : {E : Type 0} (MayOpen : Result (List Layer) OpenError → Type 0)
-      (answer : Result Outcome (VerifyError Infallible)) (old new : Option (List ℕ)) (result : Result ℕ E)
+      (answer : Result Outcome (VerifyError NoFault)) (old new : Option (List ℕ)) (result : Result ℕ E)
       → (Right → IsSoundWith options layers) → (IsSoundWith options layers → Right) → MayOpen (Ok layers)
       → Agrees step (points_with options layers) f g cause_of answer
       → MatchResult answer (λ _. Right) (Disproves Right)

@@ -3,6 +3,7 @@ pub mod ListAnswers
 pub mod Appended
 pub mod BlockLemmas
 pub mod AncestorAnswers
+pub mod ToldLemmas
 pub mod CheckAnswers
 pub mod FindLemmas
 pub mod WordsLemmas

@@ -1,14 +1,16 @@
 -- the answers of `ancestor`, their texts and their exit statuses
-use Rattle.std.specs.Prelude.{◌⊎◌, ℕ, List, Result, Ok, Err, Option, Some, None, Vec, codes, decimal}
+use Rattle.std.specs.Prelude.{◌≡◌, ◌⊎◌, ℕ, List, Result, Ok, Err, Option, Some, None, Vec, ⊤, codes, decimal}
 use Rattle.std.specs.Global.{Global}
 use Rattle.std.specs.List.{flat_map}
 use Rattle.std.specs.Option.{option_map_or}
 use Rattle.gix_hash_core.specs.Hexadecimal.{SpellsId, SpellsNone}
 use Rattle.gix_hash_core.specs.declared.object_id.IdError.{IdError}
 use Rattle.graph_format.specs.Layer.{Layer}
+use Rattle.graph_format.specs.Lookup.{scan}
 use Rattle.graph_format.specs.StoredHistory.{history_of}
 use Rattle.graph_format.specs.declared.Position.{Position}
 use Rattle.graph_layer.specs.declared.opening.error.OpenError.{OpenError}
+use Rattle.gix_commitgraph.specs.Graph.{graph_ids}
 use Rattle.gix_commitgraph.specs.GraphLookup.{FoundIn}
 use Rattle.gix_commitgraph.specs.Sound.{Sound}
 use Rattle.graph_ancestors.specs.WalkAnswer.{IsAnswer}
@@ -16,7 +18,7 @@ use Rattle.graph_ancestors.specs.RefusedGraph.{MayRefuseGraph}
 use Rattle.graph_commands.specs.declared.ancestor.Ancestry.{Ancestry}
 use Rattle.graph_commands.specs.declared.ancestor.Ancestry.TheVariants.{FirstUnknown, SecondUnknown, Known}
 use Rattle.graph_commands.specs.declared.refusal.Refusal.{Refusal}
-use Rattle.graph_commands.specs.declared.refusal.Refusal.TheVariants.{Id, Read, File, Open, Verify, Check, Walk}
+use Rattle.graph_commands.specs.declared.refusal.Refusal.TheVariants.{Id, Read, File, Open, Verify, Walk}
 use Rattle.graph_commands.specs.RefusalLines.{refusal_text, refusal_status}
 use Rattle.graph_commands.specs.Text.{◌⧺◌, newline}
 
@@ -29,17 +31,20 @@ MayFindBetween layers first second (Known reached) =
     (from to : ℕ) × FoundIn layers first (Some from) × FoundIn layers second (Some to)
     × IsAnswer (history_of layers) from to reached
 
--- what may be answered of a graph: in one that is right, what the query finds, or that memory ran out during the search; else why
--- the check refuses it
+-- an id is in a graph: a scan of all ids finds it
+abbrev pub IsThere : List Layer → List ℕ → Type 0
+IsThere layers id = (p : ℕ) × (scan (graph_ids layers) id ≡ Some p)
+
+-- what may be answered of a graph: in one that is right, what the query finds, or that memory ran out in the search, where both
+-- ids are there; else why the check refuses it
 abbrev pub MayAnswerIn : List Layer → List ℕ → List ℕ → Result Ancestry Refusal → Type 0
 MayAnswerIn layers first second (Ok ancestry) = Sound layers × MayFindBetween layers first second ancestry
-MayAnswerIn layers first second (Err (Check error)) = MayRefuseGraph layers error
-MayAnswerIn layers first second (Err Walk) = Sound layers
+MayAnswerIn layers first second (Err (Verify error)) = MayRefuseGraph layers error
+MayAnswerIn layers first second (Err Walk) = Sound layers × IsThere layers first × IsThere layers second
 MayAnswerIn layers first second (Err (Id error)) = ⊥
 MayAnswerIn layers first second (Err (Read error)) = ⊥
 MayAnswerIn layers first second (Err (File error)) = ⊥
 MayAnswerIn layers first second (Err (Open error)) = ⊥
-MayAnswerIn layers first second (Err (Verify error)) = ⊥
 
 -- the texts are two ids, and this may be answered of a graph that the opener may answer
 abbrev pub MayAnswerOpened : List ℕ → List ℕ → (Result (List Layer) OpenError → Type 0) → Result Ancestry Refusal → Type 0
@@ -92,3 +97,8 @@ ancestor_text (Err refusal) = refusal_text refusal ⧺ newline
 abbrev pub ancestor_status : Result Ancestry Refusal → ℕ
 ancestor_status (Ok ancestry) = ancestry_status ancestry
 ancestor_status (Err refusal) = refusal_status refusal
+
+-- For private contracts: it is an answer to a query between positions, which alone may have a walk to write
+abbrev pub MayHaveWalk : Ancestry → Type 0
+MayHaveWalk (Known reached) = ⊤
+MayHaveWalk unknown = ⊥

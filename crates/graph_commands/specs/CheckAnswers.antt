@@ -2,7 +2,6 @@
 use Rattle.std.specs.Prelude.{◌≡◌, ◌⊎◌, ℕ, List, Result, Ok, Err, Some, None, true, false}
 use Rattle.std.specs.BTreeMap.{IsOrdered}
 use Rattle.std.specs.Ordering.{nat_cmp}
-use Rattle.std.specs.declared.convert.Infallible.{Infallible}
 use Rattle.graph_format.specs.Layer.{Layer}
 use Rattle.graph_format.specs.Points.{first_fault}
 use Rattle.graph_format.specs.StoredHistory.{history_of}
@@ -14,8 +13,9 @@ use Rattle.gix_commitgraph.specs.declared.verify.Outcome.{Outcome}
 use Rattle.gix_commitgraph.specs.declared.verify.VerifyError.{VerifyError}
 use Rattle.gix_commitgraph.specs.declared.verify.VerifyError.TheVariants.{OutOfMemory}
 use Rattle.gix_commitgraph.specs.declared.verify.VerifyOptions.{VerifyOptions}
+use Rattle.graph_ancestors.specs.declared.no_fault.NoFault.{NoFault}
 use Rattle.graph_commands.specs.declared.refusal.Refusal.{Refusal}
-use Rattle.graph_commands.specs.declared.refusal.Refusal.TheVariants.{Id, Read, File, Open, Verify, Check, Walk}
+use Rattle.graph_commands.specs.declared.refusal.Refusal.TheVariants.{Id, Read, File, Open, Verify, Walk}
 use Rattle.graph_commands.specs.RefusalLines.{refusal_text, refusal_status}
 use Rattle.graph_commands.specs.Report.{outcome_text}
 use Rattle.graph_commands.specs.Text.{◌⧺◌, newline}
@@ -26,11 +26,11 @@ pub record Passes (options : VerifyOptions) (layers : List Layer) (outcome : Out
   pub right : IsSoundWith options layers
   pub statistics : Stats layers outcome
   -- in the terms of the check: none of its points has a fault, and the outcome is computed from the commits
-  pub faultless : first_fault (points_with {E = Infallible} options layers) ≡ None
+  pub faultless : first_fault (points_with {E = NoFault} options layers) ≡ None
   pub summary : Summarizes (history_of layers) outcome
 
 -- What it means that a graph fails its check by these options with this error.
-pub record Fails (options : VerifyOptions) (layers : List Layer) (error : VerifyError Infallible) : Type 0 where
+pub record Fails (options : VerifyOptions) (layers : List Layer) (error : VerifyError NoFault) : Type 0 where
   -- the graph is not right, or breaks a further rule that the options add, unless the check ran out of memory
   pub deserved : IsDeservedWith options layers error
   -- the error is the first fault of the check, else that it ran out of memory
@@ -48,7 +48,6 @@ MayCheck options MayOpen (Err (Open error)) = MayOpen (Err error)
 MayCheck options MayOpen (Err (Id error)) = ⊥
 MayCheck options MayOpen (Err (Read error)) = ⊥
 MayCheck options MayOpen (Err (File error)) = ⊥
-MayCheck options MayOpen (Err (Check error)) = ⊥
 MayCheck options MayOpen (Err Walk) = ⊥
 
 -- what `verify` may answer: it adds no rule

@@ -7,7 +7,7 @@ use Rattle.gix_commitgraph.specs.GraphLookup.{FoundIn}
 use Rattle.graph_layer.specs.declared.opening.error.OpenError.{OpenError}
 use Rattle.graph_commands.specs.declared.report.Found.{Found}
 use Rattle.graph_commands.specs.declared.refusal.Refusal.{Refusal}
-use Rattle.graph_commands.specs.declared.refusal.Refusal.TheVariants.{Id, Read, File, Open, Verify, Check, Walk}
+use Rattle.graph_commands.specs.declared.refusal.Refusal.TheVariants.{Id, Read, File, Open, Verify, Walk}
 use Rattle.graph_commands.specs.RefusalLines.{refusal_text, refusal_status}
 use Rattle.graph_commands.specs.Report.{found_line}
 use Rattle.graph_commands.specs.Text.{◌⧺◌, newline}
@@ -44,7 +44,6 @@ MayFind text IsLeftAlone MayOpen (Err (Open error)) = (id : List ℕ) × SpellsI
 MayFind text IsLeftAlone MayOpen (Err (Read error)) = ⊥
 MayFind text IsLeftAlone MayOpen (Err (File error)) = ⊥
 MayFind text IsLeftAlone MayOpen (Err (Verify error)) = ⊥
-MayFind text IsLeftAlone MayOpen (Err (Check error)) = ⊥
 MayFind text IsLeftAlone MayOpen (Err Walk) = ⊥
 
 -- what the search found, or the line of a refusal

@@ -8,8 +8,9 @@ use Rattle.graph_format.specs.declared.fault.LayerFault.{LayerFault}
 use Rattle.graph_format.specs.declared.fault.LayerFault.TheVariants.{Checksum, FileName, Fan}
 use Rattle.gix_commitgraph.specs.declared.verify.VerifyError.{VerifyError}
 use Rattle.gix_commitgraph.specs.declared.verify.VerifyError.TheVariants as check
+use Rattle.graph_ancestors.specs.declared.no_fault.NoFault.{NoFault}
 use Rattle.graph_commands.specs.declared.refusal.Refusal.{Refusal}
-use Rattle.graph_commands.specs.declared.refusal.Refusal.TheVariants.{Id, Read, File, Open, Verify, Check, Walk}
+use Rattle.graph_commands.specs.declared.refusal.Refusal.TheVariants.{Id, Read, File, Open, Verify, Walk}
 use Rattle.graph_commands.specs.InputErrorNumbers.{id_number, read_number}
 use Rattle.graph_format.specs.ErrorNumbers.{chunk_number, commit_number, file_number, graph_number, parent_number}
 use Rattle.graph_commands.specs.Text.{◌⧺◌}
@@ -35,8 +36,8 @@ fault_text Checksum = codes "1"
 fault_text FileName = codes "2"
 fault_text (Fan byte) = codes "3 byte " ⧺ decimal byte
 
--- a graph that fails its check. The processors of the program refuse no commit, so that the line of such a refusal never comes
-abbrev pub verify_error_text : {E : Type 0} → VerifyError E → List ℕ
+-- a graph that fails its check. The processor of the check refuses no commit, so that the line of such a refusal never comes
+abbrev pub verify_error_text : VerifyError NoFault → List ℕ
 verify_error_text check.TooManyFiles = codes "1"
 verify_error_text (check.BaseCount layer) = codes "2 layer " ⧺ decimal layer
 verify_error_text (check.BaseId layer index) = codes "3 layer " ⧺ decimal layer ⧺ codes " index " ⧺ decimal index
@@ -56,7 +57,6 @@ refusal_text (Read error) = codes "refused read " ⧺ decimal (read_number error
 refusal_text (File error) = codes "refused " ⧺ file_text error
 refusal_text (Open error) = codes "refused open " ⧺ open_text error
 refusal_text (Verify error) = codes "refused verify " ⧺ verify_error_text error
-refusal_text (Check error) = codes "refused verify " ⧺ verify_error_text error
 refusal_text Walk = codes "refused walk"
 
 -- 2 for a text that is no id, and 1 for what is wrong with what was read

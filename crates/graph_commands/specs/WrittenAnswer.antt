@@ -1,7 +1,8 @@
 -- what it means that a command writes its answer
-use Rattle.std.specs.Prelude.{◌≡◌, ℕ, List, Option}
+use Rattle.std.specs.Prelude.{◌≡◌, ℕ, List, Option, Result, Ok, Err}
 use Rattle.std.specs.Io.KnownBytes.{Appends}
 use Rattle.graph_commands.specs.declared.refusal.Refusal.{Refusal}
+use Rattle.graph_commands.specs.declared.refusal.Refusal.TheVariants.{Walk}
 use Rattle.graph_commands.specs.RefusalLines.{refusal_text, refusal_status}
 use Rattle.graph_commands.specs.Text.{◌⧺◌, newline}
 
@@ -18,3 +19,8 @@ WritesRefusal refusal old new status = Appends old new (refusal_text refusal ⧺
 -- one line is written that says why there is no answer, and the status is 2
 abbrev pub Complains : List ℕ → Option (List ℕ) → Option (List ℕ) → ℕ → Type 0
 Complains line old new status = Appends old new (line ⧺ newline) × (status ≡ 2)
+
+-- For private contracts: what is told is what was found, or where memory may be needed to write that, that there is none
+abbrev pub IsToldOf : {A : Type 0} → (A → Type 0) → A → Result A Refusal → Type 0
+IsToldOf NeedsMemory found (Ok told) = told ≡ found
+IsToldOf NeedsMemory found (Err refusal) = (refusal ≡ Walk) × NeedsMemory found

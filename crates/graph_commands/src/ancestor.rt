@@ -1,13 +1,13 @@
 //! The command `ancestor`, and the lines that it writes. Writing them allocates nothing.
 
-ghost use Rattle.std.specs.Prelude.{◌≡◌, ◌++◌, [], IfErr, IfOk, Ok, OnOk, Err, codes};
+ghost use Rattle.std.specs.Prelude.{◌≡◌, ◌++◌, [], IfOk, OnOk, codes};
 ghost use Rattle.std.specs.Io.KnownBytes.{Appends};
 ghost use Rattle.std.specs.List.{flat_map};
 ghost use Rattle.gix_hash_core.specs.Oid.{oid_bytes};
 ghost use Rattle.graph_commands.specs.Ancestor.{MayAnswerIn, MayRelate, ancestor_text};
-ghost use Rattle.graph_commands.specs.Ancestor.{ancestor_status, ancestry_text, ancestry_status};
-ghost use Rattle.graph_commands.specs.Ancestor.{step_text, walk_line, visits_line};
-ghost use Rattle.graph_commands.specs.WrittenAnswer.{WritesAnswer};
+ghost use Rattle.graph_commands.specs.Ancestor.{MayHaveWalk, ancestor_status, step_text};
+ghost use Rattle.graph_commands.specs.Ancestor.{visits_line};
+ghost use Rattle.graph_commands.specs.WrittenAnswer.{IsToldOf, WritesAnswer};
 ghost use Rattle.graph_commands.specs.Block.{with_block};
 ghost use Rattle.graph_commands.specs.OpenerAnswer.{MayOpen};
 ghost use Rattle.graph_commands.specs.Text.{newline};
@@ -48,41 +48,9 @@ pub fn run_ancestor<T: Folder, W: Write>(
         (W.contents writer.old) (W.contents writer.new)) }
     ensures tree { T.tree folder.new ≡ T.tree folder.old }
 {
-    match prepare(alloc, folder, path, first, second) {
-        Ok((ancestry, mut block)) => {
-            write_ancestry(&mut block, writer, &ancestry)?;
-            Ok(ancestry.status())
-        }
+    match ancestor(alloc, folder, path, first, second) {
+        Ok(ancestry) => tell(alloc, writer, &ancestry),
         Err(refusal) => refuse(writer, &refusal),
-    }
-}
-
-/// The answer to the query, and a block to write a walk with. All that the lines need memory for is
-/// there before the first write.
-fn prepare<T: Folder>(
-    alloc: Global,
-    folder: &mut T,
-    path: &str,
-    first: &str,
-    second: &str,
-) -> Result<(Ancestry, Block), Refusal>
-    ensures answer { IfOk result (λ prepared. MayRelate first.now second.now
-        (folder.new ≡ folder.old)
-        (MayOpen (T.tree folder.old) path.now (T.failure_count folder.old)
-        (T.failure_count folder.new))
-        (Ok prepared.0)) }
-    ensures block { IfOk result (λ prepared. prepared.1 ≡ []) }
-    ensures refused { IfErr result (λ refusal. MayRelate first.now second.now
-        (folder.new ≡ folder.old)
-        (MayOpen (T.tree folder.old) path.now (T.failure_count folder.old)
-        (T.failure_count folder.new))
-        (Err refusal)) }
-    ensures tree { T.tree folder.new ≡ T.tree folder.old }
-{
-    let ancestry = ancestor(alloc, folder, path, first, second)?;
-    match Block::new(alloc) {
-        Ok(block) => Ok((ancestry, block)),
-        Err(_) => Err(Refusal::Walk),
     }
 }
 
@@ -139,50 +107,57 @@ pub enum Ancestry {
     Known(Reached),
 }
 
-impl Ancestry {
-    /// The exit status of the command.
-    fn status(&self) -> u8
-        ensures { result ≡ ancestry_status self.now }
-    {
-        match self {
-            Ancestry::Known(Reached { walk: Some(_), .. }) => Status::Yes as u8,
-            _ => Status::No as u8,
+/// Writes what a query found, and answers the exit status.
+fn tell<W: Write>(alloc: Global, writer: &mut W, ancestry: &Ancestry) -> Result<u8, WriteFailed>
+    ensures { IfOk result (WritesAnswer ancestor_text ancestor_status
+        (IsToldOf MayHaveWalk ancestry.now) (W.contents writer.old) (W.contents writer.new)) }
+{
+    match ancestry {
+        Ancestry::FirstUnknown => {
+            write_line(writer, "unknown 1")?;
+            Ok(Status::No as u8)
+        }
+        Ancestry::SecondUnknown => {
+            write_line(writer, "unknown 2")?;
+            Ok(Status::No as u8)
+        }
+        Ancestry::Known(reached) => tell_reached(alloc, writer, reached),
+    }
+}
+
+/// Writes the line of the walk and how many commits were visited, and answers the exit status. A
+/// walk goes through a block, and where there is no memory for one, that is told in its place.
+fn tell_reached<W: Write>(
+    alloc: Global,
+    writer: &mut W,
+    reached: &Reached,
+) -> Result<u8, WriteFailed>
+    ensures { IfOk result (WritesAnswer ancestor_text ancestor_status
+        (IsToldOf MayHaveWalk (Ancestry.Known reached.now))
+        (W.contents writer.old) (W.contents writer.new)) }
+{
+    match &reached.walk {
+        Some(walk) => match Block::new(alloc) {
+            Ok(mut block) => {
+                write_walk(&mut block, writer, walk)?;
+                write_visits(writer, reached.visits)?;
+                Ok(Status::Yes as u8)
+            }
+            Err(_) => refuse(writer, &Refusal::Walk),
+        },
+        None => {
+            write_line(writer, "none")?;
+            write_visits(writer, reached.visits)?;
+            Ok(Status::No as u8)
         }
     }
 }
 
-/// Writes what a query found. A walk goes through a block, which is empty before.
-fn write_ancestry<W: Write>(
-    block: &mut Block,
-    writer: &mut W,
-    ancestry: &Ancestry,
-) -> Result<(), WriteFailed>
-    requires { block.old ≡ [] }
-    ensures { OnOk result (Appends (W.contents writer.old) (W.contents writer.new)
-        (ancestry_text ancestry.now)) }
+/// Writes how many commits were visited.
+fn write_visits<W: Write>(writer: &mut W, visits: u32) -> Result<(), WriteFailed>
+    ensures { OnOk result
+        (Appends (W.contents writer.old) (W.contents writer.new) (visits_line visits)) }
 {
-    match ancestry {
-        Ancestry::FirstUnknown => write_line(writer, "unknown 1"),
-        Ancestry::SecondUnknown => write_line(writer, "unknown 2"),
-        Ancestry::Known(reached) => write_reached(block, writer, reached),
-    }
-}
-
-/// Writes the line of the walk, and how many commits were visited.
-fn write_reached<W: Write>(
-    block: &mut Block,
-    writer: &mut W,
-    reached: &Reached,
-) -> Result<(), WriteFailed>
-    requires { block.old ≡ [] }
-    ensures { OnOk result (Appends (W.contents writer.old) (W.contents writer.new)
-        (walk_line reached.now.walk ++ visits_line reached.now.visits)) }
-{
-    match &reached.walk {
-        Some(walk) => write_walk(block, writer, walk)?,
-        None => write_line(writer, "none")?,
-    }
-    let visits = reached.visits;
     write_line(writer, format_args!("visits {visits}"))
 }
 

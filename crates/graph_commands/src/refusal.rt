@@ -13,7 +13,6 @@ use graph_folder::folder::ReadError;
 use graph_format::error_numbers::{
     chunk_number, commit_number, file_number, graph_number, parent_number,
 };
-use std::convert::Infallible;
 use std::fmt;
 
 /// Why a command was refused. It is displayed as its line, without the line's end.
@@ -21,16 +20,14 @@ use std::fmt;
 pub enum Refusal {
     /// The text that is to be an id is not one.
     Id(IdError),
-    /// The input could not be read.
+    /// The input could not be read, or memory ran out before it was.
     Read(ReadError),
-    /// The input is no layer, or opening or listing it ran out of memory.
+    /// The input is no layer, or decoding it ran out of memory.
     File(FileError),
     /// No graph was opened by the path.
     Open(OpenError),
     /// The graph fails its check, or the check ran out of memory.
-    Verify(VerifyError<Infallible>),
-    /// The graph fails the check before a query, or the check ran out of memory.
-    Check(VerifyError<NoFault>),
+    Verify(VerifyError<NoFault>),
     /// The search of a query ran out of memory.
     Walk,
 }
@@ -75,23 +72,13 @@ impl From<OpenError> for Refusal {
     }
 }
 
-impl From<VerifyError<Infallible>> for Refusal {
+impl From<VerifyError<NoFault>> for Refusal {
     ghost use Rattle.graph_commands.specs.declared.refusal.Refusal.TheVariants.{Verify};
 
     ghost from_gives = { λ error refusal. refusal ≡ Verify error };
 
-    fn from(error: VerifyError<Infallible>) -> Refusal {
-        Refusal::Verify(error)
-    }
-}
-
-impl From<VerifyError<NoFault>> for Refusal {
-    ghost use Rattle.graph_commands.specs.declared.refusal.Refusal.TheVariants.{Check};
-
-    ghost from_gives = { λ error refusal. refusal ≡ Check error };
-
     fn from(error: VerifyError<NoFault>) -> Refusal {
-        Refusal::Check(error)
+        Refusal::Verify(error)
     }
 }
 
@@ -121,7 +108,6 @@ impl fmt::Display for Refusal {
             Refusal::File(error) => write!(f, "refused {}", FileText(error)),
             Refusal::Open(error) => write!(f, "refused open {}", OpenText(error)),
             Refusal::Verify(error) => write!(f, "refused verify {}", VerifyText(error)),
-            Refusal::Check(error) => write!(f, "refused verify {}", VerifyText(error)),
             Refusal::Walk => f.write_str("refused walk"),
         }
     }
@@ -170,9 +156,9 @@ impl fmt::Display for OpenText<'_> {
 
 /// A graph that fails its check: what stands after `refused verify`.
 #[derive(Clone, Copy)]
-struct VerifyText<'a, E>(&'a VerifyError<E>);
+struct VerifyText<'a>(&'a VerifyError<NoFault>);
 
-impl<E> fmt::Display for VerifyText<'_, E> {
+impl fmt::Display for VerifyText<'_> {
     ghost use Rattle.graph_commands.specs.RefusalLines.{verify_error_text};
 
     ghost output = { λ text. Some (verify_error_text text.0.now) };

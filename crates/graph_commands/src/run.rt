@@ -21,14 +21,14 @@ use crate::listing::write_listing;
 use crate::refusal::Refusal;
 use crate::report::{Found, write_outcome};
 use crate::status::Status;
+use gix_commitgraph::File;
 use gix_commitgraph::file::Commit;
 use gix_commitgraph::opening::open_in;
 use gix_commitgraph::verify::{Outcome, VerifyError, VerifyOptions};
-use gix_commitgraph::{File, FileError};
 use gix_hash_core::ObjectId;
-use graph_folder::folder::{Folder, read_all};
+use graph_ancestors::NoFault;
+use graph_folder::folder::{Folder, ReadError, read_all};
 use std::alloc::Global;
-use std::convert::Infallible;
 use std::io::{Read, Write};
 
 /// Writes the listing of the layer that the reader gives, or one line that says why it is refused.
@@ -52,7 +52,7 @@ pub fn run_list<R: Read, W: Write>(
 }
 
 /// The layer that the reader gives, and a block to write its listing with. All that a listing needs
-/// memory for is there before the first write.
+/// memory for is there before the first write, and but for the layer before the first read.
 fn prepare<R: Read>(alloc: Global, reader: &mut R) -> Result<(File, Block), Refusal>
     ensures layer { IfOk result (λ prepared. IfSome (R.remaining reader.old) (λ input.
         MayList input (Ok prepared.0))) }
@@ -60,9 +60,9 @@ fn prepare<R: Read>(alloc: Global, reader: &mut R) -> Result<(File, Block), Refu
     ensures refused { IfErr result (λ refusal. IfSome (R.remaining reader.old) (λ input.
         MayList input (Err refusal))) }
 {
+    let path = String::from_str(alloc, "-").map_err(|_| ReadError::OutOfMemory)?;
+    let block = Block::new(alloc).map_err(|_| ReadError::OutOfMemory)?;
     let input = read_all(alloc, reader)?;
-    let path = String::from_str(alloc, "-").map_err(|_| FileError::OutOfMemory)?;
-    let block = Block::new(alloc).map_err(|_| FileError::OutOfMemory)?;
     let layer = File::new(alloc, input, path)?;
     Ok((layer, block))
 }
@@ -122,7 +122,7 @@ pub fn run_distinct<T: Folder, W: Write>(
 /// status.
 fn write_answer<W: Write>(
     writer: &mut W,
-    answer: Result<Outcome, VerifyError<Infallible>>,
+    answer: Result<Outcome, VerifyError<NoFault>>,
 ) -> Result<u8, WriteFailed>
     ensures found { IfOk answer (λ outcome. IfOk result (λ status.
         Appends (W.contents writer.old) (W.contents writer.new) (outcome_text outcome)

@@ -17,11 +17,8 @@ use Rattle.gix_commitgraph.proofs.history.HistoryLemmas.{length-history}
 use Rattle.graph_ancestors.specs.WalkAnswer.{IsAnswer, IsShortestWalk, numbers_of}
 use Rattle.graph_ancestors.specs.declared.Reached.{Reached}
 use Rattle.graph_history.proofs.RightGraphLemmas.{all_within}
-use Rattle.graph_commands.specs.WrittenAnswer.{WritesAnswer, WritesRefusal}
-use Rattle.graph_commands.specs.declared.refusal.Refusal.{Refusal}
 use Rattle.history_commands.specs.Question.{MayFindBoth}
-use Rattle.history_commands.specs.Walk.{IsWalkOfIds, AreInGraph, id_in, id_line, with_ids, walk_found_text, found_status}
-use Rattle.history_commands.specs.Walk.{walk_text, walk_status}
+use Rattle.history_commands.specs.Walk.{IsWalkOfIds, AreInGraph, MayBeWalk, id_in, id_line, with_ids, walk_found_text}
 use Rattle.history_commands.specs.declared.question.Answer.{Answer}
 use Rattle.history_commands.specs.declared.question.Answer.TheVariants.{FirstUnknown, SecondUnknown, Known}
 
@@ -64,22 +61,29 @@ pub known_within : (layers : List Layer) (p q : ℕ) (reached : Reached) → All
     → IsAnswer (history_of layers) p q reached → AreInGraph layers (Known reached.walk)
 known_within layers p q reached opened answer = are_within layers p q reached.walk opened answer.walk
 
-pub ids_text : (layers : List Layer) (found : Answer (Option (Vec Position Global))) (walk : Vec Position Global)
+ids_text : (layers : List Layer) (found : Answer (Option (Vec Position Global))) (walk : Vec Position Global)
     → found ≡ Known (Some walk)
     → walk_found_text (with_ids layers found) ≡ flat_map (λ (pos : Position). id_line (id_in layers pos.0)) walk.items
 ids_text layers found walk is =
     ap (λ (x : Answer (Option (Vec Position Global))). walk_found_text (with_ids layers x)) is
     ∙ flat_map-map id_line (λ (pos : Position). id_in layers pos.0) walk.items
 
-pub same_status : (layers : List Layer) (found : Answer (Option (Vec Position Global)))
-    → found_status found ≡ found_status (with_ids layers found)
-same_status layers FirstUnknown = refl
-same_status layers SecondUnknown = refl
-same_status layers (Known (Some walk)) = refl
-same_status layers (Known None) = refl
+-- a walk that may be to write is one between two positions
+pub walk_wants : (May : Answer (Option (List (List ℕ))) → Type 0) (Want : Type 0) (layers : List Layer)
+    (found : Answer (Option (Vec Position Global))) → ((walk : Option (List (List ℕ))) → May (Known walk) → Want)
+    → May (with_ids layers found) → MayBeWalk (with_ids layers found) → Want
+walk_wants May Want layers FirstUnknown wants may is = absurd is
+walk_wants May Want layers SecondUnknown wants may is = absurd is
+walk_wants May Want layers (Known walk) wants may is =
+    wants (option_map (λ steps. map (λ (pos : Position). id_in layers pos.0) steps.items) walk) may
 
-pub writes_refused : {E : Type 0} (May : Result (Answer (Option (List (List ℕ)))) Refusal → Type 0) (refusal : Refusal)
-    (old new : Option (List ℕ)) (result : Result ℕ E) → May (Err refusal) → IfOk result (WritesRefusal refusal old new)
-    → IfOk result (WritesAnswer walk_text walk_status May old new)
-writes_refused May refusal old new (Ok status) may written = (Err refusal, may, written.0, written.1)
-writes_refused May refusal old new (Err error) may written = tt
+-- the lines of a walk
+pub told_walk : (layers : List Layer) (walk : Vec Position Global)
+    → flat_map (λ (pos : Position). id_line (id_in layers pos.0)) walk.items
+    ≡ walk_found_text (with_ids layers (Known (Some walk)))
+told_walk layers walk = sym (ids_text layers (Known (Some walk)) walk refl)
+
+-- a walk, with the ids in the place of positions
+pub known_with_ids : (layers : List Layer) (found walk : Option (Vec Position Global)) → found ≡ walk
+    → with_ids layers (Known found) ≡ with_ids layers (Known walk)
+known_with_ids layers found walk is = ap (λ (steps : Option (Vec Position Global)). with_ids layers (Known steps)) is

@@ -34,7 +34,7 @@ pub named : (help version : List ℕ) (words : List (String Global)) (name : Str
     × (length words ≡ 2))
     ⊎ ((string_bytes name ≡ codes "check") × (length words ≡ 3))
     ⊎ (((string_bytes name ≡ codes "is-ancestor") ⊎ (string_bytes name ≡ codes "walk")) × (length words ≡ 5))
-    ⊎ ((string_bytes name ≡ codes "merge-base") × (5 ≤ length words))
+    ⊎ (((string_bytes name ≡ codes "merge-base") ⊎ (string_bytes name ≡ codes "merge-base-ids")) × (5 ≤ length words))
 named help version words name (command.Help text) at is =
     elim is.1 [
       | inl are ↦ let e = second words name is.0 (codes "--help") [] at are in inl (inl e.0, e.1)
@@ -51,7 +51,11 @@ named help version words name (command.Walk path first other) at is =
 named help version words name (command.MergeBase path first others) at is =
     let e = second words name is.0 (codes "merge-base") (path.now ∷ first.now ∷ map string_bytes others.now) at is.1 in
     let some = some_of others.now is.2 in
-    inr (inr (inr (e.0, omega (arith, length-map others.now string_bytes))))
+    inr (inr (inr (inl e.0, omega (arith, length-map others.now string_bytes))))
+named help version words name (command.MergeBaseIds path first others) at is =
+    let e = second words name is.0 (codes "merge-base-ids") (path.now ∷ first.now ∷ map string_bytes others.now) at is.1 in
+    let some = some_of others.now is.2 in
+    inr (inr (inr (inr e.0, omega (arith, length-map others.now string_bytes))))
 named help version words name (command.Check path) at is =
     let e = second words name is.0 (codes "check") (path.now ∷ []) at is.1 in inr (inl (e.0, e.1))
 
@@ -59,7 +63,7 @@ named help version words name (command.Check path) at is =
 pub named_of_ids : (name path id : List ℕ) (others : List (String Global)) (asked : Command)
     → AskOfIds name path id (map string_bytes others) asked
     → (((name ≡ codes "is-ancestor") ⊎ (name ≡ codes "walk")) × (length others ≡ 1))
-    ⊎ ((name ≡ codes "merge-base") × (1 ≤ length others))
+    ⊎ (((name ≡ codes "merge-base") ⊎ (name ≡ codes "merge-base-ids")) × (1 ≤ length others))
 named_of_ids name path id others (command.Help text) is = absurd is
 named_of_ids name path id others (command.Version text) is = absurd is
 named_of_ids name path id others (command.IsAncestor at first other) is =
@@ -68,7 +72,10 @@ named_of_ids name path id others (command.Walk at first other) is =
     inl (inr is.0, sym (length-map others string_bytes) ∙ ap length is.3)
 named_of_ids name path id others (command.MergeBase at first more) is =
     let some = some_of (map string_bytes others) is.4 in
-    inr (is.0, omega (arith, length-map others string_bytes))
+    inr (inl is.0, omega (arith, length-map others string_bytes))
+named_of_ids name path id others (command.MergeBaseIds at first more) is =
+    let some = some_of (map string_bytes others) is.4 in
+    inr (inr is.0, omega (arith, length-map others string_bytes))
 named_of_ids name path id others (command.Check at) is = absurd is
 
 module _ (help version word name path id : List ℕ) (more : List (List ℕ)) where
@@ -82,6 +89,10 @@ module _ (help version word name path id : List ℕ) (more : List (List ℕ)) wh
       let are : word ∷ name ∷ path ∷ id ∷ more
       ≡ word ∷ codes "merge-base" ∷ at.now ∷ first.now ∷ map string_bytes others.now = cc in
       (word, are, λ none. is.4 (is.3 ∙ ap (map string_bytes) none))
+  ask_in_words (command.MergeBaseIds at first others) is =
+      let are : word ∷ name ∷ path ∷ id ∷ more
+      ≡ word ∷ codes "merge-base-ids" ∷ at.now ∷ first.now ∷ map string_bytes others.now = cc in
+      (word, are, λ none. is.4 (is.3 ∙ ap (map string_bytes) none))
   ask_in_words (command.Check at) is = absurd is
 
   asked_in_words : (asked : Command) → AskHistorytool help version (word ∷ name ∷ path ∷ id ∷ more) asked
@@ -92,6 +103,10 @@ module _ (help version word name path id : List ℕ) (more : List (List ℕ)) wh
   asked_in_words (command.IsAncestor at first other) is = let e = is.1 in (cc, cc, cc, cc)
   asked_in_words (command.Walk at first other) is = let e = is.1 in (cc, cc, cc, cc)
   asked_in_words (command.MergeBase at first others) is =
+      let e = is.1 in
+      let rest : more ≡ map string_bytes others.now = cc in
+      (cc, cc, cc, rest, λ none. is.2 (none_of others.now (sym rest ∙ none)))
+  asked_in_words (command.MergeBaseIds at first others) is =
       let e = is.1 in
       let rest : more ≡ map string_bytes others.now = cc in
       (cc, cc, cc, rest, λ none. is.2 (none_of others.now (sym rest ∙ none)))

@@ -12,7 +12,7 @@ use Rattle.gix_commitgraph.specs.Sound.{Sound}
 use Rattle.gix_commitgraph.specs.declared.verify.Outcome.{Outcome}
 use Rattle.graph_ancestors.specs.RefusedGraph.{MayRefuseGraph}
 use Rattle.graph_chunks.specs.GraphStoredDates.{HasDates, times_of, dates_of}
-use Rattle.graph_chunks.specs.GraphDates.{graph_dates_refusal, MayRefuseGraphDates}
+use Rattle.graph_chunks.specs.GraphDates.{graph_dates_refusal, FollowAllParents, MayRefuseGraphDates}
 use Rattle.graph_chunks.specs.GraphFilters.{settings_of, computed_in, graph_filters_refusal, MayRefuseGraphFilters}
 use Rattle.graph_chunks.specs.declared.dates.DatesError.{DatesError}
 use Rattle.graph_chunks.specs.declared.dates.DatesError.TheVariants as date_error
@@ -22,7 +22,7 @@ use Rattle.graph_commands.specs.RefusalLines.{refusal_text}
 use Rattle.graph_commands.specs.Report.{outcome_text}
 use Rattle.graph_commands.specs.Text.{◌⧺◌, newline}
 use Rattle.graph_commands.specs.declared.refusal.Refusal.{Refusal}
-use Rattle.graph_commands.specs.declared.refusal.Refusal.TheVariants.{Id, Read, File, Open, Verify, Check, Walk}
+use Rattle.graph_commands.specs.declared.refusal.Refusal.TheVariants.{Id, Read, File, Open, Verify, Walk}
 use Rattle.history_commands.specs.declared.check.CheckRefusal.{CheckRefusal}
 use Rattle.history_commands.specs.declared.check.CheckRefusal.TheVariants.{Graph, Dates, Filters}
 
@@ -33,12 +33,14 @@ pub record Findings : Type 0 where
   pub dates : Option ℕ
   pub filters : Option ℕ
 
--- some layer has no dates; or all of the commits have one, no condition refuses the dates, and they are right
+-- some layer has no dates; or all of the commits have one, no condition refuses the dates, they are right, and each follows from
+-- its commit's parents
 abbrev pub AreDatesFound : List Layer → Option ℕ → Type 0
 AreDatesFound layers None = ¬ All HasDates layers
 AreDatesFound layers (Some commits) =
     All HasDates layers × (graph_dates_refusal layers ≡ None)
-    × AreRight (history_of layers) (times_of layers) (dates_of layers) × (commits ≡ total layers)
+    × AreRight (history_of layers) (times_of layers) (dates_of layers) × FollowAllParents layers (dates_of layers)
+    × (commits ≡ total layers)
 
 -- the filters are not refused, and so many were computed, if some layer has filters
 abbrev pub AreFiltersFound : List Layer → Option ℕ → Type 0
@@ -53,23 +55,22 @@ pub record AreFindings (layers : List Layer) (findings : Findings) : Type 0 wher
   pub dates : AreDatesFound layers findings.dates
   pub filters : AreFiltersFound layers findings.filters
 
--- dates may be refused so, where each layer has some
+-- dates may be refused so, where each layer has some; that memory ran out is said only where all can be read
 unfoldable pub MayRefuseDates : List Layer → DatesError → Type 0
 MayRefuseDates layers error =
     All HasDates layers × MayRefuseGraphDates layers error
 
--- filters may be refused so
+-- filters may be refused so; that memory ran out is said only where nothing refuses them
 unfoldable pub MayRefuseFilters : List Layer → FiltersError → Type 0
 MayRefuseFilters layers error = MayRefuseGraphFilters layers error
 
 -- why no right graph is found, as `verify` may say: the path opens none, or the one that it opens fails its check
 abbrev pub MayRefuseToStart : (Result (List Layer) OpenError → Type 0) → Refusal → Type 0
 MayRefuseToStart MayOpen (Open error) = MayOpen (Err error)
-MayRefuseToStart MayOpen (Check error) = (layers : List Layer) × MayOpen (Ok layers) × MayRefuseGraph layers error
+MayRefuseToStart MayOpen (Verify error) = (layers : List Layer) × MayOpen (Ok layers) × MayRefuseGraph layers error
 MayRefuseToStart MayOpen (Id error) = ⊥
 MayRefuseToStart MayOpen (Read error) = ⊥
 MayRefuseToStart MayOpen (File error) = ⊥
-MayRefuseToStart MayOpen (Verify error) = ⊥
 MayRefuseToStart MayOpen Walk = ⊥
 
 -- why `check` may refuse what a path opens, given what the opener may answer: why there is no right graph; else why its dates are

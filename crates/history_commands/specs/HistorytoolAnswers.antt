@@ -9,7 +9,7 @@ use Rattle.history_commands.specs.declared.command.Command.{Command}
 use Rattle.history_commands.specs.declared.command.Command.TheVariants as command
 use Rattle.history_commands.specs.Check.{MayFindInAll, check_text, check_status}
 use Rattle.history_commands.specs.IsAncestor.{IsTold, is_ancestor_text, is_ancestor_status}
-use Rattle.history_commands.specs.MergeBases.{MayCompare, merge_base_text, merge_base_status}
+use Rattle.history_commands.specs.MergeBases.{MayCompare, merge_base_text, merge_base_ids_text, merge_base_status}
 use Rattle.history_commands.specs.Question.{MayAnswer}
 use Rattle.history_commands.specs.Walk.{IsWalkOfIds, walk_text, walk_status}
 
@@ -33,6 +33,9 @@ HistorytoolMayWrite (command.Walk path first second) input IsLeftAlone MayOpenAt
     (MayAnswer IsWalkOfIds first.now second.now IsLeftAlone (MayOpenAt path.now)) old new status
 HistorytoolMayWrite (command.MergeBase path first others) input IsLeftAlone MayOpenAt old new status =
     WritesAnswer merge_base_text merge_base_status
+    (MayCompare (first.now ∷ map string_bytes others.now) IsLeftAlone (MayOpenAt path.now)) old new status
+HistorytoolMayWrite (command.MergeBaseIds path first others) input IsLeftAlone MayOpenAt old new status =
+    WritesAnswer merge_base_ids_text merge_base_status
     (MayCompare (first.now ∷ map string_bytes others.now) IsLeftAlone (MayOpenAt path.now)) old new status
 HistorytoolMayWrite (command.Check path) input IsLeftAlone MayOpenAt old new status =
     WritesAnswer check_text check_status (MayFindInAll (MayOpenAt path.now)) old new status

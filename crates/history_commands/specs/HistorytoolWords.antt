@@ -1,5 +1,5 @@
 -- which words ask `historytool` for which command: is-ancestor PATH HEX HEX | walk PATH HEX HEX | merge-base PATH HEX HEX..
--- | check PATH | --help | --version
+-- | merge-base-ids PATH HEX HEX.. | check PATH | --help | --version
 use Rattle.std.specs.Prelude.{◌≡◌, ◌≢◌, ◌⊎◌, ℕ, List, [], ◌∷◌, codes, map, string_bytes}
 use Rattle.history_commands.specs.declared.command.Command.{Command}
 use Rattle.history_commands.specs.declared.command.Command.TheVariants as command
@@ -18,6 +18,9 @@ AskHistorytool help version words (command.Walk path first second) =
 AskHistorytool help version words (command.MergeBase path first others) =
     (name : List ℕ) × (words ≡ name ∷ codes "merge-base" ∷ path.now ∷ first.now ∷ map string_bytes others.now)
     × (others.now ≢ [])
+AskHistorytool help version words (command.MergeBaseIds path first others) =
+    (name : List ℕ) × (words ≡ name ∷ codes "merge-base-ids" ∷ path.now ∷ first.now ∷ map string_bytes others.now)
+    × (others.now ≢ [])
 AskHistorytool help version words (command.Check path) =
     (name : List ℕ) × (words ≡ name ∷ codes "check" ∷ path.now ∷ [])
 
@@ -29,4 +32,6 @@ AskOfIds name path id more (command.Walk at first second) =
     (name ≡ codes "walk") × (at.now ≡ path) × (first.now ≡ id) × (more ≡ second.now ∷ [])
 AskOfIds name path id more (command.MergeBase at first others) =
     (name ≡ codes "merge-base") × (at.now ≡ path) × (first.now ≡ id) × (more ≡ map string_bytes others.now) × (more ≢ [])
+AskOfIds name path id more (command.MergeBaseIds at first others) =
+    (name ≡ codes "merge-base-ids") × (at.now ≡ path) × (first.now ≡ id) × (more ≡ map string_bytes others.now) × (more ≢ [])
 AskOfIds name path id more other = ⊥

@@ -1,4 +1,4 @@
--- the answers of `merge-base`, their texts and their exit statuses
+-- the answers of `merge-base` and of `merge-base-ids`, their texts and their exit statuses
 use Rattle.std.specs.Prelude.{◌≡◌, ◌⊎◌, ℕ, ◌+◌, ◌<◌, List, [], ◌∷◌, All, Some, None, Result, Ok, Err, ⊤, codes, decimal}
 use Rattle.std.specs.Prelude.{slice_get, take}
 use Rattle.std.specs.List.{AllZip, flat_map}
@@ -18,16 +18,14 @@ use Rattle.graph_history.specs.Bases.{AreMergeBases, IsAhead, IsBehind, AreVisit
 use Rattle.graph_ancestors.specs.RefusedGraph.{MayRefuseGraph}
 use Rattle.graph_ancestors.specs.Cardinality.{IsNumberOf}
 use Rattle.graph_history.specs.declared.bases.Comparison.{Comparison}
-use Rattle.graph_commands.specs.Ancestor.{visits_line}
+use Rattle.graph_commands.specs.Ancestor.{IsThere, visits_line}
 use Rattle.graph_commands.specs.RefusalLines.{refusal_text, refusal_status}
 use Rattle.graph_commands.specs.Text.{◌⧺◌, newline}
 use Rattle.graph_commands.specs.declared.refusal.Refusal.{Refusal}
-use Rattle.graph_commands.specs.declared.refusal.Refusal.TheVariants.{Id, Read, File, Open, Verify, Check, Walk}
-use Rattle.history_commands.specs.Walk.{id_in}
+use Rattle.graph_commands.specs.declared.refusal.Refusal.TheVariants.{Id, Read, File, Open, Verify, Walk}
+use Rattle.history_commands.specs.Walk.{id_in, id_line}
 use Rattle.history_commands.specs.declared.bases.Compared.{Compared}
 use Rattle.history_commands.specs.declared.bases.Compared.TheVariants.{Unknown, Known}
-use Rattle.history_commands.specs.declared.bases.NotFound.{NotFound}
-use Rattle.history_commands.specs.declared.bases.NotFound.TheVariants as missing
 
 -- What a commit and some others of a history have in common, and how far they have come apart: what `git merge-base --all`
 -- names, and `git rev-list --left-right --count` counts for one other.
@@ -44,7 +42,7 @@ IsIdAt layers id p = scan (graph_ids layers) id ≡ Some p
 -- the first id that is not in a graph stands at this place
 abbrev pub IsFirstUnknown : List Layer → List (List ℕ) → ℕ → Type 0
 IsFirstUnknown layers ids place =
-    All (λ id. (p : ℕ) × IsIdAt layers id p) (take place ids)
+    All (IsThere layers) (take place ids)
     × ((id : List ℕ) × (slice_get ids place ≡ Some id) × (scan (graph_ids layers) id ≡ None))
 
 -- what may be found of ids in a graph: the first of them that is not there, by its number, which is 1 for the first id; else
@@ -65,22 +63,22 @@ SpellNotAll (text ∷ texts) error = SpellsNone text error ⊎ ((id : List ℕ) 
 abbrev pub MayBeAskedOfAll : List (List ℕ) → (Result (List Layer) OpenError → Type 0) → List Layer → List (List ℕ) → Type 0
 MayBeAskedOfAll texts MayOpen layers ids = AllZip SpellsId texts ids × MayOpen (Ok layers) × Sound layers
 
--- why it may be refused. For a text that is no id the folder is left as it was: nothing is opened. Memory may run out before
--- that too, while the ids are read, and else in the search
+-- why it may be refused. For a text that is no id the folder is left as it was: nothing is opened. Where each text spells an id,
+-- memory may run out while they are read, before anything is opened; and in the search, where each id is in a right graph
 abbrev pub MayRefuseAll : List (List ℕ) → Type 0 → (Result (List Layer) OpenError → Type 0) → Refusal → Type 0
 MayRefuseAll texts IsLeftAlone MayOpen (Id error) = SpellNotAll texts error × IsLeftAlone
 MayRefuseAll texts IsLeftAlone MayOpen (Open error) = (ids : List (List ℕ)) × AllZip SpellsId texts ids × MayOpen (Err error)
-MayRefuseAll texts IsLeftAlone MayOpen (Check error) =
+MayRefuseAll texts IsLeftAlone MayOpen (Verify error) =
     (ids : List (List ℕ)) × (layers : List Layer) × AllZip SpellsId texts ids × MayOpen (Ok layers)
     × MayRefuseGraph layers error
 MayRefuseAll texts IsLeftAlone MayOpen Walk =
-    IsLeftAlone ⊎ ((ids : List (List ℕ)) × (layers : List Layer) × MayBeAskedOfAll texts MayOpen layers ids)
+    (ids : List (List ℕ)) × AllZip SpellsId texts ids
+    × (IsLeftAlone ⊎ ((layers : List Layer) × MayOpen (Ok layers) × Sound layers × All (IsThere layers) ids))
 MayRefuseAll texts IsLeftAlone MayOpen (Read error) = ⊥
 MayRefuseAll texts IsLeftAlone MayOpen (File error) = ⊥
-MayRefuseAll texts IsLeftAlone MayOpen (Verify error) = ⊥
 
--- what `merge-base` may answer for the texts of ids, given what the opener may answer: what is found of them in a right graph
--- that it may open, with the layers of the graph; or a refusal
+-- what `merge-base` and `merge-base-ids` may answer for the texts of ids, given what the opener may answer: what is found of them
+-- in a right graph that it may open, with the layers of the graph; or a refusal
 abbrev pub MayCompare : List (List ℕ) → Type 0 → (Result (List Layer) OpenError → Type 0)
     → Result (List Layer × Compared) Refusal → Type 0
 MayCompare texts IsLeftAlone MayOpen (Ok (layers, compared)) =
@@ -91,21 +89,38 @@ MayCompare texts IsLeftAlone MayOpen (Err refusal) = MayRefuseAll texts IsLeftAl
 abbrev pub merge_base_line : List Layer → Position → List ℕ
 merge_base_line layers base = codes "base " ⧺ decimal base.0 ⧺ codes " " ⧺ encode_lower (id_in layers base.0) ⧺ newline
 
--- the lines of the bases, or that there is none
-abbrev pub bases_text : List Layer → List Position → List ℕ
-bases_text layers [] = codes "none" ⧺ newline
-bases_text layers (base ∷ bases) = flat_map (merge_base_line layers) (base ∷ bases)
+-- the line of the id of a base alone
+abbrev pub base_id_line : List Layer → Position → List ℕ
+base_id_line layers base = id_line (id_in layers base.0)
+
+-- a line for each of the bases, or that there is none
+abbrev pub bases_text : (Position → List ℕ) → List Position → List ℕ
+bases_text line_of [] = codes "none" ⧺ newline
+bases_text line_of (base ∷ bases) = flat_map line_of (base ∷ bases)
 
 -- how many commits are on one side alone
 abbrev pub divergence_line : ℕ → ℕ → List ℕ
 divergence_line ahead behind = codes "ahead " ⧺ decimal ahead ⧺ codes " behind " ⧺ decimal behind ⧺ newline
 
+-- how many commits are on one side alone, and how many were visited
+abbrev pub counts_text : Comparison → List ℕ
+counts_text comparison =
+    divergence_line comparison.divergence.ahead comparison.divergence.behind ⧺ visits_line comparison.bases.visits
+
+-- which id is not in the graph
+abbrev pub unknown_line : ℕ → List ℕ
+unknown_line number = codes "unknown " ⧺ decimal number ⧺ newline
+
 -- what is found
 abbrev pub compared_text : List Layer → Compared → List ℕ
-compared_text layers (Unknown number) = codes "unknown " ⧺ decimal number ⧺ newline
+compared_text layers (Unknown number) = unknown_line number
 compared_text layers (Known comparison) =
-    bases_text layers comparison.bases.positions.items
-    ⧺ divergence_line comparison.divergence.ahead comparison.divergence.behind ⧺ visits_line comparison.bases.visits
+    bases_text (merge_base_line layers) comparison.bases.positions.items ⧺ counts_text comparison
+
+-- the ids of the bases alone
+abbrev pub base_ids_text : List Layer → Compared → List ℕ
+base_ids_text layers (Unknown number) = unknown_line number
+base_ids_text layers (Known comparison) = bases_text (base_id_line layers) comparison.bases.positions.items
 
 -- 0 for bases, and 1 where there is none or an id is not there
 abbrev pub bases_status : List Position → ℕ
@@ -116,10 +131,15 @@ abbrev pub compared_status : Compared → ℕ
 compared_status (Unknown number) = 1
 compared_status (Known comparison) = bases_status comparison.bases.positions.items
 
--- the lines of what is found, or of a refusal
+-- the lines of `merge-base`: what is found, or a refusal
 abbrev pub merge_base_text : Result (List Layer × Compared) Refusal → List ℕ
 merge_base_text (Ok (layers, compared)) = compared_text layers compared
 merge_base_text (Err refusal) = refusal_text refusal ⧺ newline
+
+-- those of `merge-base-ids`
+abbrev pub merge_base_ids_text : Result (List Layer × Compared) Refusal → List ℕ
+merge_base_ids_text (Ok (layers, compared)) = base_ids_text layers compared
+merge_base_ids_text (Err refusal) = refusal_text refusal ⧺ newline
 
 -- the status of what is found, and else that of the refusal
 abbrev pub merge_base_status : Result (List Layer × Compared) Refusal → ℕ
@@ -131,7 +151,13 @@ abbrev pub AreBasesWithin : List Layer → Compared → Type 0
 AreBasesWithin layers (Unknown number) = ⊤
 AreBasesWithin layers (Known comparison) = All (λ base. base.0 < total layers) comparison.bases.positions.items
 
--- For private contracts, where ids are not all found: this is so of the place of the one that is not
-abbrev pub OnUnknown : (ℕ → Type 0) → NotFound → Type 0
-OnUnknown IsSo (missing.Unknown place) = IsSo place
-OnUnknown IsSo missing.OutOfMemory = ⊤
+-- it may have lines of bases
+abbrev pub MayHaveBases : List Layer × Compared → Type 0
+MayHaveBases (layers, Unknown number) = ⊥
+MayHaveBases (layers, Known comparison) = ⊤
+
+-- why texts are not read as ids: the first of them that is none; or that memory ran out, where all of them are ids
+abbrev pub MayNotReadIds : List (List ℕ) → Refusal → Type 0
+MayNotReadIds texts (Id error) = SpellNotAll texts error
+MayNotReadIds texts Walk = (ids : List (List ℕ)) × AllZip SpellsId texts ids
+MayNotReadIds texts refusal = ⊥

@@ -65,3 +65,8 @@ AreInGraph layers FirstUnknown = ⊤
 AreInGraph layers SecondUnknown = ⊤
 AreInGraph layers (Known None) = ⊤
 AreInGraph layers (Known (Some walk)) = All (λ pos. pos.0 < total layers) walk.items
+
+-- it may be a walk to write
+abbrev pub MayBeWalk : {A : Type 0} → Answer (Option A) → Type 0
+MayBeWalk (Known (Some walk)) = ⊤
+MayBeWalk answer = ⊥

@@ -1,29 +1,29 @@
-//! The command `merge-base`, and the lines that it writes. Writing them allocates nothing.
+//! The commands `merge-base` and `merge-base-ids`, and the lines that they write. Writing them
+//! allocates nothing but a block for the lines of bases.
 
-ghost use Rattle.std.specs.Prelude.{◌≡◌, ◌⊎◌, ◌<◌, [], ◌∷◌, All, IfErr, IfOk, OnOk, Ok};
-ghost use Rattle.std.specs.Prelude.{length, map, string_bytes};
+ghost use Rattle.std.specs.Prelude.{◌≡◌, ◌<◌, [], ◌∷◌, All, IfErr, IfOk, IfSome, IsNone};
+ghost use Rattle.std.specs.Prelude.{List, Ok, OnOk, length, map, string_bytes};
 ghost use Rattle.std.specs.Io.KnownBytes.{Appends};
-ghost use Rattle.std.specs.List.{AllZip};
+ghost use Rattle.std.specs.List.{AllZip, flat_map};
 ghost use Rattle.gix_hash_core.specs.Hexadecimal.{SpellsId};
 ghost use Rattle.gix_hash_core.specs.Oid.{oid_bytes};
-ghost use Rattle.gix_hash_core.specs.declared.object_id.IdError.{IdError};
-ghost use Rattle.gix_commitgraph.specs.Graph.{IsGraph, total};
+ghost use Rattle.gix_commitgraph.specs.Graph.{total};
 ghost use Rattle.graph_ancestors.specs.WalkAnswer.{numbers_of};
-ghost use Rattle.graph_commands.specs.WrittenAnswer.{WritesAnswer};
+ghost use Rattle.graph_commands.specs.Ancestor.{IsThere};
+ghost use Rattle.graph_commands.specs.WrittenAnswer.{IsToldOf, WritesAnswer};
 ghost use Rattle.graph_commands.specs.Block.{with_block};
 ghost use Rattle.graph_commands.specs.OpenerAnswer.{MayOpen};
-ghost use Rattle.graph_commands.specs.declared.refusal.Refusal.TheVariants.{Id, Walk};
 ghost use Rattle.history_commands.specs.MergeBases.{AreBasesWithin, IsIdAt, IsFirstUnknown};
-ghost use Rattle.history_commands.specs.MergeBases.{OnUnknown};
 ghost use Rattle.history_commands.specs.MergeBases.{MayBeAskedOfAll, MayCompare, MayFindOfAll};
-ghost use Rattle.history_commands.specs.MergeBases.{MayRefuseAll};
-ghost use Rattle.history_commands.specs.MergeBases.{SpellNotAll, bases_text, merge_base_line};
-ghost use Rattle.history_commands.specs.MergeBases.{compared_text, compared_status};
+ghost use Rattle.history_commands.specs.MergeBases.{MayHaveBases, MayNotReadIds, MayRefuseAll};
+ghost use Rattle.history_commands.specs.MergeBases.{SpellNotAll, counts_text, merge_base_line};
 ghost use Rattle.history_commands.specs.MergeBases.{merge_base_text, merge_base_status};
+ghost use Rattle.history_commands.specs.MergeBases.{merge_base_ids_text, unknown_line};
 
+use crate::walk::{tell_none, write_ids};
 use gix_commitgraph::Position;
 use gix_commitgraph::opening::open_in;
-use gix_hash_core::{ObjectId, oid};
+use gix_hash_core::{IdError, ObjectId, oid};
 use graph_commands::block::Block;
 use graph_commands::line::{WriteFailed, write_line};
 use graph_commands::refusal::Refusal;
@@ -31,7 +31,7 @@ use graph_commands::run::refuse;
 use graph_commands::status::Status;
 use graph_folder::folder::Folder;
 use graph_history::{Checked, CheckedGraph, Comparison, Divergence};
-use std::alloc::Global;
+use std::alloc::{AllocError, Global};
 use std::io::Write;
 
 /// What is found of the commits with some ids.
@@ -42,15 +42,6 @@ pub enum Compared {
     Unknown(u64),
     /// All of them are, and this is the answer.
     Known(Comparison),
-}
-
-/// Why the positions of some ids are not known.
-#[derive(Debug, Drop)]
-enum NotFound {
-    /// The id at this place is not in the graph, and those before it are. The first place is 0.
-    Unknown(usize),
-    /// An allocation failed.
-    OutOfMemory,
 }
 
 /// Compares the commit with the first id with those with the others, in the graph that the path
@@ -76,31 +67,51 @@ pub fn run_merge_base<T: Folder, W: Write>(
         (W.contents writer.old) (W.contents writer.new)) }
     ensures tree { T.tree folder.new ≡ T.tree folder.old }
 {
-    match prepare(alloc, folder, path, first, others) {
-        Ok((graph, compared, mut block)) => {
-            write_compared(&mut block, writer, &graph.as_checked(), &compared)?;
-            Ok(compared.status())
-        }
+    match compare(alloc, folder, path, first, others) {
+        Ok((graph, compared)) => tell(alloc, writer, &graph.as_checked(), &compared),
         Err(refusal) => refuse(writer, &refusal),
     }
 }
 
-/// The graph, what is found of the commits with these ids, and a block to write it with. All that
-/// the lines need memory for is there before the first write.
-fn prepare<T: Folder>(
+/// Compares commits as `run_merge_base` does, and writes the ids of the merge bases alone, a line
+/// for each, or `none`. Or it writes the number of the first id that is not in the graph, or why
+/// the question is refused. The answer is the exit status, which is that of `run_merge_base`.
+/// `WriteFailed` comes where the writer fails.
+pub fn run_merge_base_ids<T: Folder, W: Write>(
     alloc: Global,
     folder: &mut T,
     path: &str,
     first: &str,
     others: &[String],
-) -> Result<(CheckedGraph, Compared, Block), Refusal>
-    ensures found { IfOk result (λ prepared. MayCompare (first.now ∷ map string_bytes others.now)
+    writer: &mut W,
+) -> Result<u8, WriteFailed>
+    ensures written { IfOk result (WritesAnswer merge_base_ids_text merge_base_status
+        (MayCompare (first.now ∷ map string_bytes others.now) (folder.new ≡ folder.old)
+        (MayOpen (T.tree folder.old) path.now (T.failure_count folder.old)
+        (T.failure_count folder.new)))
+        (W.contents writer.old) (W.contents writer.new)) }
+    ensures tree { T.tree folder.new ≡ T.tree folder.old }
+{
+    match compare(alloc, folder, path, first, others) {
+        Ok((graph, compared)) => tell_ids(alloc, writer, &graph.as_checked(), &compared),
+        Err(refusal) => refuse(writer, &refusal),
+    }
+}
+
+/// The graph, and what is found of the commits with these ids.
+fn compare<T: Folder>(
+    alloc: Global,
+    folder: &mut T,
+    path: &str,
+    first: &str,
+    others: &[String],
+) -> Result<(CheckedGraph, Compared), Refusal>
+    ensures found { IfOk result (λ found. MayCompare (first.now ∷ map string_bytes others.now)
         (folder.new ≡ folder.old)
         (MayOpen (T.tree folder.old) path.now (T.failure_count folder.old)
         (T.failure_count folder.new))
-        (Ok (prepared.0.layers, prepared.1))) }
-    ensures within { IfOk result (λ prepared. AreBasesWithin prepared.0.layers prepared.1) }
-    ensures block { IfOk result (λ prepared. prepared.2 ≡ []) }
+        (Ok (found.0.layers, found.1))) }
+    ensures within { IfOk result (λ found. AreBasesWithin found.0.layers found.1) }
     ensures refused { IfErr result (MayRefuseAll (first.now ∷ map string_bytes others.now)
         (folder.new ≡ folder.old)
         (MayOpen (T.tree folder.old) path.now (T.failure_count folder.old)
@@ -109,10 +120,7 @@ fn prepare<T: Folder>(
 {
     let (graph, first, others) = ask_of_all(alloc, folder, path, first, others)?;
     let compared = compare_in(alloc, &graph.as_checked(), first.as_oid(), &others)?;
-    match Block::new(alloc) {
-        Ok(block) => Ok((graph, compared, block)),
-        Err(_) => Err(Refusal::Walk),
-    }
+    Ok((graph, compared))
 }
 
 /// Reads all ids in hexadecimal digits of either case, opens the graph at the path, and checks it.
@@ -141,13 +149,13 @@ fn ask_of_all<T: Folder>(
 }
 
 /// The ids that the texts spell. The error is `Id` for the first text that spells none, or `Walk`,
-/// where an allocation failed.
+/// where all of them are ids and an allocation failed.
 fn read_ids(alloc: Global, texts: &[String]) -> Result<Vec<ObjectId>, Refusal>
     ensures spelled { IfOk result (λ ids.
         AllZip SpellsId (map string_bytes texts.now) ids.items) }
-    ensures refused { IfErr result (λ refusal. (refusal ≡ Walk) ⊎ ((error : IdError)
-        × (refusal ≡ Id error) × SpellNotAll (map string_bytes texts.now) error)) }
+    ensures refused { IfErr result (MayNotReadIds (map string_bytes texts.now)) }
 {
+    check_ids(texts)?;
     let mut ids = Vec::new(alloc);
     for text in texts {
         let id = ObjectId::from_hex(text.as_bytes())?;
@@ -158,8 +166,20 @@ fn read_ids(alloc: Global, texts: &[String]) -> Result<Vec<ObjectId>, Refusal>
     Ok(ids)
 }
 
+/// Tests that each text spells an id. The error is that of the first that spells none.
+fn check_ids(texts: &[String]) -> Result<(), IdError>
+    ensures spelled { OnOk result
+        ((ids : List _) × AllZip SpellsId (map string_bytes texts.now) ids) }
+    ensures refused { IfErr result (SpellNotAll (map string_bytes texts.now)) }
+{
+    for text in texts {
+        let _id = ObjectId::from_hex(text.as_bytes())?;
+    }
+    Ok(())
+}
+
 /// Compares the commit with the first id with those with the others, in a graph that was checked.
-/// The error is `Walk`, where an allocation failed.
+/// The error is `Walk`, where all of them are there and an allocation failed.
 fn compare_in(
     alloc: Global,
     graph: &Checked<'_>,
@@ -169,95 +189,141 @@ fn compare_in(
     ensures found { IfOk result
         (MayFindOfAll graph.now.layers (oid_bytes first.entry ∷ others.now)) }
     ensures within { IfOk result (AreBasesWithin graph.now.layers) }
-    ensures refused { IfErr result (λ refusal. refusal ≡ Refusal.Walk) }
+    ensures refused { IfErr result (λ refusal. (refusal ≡ Refusal.Walk)
+        × All (IsThere graph.now.layers) (oid_bytes first.entry ∷ others.now)) }
 {
     let Some(first) = graph.find(first) else {
         return Ok(Compared::Unknown(1));
     };
+    if let Some(place) = find_unknown(graph, others) {
+        return Ok(Compared::Unknown(place as u64 + 2));
+    }
     match find_all(alloc, graph, others) {
         Ok(others) => match graph.compare(alloc, first, &others) {
             Ok(comparison) => Ok(Compared::Known(comparison)),
             Err(_) => Err(Refusal::Walk),
         },
-        Err(NotFound::Unknown(place)) => Ok(Compared::Unknown(place as u64 + 2)),
-        Err(NotFound::OutOfMemory) => Err(Refusal::Walk),
+        Err(_) => Err(Refusal::Walk),
     }
 }
 
-/// The positions of the commits with these ids, in a graph that was checked.
-fn find_all(alloc: Global, graph: &Checked<'_>, ids: &[ObjectId]) -> Result<Vec<Position>, NotFound>
+/// The place of the first id that is not in a graph that was checked, if there is one. The first
+/// place is 0.
+fn find_unknown(graph: &Checked<'_>, ids: &[ObjectId]) -> Option<usize>
+    ensures unknown { IfSome result (λ place. (place < length ids.now)
+        × IsFirstUnknown graph.now.layers ids.now place) }
+    ensures there { IsNone result → All (IsThere graph.now.layers) ids.now }
+{
+    for (place, id) in ids.iter().enumerate() {
+        if graph.find(id.as_oid()).is_none() {
+            return Some(place);
+        }
+    }
+    None
+}
+
+/// The positions of the commits with these ids, in a graph that was checked and has them all.
+fn find_all(
+    alloc: Global,
+    graph: &Checked<'_>,
+    ids: &[ObjectId],
+) -> Result<Vec<Position>, AllocError>
+    requires { All (IsThere graph.now.layers) ids.now }
     ensures found { IfOk result (λ found.
         AllZip (IsIdAt graph.now.layers) ids.now (numbers_of found.items)) }
     ensures within { IfOk result (λ found.
         All (λ pos. pos.0 < total graph.now.layers) found.items) }
-    ensures unknown { IfErr result (OnUnknown (λ place. (place < length ids.now)
-        × IsFirstUnknown graph.now.layers ids.now place)) }
 {
     let mut found = Vec::new(alloc);
-    let mut place = 0;
     for id in ids {
         let Some(pos) = graph.find(id.as_oid()) else {
-            return Err(NotFound::Unknown(place));
+            unreachable!()
         };
-        if found.push(pos).is_err() {
-            return Err(NotFound::OutOfMemory);
-        }
-        place += 1;
+        found.push(pos)?;
     }
     Ok(found)
 }
 
-impl Compared {
-    /// The exit status of the command.
-    fn status(&self) -> u8
-        ensures { result ≡ compared_status self.now }
-    {
-        match self {
-            Compared::Known(comparison) if !comparison.bases.positions.is_empty() =>
-                Status::Yes as u8,
-            _ => Status::No as u8,
-        }
-    }
-}
-
-/// Writes what is found. Bases go through a block, which is empty before.
-fn write_compared<W: Write>(
-    block: &mut Block,
+/// Writes what is found, and answers the exit status. The lines of bases go through a block, and
+/// where there is no memory for one, that is told in their place.
+fn tell<W: Write>(
+    alloc: Global,
     writer: &mut W,
     graph: &Checked<'_>,
     compared: &Compared,
-) -> Result<(), WriteFailed>
-    requires empty { block.old ≡ [] }
-    requires within { AreBasesWithin graph.now.layers compared.now }
-    ensures { OnOk result (Appends (W.contents writer.old) (W.contents writer.new)
-        (compared_text graph.now.layers compared.now)) }
+) -> Result<u8, WriteFailed>
+    requires { AreBasesWithin graph.now.layers compared.now }
+    ensures { IfOk result (WritesAnswer merge_base_text merge_base_status
+        (IsToldOf MayHaveBases (graph.now.layers, compared.now))
+        (W.contents writer.old) (W.contents writer.new)) }
 {
     match compared {
-        Compared::Unknown(number) => write_line(writer, format_args!("unknown {number}")),
-        Compared::Known(comparison) => write_comparison(block, writer, graph, comparison),
+        Compared::Unknown(number) => tell_unknown(writer, *number),
+        Compared::Known(comparison) if comparison.bases.positions.is_empty() => {
+            write_line(writer, "none")?;
+            write_counts(writer, comparison)?;
+            Ok(Status::No as u8)
+        }
+        Compared::Known(comparison) => match Block::new(alloc) {
+            Ok(mut block) => {
+                write_bases(&mut block, writer, graph, &comparison.bases.positions)?;
+                write_counts(writer, comparison)?;
+                Ok(Status::Yes as u8)
+            }
+            Err(_) => refuse(writer, &Refusal::Walk),
+        },
     }
 }
 
-/// Writes the bases, how many commits are ahead and behind, and how many were visited.
-fn write_comparison<W: Write>(
-    block: &mut Block,
+/// Writes what is found, of the bases their ids alone, and answers the exit status. The ids go
+/// through a block, and where there is no memory for one, that is told in their place.
+fn tell_ids<W: Write>(
+    alloc: Global,
     writer: &mut W,
     graph: &Checked<'_>,
-    comparison: &Comparison,
-) -> Result<(), WriteFailed>
-    requires empty { block.old ≡ [] }
-    requires within { AreBasesWithin graph.now.layers (Compared.Known comparison.now) }
-    ensures { OnOk result (Appends (W.contents writer.old) (W.contents writer.new)
-        (compared_text graph.now.layers (Compared.Known comparison.now))) }
+    compared: &Compared,
+) -> Result<u8, WriteFailed>
+    requires { AreBasesWithin graph.now.layers compared.now }
+    ensures { IfOk result (WritesAnswer merge_base_ids_text merge_base_status
+        (IsToldOf MayHaveBases (graph.now.layers, compared.now))
+        (W.contents writer.old) (W.contents writer.new)) }
 {
-    write_bases(block, writer, graph, &comparison.bases.positions)?;
+    match compared {
+        Compared::Unknown(number) => tell_unknown(writer, *number),
+        Compared::Known(comparison) if comparison.bases.positions.is_empty() => tell_none(
+            writer, "none",
+        ),
+        Compared::Known(comparison) => match Block::new(alloc) {
+            Ok(mut block) => {
+                write_ids(&mut block, writer, graph, &comparison.bases.positions)?;
+                Ok(Status::Yes as u8)
+            }
+            Err(_) => refuse(writer, &Refusal::Walk),
+        },
+    }
+}
+
+/// Writes which id is not in the graph, and answers the exit status.
+fn tell_unknown<W: Write>(writer: &mut W, number: u64) -> Result<u8, WriteFailed>
+    ensures { IfOk result (λ status. Appends (W.contents writer.old) (W.contents writer.new)
+        (unknown_line number) × (status ≡ 1)) }
+{
+    write_line(writer, format_args!("unknown {number}"))?;
+    Ok(Status::No as u8)
+}
+
+/// Writes how many commits are ahead and behind, and how many were visited.
+fn write_counts<W: Write>(writer: &mut W, comparison: &Comparison) -> Result<(), WriteFailed>
+    ensures { OnOk result
+        (Appends (W.contents writer.old) (W.contents writer.new) (counts_text comparison.now)) }
+{
     let Divergence { ahead, behind } = comparison.divergence;
     write_line(writer, format_args!("ahead {ahead} behind {behind}"))?;
     let visits = comparison.bases.visits;
     write_line(writer, format_args!("visits {visits}"))
 }
 
-/// Writes the lines of the bases, or that there is none.
+/// Writes the lines of bases.
 fn write_bases<W: Write>(
     block: &mut Block,
     writer: &mut W,
@@ -267,11 +333,8 @@ fn write_bases<W: Write>(
     requires empty { block.old ≡ [] }
     requires within { All (λ base. base.0 < total graph.now.layers) bases.now }
     ensures { OnOk result (Appends (W.contents writer.old) (W.contents writer.new)
-        (bases_text graph.now.layers bases.now)) }
+        (flat_map (merge_base_line graph.now.layers) bases.now)) }
 {
-    if bases.is_empty() {
-        return write_line(writer, "none");
-    }
     for base in bases {
         push_base(block, writer, graph, *base)?;
     }

@@ -4,6 +4,7 @@ ghost use Rattle.std.specs.Prelude.{◌≡◌, Some, IfErr, IfOk, OnOk, Ok};
 ghost use Rattle.std.specs.BTreeMap.{IsOrdered};
 ghost use Rattle.std.specs.Io.KnownBytes.{Appends};
 ghost use Rattle.std.specs.Ordering.{nat_cmp};
+ghost use Rattle.gix_commitgraph.specs.Sound.{Sound};
 ghost use Rattle.graph_commands.specs.WrittenAnswer.{WritesAnswer};
 ghost use Rattle.graph_commands.specs.OpenerAnswer.{MayOpen};
 ghost use Rattle.history_commands.specs.Check.{AreDatesFound, AreFiltersFound, MayFindInAll};
@@ -240,9 +241,10 @@ fn open_checked<T: Folder>(
     Ok(CheckedGraph::new(alloc, graph)?)
 }
 
-/// How many commits have a corrected date, if each layer has dates.
+/// How many commits have a corrected date, if each layer has dates, in a graph that is right.
 #[tactic(auto, unfolding(crate::specs::Check::MayRefuseDates))]
 fn count_dates(alloc: Global, graph: &Graph) -> Result<Option<u32>, DatesError>
+    requires { Sound graph.now }
     ensures found { IfOk result (AreDatesFound graph.now) }
     ensures refused { IfErr result (MayRefuseDates graph.now) }
 {

@@ -5,7 +5,7 @@ ghost use Rattle.history_commands.specs.HistorytoolWords.{AskHistorytool, AskOfI
 ghost use Rattle.history_commands.specs.HistorytoolAnswers.{TellsOfItself};
 ghost use Rattle.history_commands.specs.declared.command.Command.{Command};
 
-use crate::run::{run_check, run_is_ancestor, run_merge_base, run_walk};
+use crate::run::{run_check, run_is_ancestor, run_merge_base, run_merge_base_ids, run_walk};
 use graph_commands::line::{WriteFailed, write_line};
 use graph_commands::program::Run;
 use graph_commands::status::Status;
@@ -46,6 +46,15 @@ pub enum Command<'a> {
     },
     /// What the first commit and the others have in common is to be told.
     MergeBase {
+        /// The path of the graph.
+        path: &'a str,
+        /// The first id, in hexadecimal digits.
+        first: &'a str,
+        /// The other ids, of which there is one at least.
+        others: &'a [String],
+    },
+    /// The ids of the merge bases of the first commit and the others are to be told.
+    MergeBaseIds {
         /// The path of the graph.
         path: &'a str,
         /// The first id, in hexadecimal digits.
@@ -137,6 +146,14 @@ impl<'a> Command<'a> {
                     others,
                 }),
             },
+            "merge-base-ids" => match others {
+                [] => None,
+                _ => Some(Command::MergeBaseIds {
+                    path,
+                    first,
+                    others,
+                }),
+            },
             _ => None,
         }
     }
@@ -172,6 +189,11 @@ impl Run for Command<'_> {
                 first,
                 others,
             } => run_merge_base(alloc, folder, path, first, others, output),
+            Command::MergeBaseIds {
+                path,
+                first,
+                others,
+            } => run_merge_base_ids(alloc, folder, path, first, others, output),
             Command::Check { path } => run_check(alloc, folder, path, output),
         }
     }

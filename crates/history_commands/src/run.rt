@@ -2,13 +2,14 @@
 
 ghost use Rattle.std.specs.Prelude.{◌≡◌, IfErr, IfOk};
 ghost use Rattle.gix_hash_core.specs.Oid.{oid_bytes};
+ghost use Rattle.graph_commands.specs.Ancestor.{IsThere};
 ghost use Rattle.graph_commands.specs.WrittenAnswer.{WritesAnswer};
 ghost use Rattle.graph_commands.specs.OpenerAnswer.{MayOpen};
 ghost use Rattle.history_commands.specs.Question.{MayAnswer, MayFindBoth};
 ghost use Rattle.history_commands.specs.IsAncestor.{IsTold, told_status, told_word};
 ghost use Rattle.history_commands.specs.IsAncestor.{is_ancestor_text, is_ancestor_status};
 
-pub use crate::bases::run_merge_base;
+pub use crate::bases::{run_merge_base, run_merge_base_ids};
 pub use crate::check::run_check;
 use crate::question::{Answer, ask};
 pub use crate::walk::run_walk;
@@ -72,7 +73,7 @@ fn is_ancestor<T: Folder>(
 }
 
 /// Whether the commit with the first id is an ancestor of the one with the second, or the same, in
-/// a graph that was checked. The error is `Walk`, where an allocation failed.
+/// a graph that was checked. The error is `Walk`, where an allocation failed; both are there then.
 fn told_in(
     alloc: Global,
     graph: &Checked<'_>,
@@ -81,7 +82,9 @@ fn told_in(
 ) -> Result<Answer<bool>, Refusal>
     ensures found { IfOk result (MayFindBoth IsTold
         graph.now.layers (oid_bytes first.entry) (oid_bytes second.entry)) }
-    ensures refused { IfErr result (λ refusal. refusal ≡ Refusal.Walk) }
+    ensures refused { IfErr result (λ refusal. (refusal ≡ Refusal.Walk)
+        × IsThere graph.now.layers (oid_bytes first.entry)
+        × IsThere graph.now.layers (oid_bytes second.entry)) }
 {
     let Some(first) = graph.find(first) else {
         return Ok(Answer::FirstUnknown);

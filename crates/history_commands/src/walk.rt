@@ -5,13 +5,14 @@ ghost use Rattle.std.specs.Io.KnownBytes.{Appends};
 ghost use Rattle.std.specs.List.{flat_map};
 ghost use Rattle.gix_hash_core.specs.Oid.{oid_bytes};
 ghost use Rattle.gix_commitgraph.specs.Graph.{IsGraph, total};
-ghost use Rattle.graph_commands.specs.WrittenAnswer.{WritesAnswer};
+ghost use Rattle.graph_commands.specs.Ancestor.{IsThere};
+ghost use Rattle.graph_commands.specs.Text.{◌⧺◌, newline};
+ghost use Rattle.graph_commands.specs.WrittenAnswer.{IsToldOf, WritesAnswer};
 ghost use Rattle.graph_commands.specs.Block.{with_block};
 ghost use Rattle.graph_commands.specs.OpenerAnswer.{MayOpen};
 ghost use Rattle.history_commands.specs.Question.{MayAnswer, MayBeRefused, MayFindBoth};
 ghost use Rattle.history_commands.specs.Walk.{IsWalkOfIds, AreInGraph, with_ids};
-ghost use Rattle.history_commands.specs.Walk.{id_line, id_in, walk_found_text, found_status};
-ghost use Rattle.history_commands.specs.Walk.{walk_text, walk_status};
+ghost use Rattle.history_commands.specs.Walk.{MayBeWalk, id_line, id_in, walk_text, walk_status};
 
 use crate::question::{Answer, Question, ask};
 use gix_commitgraph::Position;
@@ -51,32 +52,27 @@ pub fn run_walk<T: Folder, W: Write>(
         (W.contents writer.old) (W.contents writer.new)) }
     ensures tree { T.tree folder.new ≡ T.tree folder.old }
 {
-    match prepare(alloc, folder, path, first, second) {
-        Ok((question, found, mut block)) => {
-            write_found(&mut block, writer, &question.graph.as_checked(), &found)?;
-            Ok(found.status())
-        }
+    match look(alloc, folder, path, first, second) {
+        Ok((question, found)) => tell(alloc, writer, &question.graph.as_checked(), &found),
         Err(refusal) => refuse(writer, &refusal),
     }
 }
 
-/// The question, which has the graph, what is found of the walk from the commit with the first id
-/// to the one with the second, and a block to write it with. All that the lines need memory for is
-/// there before the first write.
-fn prepare<T: Folder>(
+/// The question, which has the graph, and what is found of the walk from the commit with the first
+/// id to the one with the second.
+fn look<T: Folder>(
     alloc: Global,
     folder: &mut T,
     path: &str,
     first: &str,
     second: &str,
-) -> Result<(Question, Found, Block), Refusal>
-    ensures found { IfOk result (λ prepared. MayAnswer IsWalkOfIds first.now second.now
+) -> Result<(Question, Found), Refusal>
+    ensures found { IfOk result (λ looked. MayAnswer IsWalkOfIds first.now second.now
         (folder.new ≡ folder.old)
         (MayOpen (T.tree folder.old) path.now (T.failure_count folder.old)
         (T.failure_count folder.new))
-        (Ok (with_ids prepared.0.graph.layers prepared.1))) }
-    ensures within { IfOk result (λ prepared. AreInGraph prepared.0.graph.layers prepared.1) }
-    ensures block { IfOk result (λ prepared. prepared.2 ≡ []) }
+        (Ok (with_ids looked.0.graph.layers looked.1))) }
+    ensures within { IfOk result (λ looked. AreInGraph looked.0.graph.layers looked.1) }
     ensures refused { IfErr result (MayBeRefused first.now second.now (folder.new ≡ folder.old)
         (MayOpen (T.tree folder.old) path.now (T.failure_count folder.old)
         (T.failure_count folder.new))) }
@@ -85,14 +81,11 @@ fn prepare<T: Folder>(
     let question = ask(alloc, folder, path, first, second)?;
     let (first, second) = (question.first.as_oid(), question.second.as_oid());
     let found = walk_in(alloc, &question.graph.as_checked(), first, second)?;
-    match Block::new(alloc) {
-        Ok(block) => Ok((question, found, block)),
-        Err(_) => Err(Refusal::Walk),
-    }
+    Ok((question, found))
 }
 
 /// A shortest walk along parents from the commit with the first id to the one with the second, in a
-/// graph that was checked. The error is `Walk`, where an allocation failed.
+/// graph that was checked. The error is `Walk`, where an allocation failed; both are there then.
 #[tactic(auto, using(crate::proofs::WalkLemmas::known_walk, crate::proofs::WalkLemmas::known_within))]
 fn walk_in(
     alloc: Global,
@@ -105,7 +98,9 @@ fn walk_in(
         graph.now.layers (oid_bytes first.entry) (oid_bytes second.entry)
         (with_ids graph.now.layers found)) }
     ensures within { IfOk result (AreInGraph graph.now.layers) }
-    ensures refused { IfErr result (λ refusal. refusal ≡ Refusal.Walk) }
+    ensures refused { IfErr result (λ refusal. (refusal ≡ Refusal.Walk)
+        × IsThere graph.now.layers (oid_bytes first.entry)
+        × IsThere graph.now.layers (oid_bytes second.entry)) }
 {
     let Some(first) = graph.find(first) else {
         return Ok(Answer::FirstUnknown);
@@ -119,57 +114,61 @@ fn walk_in(
     }
 }
 
-impl Found {
-    /// The exit status of the command.
-    fn status(&self) -> u8
-        ensures { result ≡ found_status self.now }
-    {
-        match self {
-            Answer::Known(Some(_)) => Status::Yes as u8,
-            _ => Status::No as u8,
-        }
-    }
-}
-
-/// Writes what is found. A walk goes through a block, which is empty before.
-fn write_found<W: Write>(
-    block: &mut Block,
+/// Writes what is found, and answers the exit status.
+fn tell<W: Write>(
+    alloc: Global,
     writer: &mut W,
     graph: &Checked<'_>,
     found: &Found,
-) -> Result<(), WriteFailed>
-    requires empty { block.old ≡ [] }
-    requires within { AreInGraph graph.now.layers found.now }
-    ensures { OnOk result (Appends (W.contents writer.old) (W.contents writer.new)
-        (walk_found_text (with_ids graph.now.layers found.now))) }
+) -> Result<u8, WriteFailed>
+    requires { AreInGraph graph.now.layers found.now }
+    ensures { IfOk result (WritesAnswer walk_text walk_status
+        (IsToldOf MayBeWalk (with_ids graph.now.layers found.now))
+        (W.contents writer.old) (W.contents writer.new)) }
 {
     match found {
-        Answer::FirstUnknown => write_line(writer, "unknown 1"),
-        Answer::SecondUnknown => write_line(writer, "unknown 2"),
-        Answer::Known(reached) => write_reached(block, writer, graph, reached),
+        Answer::FirstUnknown => tell_none(writer, "unknown 1"),
+        Answer::SecondUnknown => tell_none(writer, "unknown 2"),
+        Answer::Known(reached) => tell_reached(alloc, writer, graph, reached),
     }
 }
 
-/// Writes the ids on a walk, or that there is none.
-fn write_reached<W: Write>(
-    block: &mut Block,
+/// Writes the ids on a walk, or that there is none, and answers the exit status. A walk goes
+/// through a block, and where there is no memory for one, that is told in its place.
+fn tell_reached<W: Write>(
+    alloc: Global,
     writer: &mut W,
     graph: &Checked<'_>,
     reached: &Option<Vec<Position>>,
-) -> Result<(), WriteFailed>
-    requires empty { block.old ≡ [] }
-    requires within { AreInGraph graph.now.layers (Answer.Known reached.now) }
-    ensures { OnOk result (Appends (W.contents writer.old) (W.contents writer.new)
-        (walk_found_text (with_ids graph.now.layers (Answer.Known reached.now)))) }
+) -> Result<u8, WriteFailed>
+    requires { AreInGraph graph.now.layers (Answer.Known reached.now) }
+    ensures { IfOk result (WritesAnswer walk_text walk_status
+        (IsToldOf MayBeWalk (with_ids graph.now.layers (Answer.Known reached.now)))
+        (W.contents writer.old) (W.contents writer.new)) }
 {
     match reached {
-        Some(walk) => write_ids(block, writer, graph, walk),
-        None => write_line(writer, "none"),
+        Some(walk) => match Block::new(alloc) {
+            Ok(mut block) => {
+                write_ids(&mut block, writer, graph, walk)?;
+                Ok(Status::Yes as u8)
+            }
+            Err(_) => refuse(writer, &Refusal::Walk),
+        },
+        None => tell_none(writer, "none"),
     }
 }
 
-/// Writes the ids at these positions.
-fn write_ids<W: Write>(
+/// Writes a line that says that something is not there, and answers the exit status.
+pub(crate) fn tell_none<W: Write>(writer: &mut W, line: &str) -> Result<u8, WriteFailed>
+    ensures { IfOk result (λ status. Appends (W.contents writer.old) (W.contents writer.new)
+        (line.now ⧺ newline) × (status ≡ 1)) }
+{
+    write_line(writer, line)?;
+    Ok(Status::No as u8)
+}
+
+/// Writes the ids at these positions, a line for each.
+pub(crate) fn write_ids<W: Write>(
     block: &mut Block,
     writer: &mut W,
     graph: &Checked<'_>,

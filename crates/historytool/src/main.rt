@@ -15,24 +15,28 @@ use std::process::ExitCode;
 use std::{env, io};
 
 const USAGE: &str = "usage: historytool is-ancestor PATH HEX HEX | walk PATH HEX HEX \
-    | merge-base PATH HEX HEX.. | check PATH | --help | --version";
+    | merge-base PATH HEX HEX.. | merge-base-ids PATH HEX HEX.. | check PATH \
+    | --help | --version";
 
 const HELP: &str = "usage: historytool is-ancestor PATH HEX HEX | walk PATH HEX HEX \
-    | merge-base PATH HEX HEX.. | check PATH | --help | --version\n\
+    | merge-base PATH HEX HEX.. | merge-base-ids PATH HEX HEX.. | check PATH \
+    | --help | --version\n\
     \n\
     PATH is a commit-graph file, a folder with a chain of them, or an info folder.\n\
     HEX is the id of a commit in hexadecimal.\n\
     \n\
-    is-ancestor  whether the first commit is an ancestor of the second: yes or no\n\
-    walk         the ids on a shortest walk along parents from the first commit to\n\
-    \x20            the second, a line for each; or none\n\
-    merge-base   the position and the id of each merge base of the first commit and\n\
-    \x20            the others, a line for each, or none; then how many commits are\n\
-    \x20            ahead and behind: how many the first leads to and no other does,\n\
-    \x20            and the other way round; then how many were visited\n\
-    check        what graphtool verify says of the graph; then how many commits have\n\
-    \x20            a corrected commit date, and how many a changed-path filter, once\n\
-    \x20            both were found right; or the first thing that is wrong\n\
+    is-ancestor     whether the first commit is an ancestor of the second: yes or no\n\
+    walk            the ids on a shortest walk along parents from the first commit\n\
+    \x20               to the second, a line for each; or none\n\
+    merge-base      the position and the id of each merge base of the first commit\n\
+    \x20               and the others, a line for each, or none; then how many commits\n\
+    \x20               are ahead and behind: how many the first leads to and no other\n\
+    \x20               does, and the other way round; then how many were visited\n\
+    merge-base-ids  the ids of these merge bases alone, a line for each; or none\n\
+    check           what graphtool verify says of the graph; then how many commits\n\
+    \x20               have a corrected commit date, and how many a changed-path\n\
+    \x20               filter, once both were found right; or the first thing that is\n\
+    \x20               wrong\n\
     \n\
     The exit status is 0 for yes, a walk, merge bases or a graph that is right,\n\
     1 for any other answer, and 2 for wrong words, a text that is no id or a\n\

@@ -147,11 +147,11 @@ fn tells_why_no_walk_is_looked_for(rt: HostRuntime) {
 /// Refusals of a query, with their texts.
 const REFUSALS: &[(Refusal, &str)] = &[
     (
-        Refusal::Check(VerifyError::TooManyFiles),
+        Refusal::Verify(VerifyError::TooManyFiles),
         "refused verify 1",
     ),
     (
-        Refusal::Check(VerifyError::OutOfMemory),
+        Refusal::Verify(VerifyError::OutOfMemory),
         "refused verify 10",
     ),
     (Refusal::Walk, "refused walk"),

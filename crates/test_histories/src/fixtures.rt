@@ -4,7 +4,9 @@ use gix_hash_core::{Kind, ObjectId, digest};
 use graph_commands::run::{WriteFailed, run_ancestor};
 use graph_folder::folder::Memory;
 use graph_vectors::{LayerPlan, PlanCommit, Row, Sink, build};
-use history_commands::run::{run_check, run_is_ancestor, run_merge_base, run_walk};
+use history_commands::run::{
+    run_check, run_is_ancestor, run_merge_base, run_merge_base_ids, run_walk,
+};
 use std::alloc::Global;
 use std::process::Abort;
 
@@ -42,12 +44,30 @@ pub(super) fn merge_base(
     (path, first, others): (&str, &str, &[&str]),
     out: &mut Sink,
 ) -> Result<u8, WriteFailed> {
-    let mut ids = Vec::new(alloc);
-    for id in others {
-        let id = String::from_str(alloc, id).expect(rt, "memory");
-        ids.push(id).expect(rt, "memory");
+    let others = texts(rt, alloc, others);
+    run_merge_base(alloc, folder, path, first, &others, out)
+}
+
+/// The answer of `merge-base-ids` for the same.
+pub(super) fn merge_base_ids(
+    rt: &impl Abort,
+    alloc: Global,
+    folder: &mut Memory,
+    (path, first, others): (&str, &str, &[&str]),
+    out: &mut Sink,
+) -> Result<u8, WriteFailed> {
+    let others = texts(rt, alloc, others);
+    run_merge_base_ids(alloc, folder, path, first, &others, out)
+}
+
+/// Copies of these texts.
+fn texts(rt: &impl Abort, alloc: Global, texts: &[&str]) -> Vec<String> {
+    let mut copies = Vec::new(alloc);
+    for text in texts {
+        let copy = String::from_str(alloc, text).expect(rt, "memory");
+        copies.push(copy).expect(rt, "memory");
     }
-    run_merge_base(alloc, folder, path, first, &ids, out)
+    copies
 }
 
 /// The answer of `check` for a path.

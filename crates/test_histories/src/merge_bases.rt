@@ -1,9 +1,10 @@
 //! Merge bases, and how far commits have come apart.
 
 use crate::answers::{CS, CS_OF_SHA256, DS, LARGE_CS, NO_ANSWERS, ONES, ONES_OF_SHA256, TWOS};
-use crate::fixtures::{expect_answer, graphs, merge_base};
+use crate::fixtures::{expect_answer, graphs, merge_base, merge_base_ids};
 use graph_commands::run::WriteFailed;
 use graph_vectors::Sink;
+use std::alloc::{AllocError, Global};
 
 const SIXES: &str = "6666666666666666666666666666666666666666";
 
@@ -76,6 +77,44 @@ fn tells_merge_bases_and_how_far_commits_have_come_apart(rt: HostRuntime) {
         let answer = merge_base(&rt, alloc, &mut folder, (path, first, &[*second]), &mut out);
         expect_answer(&rt, answer, &out, (*status, text));
     }
+}
+
+/// What `merge-base-ids` writes where `merge-base` writes this: of each base the id, and no counts.
+fn ids_in(alloc: Global, text: &str) -> Result<String, AllocError> {
+    let mut ids = String::new(alloc);
+    for line in text.lines() {
+        let words = match line.split_once(' ') {
+            Some(("base", rest)) => rest.split_once(' ').map_or(rest, |(_, id)| id),
+            Some(("ahead" | "visits", _)) => continue,
+            _ => line,
+        };
+        ids.push_str(words)?;
+        ids.push('\n')?;
+    }
+    Ok(ids)
+}
+
+#[test]
+fn tells_the_ids_of_the_same_merge_bases(rt: HostRuntime) {
+    let alloc = rt.alloc();
+    let mut folder = graphs(&rt, alloc);
+    for (words, status, text) in ROWS {
+        let mut out = Sink::new(alloc, usize::MAX, None);
+        let answer = merge_base_ids(&rt, alloc, &mut folder, *words, &mut out);
+        let ids = ids_in(alloc, text).expect(&rt, "memory");
+        expect_answer(&rt, answer, &out, (*status, ids.as_str()));
+    }
+    for ((path, first, second), status, text) in NO_ANSWERS {
+        let mut out = Sink::new(alloc, usize::MAX, None);
+        let answer = merge_base_ids(&rt, alloc, &mut folder, (path, first, &[*second]), &mut out);
+        expect_answer(&rt, answer, &out, (*status, text));
+    }
+    let mut out = Sink::new(alloc, usize::MAX, None);
+    let words: (&str, &str, &[&str]) = ("criss-cross", SIXES, &[SEVENS]);
+    let answer = merge_base_ids(&rt, alloc, &mut folder, words, &mut out);
+    let ids = "2222222222222222222222222222222222222222\n\
+        3333333333333333333333333333333333333333\n";
+    expect_answer(&rt, answer, &out, (0, ids));
 }
 
 #[test]

@@ -24,10 +24,17 @@ const ROWS: &[(&[&str], u8, &str, &str)] = &[
         "base 0 1111111111111111111111111111111111111111\nahead 3 behind 0\nvisits 4\n",
         "",
     ),
+    (
+        &["merge-base-ids", "file", CS, ONES],
+        0,
+        "1111111111111111111111111111111111111111\n",
+        "",
+    ),
     (&["check", "nowhere"], 1, "refused open 1\n", ""),
     (&[], 2, "", "usage\n"),
     (&["walk", "file", CS], 2, "", "usage\n"),
     (&["merge-base", "file", CS], 2, "", "usage\n"),
+    (&["merge-base-ids", "file", CS], 2, "", "usage\n"),
 ];
 
 /// The answer to these words.

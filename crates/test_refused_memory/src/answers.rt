@@ -12,7 +12,9 @@ use graph_commands::run::{run_ancestor, run_distinct, run_find, run_list, run_ve
 use graph_folder::folder::{Folder, Memory};
 use graph_history::{Checked, Comparer, Comparison, Reached};
 use graph_vectors::build;
-use history_commands::run::{run_check, run_is_ancestor, run_merge_base, run_walk};
+use history_commands::run::{
+    run_check, run_is_ancestor, run_merge_base, run_merge_base_ids, run_walk,
+};
 use std::alloc::{AllocError, Global};
 use std::convert::Infallible;
 use std::io::Write;
@@ -222,6 +224,9 @@ fn run_history(
         HistoryCommand::IsAncestor => run_is_ancestor(alloc, memory, "chain", FIRST, SECOND, out),
         HistoryCommand::Walk => run_walk(alloc, memory, "chain", SECOND, FIRST, out),
         HistoryCommand::MergeBase => run_merge_base(alloc, memory, "chain", FIRST, others, out),
+        HistoryCommand::MergeBaseIds => {
+            run_merge_base_ids(alloc, memory, "chain", FIRST, others, out)
+        }
         HistoryCommand::Check => run_check(alloc, memory, "dated", out),
     };
     println!(rt; "{answer:?}")?;

@@ -47,6 +47,7 @@ pub enum HistoryCommand {
     IsAncestor,
     Walk,
     MergeBase,
+    MergeBaseIds,
     Check,
 }
 
@@ -100,6 +101,10 @@ const CALLS: &[(&str, Call)] = &[
     (
         "run_merge_base",
         Call::RunHistory(HistoryCommand::MergeBase),
+    ),
+    (
+        "run_merge_base_ids",
+        Call::RunHistory(HistoryCommand::MergeBaseIds),
     ),
     ("run_check", Call::RunHistory(HistoryCommand::Check)),
     ("open_file_in", Call::Open(Opener::FileIn)),

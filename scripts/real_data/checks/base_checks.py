@@ -1,4 +1,4 @@
-"""Checks `merge-base`: pairs of commits and larger sets, beside `git merge-base --all` and the parents that Git lists.
+"""Checks `merge-base` and `merge-base-ids`: pairs of commits and larger sets, beside `git merge-base --all` and the parents that Git lists.
 
 Also beside `git rev-list --left-right --count`. Where some commits are older than their parents, Git may count too many,
 since its search goes by times: some to which an excluded commit leads.
@@ -36,8 +36,9 @@ def check_all(histories, results, repository, name, walks):
     check_sets(histories, results, repository, name, walks.words, {path: place}, sets)
     for number in (1, 2, 4):
         ids = [UNKNOWN if place + 1 == number else commits[place] for place in range(4)] + [UNKNOWN]
-        unknown = judge.exactly(1, "unknown %d\n" % number, "", histories.merge_base(path, *ids))
-        results.check("%s, merge-base, id %d of %s is not there" % (repository.object_format, number, name), unknown)
+        for word, run in (("merge-base", histories.merge_base), ("merge-base-ids", histories.merge_base_ids)):
+            unknown = judge.exactly(1, "unknown %d\n" % number, "", run(path, *ids))
+            results.check("%s, %s, id %d of %s is not there" % (repository.object_format, word, number, name), unknown)
 
 
 def check_long(histories, results, new):
@@ -69,24 +70,26 @@ def check_sets(histories, results, repository, name, words, graphs, sets):
 
     Answers of each set how many bases it has, and whether Git counts what its own parents say.
     """
-    found = []
+    found, (path, place) = [], next(iter(graphs.items()))
     in_order = all(words[parent].time <= said.time for said in words.values() for parent in said.parents)
     reached, number = all_reached(words), {commit: number for number, commit in enumerate(words)}
     parents = [[number[parent] for parent in said.parents] for said in words.values()]
     visits = Visits(parents, list(generations(words).values()), list(reached.values()))
 
     def answer(ids):
-        told = [histories.merge_base(path, *ids) for path in graphs]
+        told, alone = [histories.merge_base(path, *ids) for path in graphs], histories.merge_base_ids(path, *ids)
         bases, (first, *rest) = repository.merge_bases(*ids), (number[commit] for commit in ids)
         bounds = visits.bounds(first, rest, len(bases))
-        return bases, bounds, divergence(reached, *ids), repository.divergence(*ids), told
+        return bases, bounds, divergence(reached, *ids), repository.divergence(*ids), told, alone
 
     def complaint(answers):
-        bases, bounds, listed, counted, told = answers
+        bases, bounds, listed, counted, told, alone = answers
         found.append((len(bases), listed == counted))
         if listed != counted if in_order else any(more > count for more, count in zip(listed, counted)):
             return "Git counts %s, and its own parents say %s" % (counted, listed)
+        lines = "".join(base + "\n" for base in sorted(bases, key=place.get)) or "none\n"
         complaints = [complaint_of(bases, listed, bounds, *pair) for pair in zip(told, graphs.values())]
+        complaints.append(judge.exactly(0 if bases else 1, lines, "", alone))
         return next(filter(None, complaints), None)
 
     runs = [(lambda ids=ids: answer(ids), complaint) for ids in sets]

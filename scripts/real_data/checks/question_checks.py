@@ -7,8 +7,8 @@ from expected import judge
 from histories.repository import read_bytes
 
 USAGE = (
-    "usage: historytool is-ancestor PATH HEX HEX | walk PATH HEX HEX | merge-base PATH HEX HEX.. | check PATH"
-    " | --help | --version\n"
+    "usage: historytool is-ancestor PATH HEX HEX | walk PATH HEX HEX | merge-base PATH HEX HEX.."
+    " | merge-base-ids PATH HEX HEX.. | check PATH | --help | --version\n"
 )
 """What the program writes on standard error where its words are no command, and the first line of its help."""
 
@@ -19,6 +19,7 @@ OTHER_WORDS = [
     *(["walk", ".", ID], ["walk", ".", ID, ID, ID], ["Walk", ".", ID, ID], ["walk", b"\xff", ID, ID]),
     *(["is-ancestor"], ["is-ancestor", ".", ID], ["ancestor", ".", ID, ID], ["verify", "."], ["--walk", ".", ID, ID]),
     *(["merge-base"], ["merge-base", "."], ["merge-base", ".", ID], ["merge-base", ".", ID, b"\xff"]),
+    *(["merge-base-ids"], ["merge-base-ids", ".", ID], ["merge-bases", ".", ID, ID]),
     *(["check"], ["check", ".", "."], ["check", b"\xff"]),
 ]
 """Words that are no command: too few, too many, others, or no text."""
@@ -38,6 +39,7 @@ def check_all(histories, results):
     told = helps[0] == helps[1] and helps[0].status == 0 and not helps[0].err
     results.check("historytool --help and -h", None if told and text.startswith(USAGE + "\n") else "they are %r" % (helps,))
     runs = {"is-ancestor": histories.is_ancestor, "walk": histories.walk, "merge-base": histories.merge_base}
+    runs["merge-base-ids"] = histories.merge_base_ids
     for command, run in runs.items():
         exchanged = judge.exactly(2, "refused id 1\n", "", run(ID, ".", ID))
         results.check("%s, its path and its first id exchanged" % command, exchanged)

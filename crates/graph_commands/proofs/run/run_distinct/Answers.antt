@@ -1,4 +1,4 @@
-use Rattle.std.proofs.Common.{true}
+use Rattle.std.proofs.Common.{rules, true}
 use Rattle.gix_commitgraph.specs.Distinct.{IsSoundWith}
 use Rattle.graph_commands.specs.OpenerAnswer.{MayOpen}
 use Rattle.graph_commands.proofs.CheckAnswers.{writes_check, writes_unopened}
@@ -10,7 +10,7 @@ returns-in-Ok-clause-written g c =
     let check = c.verify_integrity_with-answer in
     let opens = MayOpen (g.T.Folder.tree c.args.folder.now) c.args.path.now (g.T.Folder.failure_count c.args.folder.now)
     (g.T.Folder.failure_count c.open_in.new.folder) in
-    writes_check _ (record { distinct_ids = true }) layers _ _
+    writes_check _ (record { distinct_ids = true }) layers _ _ (λ h k p e called. search rules)
     (IsSoundWith (record { distinct_ids = true }) layers) opens check.result _ _ _ (λ s. s) (λ s. s)
     (c.in-Ok.ensures.opens, c.in-Ok.ensures.graph, c.in-Ok.ensures.device) check.ensures.agrees check.ensures.sound
     check.ensures.statistics check.ensures.outcome c.write_answer.ensures.found c.write_answer.ensures.refused

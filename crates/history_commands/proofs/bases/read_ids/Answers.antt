@@ -1,5 +1,5 @@
 -- The text at the index is one of all.
-use Rattle.std.proofs.Common.{map, inr, refl, arith, string_bytes}
+use Rattle.std.proofs.Common.{map, arith, string_bytes}
 use Rattle.std.proofs.lemmas.Result.{err_from_is_err_and}
 use Rattle.gix_hash_core.specs.Hexadecimal.{SpellsId}
 use Rattle.history_commands.proofs.BasesLemmas.{spell_not_all, zip_more, text_at}
@@ -9,14 +9,11 @@ pub returns-in_err-id-clause-refused : goal.returns-in_err-id-clause-refused
 returns-in_err-id-clause-refused c =
     let texts = c.args.texts.now in
     let at = c.loop-text.text-index in
-    let answered = err_from_is_err_and c.from_residual.result c.from_residual.ensures.1 in
+    let answered = err_from_is_err_and c.from_residual-in_err-id.result c.from_residual-in_err-id.ensures.1 in
     let none = rw c.as_bytes.ensures.value at c.in_err-id.ensures.err in
-    rw (answered.1, answered.2) (inr (
-      c.in_err-id.field-0.0,
-      refl,
-      spell_not_all (map string_bytes texts) c.loop-text.ids.items at (string_bytes c.text-item.result) c.in_err-id.field-0.0
-          c.loop-text.invariant (text_at texts at c.text-item.result (omega arith) c.text-item.is) none,
-    ))
+    rw (answered.1, answered.2)
+    (spell_not_all (map string_bytes texts) c.loop-text.ids.items at (string_bytes c.text-item.result) c.in_err-id.field-0.0
+    c.loop-text.invariant (text_at texts at c.text-item.result (omega arith) c.text-item.is) none)
 
 pub loop-text-preserved : goal.loop-text-preserved
 loop-text-preserved c =

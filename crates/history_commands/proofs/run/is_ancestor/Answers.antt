@@ -9,7 +9,9 @@ pub returns-clause-may : goal.returns-clause-may
 returns-clause-may g c =
     let q = c.in_ok-question.question in
     let found = rw (c.as_checked.ensures.same, c.as_oid-first.ensures, c.as_oid-second.ensures) at c.told_in-2.ensures.found in
+    let refused = rw (c.as_checked.ensures.same, c.as_oid-first.ensures, c.as_oid-second.ensures) at
+    c.told_in-2.ensures.refused in
     answers IsTold c.args.first.now c.args.second.now q.first q.second (c.ask.new.folder ≡ c.args.folder.now)
     (MayOpen (g.T.Folder.tree c.args.folder.now) c.args.path.now (g.T.Folder.failure_count c.args.folder.now)
     (g.T.Folder.failure_count c.ask.new.folder))
-    q.graph.layers c.told_in-2.result c.in_ok-question.ensures.asked found c.told_in-2.ensures.refused
+    q.graph.layers c.told_in-2.result c.in_ok-question.ensures.asked found refused
