@@ -21,14 +21,14 @@ from_root() {
 # folder that its worktrees share. A path may have line ends of its own. Revisions are named in the same call, and `ids`
 # has their ids then; where Git does not answer with just one id for each, `ids` stays empty.
 look_at_repository() {
-    ids='' asked=''
+    ids='' words=''
     for revision in "$@"; do
         case $revision in
-        :/*) asked="$asked $(quoted "$revision")" ;;
-        *) asked="$asked $(quoted "$revision^{commit}")" ;;
+        :/*) words="$words $(quoted "$revision")" ;;
+        *) words="$words $(quoted "$revision^{commit}")" ;;
         esac
     done
-    if [ $# -eq 0 ] || ! told=$(eval "look_up_by_git $asked" 2>/dev/null) || ! take_ids $#; then
+    if [ $# -eq 0 ] || ! told=$(eval "look_up_by_git $words" 2>/dev/null) || ! take_ids $#; then
         told=$(look_up_by_git) || exit 128
     fi
     info=${told%%"${newline}sha"*}
