@@ -3,14 +3,17 @@
 //! A [`LayerPlan`] lists what a file is to hold, and [`build`] makes the file: a layer whose
 //! decoded values are the plan's. A plan may break the rules of a graph, so that tests can have
 //! damaged graphs: [`LayerPlan::of_rows`] plans small histories, row by row, and the module
-//! [`changed`] writes over their files. [`file_of_parts`] makes files that no plan does, and
-//! [`refused`] lists some that opening refuses. [`Source`] and [`Sink`] fail where they are told.
+//! [`changed`] writes over their files; [`large`] plans a history of 600 commits. [`file_of_parts`]
+//! makes files that no plan does, and [`refused`] lists some that opening refuses. [`Source`] and
+//! [`Sink`] fail where they are told.
 #![tactic(auto)]
 
 mod builder;
 pub mod changed;
 mod edges;
 mod fan;
+mod files;
+pub mod large;
 mod law;
 mod plan;
 mod push;
@@ -24,6 +27,7 @@ mod table;
 mod trailer;
 
 pub use builder::build;
+pub use files::{file_of_plan, file_of_rows};
 pub use law::planned_files_say_their_plans;
 pub use plan::{LayerPlan, PlanCommit};
 pub use raw::{END, Entry, file_of_parts, file_of_zeros, words};

@@ -33,10 +33,10 @@ const CYCLE: &[Row<'static>] = &[(5, &[1]), (5, &[0])];
 const OCTOPUS: &[Row<'static>] = &[(5, &[1, 2, 3]), (10, &[]), (30, &[]), (20, &[])];
 
 /// The commits of a layer, its words of `GDA2`, and its bytes of `GDO2`.
-type Layer<'a> = (&'a [Row<'a>], Option<&'a [u32]>, Option<&'a [u8]>);
+pub(super) type Layer<'a> = (&'a [Row<'a>], Option<&'a [u32]>, Option<&'a [u8]>);
 
-/// What the corrected dates of a graph with these layers are, or why they are refused.
-fn compare(
+/// Asserts what the corrected dates of a graph with these layers are, or why they are refused.
+pub(super) fn compare(
     rt: &impl Abort,
     alloc: Global,
     layers: &[Layer<'_>],

@@ -3,7 +3,7 @@
 use gix_hash_core::{Kind, ObjectId, digest};
 use graph_commands::run::{WriteFailed, run_ancestor};
 use graph_folder::folder::Memory;
-use graph_vectors::{LayerPlan, PlanCommit, Row, Sink, build};
+use graph_vectors::{LayerPlan, PlanCommit, Row, Sink, file_of_plan};
 use history_commands::run::{
     run_check, run_is_ancestor, run_merge_base, run_merge_base_ids, run_walk,
 };
@@ -139,7 +139,7 @@ fn built(
         bases: Vec::from_slice(alloc, bases).expect(rt, "memory"),
         commits,
     };
-    file_of(rt, alloc, &plan)
+    file_of_plan(alloc, &plan).expect(rt, "a file")
 }
 
 /// A commit with its own id as that of its root tree.
@@ -157,12 +157,6 @@ fn commit(
         generation,
         time: 7,
     }
-}
-
-/// The bytes of a file that holds the plan.
-fn file_of(rt: &impl Abort, alloc: Global, plan: &LayerPlan) -> Vec<u8> {
-    assert!(rt; plan.is_buildable());
-    build(alloc, plan).expect(rt, "memory")
 }
 
 /// A folder with a file `line`, of so many commits in a line. The first four bytes of the id of the
@@ -184,7 +178,8 @@ pub(super) fn line(rt: &impl Abort, alloc: Global, count: u32) -> Memory {
         commits,
     };
     let mut memory = Memory::new(alloc);
-    put(rt, alloc, &mut memory, "line", file_of(rt, alloc, &plan));
+    let file = file_of_plan(alloc, &plan).expect(rt, "a file");
+    put(rt, alloc, &mut memory, "line", file);
     memory
 }
 

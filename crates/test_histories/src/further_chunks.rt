@@ -3,7 +3,7 @@
 
 use gix_commitgraph::{File, Graph};
 use gix_hash_core::{Kind, ObjectId};
-use graph_vectors::{LayerPlan, PlanCommit, build, reseal};
+use graph_vectors::{LayerPlan, PlanCommit, file_of_plan, reseal};
 use std::alloc::Global;
 use std::process::Abort;
 
@@ -27,9 +27,11 @@ const TRAILER_LEN: usize = 20;
 fn planned(rt: &impl Abort, alloc: Global, rows: &[RightRow<'_>]) -> Vec<u8> {
     let mut commits = Vec::new(alloc);
     for (generation, time, parents) in rows {
-        let number = u8::try_from(commits.len()).expect(rt, "few commits");
+        let number = u32::try_from(commits.len()).expect(rt, "few commits");
+        let mut id = [0; 20];
+        id[..4].copy_from_slice(&number.saturating_add(1).to_be_bytes());
         let commit = PlanCommit {
-            id: ObjectId::from([number.saturating_add(1); 20]),
+            id: ObjectId::from(id),
             tree: ObjectId::from([0x22; 20]),
             parents: Vec::from_slice(alloc, *parents).expect(rt, "memory"),
             generation: *generation,
@@ -42,8 +44,7 @@ fn planned(rt: &impl Abort, alloc: Global, rows: &[RightRow<'_>]) -> Vec<u8> {
         bases: Vec::new(alloc),
         commits,
     };
-    assert!(rt; plan.is_buildable());
-    build(alloc, &plan).expect(rt, "memory")
+    file_of_plan(alloc, &plan).expect(rt, "a file")
 }
 
 /// A file with further chunks, which lie after those that it has. Its checksum is null.

@@ -21,6 +21,8 @@ mod further_chunks;
 #[cfg(test)]
 mod graph_filters;
 #[cfg(test)]
+mod large;
+#[cfg(test)]
 mod merge_bases;
 #[cfg(test)]
 mod responding;

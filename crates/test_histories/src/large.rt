@@ -1,0 +1,176 @@
+//! Dates and filters of 600 commits in a line, in one layer and in three: more than are looked at
+//! in one go. The faults stand late.
+//!
+//! Commit i was made at 9000 - i, and its parent is commit i - 1: so its corrected date is
+//! 9000 + i, which is stored as 2 i. Every fifth commit has no filter, and the others have one of a
+//! byte, in which each path is possible where i is odd, and none where it is even.
+
+use crate::dates::{Layer, compare};
+use crate::further_chunks::{Row, graph, layer, words};
+use changed_paths::filters::Answer;
+use changed_paths::key::PathKey;
+use gix_commitgraph::{Graph, Position};
+use graph_chunks::dates::DatesError;
+use graph_chunks::filters::{FiltersError, GraphFilters};
+use std::alloc::Global;
+use std::process::Abort;
+use std::rt::HostRuntime;
+
+const COMMITS: u32 = 600;
+
+/// Where the layers end of which the graph is made, the lowest first.
+const STOPS: &[&[usize]] = &[&[600], &[300, 590, 600]];
+
+/// Commits with a fault.
+const LATE: &[u32] = &[256, 299, 517, 599];
+
+/// The numbers of the commits.
+fn numbers(rt: &impl Abort, alloc: Global) -> Vec<u32> {
+    let mut numbers = Vec::new(alloc);
+    for commit in 0..COMMITS {
+        numbers.push(commit).expect(rt, "memory");
+    }
+    numbers
+}
+
+/// The commits, whose parents are among these numbers.
+fn rows<'a>(rt: &impl Abort, alloc: Global, numbers: &'a [u32]) -> Vec<Row<'a>> {
+    let mut rows: Vec<Row<'a>> = Vec::new(alloc);
+    for (place, commit) in numbers.iter().enumerate() {
+        let before = place.saturating_sub(1);
+        let parents = numbers.get(before..place).expect(rt, "numbers");
+        let time = 9000_u64.saturating_sub(u64::from(*commit));
+        rows.push((time, parents)).expect(rt, "memory");
+    }
+    rows
+}
+
+/// The words of `GDA2`, with another one for a commit.
+fn offsets(rt: &impl Abort, alloc: Global, wrong: u32, word: u32) -> Vec<u32> {
+    let mut offsets = Vec::new(alloc);
+    for commit in 0..COMMITS {
+        let right = commit.saturating_mul(2);
+        let word = if commit == wrong { word } else { right };
+        offsets.push(word).expect(rt, "memory");
+    }
+    offsets
+}
+
+/// Asserts what the dates of the commits are, or why they are refused, in layers that end there.
+fn compare_dates(
+    rt: &impl Abort,
+    alloc: Global,
+    (rows, offsets, stops): (&[Row<'_>], &[u32], &[usize]),
+    expected: Result<Option<&[u64]>, DatesError>,
+) {
+    let mut layers: Vec<Layer<'_>> = Vec::new(alloc);
+    let mut from = 0;
+    for stop in stops {
+        let rows = rows.get(from..*stop).expect(rt, "commits");
+        let offsets = offsets.get(from..*stop).expect(rt, "dates");
+        layers
+            .push((rows, Some(offsets), None))
+            .expect(rt, "memory");
+        from = *stop;
+    }
+    compare(rt, alloc, &layers, expected);
+}
+
+#[test]
+fn dates_of_six_hundred_commits_are_told_or_the_wrong_one(rt: HostRuntime) {
+    let alloc = rt.alloc();
+    let numbers = numbers(&rt, alloc);
+    let rows = rows(&rt, alloc, &numbers);
+    let mut dates = Vec::new(alloc);
+    for commit in &numbers {
+        let date = u64::from(*commit).saturating_add(9000);
+        dates.push(date).expect(&rt, "memory");
+    }
+    let right = offsets(&rt, alloc, 0, 0);
+    for stops in STOPS {
+        compare_dates(&rt, alloc, (&rows, &right, *stops), Ok(Some(&dates)));
+        for late in LATE {
+            let pos = Position(*late);
+            let expected = u64::from(*late).saturating_add(9000);
+            let twice = late.saturating_mul(2);
+            for word in [0, twice.saturating_sub(1), twice.saturating_add(1)] {
+                let wrong = offsets(&rt, alloc, *late, word);
+                let error = Err(DatesError::Date { pos, expected });
+                compare_dates(&rt, alloc, (&rows, &wrong, *stops), error);
+            }
+            let wrong = offsets(&rt, alloc, *late, 0x8000_0000);
+            let error = Err(DatesError::OverflowIndex { pos });
+            compare_dates(&rt, alloc, (&rows, &wrong, *stops), error);
+        }
+    }
+}
+
+/// The graph of the commits in layers that end there, with filters. For one commit the index has
+/// another word.
+fn filtered(
+    rt: &impl Abort,
+    alloc: Global,
+    (rows, stops): (&[Row<'_>], &[usize]),
+    wrong: usize,
+    word: u32,
+) -> Graph {
+    let mut files = Vec::new(alloc);
+    let mut from = 0;
+    for stop in stops {
+        let (mut index, mut body) = (Vec::new(alloc), words(rt, alloc, &[1, 7, 10]));
+        let mut end = 0_u32;
+        for commit in from..*stop {
+            if commit % 5 != 0 {
+                let byte = if commit % 2 == 1 { 0xff } else { 0x00 };
+                body.push(byte).expect(rt, "memory");
+                end = end.saturating_add(1);
+            }
+            let word = if commit == wrong { word } else { end };
+            index.push(word).expect(rt, "memory");
+        }
+        let rows = rows.get(from..*stop).expect(rt, "commits");
+        let index = words(rt, alloc, &index);
+        let file = layer(rt, alloc, rows, &[(b"BIDX", &index), (b"BDAT", &body)]);
+        files.push(file).expect(rt, "memory");
+        from = *stop;
+    }
+    graph(rt, alloc, files)
+}
+
+/// Asserts what the filters of the commits say of a path.
+fn compare_filters(rt: &impl Abort, alloc: Global, graph: &Graph) {
+    let filters = GraphFilters::of_graph(alloc, graph).expect(rt, "filters");
+    let path = PathKey::new(b"folder/file");
+    assert!(rt; graph.num_commits() == COMMITS && filters.computed() == 480);
+    for commit in 0..graph.num_commits() {
+        let expected = if commit % 5 == 0 {
+            Answer::NotComputed
+        } else if commit % 2 == 1 {
+            Answer::Possible
+        } else {
+            Answer::Absent
+        };
+        assert!(rt; filters.probe(Position(commit), &path) == expected);
+    }
+}
+
+#[test]
+fn filters_of_six_hundred_commits_are_asked_or_the_wrong_one(rt: HostRuntime) {
+    let alloc = rt.alloc();
+    let numbers = numbers(&rt, alloc);
+    let rows = rows(&rt, alloc, &numbers);
+    for stops in STOPS {
+        let right = filtered(&rt, alloc, (&rows, *stops), usize::MAX, 0);
+        compare_filters(&rt, alloc, &right);
+        for late in LATE {
+            let pos = Position(*late);
+            for (word, error) in [
+                (0, FiltersError::Falls { pos }),
+                (u32::MAX, FiltersError::PastEnd { pos }),
+            ] {
+                let wrong = filtered(&rt, alloc, (&rows, *stops), *late as usize, word);
+                assert!(&rt; GraphFilters::of_graph(alloc, &wrong).err() == Some(error));
+            }
+        }
+    }
+}
