@@ -6,7 +6,7 @@ use Rattle.gix_commitgraph.specs.Layer.{Layer}
 use Rattle.gix_commitgraph.specs.OpenAnswer.{result_map_err}
 use Rattle.gix_commitgraph.specs.OpenAlways.{IsFromPath}
 use Rattle.gix_commitgraph.specs.Sound.{Sound}
-use Rattle.graph_ancestors.specs.declared.no_fault.NoFault.{NoFault}
+use Rattle.graph_ancestors.specs.declared.checking.NoFault.{NoFault}
 use Rattle.gix_commitgraph.specs.declared.verify.VerifyError.{VerifyError}
 use Rattle.graph_history.specs.RightGraph.{CheckedLayers}
 use Rattle.graph_uses.specs.PathRefusals.{MayRefuseParents}
