@@ -56,7 +56,8 @@ behind_committer rest =
 -- from Git 2.41 on, and in libgit2: the date stands behind the last `>` of the committer's line, which has to end
 unfoldable pub newer_time : List ℕ → ℕ
 newer_time rest =
-    let date = option_and_then (behind_last_byte end_of_address) (option_and_then (before_byte line_feed) (behind_committer rest)) in
+    let line = option_and_then (before_byte line_feed) (behind_committer rest) in
+    let date = option_and_then (behind_last_byte end_of_address) line in
     option_map_or (λ bytes. leading_number (without_spaces bytes)) date 0
 
 -- a line feed stands in the bytes, and more behind it
@@ -67,7 +68,8 @@ goes_on bytes = nat_lt 0 (length (unwrap_or (behind_byte line_feed bytes) []))
 unfoldable pub older_time : List ℕ → ℕ
 older_time rest =
     let date = option_and_then (behind_byte end_of_address) (behind_committer rest) in
-    option_map_or (λ bytes. if goes_on bytes then leading_number (without_plus (without_spaces bytes)) else 0) date 0
+    option_map_or
+    (λ bytes. if goes_on bytes then leading_number (without_plus (without_spaces bytes)) else 0) date 0
 
 -- a time of the commit: either Git may have written the file
 abbrev pub IsTime : List ℕ → ℕ → Type 0
