@@ -11,7 +11,7 @@ use Rattle.std.proofs.lemmas.List.Elements.{All-nil, All-cons, All-push, All-app
 use Rattle.std.proofs.lemmas.List.Elements.{All-get_or, All-from_recursion}
 use Rattle.hex.specs.Hex.{encode_lower, encode_with, lower_digits}
 use Rattle.hex.proofs.HexLemmas.{length-encode_with}
-use Rattle.graph_objects.specs.Entry.{line_of_commit, is_lower_digit, HasNoFeed}
+use Rattle.graph_objects.specs.BatchEntry.{line_of_commit, is_lower_digit, HasNoFeed}
 
 -- the digits of the table
 lower_digits-lower : AllPass is_lower_digit lower_digits

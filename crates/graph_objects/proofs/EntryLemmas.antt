@@ -8,7 +8,7 @@ use Rattle.std.proofs.lemmas.List.{length-append, length-take-le}
 use Rattle.std.proofs.lemmas.Option.{get_or_from_slice_get}
 use Rattle.graph_format.specs.Layer.{Layer}
 use Rattle.gix_commitgraph.specs.Graph.{graph_ids}
-use Rattle.graph_objects.specs.Entry.{line_of_commit, commit_entry, IsLine, IsLineEnd, IsCommitHead, BeginsWithEntry}
+use Rattle.graph_objects.specs.BatchEntry.{line_of_commit, commit_entry, IsLine, IsLineEnd, IsCommitHead, BeginsWithEntry}
 use Rattle.graph_objects.specs.Stream.{graph_id_at}
 use Rattle.graph_objects.specs.Taking.{FindsHead}
 

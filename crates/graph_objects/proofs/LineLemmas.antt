@@ -4,7 +4,7 @@ use Rattle.std.proofs.Common.{take-append-drop}
 use Rattle.std.specs.Prelude.{Option, Some, None, MatchOption, Result, Ok, Err}
 use Rattle.std.specs.List.{AllPass, IsSplitAt}
 use Rattle.std.proofs.lemmas.List.{append_cancel_left}
-use Rattle.graph_objects.specs.Entry.{IsHeading, IsTail, is_lower_digit}
+use Rattle.graph_objects.specs.BatchEntry.{IsHeading, IsTail, is_lower_digit}
 use Rattle.graph_objects.specs.declared.heading.Heading.{Heading}
 
 -- a size behind a word

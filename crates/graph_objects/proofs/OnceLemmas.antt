@@ -9,8 +9,8 @@ use Rattle.std.proofs.lemmas.List.Elements.{All-head, All-tail, All-get_or}
 use Rattle.hex.specs.Hex.{encode_lower, lower_digits}
 use Rattle.hex.proofs.HexLemmas.{length-encode_with}
 use Rattle.graph_format.specs.Layer.{Layer}
-use Rattle.graph_objects.specs.Entry.{line_of_commit, commit_entry, longest_line, HasNoFeed, IsLine, IsTail, IsHeading}
-use Rattle.graph_objects.specs.Entry.{IsOtherLine, IsCommitHead, BeginsWithEntry}
+use Rattle.graph_objects.specs.BatchEntry.{line_of_commit, commit_entry, longest_line, HasNoFeed, IsLine, IsTail, IsHeading}
+use Rattle.graph_objects.specs.BatchEntry.{IsOtherLine, IsCommitHead, BeginsWithEntry}
 use Rattle.graph_objects.specs.declared.heading.Heading.{Heading}
 use Rattle.graph_objects.specs.declared.heading.Heading.TheVariants as told
 use Rattle.graph_objects.specs.declared.error.EntryError.{EntryError}

@@ -5,8 +5,8 @@ use Rattle.std.proofs.Common.{⊎_elim, append_assoc, append-nil, subst}
 use Rattle.std.specs.Prelude.{All}
 use Rattle.std.proofs.lemmas.List.{length-append, get_or_at, nil_from_length}
 use Rattle.graph_format.specs.Layer.{Layer}
-use Rattle.graph_objects.specs.Entry.{line_of_commit, commit_entry, longest_line, HasNoFeed, IsLine, IsOtherLine}
-use Rattle.graph_objects.specs.Entry.{IsCommitHead, BeginsWithEntry}
+use Rattle.graph_objects.specs.BatchEntry.{line_of_commit, commit_entry, longest_line, HasNoFeed, IsLine, IsOtherLine}
+use Rattle.graph_objects.specs.BatchEntry.{IsCommitHead, BeginsWithEntry}
 use Rattle.graph_objects.specs.Matching.{MatchesAt}
 use Rattle.graph_objects.specs.Mismatches.{MismatchesAt}
 use Rattle.graph_objects.specs.Stream.{graph_id_at, entries_of, AllMatch, IsStreamUpTo, IsStreamOf, IsEntryError, IsStreamRefusal}

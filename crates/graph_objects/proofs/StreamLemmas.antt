@@ -7,7 +7,7 @@ use Rattle.std.specs.Io.KnownBytes.{Keeps, IsAtEnd, prepend_known}
 use Rattle.std.proofs.lemmas.List.{length-append, nil_from_length}
 use Rattle.graph_format.specs.Layer.{Layer}
 use Rattle.graph_format.specs.declared.Position.{Position}
-use Rattle.graph_objects.specs.Entry.{commit_entry, BeginsWithEntry}
+use Rattle.graph_objects.specs.BatchEntry.{commit_entry, BeginsWithEntry}
 use Rattle.graph_objects.specs.Matching.{MatchesAt}
 use Rattle.graph_objects.specs.Stream.{graph_id_at, entries_of, AllMatch, IsStreamUpTo, IsStreamOf, IsEntryError, IsLong}
 use Rattle.graph_objects.specs.Stream.{MayRefuseStream, HasLong}

@@ -1,7 +1,7 @@
 pub mod Matching
 pub mod Mismatches
 pub mod Reading
-pub mod Entry
+pub mod BatchEntry
 pub mod Stream
 pub mod Taking
 pub mod CommitWalks

@@ -2,7 +2,7 @@
 use Rattle.std.specs.Prelude.{◌≡◌, ℕ, List, Option, Some, None, length}
 use Rattle.graph_format.specs.Layer.{Layer}
 use Rattle.graph_format.specs.declared.Position.{Position}
-use Rattle.graph_objects.specs.Entry.{line_of_commit, IsCommitHead, BeginsWithEntry}
+use Rattle.graph_objects.specs.BatchEntry.{line_of_commit, IsCommitHead, BeginsWithEntry}
 use Rattle.graph_objects.specs.Matching.{MatchesAt}
 use Rattle.graph_objects.specs.Stream.{graph_id_at, IsEntryError, IsLong}
 use Rattle.graph_objects.specs.declared.error.ObjectsError.{ObjectsError}

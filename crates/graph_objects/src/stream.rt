@@ -5,7 +5,7 @@ ghost use Rattle.std.specs.Io.KnownBytes.{IsAtEnd, Keeps, prepend_known};
 ghost use Rattle.gix_commitgraph.specs.Graph.{total};
 ghost use Rattle.graph_objects.specs.Stream.{IsStreamOf, MayRefuseStream, HasLong};
 ghost use Rattle.std.specs.Prelude.{nat_lt, if◌then◌else◌};
-ghost use Rattle.graph_objects.specs.Entry.{longest_line};
+ghost use Rattle.graph_objects.specs.BatchEntry.{longest_line};
 ghost use Rattle.graph_objects.specs.Taking.{MayStop, TakesEntry, FindsHead};
 
 use crate::buffer::Buffer;

@@ -1,5 +1,5 @@
 use Rattle.std.proofs.Common.{take}
-use Rattle.graph_objects.specs.Entry.{HasNoFeed}
+use Rattle.graph_objects.specs.BatchEntry.{HasNoFeed}
 use Rattle.graph_objects.proofs.line.line_end.Given as goal
 
 abbrev pub invariant-loop-end : goal.invariant-loop-end

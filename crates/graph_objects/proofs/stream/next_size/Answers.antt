@@ -2,7 +2,7 @@ use Rattle.std.proofs.Common.{◌≡◌, length, subst, sym, arith}
 use Rattle.std.specs.Prelude.{IfSome, nat_lt, if◌then◌else◌}
 use Rattle.std.specs.Io.KnownBytes.{prepend_known}
 use Rattle.gix_hash_core.specs.Oid.{oid_bytes}
-use Rattle.graph_objects.specs.Entry.{longest_line}
+use Rattle.graph_objects.specs.BatchEntry.{longest_line}
 use Rattle.graph_objects.specs.Taking.{MayStop}
 use Rattle.graph_objects.specs.declared.error.EntryError.TheVariants as error
 use Rattle.graph_objects.specs.declared.error.ObjectsError.TheVariants.{Entry}
