@@ -16,7 +16,7 @@ use Rattle.gix_commitgraph.specs.declared.verify.Outcome.{Outcome}
 use Rattle.gix_commitgraph.specs.declared.verify.VerifyError.{VerifyError}
 use Rattle.gix_commitgraph.specs.declared.verify.VerifyError.TheVariants as error
 use Rattle.gix_commitgraph.specs.declared.verify.VerifyOptions.{VerifyOptions}
-use Rattle.graph_ancestors.specs.declared.no_fault.NoFault.{NoFault}
+use Rattle.graph_ancestors.specs.declared.checking.NoFault.{NoFault}
 use Rattle.graph_commands.specs.declared.refusal.Refusal.TheVariants.{Open, Verify}
 use Rattle.graph_commands.specs.WrittenAnswer.{WritesAnswer, WritesRefusal}
 use Rattle.graph_commands.specs.Report.{outcome_text}

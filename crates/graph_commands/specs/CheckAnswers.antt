@@ -13,7 +13,7 @@ use Rattle.gix_commitgraph.specs.declared.verify.Outcome.{Outcome}
 use Rattle.gix_commitgraph.specs.declared.verify.VerifyError.{VerifyError}
 use Rattle.gix_commitgraph.specs.declared.verify.VerifyError.TheVariants.{OutOfMemory}
 use Rattle.gix_commitgraph.specs.declared.verify.VerifyOptions.{VerifyOptions}
-use Rattle.graph_ancestors.specs.declared.no_fault.NoFault.{NoFault}
+use Rattle.graph_ancestors.specs.declared.checking.NoFault.{NoFault}
 use Rattle.graph_commands.specs.declared.refusal.Refusal.{Refusal}
 use Rattle.graph_commands.specs.declared.refusal.Refusal.TheVariants.{Id, Read, File, Open, Verify, Walk}
 use Rattle.graph_commands.specs.RefusalLines.{refusal_text, refusal_status}

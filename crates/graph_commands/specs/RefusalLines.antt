@@ -8,7 +8,7 @@ use Rattle.graph_format.specs.declared.fault.LayerFault.{LayerFault}
 use Rattle.graph_format.specs.declared.fault.LayerFault.TheVariants.{Checksum, FileName, Fan}
 use Rattle.gix_commitgraph.specs.declared.verify.VerifyError.{VerifyError}
 use Rattle.gix_commitgraph.specs.declared.verify.VerifyError.TheVariants as check
-use Rattle.graph_ancestors.specs.declared.no_fault.NoFault.{NoFault}
+use Rattle.graph_ancestors.specs.declared.checking.NoFault.{NoFault}
 use Rattle.graph_commands.specs.declared.refusal.Refusal.{Refusal}
 use Rattle.graph_commands.specs.declared.refusal.Refusal.TheVariants.{Id, Read, File, Open, Verify, Walk}
 use Rattle.graph_commands.specs.InputErrorNumbers.{id_number, read_number}
