@@ -9,7 +9,8 @@ use Rattle.std.proofs.lemmas.List.{length-append, take_all, take-append-le, get_
 use Rattle.graph_format.specs.Layer.{Layer}
 use Rattle.graph_format.specs.declared.Position.{Position}
 use Rattle.gix_commitgraph.specs.Graph.{graph_ids}
-use Rattle.graph_objects.specs.BatchEntry.{line_of_commit, longest_line, HasNoFeed, IsLine, IsLineEnd, IsOtherLine, BeginsWithEntry}
+use Rattle.graph_objects.specs.BatchEntry.{line_of_commit, longest_line, HasNoFeed, IsLine, IsLineEnd, IsOtherLine}
+use Rattle.graph_objects.specs.BatchEntry.{BeginsWithEntry}
 use Rattle.graph_objects.specs.Matching.{MatchesAt}
 use Rattle.graph_objects.specs.Mismatches.{MismatchesAt}
 use Rattle.graph_objects.specs.Reading.{IsFillError}
