@@ -5,7 +5,8 @@ ghost use Rattle.std.specs.Prelude.{MatchOption, MatchResult, Some, codes, decim
 ghost use Rattle.std.specs.List.{AllPass};
 ghost use Rattle.hex.specs.Hex.{encode_lower};
 ghost use Rattle.gix_hash_core.specs.Oid.{oid_bytes};
-ghost use Rattle.graph_objects.specs.BatchEntry.{IsTail, IsOtherLine, line_of_commit, is_lower_digit};
+ghost use Rattle.graph_objects.specs.BatchEntry.{IsTail, IsOtherLine, line_of_commit};
+ghost use Rattle.graph_objects.specs.BatchEntry.{is_lower_digit};
 ghost use Rattle.graph_objects.specs.BatchEntry.{HasNoFeed, IsLineEnd, longest_line};
 ghost use Rattle.graph_objects.specs.declared.heading.Heading as told;
 

@@ -10,9 +10,9 @@ use gix_hash_core::Kind;
 /// Ids are those that `git hash-object -t commit -w --stdin --literally` of Git 2.39.5 prints, in a
 /// repository made by `git init`, and in one made by `git init --object-format=sha256`. The last
 /// column is the time in the file that `git commit-graph write --stdin-commits` of that Git writes
-/// then. The time before it follows from Git's source from 2.41 on. libgit2 1.5.1 answers it too
-/// (`git_commit_time`) where it reads the committer's line, but 234 in the third row, and 66 for
-/// `+66`.
+/// then. The time before it is meant for Git from 2.41 on, which was not run. libgit2 1.5.1 answers
+/// it too (`git_commit_time`) where it reads the committer's line, but 234 in the third row, and 66
+/// for `+66`.
 const TIMES: &[(&str, &str, &str, u64, u64)] = &[
     (
         "author A <a@x> 1 +0000\ncommitter C <c@x> 1234567890 +0000\n\nm\n",
