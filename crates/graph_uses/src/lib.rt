@@ -3,7 +3,7 @@
 //! commits have in common, and opens a file that it has in memory. `docs/CALLING.md` explains each
 //! of these uses with this code.
 //!
-//! None of it has a proof of its own: what a question needs, the type of a checked graph brings.
+//! What a question needs, the type of a checked graph brings.
 #![tactic(auto)]
 
 pub mod checked;

@@ -14,62 +14,18 @@ use graph_vectors::Sink;
 use std::alloc::{AllocError, Global};
 use std::collections::BTreeMap;
 
-/// Refusals of an id, a read and a file, with their texts.
+/// Refusals of an id, a read and a file, with their texts: one for each form of a line, and those that
+/// no run of a program can cause.
 const REFUSALS: &[(Refusal, &str)] = &[
-    (Refusal::Id(IdError::Length), "refused id 1"),
     (Refusal::Id(IdError::Digit), "refused id 2"),
     (Refusal::Read(ReadError::NotOpened), "refused read 1"),
-    (Refusal::Read(ReadError::Device), "refused read 2"),
-    (Refusal::Read(ReadError::OutOfMemory), "refused read 3"),
     (Refusal::File(FileError::TooSmall), "refused file 1"),
-    (Refusal::File(FileError::Signature), "refused file 2"),
     (Refusal::File(FileError::Version(9)), "refused file 3"),
-    (Refusal::File(FileError::Hash(9)), "refused file 4"),
-    (
-        Refusal::File(FileError::Chunks(ChunkError::NoChunks)),
-        "refused file 5 chunk 1",
-    ),
-    (
-        Refusal::File(FileError::Chunks(ChunkError::TableTooSmall)),
-        "refused file 5 chunk 2",
-    ),
     (
         Refusal::File(FileError::Chunks(ChunkError::EarlyEnd { entry: 9 })),
         "refused file 5 chunk 3",
     ),
-    (
-        Refusal::File(FileError::Chunks(ChunkError::Duplicate { id: *b"OIDF" })),
-        "refused file 5 chunk 4",
-    ),
-    (
-        Refusal::File(FileError::Chunks(ChunkError::OutOfFile { entry: 9 })),
-        "refused file 5 chunk 5",
-    ),
-    (
-        Refusal::File(FileError::Chunks(ChunkError::Falling { entry: 9 })),
-        "refused file 5 chunk 6",
-    ),
-    (
-        Refusal::File(FileError::Chunks(ChunkError::NoEnd { id: *b"OIDF" })),
-        "refused file 5 chunk 7",
-    ),
-    (Refusal::File(FileError::BaseSize), "refused file 6"),
-    (Refusal::File(FileError::BaseCount), "refused file 7"),
-    (Refusal::File(FileError::NoCommitData), "refused file 8"),
-    (Refusal::File(FileError::CommitDataSize), "refused file 9"),
-    (Refusal::File(FileError::NoFan), "refused file 10"),
-    (Refusal::File(FileError::FanSize), "refused file 11"),
-    (Refusal::File(FileError::NoIds), "refused file 12"),
-    (Refusal::File(FileError::IdsSize), "refused file 13"),
     (Refusal::File(FileError::TooManyEdges), "refused file 14"),
-    (Refusal::File(FileError::Trailer), "refused file 15"),
-    (Refusal::File(FileError::BaseMissing), "refused file 16"),
-    (
-        Refusal::File(FileError::FanFalls { at: 9 }),
-        "refused file 17",
-    ),
-    (Refusal::File(FileError::IdCount), "refused file 18"),
-    (Refusal::File(FileError::RecordCount), "refused file 19"),
     (Refusal::File(FileError::OutOfMemory), "refused file 20"),
 ];
 
@@ -78,10 +34,8 @@ fn spells_each_refusal(rt: HostRuntime) {
     compare_texts(&rt, rt.alloc(), REFUSALS);
 }
 
-/// Refusals of an opener, with their texts.
+/// Refusals of an opener, with their texts, in the same way.
 const OF_AN_OPENER: &[(Refusal, &str)] = &[
-    (Refusal::Open(OpenError::NothingFound), "refused open 1"),
-    (Refusal::Open(OpenError::NotOpened), "refused open 2"),
     (Refusal::Open(OpenError::Device), "refused open 3"),
     (
         Refusal::Open(OpenError::ChainNotText { line: 12 }),
@@ -102,16 +56,8 @@ const OF_AN_OPENER: &[(Refusal, &str)] = &[
         "refused open 5 layer 0 file 5 chunk 1",
     ),
     (
-        Refusal::Open(OpenError::Graph(GraphError::NoFiles)),
-        "refused open 6 graph 1",
-    ),
-    (
         Refusal::Open(OpenError::Graph(GraphError::TooManyCommits(1879048192))),
         "refused open 6 graph 2",
-    ),
-    (
-        Refusal::Open(OpenError::Graph(GraphError::HashMismatch { layer: 1 })),
-        "refused open 6 graph 3",
     ),
     (
         Refusal::Open(OpenError::Graph(GraphError::OutOfMemory)),
@@ -127,7 +73,7 @@ fn spells_each_refusal_of_an_opener(rt: HostRuntime) {
 
 const HIGHEST: Position = Position(1879048190);
 
-/// Refusals of a check, with their texts.
+/// Refusals of a check, with their texts, in the same way.
 const OF_A_CHECK: &[(Refusal, &str)] = &[
     (
         Refusal::Verify(VerifyError::TooManyFiles),
@@ -147,13 +93,6 @@ const OF_A_CHECK: &[(Refusal, &str)] = &[
     (
         Refusal::Verify(VerifyError::Layer {
             layer: 7,
-            fault: LayerFault::Checksum,
-        }),
-        "refused verify 4 layer 7 fault 1",
-    ),
-    (
-        Refusal::Verify(VerifyError::Layer {
-            layer: 7,
             fault: LayerFault::FileName,
         }),
         "refused verify 4 layer 7 fault 2",
@@ -168,44 +107,9 @@ const OF_A_CHECK: &[(Refusal, &str)] = &[
     (
         Refusal::Verify(VerifyError::Commit {
             pos: Position(8),
-            fault: CommitFault::NullId,
-        }),
-        "refused verify 5 position 8 fault 1",
-    ),
-    (
-        Refusal::Verify(VerifyError::Commit {
-            pos: Position(8),
             fault: CommitFault::Order,
         }),
         "refused verify 5 position 8 fault 2",
-    ),
-    (
-        Refusal::Verify(VerifyError::Commit {
-            pos: Position(8),
-            fault: CommitFault::NullTree,
-        }),
-        "refused verify 5 position 8 fault 3",
-    ),
-    (
-        Refusal::Verify(VerifyError::Parent {
-            pos: Position(9),
-            error: ParentError::SecondWithoutFirst,
-        }),
-        "refused verify 6 position 9 error 1",
-    ),
-    (
-        Refusal::Verify(VerifyError::Parent {
-            pos: Position(9),
-            error: ParentError::FirstIsEdgeIndex,
-        }),
-        "refused verify 6 position 9 error 2",
-    ),
-    (
-        Refusal::Verify(VerifyError::Parent {
-            pos: Position(9),
-            error: ParentError::NoEdgeList,
-        }),
-        "refused verify 6 position 9 error 3",
     ),
     (
         Refusal::Verify(VerifyError::Parent {
