@@ -14,8 +14,8 @@ use graph_vectors::Sink;
 use std::alloc::{AllocError, Global};
 use std::collections::BTreeMap;
 
-/// Refusals of an id, a read and a file, with their texts: one for each form of a line, and those that
-/// no run of a program can cause.
+/// Refusals of an id, a read and a file, with their texts: one for each form of a line, and those
+/// that no run of a program can cause.
 const REFUSALS: &[(Refusal, &str)] = &[
     (Refusal::Id(IdError::Digit), "refused id 2"),
     (Refusal::Read(ReadError::NotOpened), "refused read 1"),
