@@ -1,15 +1,14 @@
 -- What the comparison of a commit comes to.
-use Rattle.std.proofs.Common.{◌≡◌, ◌≢◌, ◌↔◌, ℕ, ◌+◌, ◌*◌, ◌≤◌, ◌<◌, ◌^◌, List, length, Bool, true, false, refl, sym, ap, ◌∙◌}
+use Rattle.std.proofs.Common.{◌≡◌, ◌↔◌, ℕ, ◌+◌, ◌≤◌, ◌<◌, ◌^◌, List, length, Bool, true, false, sym, ap, ◌∙◌}
 use Rattle.std.proofs.Common.{arith, map, ◌++◌, [], ◌∷◌}
 use Rattle.std.specs.Prelude.{Option, Some, None, Result, Ok, Err, MatchResult, IsTrue, All, slice_get}
 use Rattle.std.proofs.lemmas.Option.{slice_get_within, slice_get-get_or, same_Some}
 use Rattle.gix_hash_core.specs.declared.kind.Kind.{Kind}
-use Rattle.graph_format.specs.Format.{Record}
 use Rattle.graph_format.specs.Layer.{Layer, IsOpened, record_at}
 use Rattle.graph_format.specs.Parents.{DecodedParents, parents_of, items_of, fault_items}
 use Rattle.graph_format.specs.declared.Position.{Position}
 use Rattle.graph_format.specs.declared.parents.ParentError.{ParentError}
-use Rattle.graph_layer.proofs.ParentCountLemmas.{HasFew, few_parents}
+use Rattle.graph_layer.proofs.ParentCountLemmas.{few_parents}
 use Rattle.gix_commitgraph.specs.Graph.{IsGraph, graph_commits}
 use Rattle.gix_commitgraph.proofs.layers.GraphLemmas.{commit-lies}
 use Rattle.commit_objects.specs.CommitContents.{Said, Says}

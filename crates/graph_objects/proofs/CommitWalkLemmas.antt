@@ -2,14 +2,14 @@
 use Rattle.std.proofs.Common.{◌≡◌, ℕ, zero, suc, ◌+◌, ◌-◌, ◌<◌, ◌⊎◌, inl, inr, ⊎_elim, List, [], ◌∷◌, ◌++◌, map, length}
 use Rattle.std.proofs.Common.{get_or, slice_get, refl, sym, ap}
 use Rattle.std.proofs.Common.{◌∙◌, arith}
-use Rattle.std.specs.Prelude.{◌↔◌, All, Contains, Option, Some, None, option_map, Result, Ok, Err}
+use Rattle.std.specs.Prelude.{All, Contains, Option, Some, None, option_map, Ok}
 use Rattle.std.proofs.lemmas.List.{length-map}
-use Rattle.std.proofs.lemmas.Option.{same_Some, slice_get-get_or, slice_get-map, slice_get_within, get_or_from_slice_get}
+use Rattle.std.proofs.lemmas.Option.{same_Some, slice_get-get_or, slice_get-map, get_or_from_slice_get}
 use Rattle.gix_hash_core.specs.declared.kind.Kind.{Kind}
-use Rattle.graph_walks.specs.History.{Node, IsParent, parents_at}
-use Rattle.graph_walks.specs.Walks.{IsWalk, IsWalkBetween, Reaches}
+use Rattle.graph_walks.specs.History.{IsParent}
+use Rattle.graph_walks.specs.Walks.{IsWalk, Reaches}
 use Rattle.graph_format.specs.Layer.{Layer, IsOpened, record_at}
-use Rattle.graph_format.specs.Parents.{DecodedParents, parents_of, items_of, fault_items}
+use Rattle.graph_format.specs.Parents.{parents_of, fault_items}
 use Rattle.graph_format.specs.StoredHistory.{history_of}
 use Rattle.graph_format.specs.declared.Position.{Position}
 use Rattle.graph_format.specs.declared.parents.ParentError.{ParentError}
@@ -18,10 +18,10 @@ use Rattle.gix_commitgraph.specs.Graph.{graph_ids, graph_commits, total}
 use Rattle.gix_commitgraph.proofs.history.HistoryLemmas.{length-history, parents-at}
 use Rattle.gix_commitgraph.proofs.layers.GraphLemmas.{counted}
 use Rattle.commit_objects.proofs.ParentLemmas.{says_one}
-use Rattle.commit_objects.specs.CommitContents.{Said, Says}
+use Rattle.commit_objects.specs.CommitContents.{Said}
 use Rattle.commit_objects.specs.Object.{object_id_of}
 use Rattle.graph_objects.specs.CommitWalks.{NamesParent, IsCommitWalk, CommitsLead}
-use Rattle.graph_objects.specs.Matching.{id_of_item, ids_of_items, each_known, MatchesAt, Matches}
+use Rattle.graph_objects.specs.Matching.{ids_of_items, each_known, MatchesAt, Matches}
 use Rattle.graph_objects.specs.Stream.{graph_id_at, AllMatch}
 use Rattle.graph_objects.proofs.CommitLemmas.{of_layer}
 use Rattle.graph_objects.proofs.DigestLemmas.{matched, matched-id}

@@ -1,6 +1,6 @@
 -- The ids of commits are bytes, at most 32 of them.
-use Rattle.std.proofs.Common.{◌≡◌, ℕ, zero, suc, ◌+◌, ◌/◌, ◌<◌, ◌≤◌, List, [], ◌∷◌, ◌++◌, length, slice_get, Some, refl, sym}
-use Rattle.std.proofs.Common.{ap, ◌∙◌, arith, subst}
+use Rattle.std.proofs.Common.{◌≡◌, ℕ, zero, suc, ◌/◌, ◌<◌, ◌≤◌, List, length, slice_get, Some, refl, sym}
+use Rattle.std.proofs.Common.{ap, ◌∙◌, arith}
 use Rattle.std.specs.Prelude.{All, Option, None, slice_index, IsSomeAnd}
 use Rattle.std.specs.Int.{w32, byte_at, bytes_high_first, to_be_bytes}
 use Rattle.std.proofs.lemmas.List.Elements.{All-nil, All-cons, All-append}
@@ -14,7 +14,7 @@ use Rattle.gix_hash_core.specs.Digest.{digest_of}
 use Rattle.gix_hash_core.specs.Kind.{id_len}
 use Rattle.gix_hash_core.proofs.DigestLemmas.{digest_is_sized}
 use Rattle.graph_format.specs.Layer.{Layer}
-use Rattle.gix_commitgraph.specs.Graph.{graph_ids, graph_commits}
+use Rattle.gix_commitgraph.specs.Graph.{graph_commits}
 use Rattle.gix_commitgraph.proofs.layers.GraphLemmas.{commit-lies, place-in}
 use Rattle.commit_objects.specs.Object.{object_id_of, object_of}
 use Rattle.graph_objects.specs.Matching.{MatchesAt, Matches, AreContents}

@@ -9,4 +9,5 @@ pub mod OnceLemmas
 pub mod DigestLemmas
 pub mod MatchLemmas
 pub mod RightStreamLemmas
+pub mod RefusedOnceLemmas
 pub mod CommitWalkLemmas

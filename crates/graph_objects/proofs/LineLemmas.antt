@@ -1,7 +1,7 @@
 -- What the line before the contents says.
-use Rattle.std.proofs.Common.{◌≡◌, ◌≢◌, ℕ, ◌*◌, ◌^◌, ◌<◌, List, [], ◌∷◌, ◌++◌, length, take, decimal, sym, ap, ◌∙◌, arith}
+use Rattle.std.proofs.Common.{◌≡◌, ◌≢◌, ℕ, ◌*◌, ◌^◌, ◌<◌, List, ◌++◌, length, take, decimal, sym, ap, ◌∙◌, arith}
 use Rattle.std.proofs.Common.{take-append-drop}
-use Rattle.std.specs.Prelude.{Option, Some, None, MatchOption, Result, Ok, Err}
+use Rattle.std.specs.Prelude.{Option, Some, None, MatchOption}
 use Rattle.std.specs.List.{AllPass, IsSplitAt}
 use Rattle.std.proofs.lemmas.List.{append_cancel_left}
 use Rattle.graph_objects.specs.BatchEntry.{IsHeading, IsTail, is_lower_digit}

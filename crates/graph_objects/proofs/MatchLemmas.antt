@@ -1,9 +1,9 @@
 -- A commit matches bytes, or differs from them in one thing.
-use Rattle.std.proofs.Common.{◌≡◌, ◌≢◌, ℕ, List, slice_get, refl, sym, ap, ◌∙◌, arith}
+use Rattle.std.proofs.Common.{◌≡◌, ℕ, List, slice_get, ap, ◌∙◌}
 use Rattle.std.specs.Prelude.{Option, Some, None, IsSomeAnd}
 use Rattle.graph_format.specs.Layer.{Layer, record_at}
 use Rattle.gix_commitgraph.specs.Graph.{graph_commits}
-use Rattle.commit_objects.specs.CommitContents.{Said, Says}
+use Rattle.commit_objects.specs.CommitContents.{Said}
 use Rattle.commit_objects.specs.Time.{IsTime}
 use Rattle.graph_objects.specs.Matching.{Matches, MatchesAt, recorded_parents, each_known}
 use Rattle.graph_objects.specs.Mismatches.{Mismatches, MismatchesAt, IsAmiss}

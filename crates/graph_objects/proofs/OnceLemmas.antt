@@ -1,15 +1,13 @@
 -- Bytes have one reading: one line, one entry, one reason why there is none.
-use Rattle.std.proofs.Common.{◌≡◌, ◌≢◌, ℕ, ◌+◌, ◌*◌, ◌^◌, ◌<◌, ◌≤◌, ◌⊎◌, List, [], ◌∷◌, ◌++◌, length, take, get_or, refl}
+use Rattle.std.proofs.Common.{◌≡◌, ◌≢◌, ℕ, ◌^◌, ◌<◌, ◌≤◌, ◌⊎◌, List, [], ◌∷◌, ◌++◌, length, take, get_or, refl}
 use Rattle.std.proofs.Common.{sym, ap, ◌∙◌, arith}
-use Rattle.std.proofs.Common.{inl, inr, ⊎_elim, append_assoc, decimal}
+use Rattle.std.proofs.Common.{⊎_elim, append_assoc, decimal}
 use Rattle.std.specs.Prelude.{All, codes}
-use Rattle.std.proofs.lemmas.List.{append_cancel_left, length-append, length-take, get_or-take, get_or_at, take_all}
-use Rattle.std.proofs.lemmas.List.{get_or-append-add}
+use Rattle.std.proofs.lemmas.List.{length-append, length-take, get_or-take, get_or_at, take_all}
 use Rattle.std.proofs.lemmas.List.Elements.{All-head, All-tail, All-get_or}
 use Rattle.hex.specs.Hex.{encode_lower, lower_digits}
 use Rattle.hex.proofs.HexLemmas.{length-encode_with}
-use Rattle.graph_format.specs.Layer.{Layer}
-use Rattle.graph_objects.specs.BatchEntry.{line_of_commit, commit_entry, longest_line, HasNoFeed, IsLine, IsTail, IsHeading}
+use Rattle.graph_objects.specs.BatchEntry.{line_of_commit, longest_line, HasNoFeed, IsLine, IsTail, IsHeading}
 use Rattle.graph_objects.specs.BatchEntry.{IsOtherLine, IsCommitHead, BeginsWithEntry}
 use Rattle.graph_objects.specs.declared.heading.Heading.{Heading}
 use Rattle.graph_objects.specs.declared.heading.Heading.TheVariants as told

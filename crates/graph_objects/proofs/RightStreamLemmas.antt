@@ -2,19 +2,17 @@
 use Rattle.std.proofs.Common.{◌≡◌, ◌≢◌, ℕ, ◌+◌, ◌<◌, ◌≤◌, ◌⊎◌, List, [], ◌∷◌, ◌++◌, length, take, get_or, refl, sym, ap, ◌∙◌}
 use Rattle.std.proofs.Common.{arith}
 use Rattle.std.proofs.Common.{⊎_elim, append_assoc, append-nil, subst}
-use Rattle.std.specs.Prelude.{All}
 use Rattle.std.proofs.lemmas.List.{length-append, get_or_at, nil_from_length}
 use Rattle.graph_format.specs.Layer.{Layer}
 use Rattle.graph_objects.specs.BatchEntry.{line_of_commit, commit_entry, longest_line, HasNoFeed, IsLine, IsOtherLine}
 use Rattle.graph_objects.specs.BatchEntry.{IsCommitHead, BeginsWithEntry}
 use Rattle.graph_objects.specs.Matching.{MatchesAt}
-use Rattle.graph_objects.specs.Mismatches.{MismatchesAt}
 use Rattle.graph_objects.specs.Stream.{graph_id_at, entries_of, AllMatch, IsStreamUpTo, IsStreamOf, IsEntryError, IsStreamRefusal}
 use Rattle.graph_objects.specs.declared.error.EntryError.{EntryError}
 use Rattle.graph_objects.specs.declared.error.EntryError.TheVariants as error
 use Rattle.graph_objects.specs.declared.error.ObjectsError.{ObjectsError}
 use Rattle.graph_objects.specs.declared.error.ObjectsError.TheVariants.{Entry, LeftOver, Device, OutOfMemory}
-use Rattle.graph_objects.proofs.DigestLemmas.{AreBytes, matched-bytes, matched-short}
+use Rattle.graph_objects.proofs.DigestLemmas.{matched-bytes, matched-short}
 use Rattle.graph_objects.proofs.MatchLemmas.{excluded}
 use Rattle.graph_objects.proofs.OnceLemmas.{line_once, no_line, no_line_at_all, not_other, entry_head, head_once, entry_once}
 
@@ -116,53 +114,52 @@ has_more layers first (c ∷ some) (d ∷ all) bytes next end one two e f fewer 
     let place : first + 1 + length some ≡ first + length (c ∷ some) = omega arith in
     (later.0, omega (arith, later.1), rw place at later.2)
 
--- what stands at a position of a right stream matches
-entry_there : (layers : List Layer) (first p end : ℕ) (bytes next : List ℕ) → IsStreamOf layers first end bytes
-    → IsStreamUpTo layers first p bytes next
-    → p < end → (contents : List ℕ) × (rest : List ℕ) × BeginsWithEntry (graph_id_at layers p) next contents rest
+-- what stands at a position that more is read behind matches
+pub entry_there : (layers : List Layer) (first p q : ℕ) (bytes next last : List ℕ) → IsStreamUpTo layers first p bytes next
+    → IsStreamUpTo layers first q bytes last → p < q
+    → (contents : List ℕ) × (rest : List ℕ) × BeginsWithEntry (graph_id_at layers p) next contents rest
     × MatchesAt layers p contents
-entry_there layers first p end bytes next right passed within =
-    let all = has_more layers first passed.contents right.contents bytes next [] passed.agree right.agree passed.whole right.whole
-    (omega (arith, passed.counted, right.counted, within)) in
-    by all.0 (omega (arith, all.1, passed.counted, right.counted, within)) (rw passed.counted at all.2)
+entry_there layers first p q bytes next last one two less =
+    let all = has_more layers first one.contents two.contents bytes next last one.agree two.agree one.whole two.whole
+    (omega (arith, one.counted, two.counted, less)) in
+    by all.0 (omega (arith, all.1, one.counted, two.counted, less)) (rw one.counted at all.2)
   where
-    by : (count : ℕ) → 0 < count → HasMore layers p count next []
+    by : (count : ℕ) → 0 < count → HasMore layers p count next last
         → (contents : List ℕ) × (rest : List ℕ) × BeginsWithEntry (graph_id_at layers p) next contents rest
         × MatchesAt layers p contents
     by count some more = cases more.more more.counted more.agree more.whole
       where
-        cases : (more : List (List ℕ)) → length more ≡ count → AllMatch layers p more → next ≡ entries_of layers p more ++ []
+        cases : (more : List (List ℕ)) → length more ≡ count → AllMatch layers p more → next ≡ entries_of layers p more ++ last
             → (contents : List ℕ) × (rest : List ℕ) × BeginsWithEntry (graph_id_at layers p) next contents rest
             × MatchesAt layers p contents
         cases [] counted agree whole = absurd (omega (arith, counted, some))
         cases (c ∷ later) counted agree whole = (
           c,
-          entries_of layers (p + 1) later ++ [],
+          entries_of layers (p + 1) later ++ last,
           record {
-            whole = whole ∙ append_assoc (commit_entry (graph_id_at layers p) c) (entries_of layers (p + 1) later)
-                [];
+            whole = whole ∙ append_assoc (commit_entry (graph_id_at layers p) c) (entries_of layers (p + 1) later) last;
             fits = agree.1;
           },
           agree.0,
         )
 
-nothing_left : (layers : List Layer) (first end : ℕ) (bytes next : List ℕ) → IsStreamOf layers first end bytes
-    → IsStreamUpTo layers first end bytes next → next ≡ []
-nothing_left layers first end bytes next right passed =
-    let all = has_more layers first passed.contents right.contents bytes next [] passed.agree right.agree passed.whole right.whole
-    (omega (arith, passed.counted, right.counted)) in
-    let none : all.2.more ≡ [] = nil_from_length all.2.more (omega (arith, all.1, all.2.counted, passed.counted, right.counted))
-    in
-    all.2.whole ∙ ap (λ l. entries_of layers (first + length passed.contents) l ++ []) none
+-- and what follows is one thing
+pub same_next : (layers : List Layer) (first p : ℕ) (bytes next last : List ℕ) → IsStreamUpTo layers first p bytes next
+    → IsStreamUpTo layers first p bytes last → next ≡ last
+same_next layers first p bytes next last one two =
+    let all = has_more layers first one.contents two.contents bytes next last one.agree two.agree one.whole two.whole
+    (omega (arith, one.counted, two.counted)) in
+    let none : all.2.more ≡ [] = nil_from_length all.2.more (omega (arith, all.1, all.2.counted, one.counted, two.counted)) in
+    all.2.whole ∙ ap (λ l. entries_of layers (first + length one.contents) l ++ last) none
 
 pub right_not_refused : (layers : List Layer) (first end : ℕ) (bytes : List ℕ) (e : ObjectsError)
     → IsStreamOf layers first end bytes
     → ¬ (IsStreamRefusal layers first end bytes e)
 right_not_refused layers first end bytes (Entry pos e) right refused =
-    let there = entry_there layers first pos.0 end bytes refused.0 right refused.2 refused.1 in
+    let there = entry_there layers first pos.0 end bytes refused.0 [] refused.2 right refused.1 in
     not_refused layers pos.0 refused.0 there.0 there.1 there.2 there.3 e refused.3
 right_not_refused layers first end bytes LeftOver right refused =
-    refused.2 (nothing_left layers first end bytes refused.0 right refused.1)
+    refused.2 (same_next layers first end bytes refused.0 [] refused.1 right)
 right_not_refused layers first end bytes Device right refused = refused
 right_not_refused layers first end bytes OutOfMemory right refused = refused
 

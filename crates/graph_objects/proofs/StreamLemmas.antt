@@ -1,7 +1,7 @@
 -- Entries one behind another.
-use Rattle.std.proofs.Common.{◌≡◌, ◌≢◌, ℕ, ◌+◌, ◌^◌, ◌<◌, ◌≤◌, List, [], ◌∷◌, ◌++◌, length, refl, sym, ap, ◌∙◌, arith}
+use Rattle.std.proofs.Common.{◌≡◌, ℕ, ◌+◌, ◌^◌, ◌<◌, ◌≤◌, List, [], ◌∷◌, ◌++◌, length, refl, sym, ap, ◌∙◌, arith}
 use Rattle.std.proofs.Common.{append_assoc, append-nil, add-zero}
-use Rattle.std.proofs.Common.{subst, Option, Some, None}
+use Rattle.std.proofs.Common.{Option, Some, None}
 use Rattle.std.specs.Prelude.{IfSome}
 use Rattle.std.specs.Io.KnownBytes.{Keeps, IsAtEnd, prepend_known}
 use Rattle.std.proofs.lemmas.List.{length-append, nil_from_length}
@@ -9,7 +9,7 @@ use Rattle.graph_format.specs.Layer.{Layer}
 use Rattle.graph_format.specs.declared.Position.{Position}
 use Rattle.graph_objects.specs.BatchEntry.{commit_entry, BeginsWithEntry}
 use Rattle.graph_objects.specs.Matching.{MatchesAt}
-use Rattle.graph_objects.specs.Stream.{graph_id_at, entries_of, AllMatch, IsStreamUpTo, IsStreamOf, IsEntryError, IsLong}
+use Rattle.graph_objects.specs.Stream.{graph_id_at, entries_of, AllMatch, IsStreamUpTo, IsStreamOf, IsLong}
 use Rattle.graph_objects.specs.Stream.{MayRefuseStream, HasLong}
 use Rattle.graph_objects.specs.Taking.{BothKnown, TakesEntry, MayStop}
 use Rattle.graph_objects.specs.declared.error.ObjectsError.{ObjectsError}

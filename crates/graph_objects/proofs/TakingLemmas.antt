@@ -1,7 +1,7 @@
 -- Why no entry is taken from the bytes that a buffer and its reader have together.
-use Rattle.std.proofs.Common.{◌≡◌, ◌≢◌, ℕ, ◌+◌, ◌<◌, ◌≤◌, Bool, true, false, List, [], ◌∷◌, ◌++◌, length, take, drop, get_or}
+use Rattle.std.proofs.Common.{◌≡◌, ◌≢◌, ℕ, ◌+◌, ◌<◌, ◌≤◌, Bool, true, false, List, [], ◌++◌, length, take, drop, get_or}
 use Rattle.std.proofs.Common.{refl, sym, ap, ◌∙◌, arith}
-use Rattle.std.proofs.Common.{append_assoc, append-nil, subst, inl, inr, ⊎_elim, slice_get, Option, Some, None, IsTrue}
+use Rattle.std.proofs.Common.{append-nil, subst, inl, inr, ⊎_elim, slice_get, Option, Some, None, IsTrue}
 use Rattle.std.specs.Prelude.{◌↔◌, IfSome, nat_lt, if◌then◌else◌}
 use Rattle.std.specs.Io.KnownBytes.{Keeps, IsAtEnd, prepend_known}
 use Rattle.std.proofs.lemmas.Bool.{cases_lt, lt-ltb, le-ltb}
@@ -9,13 +9,12 @@ use Rattle.std.proofs.lemmas.List.{length-append, take_all, take-append-le, get_
 use Rattle.graph_format.specs.Layer.{Layer}
 use Rattle.graph_format.specs.declared.Position.{Position}
 use Rattle.gix_commitgraph.specs.Graph.{graph_ids}
-use Rattle.graph_objects.specs.BatchEntry.{line_of_commit, longest_line, HasNoFeed, IsLine, IsLineEnd, IsOtherLine}
-use Rattle.graph_objects.specs.BatchEntry.{BeginsWithEntry}
+use Rattle.graph_objects.specs.BatchEntry.{longest_line, HasNoFeed, IsLine, IsLineEnd, IsOtherLine, BeginsWithEntry}
 use Rattle.graph_objects.specs.Matching.{MatchesAt}
 use Rattle.graph_objects.specs.Mismatches.{MismatchesAt}
 use Rattle.graph_objects.specs.Reading.{IsFillError}
 use Rattle.graph_objects.specs.Stream.{graph_id_at, IsEntryError, IsLong}
-use Rattle.graph_objects.specs.Taking.{BothKnown, TakesEntry, FindsHead, MayStop}
+use Rattle.graph_objects.specs.Taking.{TakesEntry, FindsHead, MayStop}
 use Rattle.graph_objects.specs.declared.Mismatch.{Mismatch}
 use Rattle.graph_objects.specs.declared.error.EntryError.{EntryError}
 use Rattle.graph_objects.specs.declared.error.EntryError.TheVariants as error

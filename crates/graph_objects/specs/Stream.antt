@@ -1,6 +1,6 @@
 -- A stream of the commits of a graph, and why bytes are none.
 use Rattle.std.specs.Prelude.{◌≡◌, ◌≢◌, ◌⊎◌, ◌<◌, ◌≤◌, ◌^◌, ℕ, ◌+◌, List, [], ◌∷◌, ◌++◌, length, take, slice_index}
-use Rattle.std.specs.Prelude.{slice_index_or}
+use Rattle.std.specs.Prelude.{slice_index_or, All}
 use Rattle.graph_format.specs.Layer.{Layer}
 use Rattle.gix_commitgraph.specs.Graph.{graph_ids}
 use Rattle.graph_objects.specs.BatchEntry.{line_of_commit, commit_entry, longest_line, HasNoFeed, IsLine, IsOtherLine}
@@ -8,7 +8,7 @@ use Rattle.graph_objects.specs.BatchEntry.{IsCommitHead, BeginsWithEntry}
 use Rattle.graph_objects.specs.Matching.{MatchesAt}
 use Rattle.graph_objects.specs.Mismatches.{MismatchesAt}
 use Rattle.graph_objects.specs.declared.error.EntryError.{EntryError}
-use Rattle.graph_objects.specs.declared.error.EntryError.TheVariants.{Ends, NoEntry, OtherId, Missing, NotACommit, Mismatch}
+use Rattle.graph_objects.specs.declared.error.EntryError.TheVariants.{Ends, NoEntry, Mismatch}
 use Rattle.graph_objects.specs.declared.error.ObjectsError.{ObjectsError}
 use Rattle.graph_objects.specs.declared.error.ObjectsError.TheVariants.{Entry, LeftOver, Device, OutOfMemory}
 
@@ -77,3 +77,7 @@ MayRefuseStream layers first end bytes error = IsStreamRefusal layers first end 
 abbrev pub HasLong : List Layer → ℕ → ℕ → List ℕ → Type 0
 HasLong layers first end bytes = (p : ℕ) × (next : List ℕ) × (p < end) × IsStreamUpTo layers first p bytes next
     × IsLong layers p next
+
+-- the ids of a graph are bytes, at most 32 of them, as those of any file are
+abbrev pub HaveIdsOfBytes : List Layer → Type 0
+HaveIdsOfBytes layers = All (λ id. All (λ b. b < 256) id × (length id ≤ 32)) (graph_ids layers)

@@ -1,4 +1,4 @@
-use Rattle.std.proofs.Common.{◌≡◌, ◌+◌, length, sym, arith, ◌∙◌}
+use Rattle.std.proofs.Common.{arith}
 use Rattle.graph_objects.proofs.CommitWalkLemmas.{leads, reaches}
 use Rattle.graph_objects.proofs.law.walks_of_a_graph_that_matches_are_those_along_parent_lines.Goals as goal
 

@@ -1,4 +1,4 @@
-use Rattle.std.proofs.Common.{◌≡◌, ◌*◌, ◌++◌, length, arith, sym, ap, ◌∙◌}
+use Rattle.std.proofs.Common.{length, ap}
 use Rattle.graph_objects.proofs.LineLemmas.{heading_is}
 use Rattle.gix_hash_core.specs.Oid.{oid_bytes}
 use Rattle.graph_objects.proofs.line.commit_size.Goals as goal

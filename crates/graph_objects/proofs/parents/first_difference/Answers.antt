@@ -3,7 +3,7 @@ use Rattle.std.specs.Prelude.{Some}
 use Rattle.gix_commitgraph.specs.Graph.{graph_ids}
 use Rattle.graph_layer.specs.RemainingParents.{parents_left}
 use Rattle.graph_objects.specs.Matching.{ids_of_items}
-use Rattle.graph_objects.proofs.ParentLemmas.{one_more, one_differs, one_left, both_end, first_item, item_there, fewer}
+use Rattle.graph_objects.proofs.ParentLemmas.{one_more, one_differs, one_left, first_item, item_there, fewer}
 use Rattle.graph_objects.proofs.parents.first_difference.Goals as goal
 
 pub returns-then-not-has_id : goal.returns-then-not-has_id

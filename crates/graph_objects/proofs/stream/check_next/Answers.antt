@@ -1,8 +1,7 @@
 use Rattle.std.proofs.Common.{◌≡◌, ℕ, ◌+◌, ◌<◌, List, length, take, drop, arith, sym, ap, ◌∙◌}
 use Rattle.std.proofs.KnownBytes.{Keeps-trans}
 use Rattle.std.proofs.lemmas.List.{length-drop, drop-drop, take_rest}
-use Rattle.std.specs.Io.KnownBytes.{Keeps, prepend_known}
-use Rattle.graph_objects.specs.Stream.{graph_id_at}
+use Rattle.std.specs.Io.KnownBytes.{prepend_known}
 use Rattle.graph_objects.proofs.EntryLemmas.{head_grown, entry_front}
 use Rattle.graph_objects.proofs.TakingLemmas.{no_feed_stop, mismatch_stop, taken}
 use Rattle.graph_objects.proofs.stream.check_next.Goals as goal

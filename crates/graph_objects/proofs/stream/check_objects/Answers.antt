@@ -1,4 +1,4 @@
-use Rattle.std.proofs.Common.{◌≡◌, ◌<◌, length, arith}
+use Rattle.std.proofs.Common.{◌≡◌, arith}
 use Rattle.graph_objects.proofs.StreamLemmas.{one_known, some_left}
 use Rattle.graph_objects.proofs.stream.check_objects.Goals as goal
 
