@@ -11,7 +11,7 @@ use Rattle.graph_format.specs.declared.Position.{Position}
 use Rattle.gix_commitgraph.specs.Graph.{graph_ids, graph_commits}
 use Rattle.commit_objects.proofs.ParentLemmas.{says_one}
 use Rattle.commit_objects.specs.CommitContents.{Said, Says}
-use Rattle.graph_objects.specs.Entry.{line_of_commit, longest_line, HasNoFeed, IsLine, IsOtherLine, IsCommitHead}
+use Rattle.graph_objects.specs.BatchEntry.{line_of_commit, longest_line, HasNoFeed, IsLine, IsOtherLine, IsCommitHead}
 use Rattle.graph_objects.specs.Matching.{AreContents, recorded_parents, each_known}
 use Rattle.graph_objects.specs.Mismatches.{Mismatches, MismatchesAt, IsAmiss, DifferFirstAt}
 use Rattle.graph_objects.specs.Stream.{graph_id_at, HaveIdsOfBytes, IsStreamUpTo, IsEntryError, IsStreamRefusal}
