@@ -174,3 +174,26 @@ fn all_layers_are_read_before_dates_are_compared(rt: HostRuntime) {
         compare(&rt, alloc, &[*lower, *upper], *expected);
     }
 }
+
+#[test]
+fn each_refusal_of_dates_is_told_of_an_upper_layer(rt: HostRuntime) {
+    let alloc = rt.alloc();
+    let lower: Layer<'_> = (ROOT, Some(&[1]), None);
+    let late: u64 = 1 << 63;
+    let pos = Position(1);
+    let rows: &[(&[u32], Option<&[u8]>, DatesError)] = &[
+        (&[], None, DatesError::DataSize { layer: 1 }),
+        (&[0], Some(&[0; 4]), DatesError::OverflowSize { layer: 1 }),
+        (&[FIRST], None, DatesError::OverflowIndex { pos }),
+        (
+            &[FIRST],
+            Some(&late.to_be_bytes()),
+            DatesError::TooLarge { pos },
+        ),
+        (&[1], None, DatesError::Date { pos, expected: 7 }),
+    ];
+    for (offsets, overflow, expected) in rows {
+        let upper: Layer<'_> = (CHILD, Some(*offsets), *overflow);
+        compare(&rt, alloc, &[lower, upper], Err(*expected));
+    }
+}
