@@ -1,11 +1,11 @@
 //! The commands of `historytool`, by the words of a command line.
 
-ghost use Rattle.std.specs.Prelude.{◌≡◌, ℕ, List, IfOk, IfSome, IsNone, map, string_bytes};
-ghost use Rattle.history_commands.specs.HistorytoolWords.{AskHistorytool, AskOfIds};
-ghost use Rattle.history_commands.specs.HistorytoolAnswers.{TellsOfItself};
-ghost use Rattle.history_commands.specs.declared.command.Command.{Command};
+ghost use Rattle.std.specs.Prelude.{◌≡◌, ◌∷◌, [], ℕ, List, IfOk, IfSome, IsNone, map, string_bytes};
+ghost use Rattle.history_program.specs.HistorytoolWords.{AskAfterName, AskHistorytool};
+ghost use Rattle.history_program.specs.HistorytoolAnswers.{TellsOfItself};
+ghost use Rattle.history_program.specs.declared.command.Command.{Command};
 
-use crate::run::{run_check, run_is_ancestor, run_merge_base, run_merge_base_ids, run_walk};
+use history_commands::run::{run_check, run_is_ancestor, run_merge_base, run_merge_base_ids, run_walk};
 use graph_commands::line::{WriteFailed, write_line};
 use graph_commands::program::Run;
 use graph_commands::status::Status;
@@ -81,7 +81,6 @@ pub struct Texts<'a> {
 impl<'a> Command<'a> {
     /// The command that the words of a command line ask for, and none where they ask for none. The
     /// first word is the program's own name.
-    #[tactic(auto, using(crate::proofs::WordsLemmas::named))]
     pub fn from_words(words: &'a [String], texts: Texts<'a>) -> Option<Command<'a>>
         ensures asked { IfSome result (AskHistorytool texts.entry.help.now texts.entry.version.now
             (map string_bytes words.now)) }
@@ -90,34 +89,57 @@ impl<'a> Command<'a> {
             (map string_bytes words.now) command }
     {
         match words {
-            [_, name] => match name.as_str() {
-                "--help" | "-h" => Some(Command::Help { text: texts.help }),
-                "--version" => Some(Command::Version {
-                    text: texts.version,
-                }),
-                _ => None,
-            },
-            [_, name, path] => match name.as_str() {
-                "check" => Some(Command::Check { path }),
-                _ => None,
-            },
+            [_, name] => Command::of_name(name, texts),
+            [_, name, path] => Command::of_path(name, path),
             [_, name, path, first, others @ ..] => Command::of_ids(name, path, first, others),
             _ => None,
         }
     }
 
+    /// The command with this name that takes no other word, if it is one.
+    #[tactic(auto, using(crate::proofs::WordsLemmas::named_alone))]
+    fn of_name(name: &str, texts: Texts<'a>) -> Option<Command<'a>>
+        ensures asked { IfSome result (AskAfterName texts.entry.help.now texts.entry.version.now
+            (name.now ∷ [])) }
+        ensures other { IsNone result → (command : Command)
+            → ¬ AskAfterName texts.entry.help.now texts.entry.version.now (name.now ∷ []) command }
+    {
+        match name {
+            "--help" | "-h" => Some(Command::Help { text: texts.help }),
+            "--version" => Some(Command::Version {
+                text: texts.version,
+            }),
+            _ => None,
+        }
+    }
+
+    /// The command with this name that takes a path alone, if it is one.
+    #[tactic(auto, using(crate::proofs::WordsLemmas::named_with_path))]
+    fn of_path(name: &str, path: &'a str) -> Option<Command<'a>>
+        ensures asked { (help version : List ℕ)
+            → IfSome result (AskAfterName help version (name.now ∷ path.now ∷ [])) }
+        ensures other { IsNone result → (help version : List ℕ) (command : Command)
+            → ¬ AskAfterName help version (name.now ∷ path.now ∷ []) command }
+    {
+        match name {
+            "check" => Some(Command::Check { path }),
+            _ => None,
+        }
+    }
+
     /// The command with this name about the ids of two commits or more, if it is one.
-    #[tactic(auto, using(crate::proofs::WordsLemmas::named_of_ids))]
+    #[tactic(auto, using(crate::proofs::WordsLemmas::named_with_ids))]
     fn of_ids(
         name: &str,
         path: &'a str,
         first: &'a str,
         others: &'a [String],
     ) -> Option<Command<'a>>
-        ensures asked { IfSome result (AskOfIds
-            name.now path.now first.now (map string_bytes others.now)) }
-        ensures other { IsNone result → (command : Command)
-            → ¬ AskOfIds name.now path.now first.now (map string_bytes others.now) command }
+        ensures asked { (help version : List ℕ) → IfSome result (AskAfterName help version
+            (name.now ∷ path.now ∷ first.now ∷ map string_bytes others.now)) }
+        ensures other { IsNone result → (help version : List ℕ) (command : Command)
+            → ¬ AskAfterName help version
+            (name.now ∷ path.now ∷ first.now ∷ map string_bytes others.now) command }
     {
         match name {
             "is-ancestor" => match others {
@@ -160,7 +182,7 @@ impl<'a> Command<'a> {
 }
 
 impl Run for Command<'_> {
-    ghost use Rattle.history_commands.specs.HistorytoolAnswers.{HistorytoolMayWrite};
+    ghost use Rattle.history_program.specs.HistorytoolAnswers.{HistorytoolMayWrite};
 
     ghost MayWrite = { HistorytoolMayWrite };
 

@@ -5,8 +5,8 @@ use Rattle.graph_format.specs.Layer.{Layer}
 use Rattle.graph_layer.specs.declared.opening.error.OpenError.{OpenError}
 use Rattle.graph_commands.specs.Text.{◌⧺◌, newline}
 use Rattle.graph_commands.specs.WrittenAnswer.{WritesAnswer}
-use Rattle.history_commands.specs.declared.command.Command.{Command}
-use Rattle.history_commands.specs.declared.command.Command.TheVariants as command
+use Rattle.history_program.specs.declared.command.Command.{Command}
+use Rattle.history_program.specs.declared.command.Command.TheVariants as command
 use Rattle.history_commands.specs.Check.{MayFindInAll, check_text, check_status}
 use Rattle.history_commands.specs.IsAncestor.{IsTold, is_ancestor_text, is_ancestor_status}
 use Rattle.history_commands.specs.MergeBases.{MayCompare, merge_base_text, merge_base_ids_text, merge_base_status}
@@ -19,23 +19,23 @@ TellsOfItself text old new status = Appends old new (text ⧺ newline) × (statu
 
 -- an answer that the command may give is written, with its status: help and version leave the folder alone; each other command
 -- answers of what the opener may answer at its path. None of them asks for the input
-abbrev pub HistorytoolMayWrite : Command → Option (List ℕ) → Type 0 → (List ℕ → Result (List Layer) OpenError → Type 0)
-    → Option (List ℕ) → Option (List ℕ) → ℕ → Type 0
-HistorytoolMayWrite (command.Help text) input IsLeftAlone MayOpenAt old new status =
+abbrev pub HistorytoolMayWrite : Command → Option (List ℕ) → Option (List ℕ) → Type 0
+    → (List ℕ → Result (List Layer) OpenError → Type 0) → Option (List ℕ) → Option (List ℕ) → ℕ → Type 0
+HistorytoolMayWrite (command.Help text) input unread IsLeftAlone MayOpenAt old new status =
     IsLeftAlone × TellsOfItself text.now old new status
-HistorytoolMayWrite (command.Version text) input IsLeftAlone MayOpenAt old new status =
+HistorytoolMayWrite (command.Version text) input unread IsLeftAlone MayOpenAt old new status =
     IsLeftAlone × TellsOfItself text.now old new status
-HistorytoolMayWrite (command.IsAncestor path first second) input IsLeftAlone MayOpenAt old new status =
+HistorytoolMayWrite (command.IsAncestor path first second) input unread IsLeftAlone MayOpenAt old new status =
     WritesAnswer is_ancestor_text is_ancestor_status
     (MayAnswer IsTold first.now second.now IsLeftAlone (MayOpenAt path.now)) old new status
-HistorytoolMayWrite (command.Walk path first second) input IsLeftAlone MayOpenAt old new status =
+HistorytoolMayWrite (command.Walk path first second) input unread IsLeftAlone MayOpenAt old new status =
     WritesAnswer walk_text walk_status
     (MayAnswer IsWalkOfIds first.now second.now IsLeftAlone (MayOpenAt path.now)) old new status
-HistorytoolMayWrite (command.MergeBase path first others) input IsLeftAlone MayOpenAt old new status =
+HistorytoolMayWrite (command.MergeBase path first others) input unread IsLeftAlone MayOpenAt old new status =
     WritesAnswer merge_base_text merge_base_status
     (MayCompare (first.now ∷ map string_bytes others.now) IsLeftAlone (MayOpenAt path.now)) old new status
-HistorytoolMayWrite (command.MergeBaseIds path first others) input IsLeftAlone MayOpenAt old new status =
+HistorytoolMayWrite (command.MergeBaseIds path first others) input unread IsLeftAlone MayOpenAt old new status =
     WritesAnswer merge_base_ids_text merge_base_status
     (MayCompare (first.now ∷ map string_bytes others.now) IsLeftAlone (MayOpenAt path.now)) old new status
-HistorytoolMayWrite (command.Check path) input IsLeftAlone MayOpenAt old new status =
+HistorytoolMayWrite (command.Check path) input unread IsLeftAlone MayOpenAt old new status =
     WritesAnswer check_text check_status (MayFindInAll (MayOpenAt path.now)) old new status
