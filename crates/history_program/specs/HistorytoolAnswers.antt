@@ -5,6 +5,8 @@ use Rattle.graph_format.specs.Layer.{Layer}
 use Rattle.graph_layer.specs.declared.opening.error.OpenError.{OpenError}
 use Rattle.graph_commands.specs.Text.{◌⧺◌, newline}
 use Rattle.graph_commands.specs.WrittenAnswer.{WritesAnswer}
+use Rattle.object_commands.specs.CommitIds.{MayListIds, ids_text, ids_status}
+use Rattle.object_commands.specs.ComparedObjects.{MayCompareObjects, objects_text, objects_status}
 use Rattle.history_program.specs.declared.command.Command.{Command}
 use Rattle.history_program.specs.declared.command.Command.TheVariants as command
 use Rattle.history_commands.specs.Check.{MayFindInAll, check_text, check_status}
@@ -18,7 +20,8 @@ abbrev pub TellsOfItself : List ℕ → Option (List ℕ) → Option (List ℕ) 
 TellsOfItself text old new status = Appends old new (text ⧺ newline) × (status ≡ 0)
 
 -- an answer that the command may give is written, with its status: help and version leave the folder alone; each other command
--- answers of what the opener may answer at its path. None of them asks for the input
+-- answers of what the opener may answer at its path. `objects` answers of what the input has left before and after, where that is
+-- known; none of the others asks for it
 abbrev pub HistorytoolMayWrite : Command → Option (List ℕ) → Option (List ℕ) → Type 0
     → (List ℕ → Result (List Layer) OpenError → Type 0) → Option (List ℕ) → Option (List ℕ) → ℕ → Type 0
 HistorytoolMayWrite (command.Help text) input unread IsLeftAlone MayOpenAt old new status =
@@ -39,3 +42,7 @@ HistorytoolMayWrite (command.MergeBaseIds path first others) input unread IsLeft
     (MayCompare (first.now ∷ map string_bytes others.now) IsLeftAlone (MayOpenAt path.now)) old new status
 HistorytoolMayWrite (command.Check path) input unread IsLeftAlone MayOpenAt old new status =
     WritesAnswer check_text check_status (MayFindInAll (MayOpenAt path.now)) old new status
+HistorytoolMayWrite (command.Ids path range) input unread IsLeftAlone MayOpenAt old new status =
+    WritesAnswer ids_text ids_status (MayListIds range (MayOpenAt path.now)) old new status
+HistorytoolMayWrite (command.Objects path range) input unread IsLeftAlone MayOpenAt old new status =
+    WritesAnswer objects_text objects_status (MayCompareObjects range input unread (MayOpenAt path.now)) old new status

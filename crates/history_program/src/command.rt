@@ -1,15 +1,20 @@
 //! The commands of `historytool`, by the words of a command line.
 
-ghost use Rattle.std.specs.Prelude.{◌≡◌, ◌∷◌, [], ℕ, List, IfOk, IfSome, IsNone, map, string_bytes};
+ghost use Rattle.std.specs.Prelude.{◌≡◌, ◌∷◌, [], ℕ, List, IfOk, IfSome, IsNone, codes, map, string_bytes};
 ghost use Rattle.history_program.specs.HistorytoolWords.{AskAfterName, AskHistorytool};
 ghost use Rattle.history_program.specs.HistorytoolAnswers.{TellsOfItself};
+ghost use Rattle.object_commands.specs.AskedRange.{SpellsRange};
+ghost use Rattle.object_commands.specs.declared.range.PositionRange as declared;
 ghost use Rattle.history_program.specs.declared.command.Command.{Command};
 
-use history_commands::run::{run_check, run_is_ancestor, run_merge_base, run_merge_base_ids, run_walk};
 use graph_commands::line::{WriteFailed, write_line};
 use graph_commands::program::Run;
 use graph_commands::status::Status;
 use graph_folder::folder::Folder;
+use history_commands::run::{
+    run_check, run_is_ancestor, run_merge_base, run_merge_base_ids, run_walk,
+};
+use object_commands::{PositionRange, run_ids, run_objects};
 use std::alloc::Global;
 use std::io::{Read, Write};
 
@@ -67,6 +72,20 @@ pub enum Command<'a> {
         /// The path of the graph.
         path: &'a str,
     },
+    /// The ids of the graph are to be listed.
+    Ids {
+        /// The path of the graph.
+        path: &'a str,
+        /// The positions whose ids are meant; all of them, where it is none.
+        range: Option<PositionRange>,
+    },
+    /// The graph is to be compared with its commits, which the input has.
+    Objects {
+        /// The path of the graph.
+        path: &'a str,
+        /// The positions of the commits that are meant; all of them, where it is none.
+        range: Option<PositionRange>,
+    },
 }
 
 /// What `historytool` tells of itself.
@@ -123,11 +142,14 @@ impl<'a> Command<'a> {
     {
         match name {
             "check" => Some(Command::Check { path }),
+            "ids" => Some(Command::Ids { path, range: None }),
+            "objects" => Some(Command::Objects { path, range: None }),
             _ => None,
         }
     }
 
-    /// The command with this name about the ids of two commits or more, if it is one.
+    /// The command with this name about the ids of two commits or more, or about the positions in
+    /// a range, if it is one.
     #[tactic(auto, using(crate::proofs::WordsLemmas::named_with_ids))]
     fn of_ids(
         name: &str,
@@ -160,6 +182,16 @@ impl<'a> Command<'a> {
                 }),
                 _ => None,
             },
+            "ids" => match others {
+                [] => None,
+                [to] => Command::ids_in(path, first, to),
+                _ => None,
+            },
+            "objects" => match others {
+                [] => None,
+                [to] => Command::objects_in(path, first, to),
+                _ => None,
+            },
             "merge-base" => match others {
                 [] => None,
                 _ => Some(Command::MergeBase {
@@ -181,6 +213,36 @@ impl<'a> Command<'a> {
     }
 }
 
+impl<'a> Command<'a> {
+    /// `ids` for the positions that two texts spell, if they spell a range.
+    fn ids_in(path: &'a str, from: &str, to: &str) -> Option<Command<'a>>
+        ensures asked { (help version : List ℕ) → IfSome result (AskAfterName help version
+            (codes "ids" ∷ path.now ∷ from.now ∷ to.now ∷ [])) }
+        ensures other { IsNone result → (range : declared.PositionRange)
+            → ¬ SpellsRange from.now to.now range }
+    {
+        let range = PositionRange::from_texts(from, to)?;
+        Some(Command::Ids {
+            path,
+            range: Some(range),
+        })
+    }
+
+    /// `objects` for the positions that two texts spell, if they spell a range.
+    fn objects_in(path: &'a str, from: &str, to: &str) -> Option<Command<'a>>
+        ensures asked { (help version : List ℕ) → IfSome result (AskAfterName help version
+            (codes "objects" ∷ path.now ∷ from.now ∷ to.now ∷ [])) }
+        ensures other { IsNone result → (range : declared.PositionRange)
+            → ¬ SpellsRange from.now to.now range }
+    {
+        let range = PositionRange::from_texts(from, to)?;
+        Some(Command::Objects {
+            path,
+            range: Some(range),
+        })
+    }
+}
+
 impl Run for Command<'_> {
     ghost use Rattle.history_program.specs.HistorytoolAnswers.{HistorytoolMayWrite};
 
@@ -189,7 +251,7 @@ impl Run for Command<'_> {
     fn run<R: Read, T: Folder, W: Write>(
         self,
         alloc: Global,
-        _: &mut R,
+        input: &mut R,
         folder: &mut T,
         output: &mut W,
     ) -> Result<u8, WriteFailed> {
@@ -217,6 +279,10 @@ impl Run for Command<'_> {
                 others,
             } => run_merge_base_ids(alloc, folder, path, first, others, output),
             Command::Check { path } => run_check(alloc, folder, path, output),
+            Command::Ids { path, range } => run_ids(alloc, folder, path, range, output),
+            Command::Objects { path, range } => {
+                run_objects(alloc, input, folder, path, range, output)
+            }
         }
     }
 }
