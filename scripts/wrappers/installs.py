@@ -1,4 +1,4 @@
-"""Checks scripts/install, the manual page and the completion."""
+"""Checks scripts/install, the manual pages and the completion for bash."""
 
 import os
 import shutil
@@ -14,6 +14,7 @@ USAGE = "usage: scripts/install PREFIX | --remove PREFIX\n"
 INSTALLED = {
     *("bin/git-cgraph", "bin/graphtool", "bin/historytool"),
     *("share/man/man1/git-cgraph.1", "share/man/man1/graphtool.1", "share/man/man1/historytool.1"),
+    *("share/zsh/site-functions/_git-cgraph", "share/fish/vendor_completions.d/git-cgraph.fish"),
     *("share/bash-completion/completions/git-cgraph", "lib/git-cgraph/installed", "lib/git-cgraph/VERSION"),
     *("lib/git-cgraph/git-cgraph", "lib/git-cgraph/graphtool", "lib/git-cgraph/historytool"),
     *("lib/git-cgraph/programs/graphtool", "lib/git-cgraph/programs/historytool"),
