@@ -1,12 +1,12 @@
 -- Which names ask for commands, by the number of words after them.
-use Rattle.std.proofs.Common.{◌≡◌, ◌⊎◌, ℕ, ◌+◌, ◌-◌, ◌≤◌, List, [], ◌∷◌, length, map, get_or, take, drop}
+use Rattle.std.proofs.Common.{◌≡◌, ◌⊎◌, ℕ, ◌-◌, ◌<◌, ◌≤◌, List, [], ◌∷◌, length, map, get_or, take, drop}
 use Rattle.std.proofs.Common.{inl, inr, refl, sym, ap, subst, string_bytes, ◌∙◌, arith}
 use Rattle.std.proofs.lemmas.List.{length-map, take_all}
-use Rattle.std.specs.Prelude.{String, Some, None, codes}
+use Rattle.std.specs.Prelude.{String, Option, Some, None, IfSome, codes}
 use Rattle.std.specs.Global.{Global}
 use Rattle.object_commands.specs.AskedRange.{SpellsRange}
 use Rattle.object_commands.specs.declared.range.PositionRange.{PositionRange}
-use Rattle.history_program.specs.HistorytoolWords.{AskAfterName}
+use Rattle.history_program.specs.HistorytoolWords.{AskAfterName, AskHistorytool}
 use Rattle.history_program.specs.declared.command.Command.{Command}
 use Rattle.history_program.specs.declared.command.Command.TheVariants as command
 
@@ -110,3 +110,17 @@ four_words (w ∷ x ∷ []) b c d least second third fourth = absurd (omega arit
 four_words (w ∷ x ∷ y ∷ []) b c d least second third fourth = absurd (omega arith)
 four_words (w ∷ x ∷ y ∷ z ∷ words) b c d least second third fourth =
     let all = take_all (length (w ∷ x ∷ y ∷ z ∷ words) - 4) words (omega arith) in cc
+
+-- just one word
+pub one_word : (words : List (String Global)) (b : String Global) → 1 ≤ length words → length words < 2 → b ≡ get_or words 0 b
+    → map string_bytes words ≡ string_bytes b ∷ []
+one_word [] b least below first = absurd (omega arith)
+one_word (w ∷ []) b least below first = cc
+one_word (w ∷ x ∷ more) b least below first = absurd (omega arith)
+
+-- what the words after the program's name ask for is asked by all words
+pub asked_by_all : (help version name : List ℕ) (words others : List (List ℕ)) (result : Option Command)
+    → words ≡ name ∷ others → IfSome result (AskAfterName help version others)
+    → IfSome result (AskHistorytool help version words)
+asked_by_all help version name words others None are is = tt
+asked_by_all help version name words others (Some asked) are is = (name, others, are, is)
