@@ -24,8 +24,7 @@ verify_objects() {
             return 0
         fi
     done
-    line='the commit-graph was written anew meanwhile' status=128
-    said="$name: $line$newline"
+    tell_written
 }
 
 # Passes on nothing, and leaves what it reads in `held`.
