@@ -115,11 +115,11 @@ def check_recipes(installed, results, folder, repository):
     os.symlink(repository.folder, os.path.join(folder, "project.git"))
     for damaged in (False, True):
         for line in re.findall(r"^    (?:0 \d \* \* [*0] )?(.*)$", recipes, re.MULTILINE):
+            if "--objects" in line and not installed.knows_objects:
+                continue
             if damaged and " write " not in line:
                 content = read_bytes(repository.graph_path())
                 write_bytes(repository.graph_path(), content[:-1] + bytes([content[-1] ^ 1]))
-            if "--objects" in line and not installed.knows_objects:
-                continue
             command = line.replace("/srv/git", "'%s'" % folder).replace("-prune", "-follow -prune")
             answer = run(["sh", "-c", command], installed.variables, cwd=repository.folder)
             told = repository.graph_path() in answer.err if damaged and " write " not in line else not answer.err
