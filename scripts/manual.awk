@@ -1,6 +1,6 @@
 # Makes texts of docs/MANUAL.md: awk -v mode=usage|help|page [-v word=COMMAND] -f scripts/manual.awk docs/MANUAL.md
 #
-# `usage` is the synopsis, `help` the whole as plain text, or with a word the part on that command, and
+# `usage` is the synopsis, `help` the whole as plain text, or with a word the part on that command and its options, and
 # `page` the manual page, in which -v version=TEXT stands at the foot. The document has headings,
 # indented lines that are kept, items that begin with “- ” and a term in backquotes, and paragraphs.
 
@@ -86,6 +86,9 @@ function item(term, text) {
     } else if (mode == "help" && section == "Commands" && first_word(plain(term)) == word) {
         print ""
         wrap(plain(text), "")
+    } else if (mode == "help" && text ~ "^With `" word "[ `]") {
+        printf "%s  %s\n", options++ ? "" : "\n", plain(term)
+        wrap(plain(text), "      ")
     }
 }
 

@@ -208,8 +208,10 @@ has_grafts() {
     [ -s "$common/info/grafts" ]
 }
 
+# Whether some branch or tag leads to a commit, be it one that cannot be read.
 has_commits() {
-    [ -n "$(git -c core.commitGraph=false rev-list -n 1 --all 2>/dev/null)" ]
+    tip=$(git -c core.commitGraph=false rev-list -n 1 --all 2>/dev/null) || return 0
+    [ -n "$tip" ]
 }
 
 # Whether the commit-graph has changed-path filters, by the table of chunks of its files.

@@ -11,7 +11,9 @@ MORE_TOOLS = ("grep", "head", "od", "sed", "sleep", "tail", "touch", "tr", "wc")
 PROGRAMS = ("graphtool", "historytool")
 COPIED = (
     *("git-cgraph", "graphtool", "historytool", "VERSION", "docs/MANUAL.md", "docs/REFUSALS.md"),
+    *("docs/PROGRAMS.md", "scripts/programs.awk", "scripts/completions.awk"),
     *("scripts/answers.sh", "scripts/usage.sh", "scripts/repository.sh", "scripts/cures.sh", "scripts/commands"),
+    *("scripts/progress.sh", "scripts/objects.sh"),
     *("scripts/explain.awk", "scripts/manual.awk", "scripts/alternates.awk"),
     "scripts/git-cgraph.bash",
     *("scripts/install", "scripts/program", "scripts/library", "scripts/package", "bindings/c/commitgraph.h"),

@@ -10,7 +10,7 @@
 use graph_commands::program::{Complaints, respond};
 use graph_commands::status::Status;
 use graph_folder::folder::Disk;
-use history_commands::command::{Command, Texts};
+use history_program::command::{Command, Texts};
 use std::process::ExitCode;
 use std::{env, io};
 

@@ -51,7 +51,8 @@ class Installed:
         self.installation = self.clone.run(["scripts/install", self.prefix])
         tools = os.path.join(self.clone.folder, "bin")
         self.variables = self.clone.surroundings(PATH=os.path.join(self.prefix, "bin") + ":" + tools)
-        self.knows_check = b"check PATH" in programs[1].run(stdin=subprocess.DEVNULL).err
+        usage = programs[1].run(stdin=subprocess.DEVNULL).err
+        self.knows_check, self.knows_objects = b"check PATH" in usage, b"objects PATH" in usage
 
     def ask(self, way, *words):
         """The answer of `git cgraph` to some words."""
@@ -111,10 +112,12 @@ def check_recipes(installed, results, folder, repository):
     os.mkdir(folder)
     os.symlink(repository.folder, os.path.join(folder, "project.git"))
     for damaged in (False, True):
-        for line in re.findall(r"^    (?:0 3 \* \* \* )?(.*)$", recipes, re.MULTILINE):
+        for line in re.findall(r"^    (?:0 \d \* \* [*0] )?(.*)$", recipes, re.MULTILINE):
             if damaged and " write " not in line:
                 content = read_bytes(repository.graph_path())
                 write_bytes(repository.graph_path(), content[:-1] + bytes([content[-1] ^ 1]))
+            if "--objects" in line and not installed.knows_objects:
+                continue
             command = line.replace("/srv/git", "'%s'" % folder).replace("-prune", "-follow -prune")
             answer = run(["sh", "-c", command], installed.variables, cwd=repository.folder)
             told = repository.graph_path() in answer.err if damaged and " write " not in line else not answer.err
