@@ -110,6 +110,7 @@ def check_all(results):
         for shell in (("sh",), ("dash",), ("bash", "--posix"), ("busybox", "sh")):
             if shutil.which(shell[0]):
                 check_right(results, compared, shell)
+        check_written_to(results, compared)
         check_refused(results, compared)
         check_parts(results, compared)
         check_failures(results, compared)
@@ -135,6 +136,16 @@ def check_right(results, compared, shell):
     out = VERIFIED + "dates none\nfilters none\nobjects commits %d\n" % COUNT
     results.check("%s git-cgraph verify --objects --all-checks" % " ".join(shell), exactly(answer, 0, out))
     results.check("%s git-cgraph verify --objects -q" % " ".join(shell), exactly(compared.ask("-q", shell=shell), 0, ""))
+
+
+def check_written_to(results, compared):
+    """An answer that cannot be written."""
+    rows, unwritten = refusals.read_rows(), "the answer could not be written"
+    err = said([unwritten, *refusals.sentences(rows, unwritten)])
+    with open("/dev/full", "wb") as full:
+        results.check("git cgraph verify --objects, to a full device", exactly(compared.ask(stdout=full), 128, "", err))
+    answer = compared.ask(shell=("sh",), preexec_fn=lambda: os.close(1))
+    results.check("git cgraph verify --objects, output that is closed", exactly(answer, 128, "", err))
 
 
 def check_refused(results, compared):
@@ -274,6 +285,8 @@ def check_progress(results, compared):
         right = answer.err.endswith("\r" + last) and "Checking commits:   0%% (0/%d)\r" % COUNT in answer.err if asked else not answer.err
         right = right and answer[:2] == (0, "" if "-q" in words else RIGHT)
         results.check("git cgraph verify --objects %s" % " ".join(words), None if right else "it is %r" % (answer,))
+    answer = compared.ask("--progress", shell=("sh",), stderr=None, preexec_fn=lambda: os.close(2))
+    results.check("git cgraph verify --objects --progress, with no standard error", exactly(answer, 0, RIGHT))
     for words, delay, asked in ((["-j2"], "0", True), ([], "30", False), (["--no-progress"], "0", False), (["-q"], "0", False)):
         shown = on_terminal(compared, words, delay)
         right = shown.replace("\r\n", "\n").endswith(last) if asked else shown == ""
