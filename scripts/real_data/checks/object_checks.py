@@ -9,13 +9,15 @@ import subprocess
 from functools import partial
 
 from checks.cgraph_checks import Installed, Way
+from checks.disk_checks import right_chain
 from checks.runs import check_runs
 from checks.verify_checks import original
-from damage import trees, wrong_commits, wrong_layout
+from damage import trees, wrong_commits, wrong_layout, wrong_trees
 from damage.built import Commit, file_of
 from damage.layer import sealed
 from damage.odd_commits import LARGE, ODD, unreadable
 from expected import judge
+from expected.differences import HIDDEN, LISTED, MISSES
 from expected.objects import DIGITS, Graph, compared, has_two_times, listed
 from histories import shapes
 from histories.repository import read_bytes, write_bytes
@@ -44,6 +46,7 @@ def check_all(histories, results, new):
         check_history(histories, results, new("compared, " + name), name, history)
     check_chain(histories, results, new("compared, a chain"))
     check_wrong(histories, results, new("compared, wrong"))
+    check_trees(histories, results, new("compared, wrong folders"))
     check_streams(histories, results, new("compared, streams"))
     check_odd(histories, results, new("compared, odd commits"))
 
@@ -140,6 +143,21 @@ def check_wrong(histories, results, repository):
         complaint = judge.verdict(compared(Graph([content]), stream), answer)
         agrees = (answer.status == 0) == (verdict.status == 0)
         results.check(title, complaint or (None if agrees else "status %s, and Git says %s" % (answer.status, verdict)))
+
+
+def check_trees(histories, results, repository):
+    """Folders with something wrong that `verify` passes, beside Git's verdict: but for a file beside the chain that does not open,
+    both refuse the same.
+    """
+    path = repository.info_path()
+    for case in wrong_trees.all_wrong(right_chain(repository)):
+        if not case.answer.startswith("ok"):
+            continue
+        trees.lay_out(path, case.tree)
+        answer = histories.objects(path, batch(repository, histories.ids(path).out.decode().split()))
+        agrees = (answer.status == 0) == (repository.git_verdict().status == 0) or LISTED.get(case.name) == (MISSES, HIDDEN)
+        title = "%s, %s, compared" % (repository.object_format, case.name)
+        results.check(title, None if agrees and not answer.err else "status %s and %r" % (answer.status, answer.out))
 
 
 def check_streams(histories, results, repository):
