@@ -53,6 +53,7 @@ GONE = (
     "from another copy of the repository"
 )
 PARTIAL = "this is a partial clone, in which the commit is not here, and nothing was fetched: let Git fetch it, and ask again"
+SHALLOW = "this repository is shallow, and the commit lies past its end: fetch the whole history, and ask again"
 WRITTEN = "the commit-graph was written anew meanwhile"
 
 
@@ -238,7 +239,7 @@ def check_objects(results, compared):
 
 
 def check_partial(results, compared):
-    """In a partial clone nothing is fetched, and a commit that is not there is no damage."""
+    """In a partial clone nothing is fetched, and a commit that is not there is no damage; nor is it in a shallow one."""
     rows, commit = refusals.read_rows(), compared.ids[4]
     path, line = loose(compared, commit), "refused objects 4 position 4"
     compared.put(objects="[ \"$commits\" -eq $(($4 - $3)) ] || { echo '%s'; exit 1; }" % line)
@@ -254,6 +255,15 @@ def check_partial(results, compared):
     fetched = [name for name in os.listdir(packs) if name.endswith(".pack")]
     right = answer[:2] == (128, line + "\n") and answer.err.endswith(said(sentences)) and not fetched
     results.check("git cgraph verify --objects, in a partial clone", None if right else "it is %r, with %s" % (answer, fetched))
+    shallow = os.path.join(compared.folder, ".git/shallow")
+    with open(shallow, "w", encoding="ascii") as file:
+        file.write(git(compared.clone, compared.folder, "rev-parse", "HEAD") + "\n")
+    answer = compared.ask()
+    known = refusals.Known("", SHALLOW, ["git fetch --unshallow"])
+    sentences = ["the commit at position 4 is " + commit, *refusals.sentences(rows, line, "verify", known)]
+    right = answer[:2] == (128, line + "\n") and answer.err.endswith(said(sentences))
+    results.check("git cgraph verify --objects, in a shallow clone", None if right else "it is %r" % (answer,))
+    os.remove(shallow)
     git(compared.clone, compared.folder, "cat-file", "-e", commit)
     results.check("git cgraph verify --objects, after the commit was fetched", exactly(compared.ask(), 0, RIGHT))
     for name in os.listdir(packs):
