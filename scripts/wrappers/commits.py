@@ -119,6 +119,8 @@ def check_all(results):
         check_partial(results, compared)
         check_written(results, compared)
         check_progress(results, compared)
+        if os.access("/proc/self/io", os.R_OK):
+            check_reading(results, compared)
         results.check("git cgraph verify --objects, nothing is left over", compared.clone.left_over())
 
 
@@ -306,6 +308,19 @@ def check_progress(results, compared):
     lines = answer.err.split("\r")
     right = answer[:2] == (0, VERIFIED) and "Checking commit-graph: 1 s" in lines and lines[-1] == "Checking commit-graph: 2 s, done.\n"
     results.check("git cgraph verify --progress", None if right else "it is %r" % (answer,))
+
+
+def check_reading(results, compared):
+    """While a large file is read, how much of it that is: Linux tells what a process has read."""
+    path = os.path.join(compared.info, "commit-graph")
+    os.rename(path, path + " aside")
+    with open(path, "wb") as file:
+        file.truncate(10**9)
+    compared.clone.put_program("graphtool", "sleep 1.2\nprintf '%s'\n" % VERIFIED.replace("\n", "\\n"))
+    answer = ask(compared.clone, ["verify", "--progress"], compared.folder)
+    right = answer[:2] == (0, VERIFIED) and "Reading commit-graph:   0%" in answer.err.split("\r")
+    results.check("git cgraph verify --progress, of a large file", None if right else "it is %r" % (answer,))
+    os.rename(path + " aside", path)
 
 
 def on_terminal(compared, words, delay):
