@@ -118,6 +118,7 @@ def check_all(results):
         check_objects(results, compared)
         check_partial(results, compared)
         check_written(results, compared)
+        check_replaced(results, compared)
         check_progress(results, compared)
         if os.access("/proc/self/io", os.R_OK):
             check_reading(results, compared)
@@ -286,6 +287,27 @@ def check_written(results, compared):
         compared.put(objects="[ -e '%s' ] || { echo >'%s'; echo '%s'; exit 1; }" % (once, once, line))
         results.check("git cgraph verify --objects, answered %r once" % line, exactly(compared.ask(), 0, RIGHT))
         os.remove(once)
+
+
+def check_replaced(results, compared):
+    """A file that takes the place of the one that was checked is noticed also where its commits are right; a layer that comes on top
+    changes nothing.
+    """
+    rows, path = refusals.read_rows(), os.path.join(compared.info, "commit-graph")
+    err = said([WRITTEN, *refusals.sentences(rows, WRITTEN)])
+    compared.put(objects="cp '%s' '%s.new'; mv '%s.new' '%s'" % ((path,) * 4))
+    results.check("git cgraph verify --objects, a file that is replaced twice", exactly(compared.ask(), 128, "", err))
+    os.rename(path, path + " aside")
+    os.mkdir(path + "s")
+    chain = os.path.join(path + "s", "commit-graph-chain")
+    for lines, more, expected in (("aa\n", "echo bb", (0, RIGHT, "")), ("aa\nbb\n", "echo aa", (0, RIGHT, "")), ("aa\nbb\n", "", (128, "", err))):
+        with open(chain, "w", encoding="ascii") as file:
+            file.write(lines)
+        script = "%s >>'%s'" % (more, chain) if more else "[ -s '%s' ] && { echo c$$; } >'%s'" % (chain, chain)
+        compared.put(objects=script)
+        results.check("git cgraph verify --objects, a chain %r, and %r meanwhile" % (lines, more), exactly(compared.ask(), *expected))
+    shutil.rmtree(path + "s")
+    os.rename(path + " aside", path)
 
 
 def check_progress(results, compared):
