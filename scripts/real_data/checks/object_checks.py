@@ -4,23 +4,29 @@ Where `git commit-graph verify` refuses a graph for the sake of a commit, `objec
 """
 
 import os
+import shutil
 import subprocess
 from functools import partial
 
 from checks.cgraph_checks import Installed, Way
+from checks.disk_checks import right_chain
 from checks.runs import check_runs
 from checks.verify_checks import original
-from damage import trees, wrong_commits, wrong_layout
+from damage import trees, wrong_commits, wrong_layout, wrong_trees
 from damage.built import Commit, file_of
 from damage.layer import sealed
 from damage.odd_commits import LARGE, ODD, unreadable
 from expected import judge
-from expected.objects import DIGITS, Graph, compared, listed
+from expected.differences import HIDDEN, LISTED, MISSES
+from expected.objects import DIGITS, Graph, compared, has_two_times, listed
 from histories import shapes
 from histories.repository import read_bytes, write_bytes
 
 STRANGE = (0, 0x09, 0x0A, 0x20, 0x30, 0x39, 0x41, 0x67, 0xFF)
 """Bytes that may mean something else in the line of an entry."""
+
+FIXTURES = "/usr/share/doc/libgit2-fixtures/examples"
+"""Where Debian has the repositories by which libgit2 is tested."""
 
 PERSON = ("-c", "user.name=A", "-c", "user.email=a@example.com")
 PLAIN = ("-c", "core.commitGraph=false", "--no-replace-objects")
@@ -40,6 +46,7 @@ def check_all(histories, results, new):
         check_history(histories, results, new("compared, " + name), name, history)
     check_chain(histories, results, new("compared, a chain"))
     check_wrong(histories, results, new("compared, wrong"))
+    check_trees(histories, results, new("compared, wrong folders"))
     check_streams(histories, results, new("compared, streams"))
     check_odd(histories, results, new("compared, odd commits"))
 
@@ -136,6 +143,21 @@ def check_wrong(histories, results, repository):
         complaint = judge.verdict(compared(Graph([content]), stream), answer)
         agrees = (answer.status == 0) == (verdict.status == 0)
         results.check(title, complaint or (None if agrees else "status %s, and Git says %s" % (answer.status, verdict)))
+
+
+def check_trees(histories, results, repository):
+    """Folders with something wrong that `verify` passes, beside Git's verdict: but for a file beside the chain that does not open,
+    both refuse the same.
+    """
+    path = repository.info_path()
+    for case in wrong_trees.all_wrong(right_chain(repository)):
+        if not case.answer.startswith("ok"):
+            continue
+        trees.lay_out(path, case.tree)
+        answer = histories.objects(path, batch(repository, histories.ids(path).out.decode().split()))
+        agrees = (answer.status == 0) == (repository.git_verdict().status == 0) or LISTED.get(case.name) == (MISSES, HIDDEN)
+        title = "%s, %s, compared" % (repository.object_format, case.name)
+        results.check(title, None if agrees and not answer.err else "status %s and %r" % (answer.status, answer.out))
 
 
 def check_streams(histories, results, repository):
@@ -249,11 +271,44 @@ def check_parents(histories, results, repository, tree, ids):
             results.check("%s, %s" % (kind, title), complaint)
 
 
+def check_fixtures(histories, results, folder):
+    """The repositories by which libgit2 is tested, if they are here: their commit-graphs, and those that Git writes of them.
+
+    In one of them libgit2 wrote a time that Git reads only from 2.41 on.
+    """
+    if not os.path.isdir(FIXTURES):
+        print("left out, since there are no %s: ids and objects of them" % FIXTURES)
+        return
+    complaints, count = [], 0
+    for number, place in enumerate(sorted(path for path, folders, _ in os.walk(FIXTURES) if {"objects", "refs"} <= set(folders))):
+        copy = os.path.join(folder, str(number))
+        shutil.copytree(place, copy, ignore_dangling_symlinks=True)
+        path = os.path.join(copy, "objects/info/commit-graph")
+        for is_new in (False, True):
+            if is_new and git_there(copy, "commit-graph", "write", "--reachable").returncode != 0 or not os.path.exists(path):
+                continue
+            stream = git_there(copy, *PLAIN, "cat-file", "--batch", "--buffer", stdin=histories.ids(path).out).stdout
+            answer, verdict = histories.objects(path, stream), git_there(copy, "commit-graph", "verify").returncode
+            graph = Graph([read_bytes(path)])
+            agrees = bool(answer.status) == bool(verdict) or answer.status == 0 and has_two_times(graph.kind, stream)
+            complaint = judge.verdict(compared(graph, stream), answer) or (None if agrees else "Git says %d" % verdict)
+            complaints += ["%s: %s" % (place, complaint)] if complaint else []
+            count += 1
+    results.check("%d commit-graphs of the repositories of libgit2" % count, complaints[0] if complaints else None if count else "there are none")
+
+
+def git_there(folder, *words, stdin=b""):
+    """A run of Git in a repository that others made."""
+    surroundings = {"PATH": os.environ["PATH"], "HOME": folder, "GIT_DIR": folder, "GIT_CONFIG_NOSYSTEM": "1", "LC_ALL": "C"}
+    return subprocess.run(["git", *words], env=surroundings, input=stdin, capture_output=True, check=False)
+
+
 def check_told(programs, results, folder, new):
     """What `git cgraph verify --objects` says of right repositories, and of those with something wrong."""
     if not knows_objects(programs[1]):
         return
     os.mkdir(folder)
+    check_fixtures(programs[1], results, os.path.join(folder, "fixtures"))
     installed = Installed(os.path.join(folder, "installed"), programs)
     for kind in DIGITS:
         repository = new(kind, "told of commits")
