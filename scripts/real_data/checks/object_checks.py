@@ -15,13 +15,16 @@ from checks.runs import check_runs
 from checks.verify_checks import original
 from damage import trees, wrong_commits, wrong_layout, wrong_trees
 from damage.built import Commit, file_of
-from damage.layer import sealed
-from damage.odd_commits import LARGE, ODD, unreadable
+from damage.layer import big_endian, sealed
+from damage.odd_commits import ODD, unreadable
+from damage.original import Original
 from expected import judge
 from expected.differences import HIDDEN, LISTED, MISSES
+from expected.listing import listing
 from expected.objects import DIGITS, Graph, compared, has_two_times, listed
 from histories import shapes
 from histories.repository import read_bytes, write_bytes
+from wrappers.clone import run
 
 STRANGE = (0, 0x09, 0x0A, 0x20, 0x30, 0x39, 0x41, 0x67, 0xFF)
 """Bytes that may mean something else in the line of an entry."""
@@ -327,6 +330,7 @@ def check_told(programs, results, folder, new):
         answer = ask()
         results.check("git cgraph verify --objects, a replaced commit, %s" % kind, None if answer == right else "it is %r" % (answer,))
         repository.git("replace", "-d", ids[1])
+        check_mended(installed, results, repository)
         check_other_bytes(installed, results, new(kind, "told of commits, other bytes"))
         check_packed(installed, results, repository, ids)
         check_foreign(installed, results, repository, new(kind, "told of commits, of another repository"))
@@ -374,4 +378,35 @@ def check_foreign(installed, results, repository, other):
     answers = [installed.ask(Way(repository.folder), "verify", *words).status for words in ([], ["--objects"])]
     git = repository.git_verdict().status
     right = answers == [0, 1] and git
-    results.check("git cgraph verify --objects, another repository's graph, %s" % repository.object_format, None if right else "%s, %s" % (answers, git))
+    title = "git cgraph verify --objects, another repository's graph, %s" % repository.object_format
+    results.check(title, None if right else "%s, %s" % (answers, git))
+    check_cure(installed, results, repository, title)
+
+
+def check_cure(installed, results, repository, title):
+    """By the commands that the sentences end with, the commit-graph becomes that of the commits."""
+    way = Way(repository.folder)
+    answer = installed.ask(way, "verify", "--objects")
+    cure = "".join(line + "\n" for line in answer.err.splitlines() if line.startswith("    "))
+    cured = run(["sh", "-e", "-c", cure], installed.variables, cwd=way.folder)
+    verdicts = installed.ask(way, "verify", "--objects").status, repository.git_verdict().status
+    right = answer.status == 1 and cure and cured.status == 0 and verdicts == (0, 0)
+    results.check("the cure of " + title, None if right else "%r gives %r, and then %s" % (answer, cured, verdicts))
+
+
+def check_mended(installed, results, repository):
+    """Files and a chain that `verify` passes and that are not those of the commits, and their cures."""
+    kind, file = repository.object_format, original(repository, generation_version=2)
+    wrongs = [wrong for wrong in wrong_commits.all_wrong(file) + wrong_layout.all_wrong(file) if wrong.answer.startswith("ok")]
+    for name, edited, _ in wrongs:
+        write_bytes(repository.graph_path(), sealed(edited, kind))
+        if repository.git_verdict().status:
+            check_cure(installed, results, repository, "%s, %s" % (kind, name))
+    os.remove(repository.graph_path())
+    repository.write_graph("--split")
+    [(_, layer)] = repository.chain()
+    text = listing(kind, repository.words(), [sorted(repository.words())], [])
+    chained = Original(layer, kind, text)
+    other = sealed(chained.with_date(4, big_endian(chained.number_at(chained.fields(4) + 8, 8) ^ 1, 8)), kind)
+    trees.lay_out(repository.info_path(), trees.chain([trees.Layer(other[-DIGITS[kind] // 2 :].hex(), other)]))
+    check_cure(installed, results, repository, "%s, a layer with another time" % kind)
