@@ -8,7 +8,7 @@ import shutil
 import tempfile
 
 import refusals
-from wrappers.clone import Clone, exactly, run
+from wrappers.clone import Clone, exactly
 from wrappers.questions import anew, ask, git, make_repository, said
 
 COUNT = 7
@@ -157,14 +157,10 @@ def check_refused(results, compared):
     rows = refusals.read_rows()
     for line, status in REFUSED.items():
         compared.put(objects="echo '%s'; exit 1" % line)
-        commit = compared.ids[3]
-        cure, advice, where = anew(compared.info, "commit-graph"), "", ""
-        if line.startswith(("refused objects 5", "refused objects 8", "refused objects 9", "refused objects 10")):
-            where = ""
+        commit, known = compared.ids[3], refusals.Known("", "", anew(compared.info, "commit-graph"))
         if line.startswith(("refused objects 6", "refused objects 7")):
-            where = "the object is '%s'" % loose(compared, commit)
-            advice, cure = DAMAGED, ["git fsck"]
-        sentences = refusals.sentences(rows, line, "verify", refusals.Known(where, advice, cure))
+            known = refusals.Known("the object is '%s'" % loose(compared, commit), DAMAGED, ["git fsck"])
+        sentences = refusals.sentences(rows, line, "verify", known)
         if " position " in line:
             sentences.insert(0, "the commit at position 3 is " + commit)
         answer = compared.ask("-j3")
@@ -203,10 +199,11 @@ def check_failures(results, compared):
     short = "refused objects 1 position 2"
     answered = "[ \"$commits\" -eq $(($4 - $3)) ] || { echo 'refused objects 1 position 2'; exit 1; }"
     by_ids = "historytool ids ended with status 2"
+    told_of_ids = [by_ids, *refusals.sentences(rows, by_ids)]
     for title, ids, objects, script, expected in (
         ("objects is killed", "", "kill -9 $$", None, (137, "", signal)),
         ("ids is killed", 'head -n 2 "%s"; kill -9 $$;' % compared.list, answered, None, (137, "", signal)),
-        ("ids cannot write", 'head -n 2 "%s"; exit 2;' % compared.list, answered, None, (128, "", [by_ids, *refusals.sentences(rows, by_ids)])),
+        ("ids cannot write", 'head -n 2 "%s"; exit 2;' % compared.list, answered, None, (128, "", told_of_ids)),
         ("Git is killed", "", answered, first + "; kill -9 $$", (137, "", signal)),
         ("Git fails at its end", "", "", 'GIT "$@"; exit 128', (128, "", [odd, *refusals.sentences(rows, odd)])),
         ("ids runs out of memory", "echo refused open 7; exit 1;", answered, None,
@@ -290,8 +287,8 @@ def check_written(results, compared):
 
 
 def check_replaced(results, compared):
-    """A file that takes the place of the one that was checked is noticed also where its commits are right; a layer that comes on top
-    changes nothing.
+    """A file that takes the place of the one that was checked is noticed also where its commits are right. A layer that comes on
+    top changes nothing.
     """
     rows, path = refusals.read_rows(), os.path.join(compared.info, "commit-graph")
     err = said([WRITTEN, *refusals.sentences(rows, WRITTEN)])
@@ -300,12 +297,14 @@ def check_replaced(results, compared):
     os.rename(path, path + " aside")
     os.mkdir(path + "s")
     chain = os.path.join(path + "s", "commit-graph-chain")
-    for lines, more, expected in (("aa\n", "echo bb", (0, RIGHT, "")), ("aa\nbb\n", "echo aa", (0, RIGHT, "")), ("aa\nbb\n", "", (128, "", err))):
+    for title, script, expected in (
+        ("on which a layer is put", "echo cc >>'%s'" % chain, (0, RIGHT, "")),
+        ("which is replaced", "echo c$$ >'%s'" % chain, (128, "", err)),
+    ):
         with open(chain, "w", encoding="ascii") as file:
-            file.write(lines)
-        script = "%s >>'%s'" % (more, chain) if more else "[ -s '%s' ] && { echo c$$; } >'%s'" % (chain, chain)
+            file.write("aa\nbb\n")
         compared.put(objects=script)
-        results.check("git cgraph verify --objects, a chain %r, and %r meanwhile" % (lines, more), exactly(compared.ask(), *expected))
+        results.check("git cgraph verify --objects, a chain %s meanwhile" % title, exactly(compared.ask(), *expected))
     shutil.rmtree(path + "s")
     os.rename(path + " aside", path)
 
@@ -314,21 +313,24 @@ def check_progress(results, compared):
     """The line on how far it is: where it is asked for or on a terminal, and else not."""
     compared.put()
     last = "Checking commits: 100%% (%d/%d), done.\n" % (COUNT, COUNT)
+    first = "Checking commits:   0%% (0/%d)\r" % COUNT
     for words, asked in ((["--progress"], True), (["--progress", "-j2"], True), (["--no-progress"], False), (["-q", "--progress"], False)):
         answer = compared.ask(*words)
-        right = answer.err.endswith("\r" + last) and "Checking commits:   0%% (0/%d)\r" % COUNT in answer.err if asked else not answer.err
-        right = right and answer[:2] == (0, "" if "-q" in words else RIGHT)
+        shown = first in answer.err and answer.err.endswith("\r" + last) if asked else not answer.err
+        right = shown and answer[:2] == (0, "" if "-q" in words else RIGHT)
         results.check("git cgraph verify --objects %s" % " ".join(words), None if right else "it is %r" % (answer,))
     answer = compared.ask("--progress", shell=("sh",), stderr=None, preexec_fn=lambda: os.close(2))
     results.check("git cgraph verify --objects --progress, with no standard error", exactly(answer, 0, RIGHT))
     for words, delay, asked in ((["-j2"], "0", True), ([], "30", False), (["--no-progress"], "0", False), (["-q"], "0", False)):
         shown = on_terminal(compared, words, delay)
         right = shown.replace("\r\n", "\n").endswith(last) if asked else shown == ""
-        results.check("git cgraph verify --objects %s, on a terminal, after %s s" % (" ".join(words), delay), None if right else repr(shown))
+        title = "git cgraph verify --objects %s, on a terminal, after %s s" % (" ".join(words), delay)
+        results.check(title, None if right else "it shows %r" % shown)
     compared.clone.put_program("graphtool", "sleep 2.2\nprintf '%s'\n" % VERIFIED.replace("\n", "\\n"))
     answer = ask(compared.clone, ["verify", "--progress"], compared.folder)
     lines = answer.err.split("\r")
-    right = answer[:2] == (0, VERIFIED) and "Checking commit-graph: 1 s" in lines and lines[-1] == "Checking commit-graph: 2 s, done.\n"
+    right = answer[:2] == (0, VERIFIED) and "Checking commit-graph: 1 s" in lines
+    right = right and lines[-1] == "Checking commit-graph: 2 s, done.\n"
     results.check("git cgraph verify --progress", None if right else "it is %r" % (answer,))
 
 
