@@ -118,7 +118,10 @@ def check_all(results):
         check_objects(results, compared)
         check_partial(results, compared)
         check_written(results, compared)
+        check_replaced(results, compared)
         check_progress(results, compared)
+        if os.access("/proc/self/io", os.R_OK):
+            check_reading(results, compared)
         results.check("git cgraph verify --objects, nothing is left over", compared.clone.left_over())
 
 
@@ -286,6 +289,27 @@ def check_written(results, compared):
         os.remove(once)
 
 
+def check_replaced(results, compared):
+    """A file that takes the place of the one that was checked is noticed also where its commits are right; a layer that comes on top
+    changes nothing.
+    """
+    rows, path = refusals.read_rows(), os.path.join(compared.info, "commit-graph")
+    err = said([WRITTEN, *refusals.sentences(rows, WRITTEN)])
+    compared.put(objects="cp '%s' '%s.new'; mv '%s.new' '%s'" % ((path,) * 4))
+    results.check("git cgraph verify --objects, a file that is replaced twice", exactly(compared.ask(), 128, "", err))
+    os.rename(path, path + " aside")
+    os.mkdir(path + "s")
+    chain = os.path.join(path + "s", "commit-graph-chain")
+    for lines, more, expected in (("aa\n", "echo bb", (0, RIGHT, "")), ("aa\nbb\n", "echo aa", (0, RIGHT, "")), ("aa\nbb\n", "", (128, "", err))):
+        with open(chain, "w", encoding="ascii") as file:
+            file.write(lines)
+        script = "%s >>'%s'" % (more, chain) if more else "[ -s '%s' ] && { echo c$$; } >'%s'" % (chain, chain)
+        compared.put(objects=script)
+        results.check("git cgraph verify --objects, a chain %r, and %r meanwhile" % (lines, more), exactly(compared.ask(), *expected))
+    shutil.rmtree(path + "s")
+    os.rename(path + " aside", path)
+
+
 def check_progress(results, compared):
     """The line on how far it is: where it is asked for or on a terminal, and else not."""
     compared.put()
@@ -306,6 +330,19 @@ def check_progress(results, compared):
     lines = answer.err.split("\r")
     right = answer[:2] == (0, VERIFIED) and "Checking commit-graph: 1 s" in lines and lines[-1] == "Checking commit-graph: 2 s, done.\n"
     results.check("git cgraph verify --progress", None if right else "it is %r" % (answer,))
+
+
+def check_reading(results, compared):
+    """While a large file is read, how much of it that is: Linux tells what a process has read."""
+    path = os.path.join(compared.info, "commit-graph")
+    os.rename(path, path + " aside")
+    with open(path, "wb") as file:
+        file.truncate(10**9)
+    compared.clone.put_program("graphtool", "sleep 1.2\nprintf '%s'\n" % VERIFIED.replace("\n", "\\n"))
+    answer = ask(compared.clone, ["verify", "--progress"], compared.folder)
+    right = answer[:2] == (0, VERIFIED) and "Reading commit-graph:   0%" in answer.err.split("\r")
+    results.check("git cgraph verify --progress, of a large file", None if right else "it is %r" % (answer,))
+    os.rename(path + " aside", path)
 
 
 def on_terminal(compared, words, delay):

@@ -6,6 +6,7 @@ Where `git commit-graph verify` refuses a graph for the sake of a commit, `objec
 import os
 import shutil
 import subprocess
+import zlib
 from functools import partial
 
 from checks.cgraph_checks import Installed, Way
@@ -326,8 +327,24 @@ def check_told(programs, results, folder, new):
         answer = ask()
         results.check("git cgraph verify --objects, a replaced commit, %s" % kind, None if answer == right else "it is %r" % (answer,))
         repository.git("replace", "-d", ids[1])
+        check_other_bytes(installed, results, new(kind, "told of commits, other bytes"))
         check_packed(installed, results, repository, ids)
         check_foreign(installed, results, repository, new(kind, "told of commits, of another repository"))
+
+
+def check_other_bytes(installed, results, repository):
+    """A commit with another message than the one of which its id is: Git's own check of the commit-graph passes it."""
+    tree = repository.git("hash-object", "-t", "tree", "-w", "--stdin").decode().strip()
+    contents = b"tree %s\nauthor A <a@x> 1 +0000\ncommitter A <a@x> 1 +0000\n\nmessage\n" % tree.encode()
+    commit = put_object(repository, contents)
+    repository.git("update-ref", "refs/heads/main", commit)
+    repository.write_graph()
+    path = os.path.join(repository.folder, "objects", commit[:2], commit[2:])
+    write_bytes(path, zlib.compress(b"commit %d\0" % len(contents) + contents.replace(b"message", b"another")))
+    answer, verdict = installed.ask(Way(repository.folder), "verify", "--objects"), repository.git_verdict()
+    right = answer[:2] == (1, "refused objects 6 position 0\n") and "'%s'" % os.path.realpath(path) in answer.err
+    complaint = None if right and verdict.status == 0 else "it is %r, and Git says %s" % (answer, verdict)
+    results.check("git cgraph verify --objects, other bytes than those of an id, %s" % repository.object_format, complaint)
 
 
 def check_packed(installed, results, repository, ids):
