@@ -201,7 +201,8 @@ diagnose_object() {
     case $number in
     1 | 4) diagnose_missing ;;
     2) is_absent=yes ;;
-    6 | 7) diagnose_damaged ;;
+    6) diagnose_damaged ;;
+    7) ;;
     *)
         name_file
         is_hindered || cure=$(anew)

@@ -159,7 +159,7 @@ def check_refused(results, compared):
     for line, status in REFUSED.items():
         compared.put(objects="echo '%s'; exit 1" % line)
         commit, known = compared.ids[3], refusals.Known("", "", anew(compared.info, "commit-graph"))
-        if line.startswith(("refused objects 6", "refused objects 7")):
+        if line.startswith("refused objects 6"):
             known = refusals.Known("the object is '%s'" % loose(compared, commit), DAMAGED, ["git fsck"])
         sentences = refusals.sentences(rows, line, "verify", known)
         if " position " in line:
