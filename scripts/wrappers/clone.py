@@ -18,6 +18,7 @@ COPIED = (
     "scripts/git-cgraph.bash",
     *("scripts/install", "scripts/program", "scripts/library", "scripts/package", "bindings/c/commitgraph.h"),
     *("crates/graphtool/src/main.rt", "crates/historytool/src/main.rt", "LICENSE-MIT", "LICENSE-APACHE"),
+    "docs/DIFFERENCES.md",
 )
 
 

@@ -24,7 +24,7 @@ INSTALLED = {
     *("lib/git-cgraph/scripts/repository.sh", "lib/git-cgraph/scripts/cures.sh"),
     *("lib/git-cgraph/scripts/progress.sh", "lib/git-cgraph/scripts/objects.sh"),
     *("include/commitgraph.h", "lib/libcommitgraph.a"),
-    *("share/doc/git-cgraph/LICENSE-MIT", "share/doc/git-cgraph/LICENSE-APACHE"),
+    *("share/doc/git-cgraph/LICENSE-MIT", "share/doc/git-cgraph/LICENSE-APACHE", "share/doc/git-cgraph/DIFFERENCES.md"),
 }
 COMPLETIONS = ("/usr/share/bash-completion/completions/git", "/etc/bash_completion.d/git", "/usr/share/git/completion/git-completion.bash")
 """Where Git's own completion mostly is."""
