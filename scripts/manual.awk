@@ -44,7 +44,7 @@ function heading(text) {
 
 # A line that is kept as it is; those of the synopsis are the usage text.
 function kept(line) {
-    sub(/^ +/, "", line)
+    sub(/^    /, "", line)
     if (mode == "page")
         printf "%s%s\n", is_kept ? "" : (lines++ ? ".PP\n" : "") ".nf\n", section == "Synopsis" ? bold(line) : roff(line)
     else if (section == "Synopsis" && has_word(line)) printf "%s%s\n", usage_start(lines++), line
@@ -83,6 +83,7 @@ function item(term, text) {
     else if (mode == "help" && word == "") {
         printf "  %s\n", plain(term)
         wrap(plain(text), "      ")
+        lines++
     } else if (mode == "help" && section == "Commands" && first_word(plain(term)) == word) {
         print ""
         wrap(plain(text), "")

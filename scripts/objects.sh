@@ -24,8 +24,7 @@ verify_objects() {
             return 0
         fi
     done
-    line='the commit-graph was written anew meanwhile' status=128
-    said="$name: $line$newline"
+    tell_written
 }
 
 # Passes on nothing, and leaves what it reads in `held`.
@@ -202,6 +201,10 @@ diagnose_missing() {
         advice="see to it that whoever runs this may read the objects, and ask again" cure="    ls -l $(quoted "$file")"
     elif [ -n "$(loose_file)" ] || git_alone cat-file -e "$commit" 2>/dev/null; then
         diagnose_damaged
+    elif [ "$is_shallow" != false ]; then
+        is_absent=yes
+        advice='this repository is shallow, and the commit lies past its end: fetch the whole history, and ask again'
+        cure='    git fetch --unshallow'
     elif is_partial; then
         is_absent=yes
         advice='this is a partial clone, in which the commit is not here, and nothing was fetched: let Git fetch it, and ask again'

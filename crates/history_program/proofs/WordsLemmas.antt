@@ -1,12 +1,12 @@
 -- Which names ask for commands, by the number of words after them.
-use Rattle.std.proofs.Common.{◌≡◌, ◌⊎◌, ℕ, ◌+◌, ◌-◌, ◌≤◌, List, [], ◌∷◌, length, map, get_or, take, drop}
+use Rattle.std.proofs.Common.{◌≡◌, ◌⊎◌, ℕ, ◌-◌, ◌<◌, ◌≤◌, List, [], ◌∷◌, length, map, get_or, take, drop}
 use Rattle.std.proofs.Common.{inl, inr, refl, sym, ap, subst, string_bytes, ◌∙◌, arith}
 use Rattle.std.proofs.lemmas.List.{length-map, take_all}
-use Rattle.std.specs.Prelude.{String, Some, None, codes}
+use Rattle.std.specs.Prelude.{String, Option, Some, None, IfSome, codes}
 use Rattle.std.specs.Global.{Global}
 use Rattle.object_commands.specs.AskedRange.{SpellsRange}
 use Rattle.object_commands.specs.declared.range.PositionRange.{PositionRange}
-use Rattle.history_program.specs.HistorytoolWords.{AskAfterName}
+use Rattle.history_program.specs.HistorytoolWords.{AskAfterName, AskHistorytool}
 use Rattle.history_program.specs.declared.command.Command.{Command}
 use Rattle.history_program.specs.declared.command.Command.TheVariants as command
 
@@ -20,6 +20,7 @@ named_alone help version name (command.Walk path first second) is = let e = is i
 named_alone help version name (command.MergeBase path first others) is = let e = is.0 in cc
 named_alone help version name (command.MergeBaseIds path first others) is = let e = is.0 in cc
 named_alone help version name (command.Check path) is = let e = is in cc
+named_alone help version name (command.Show path) is = let e = is in cc
 named_alone help version name (command.Ids path None) is = let e = is in cc
 named_alone help version name (command.Ids path (Some range)) is = let e = is.2 in cc
 named_alone help version name (command.Objects path None) is = let e = is in cc
@@ -27,7 +28,7 @@ named_alone help version name (command.Objects path (Some range)) is = let e = i
 
 -- a name that asks with a path
 pub named_with_path : (help version name path : List ℕ) (asked : Command) → AskAfterName help version (name ∷ path ∷ []) asked
-    → (name ≡ codes "check") ⊎ (name ≡ codes "ids") ⊎ (name ≡ codes "objects")
+    → (name ≡ codes "check") ⊎ (name ≡ codes "show") ⊎ (name ≡ codes "ids") ⊎ (name ≡ codes "objects")
 named_with_path help version name path (command.Help text) is = elim is.0 [ inl e ↦ cc | inr e ↦ cc ]
 named_with_path help version name path (command.Version text) is = let e = is.0 in cc
 named_with_path help version name path (command.IsAncestor at first second) is = let e = is in cc
@@ -35,9 +36,10 @@ named_with_path help version name path (command.Walk at first second) is = let e
 named_with_path help version name path (command.MergeBase at first others) is = let e = is.0 in cc
 named_with_path help version name path (command.MergeBaseIds at first others) is = let e = is.0 in cc
 named_with_path help version name path (command.Check at) is = let e = is in inl cc
-named_with_path help version name path (command.Ids at None) is = let e = is in inr (inl cc)
+named_with_path help version name path (command.Show at) is = let e = is in inr (inl cc)
+named_with_path help version name path (command.Ids at None) is = let e = is in inr (inr (inl cc))
 named_with_path help version name path (command.Ids at (Some range)) is = let e = is.2 in cc
-named_with_path help version name path (command.Objects at None) is = let e = is in inr (inr cc)
+named_with_path help version name path (command.Objects at None) is = let e = is in inr (inr (inr cc))
 named_with_path help version name path (command.Objects at (Some range)) is = let e = is.2 in cc
 
 some_of : {A : Type 0} (xs : List A) → (xs ≡ [] → ⊥) → 1 ≤ length xs
@@ -74,6 +76,7 @@ named_with_ids help version name path first others (command.MergeBaseIds at one 
     let e = is.0 in let rest : map string_bytes others ≡ map string_bytes more.now = cc in
     inr (inr (inr cc, as_many others more.now rest is.1))
 named_with_ids help version name path first others (command.Check at) is = let e = is in cc
+named_with_ids help version name path first others (command.Show at) is = let e = is in cc
 named_with_ids help version name path first others (command.Ids at None) is = let e = is in cc
 named_with_ids help version name path first others (command.Ids at (Some range)) is =
     let e = is.2 in let rest : map string_bytes others ≡ is.1 ∷ [] = cc in
@@ -94,6 +97,7 @@ none_asked help version (command.Walk path first second) is = let e = is in cc
 none_asked help version (command.MergeBase path first others) is = let e = is.0 in cc
 none_asked help version (command.MergeBaseIds path first others) is = let e = is.0 in cc
 none_asked help version (command.Check path) is = let e = is in cc
+none_asked help version (command.Show path) is = let e = is in cc
 none_asked help version (command.Ids path None) is = let e = is in cc
 none_asked help version (command.Ids path (Some range)) is = let e = is.2 in cc
 none_asked help version (command.Objects path None) is = let e = is in cc
@@ -110,3 +114,17 @@ four_words (w ∷ x ∷ []) b c d least second third fourth = absurd (omega arit
 four_words (w ∷ x ∷ y ∷ []) b c d least second third fourth = absurd (omega arith)
 four_words (w ∷ x ∷ y ∷ z ∷ words) b c d least second third fourth =
     let all = take_all (length (w ∷ x ∷ y ∷ z ∷ words) - 4) words (omega arith) in cc
+
+-- just one word
+pub one_word : (words : List (String Global)) (b : String Global) → 1 ≤ length words → length words < 2 → b ≡ get_or words 0 b
+    → map string_bytes words ≡ string_bytes b ∷ []
+one_word [] b least below first = absurd (omega arith)
+one_word (w ∷ []) b least below first = cc
+one_word (w ∷ x ∷ more) b least below first = absurd (omega arith)
+
+-- what the words after the program's name ask for is asked by all words
+pub asked_by_all : (help version name : List ℕ) (words others : List (List ℕ)) (result : Option Command)
+    → words ≡ name ∷ others → IfSome result (AskAfterName help version others)
+    → IfSome result (AskHistorytool help version words)
+asked_by_all help version name words others None are is = tt
+asked_by_all help version name words others (Some asked) are is = (name, others, are, is)
