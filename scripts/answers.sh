@@ -3,7 +3,7 @@
 
 newline='
 '
-filter='' holds='' beside='' where='' advice='' cure=''
+filter='' holds='' beside='' where='' advice='' cure='' commit=''
 
 # Says one line on standard error.
 say() {
@@ -79,6 +79,7 @@ take_apart() {
         rest=${rest#*"$newline"}
         case $part in
         'line '*) line=${part#line } ;;
+        'held '*) held=$held${part#held }$newline ;;
         'status '*) status=${part#status } ;;
         *) said="$said$part$newline" ;;
         esac
@@ -95,7 +96,7 @@ report() {
     [ "$status,$beside" != 0, ] || return 0
     command=$1 path=$2
     shift 2
-    NAME=$name LINE=$line COMMAND=$command IDS=$* COMMIT=$(commit_at "$path") BESIDE=$beside \
+    NAME=$name LINE=$line COMMAND=$command IDS=$* COMMIT=${commit:-$(commit_at "$path")} BESIDE=$beside \
         WHERE=$where ADVICE=$advice CURE=$cure LC_ALL=C \
         awk -f "$top/scripts/explain.awk" "$top/docs/REFUSALS.md" >&2
 }

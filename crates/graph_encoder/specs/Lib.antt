@@ -1,0 +1,7 @@
+pub mod Plan
+pub mod ExtraEdges
+pub mod DateOffsets
+pub mod Chunks
+pub mod Written
+pub mod Said
+pub mod Sizes

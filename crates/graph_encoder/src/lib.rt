@@ -1,0 +1,20 @@
+//! Writes a layer of a graph in Git's commit-graph format.
+//!
+//! A [`LayerPlan`] lists what a file is to hold, and [`build`] makes the file: a layer whose
+//! decoded values are the plan's. Its corrected dates are the times and offsets of the plan.
+#![tactic(auto)]
+
+mod builder;
+mod edges;
+mod fan;
+mod law;
+mod offsets;
+mod plan;
+mod push;
+mod records;
+mod sizes;
+mod table;
+
+pub use builder::build;
+pub use law::planned_files_say_their_plans;
+pub use plan::{LayerPlan, PlanCommit};
