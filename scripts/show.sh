@@ -1,0 +1,125 @@
+# What `git cgraph show` adds to the lines of the program: the files of the layers, and how much of the repository the
+# commit-graph covers. It reads this file with `.`, after answers.sh, repository.sh and cures.sh. This defines functions, and
+# runs nothing.
+
+# Shows the commit-graph that is there, also where it is refused: its lines are `kept` then, and `line` is the refusal.
+show_graph() {
+    filter=keep
+    ask_program
+    [ -z "$quiet" ] && [ -n "$kept" ] && [ "$passed" -le 128 ] || return 0
+    write_answer "$(with_files)"
+    [ "$status" -ne 0 ] || tell_coverage
+}
+
+# Keeps what a program writes, for `ask`.
+keep() {
+    sed 's/^/kept /; s/^kept refused /line refused /' >&4
+}
+
+# Writes a text of lines.
+write_answer() {
+    (printf '%s\n' "$1") 2>/dev/null && return
+    passed=$?
+    [ $passed -le 128 ] || exit $passed
+    line='the answer could not be written' status=2
+}
+
+# The lines that were kept, with the size and the path of each layer's file, and all sizes together.
+with_files() {
+    number=0 whole=0
+    printf %s "$kept" | while IFS= read -r row; do
+        printf '%s\n' "$row"
+        case $row in
+        'chunks '*)
+            file=$(layer_file $number)
+            size=$(wc -c <"$file")
+            printf 'size %d file %s\n' "$size" "$file"
+            number=$((number + 1)) whole=$((whole + size))
+            ;;
+        'graph '*) printf 'size %d\n' "$whole" ;;
+        esac
+    done
+}
+
+# Tells how many reachable commits the commit-graph lacks, how many of its commits are gone, and how many are unreachable;
+# and what to do, where that is something.
+tell_coverage() {
+    make_scratch
+    if ! list_reachable >"$scratch/reachable"; then
+        line='the commits of this repository could not be listed' status=128
+        said="$said$name: $line$newline"
+        return
+    fi
+    list_stored >"$scratch/stored" || return 0
+    compare_ids
+    write_answer "missing $missing${newline}gone $gone${newline}unreachable $unreachable"
+    [ "$status" -eq 0 ] || return 0
+    say_unused
+    say_uncovered
+}
+
+# The ids of all commits that a reference or the HEAD of a worktree leads to, by the commits themselves. On a terminal Git says
+# how many they are, once that has taken two seconds.
+list_reachable() {
+    set -- --all
+    [ ! -t 2 ] || set -- --progress='Listing commits' --all
+    git --no-replace-objects -c core.commitGraph=false rev-list "$@"
+}
+
+# The ids that stand in the commit-graph.
+list_stored() {
+    in_place "$program" ids "$graph"
+}
+
+# Sets `missing`, `gone` and `unreachable`, from both lists of ids. A commit that is gone is not one of the unreachable ones.
+compare_ids() {
+    for list in reachable stored; do
+        LC_ALL=C sort -u -o "$scratch/$list" "$scratch/$list"
+    done
+    missing=$(LC_ALL=C comm -23 "$scratch/reachable" "$scratch/stored" | wc -l)
+    LC_ALL=C comm -13 "$scratch/reachable" "$scratch/stored" |
+        GIT_NO_LAZY_FETCH=1 git --no-replace-objects cat-file --batch-check='%(objecttype)' --buffer >"$scratch/types"
+    unreachable=$(grep -c '^commit$' "$scratch/types")
+    gone=$(($(wc -l <"$scratch/types") - unreachable))
+    missing=$((missing))
+}
+
+# Says why Git uses no commit-graph here, where that is so.
+say_unused() {
+    [ "$(git config --type=bool core.commitGraph 2>/dev/null)" != false ] ||
+        say 'Git uses no commit-graph here, since core.commitGraph is false'
+    ! has_replacements ||
+        say 'Git uses no commit-graph here, since some commits are replaced (git replace), unless it is called as git --no-replace-objects'
+    ! has_grafts || say "Git uses no commit-graph here, since '$common/info/grafts' gives commits other parents"
+    [ "$is_shallow" = false ] || say 'Git uses no commit-graph here, since this repository is shallow'
+}
+
+# Says what the commit-graph lacks, or has that is gone, and how it is written so that this is not so.
+say_uncovered() {
+    [ "$missing,$gone" != 0,0 ] || return 0
+    [ "$missing" -eq 0 ] || say "$(commits "$missing" '') not in the commit-graph, so that Git reads the objects for them"
+    [ "$gone" -eq 0 ] || say "$(commits "$gone" ' of the commit-graph') no longer there"
+    is_hindered || { advice='write it again' && cure=$(covers); }
+    say "what to do: $advice:"
+    printf '%s\n' "$cure" >&2
+}
+
+# So many commits, as the beginning of a sentence.
+commits() {
+    case $1 in
+    1) printf '1 commit%s is' "$2" ;;
+    *) printf '%d commits%s are' "$1" "$2" ;;
+    esac
+}
+
+# The commands that write a commit-graph of all reachable commits, and of no others. With --reachable Git takes what references
+# lead to; where more is reachable, from the HEAD of a worktree, it has to be named.
+covers() {
+    [ "$home" = "$objects" ] || [ -n "$named" ] || { home=$objects folder=$objects/info kind=file; }
+    [ "$gone,$kind" = "0,$kind" ] || removes
+    if [ -n "$(git --no-replace-objects rev-list -n 1 --all --not --glob='refs/*' 2>/dev/null)" ]; then
+        writes | sed 's/^    \(.*\) commit-graph write --reachable/    \1 rev-list --no-walk --all | \1 commit-graph write --stdin-commits/'
+    else
+        writes
+    fi
+}
