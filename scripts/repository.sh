@@ -128,11 +128,11 @@ layer_file() {
     fi
 }
 
-# Which commit-graph there is at this moment: the object folder, and of a chain its lines. A file is read as it was when it
-# was opened, whatever takes its place.
+# Which commit-graph there is at this moment: the object folder, and of a chain its lines and when they were written. A file is
+# read as it was when it was opened, whatever takes its place.
 identity() {
     echo "$kind $home"
-    [ "$kind" != chain ] || cat "$(chain_file)" 2>/dev/null
+    [ "$kind" != chain ] || { stat -c '%i %z' "$(chain_file)" && cat "$(chain_file)"; } 2>/dev/null
 }
 
 # Whether some layer of a chain stands in another object folder than the chain.
@@ -212,8 +212,10 @@ has_grafts() {
     [ -s "$common/info/grafts" ]
 }
 
+# Whether some branch or tag leads to a commit, be it one that cannot be read.
 has_commits() {
-    [ -n "$(git -c core.commitGraph=false rev-list -n 1 --all 2>/dev/null)" ]
+    tip=$(git -c core.commitGraph=false rev-list -n 1 --all 2>/dev/null) || return 0
+    [ -n "$tip" ]
 }
 
 # Whether the commit-graph has changed-path filters, by the table of chunks of its files.

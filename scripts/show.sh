@@ -2,32 +2,24 @@
 # commit-graph covers. It reads this file with `.`, after answers.sh, repository.sh and cures.sh. This defines functions, and
 # runs nothing.
 
-# Shows the commit-graph that is there, also where it is refused: its lines are `kept` then, and `line` is the refusal.
+# Shows the commit-graph that is there, also where it is refused: `line` is the refusal then.
 show_graph() {
     filter=keep
     ask_program
-    [ -z "$quiet" ] && [ -n "$kept" ] && [ "$passed" -le 128 ] || return 0
-    write_answer "$(with_files)"
+    [ -z "$quiet" ] && [ -n "$held" ] && [ "$passed" -le 128 ] || return 0
+    write_text "$(with_files)"
     [ "$status" -ne 0 ] || tell_coverage
 }
 
-# Keeps what a program writes, for `ask`.
+# Holds back what a program writes. A refusal in it becomes the line that is told of the program.
 keep() {
-    sed 's/^/kept /; s/^kept refused /line refused /' >&4
+    sed 's/^/held /; s/^held refused /line refused /' >&4
 }
 
-# Writes a text of lines.
-write_answer() {
-    (printf '%s\n' "$1") 2>/dev/null && return
-    passed=$?
-    [ $passed -le 128 ] || exit $passed
-    line='the answer could not be written' status=2
-}
-
-# The lines that were kept, with the size and the path of each layer's file, and all sizes together.
+# The lines that were held back, with the size and the path of each layer's file, and all sizes together.
 with_files() {
     number=0 whole=0
-    printf %s "$kept" | while IFS= read -r row; do
+    printf %s "$held" | while IFS= read -r row; do
         printf '%s\n' "$row"
         case $row in
         'chunks '*)
@@ -52,18 +44,18 @@ tell_coverage() {
     fi
     list_stored >"$scratch/stored" || return 0
     compare_ids
-    write_answer "missing $missing${newline}gone $gone${newline}unreachable $unreachable"
+    write_text "missing $missing${newline}gone $gone${newline}unreachable $unreachable"
     [ "$status" -eq 0 ] || return 0
     say_unused
     say_uncovered
 }
 
-# The ids of all commits that a reference or the HEAD of a worktree leads to, by the commits themselves. On a terminal Git says
-# how many they are, once that has taken two seconds.
+# The ids of all commits that a reference or the HEAD of a worktree leads to, by the commits themselves. Git says meanwhile how
+# many they are, where that takes long.
 list_reachable() {
     set -- --all
-    [ ! -t 2 ] || set -- --progress='Listing commits' --all
-    git --no-replace-objects -c core.commitGraph=false rev-list "$@"
+    ! shows_progress || set -- --progress='Listing commits' --all
+    GIT_PROGRESS_DELAY=${delay-} git --no-replace-objects -c core.commitGraph=false rev-list "$@"
 }
 
 # The ids that stand in the commit-graph.
@@ -78,7 +70,7 @@ compare_ids() {
     done
     missing=$(LC_ALL=C comm -23 "$scratch/reachable" "$scratch/stored" | wc -l)
     LC_ALL=C comm -13 "$scratch/reachable" "$scratch/stored" |
-        GIT_NO_LAZY_FETCH=1 git --no-replace-objects cat-file --batch-check='%(objecttype)' --buffer >"$scratch/types"
+        git_alone cat-file --batch-check='%(objecttype)' --buffer >"$scratch/types"
     unreachable=$(grep -c '^commit$' "$scratch/types")
     gone=$(($(wc -l <"$scratch/types") - unreachable))
     missing=$((missing))

@@ -19,9 +19,10 @@ look_up() {
     return 1
 }
 
-# Whether a command that was looked up takes so many ids.
+# Whether a command that was looked up takes so many ids, or positions.
 takes_ids() {
     case $takes in
+    range) [ "$1" -eq 0 ] || [ "$1" -eq 2 ] ;;
     *+) [ "$1" -ge "${takes%+}" ] ;;
     *) [ "$1" -eq "$takes" ] ;;
     esac
@@ -67,6 +68,7 @@ usage() {
             if ($3 == "path") printf " PATH"
             for (id = 1; id <= $4 + 0; id++) printf " HEX"
             if ($4 ~ /\+/) printf ".."
+            if ($4 == "range") printf " [FROM TO]"
         }
         END { print name == "historytool" ? " | --help | --version" : "" }
     ' "$top/scripts/commands"

@@ -29,6 +29,8 @@ usage: python3 scripts/real_data GRAPHTOOL HISTORYTOOL TEST_FILTERS [every-value
   a slow reading of the file; two million runs then, which take more than half an hour.
 - `git cgraph`: each word, installed, in repositories of every kind, beside Git's own answers, and what is said
   of damaged ones.
+- `git cgraph` beside a process that writes the commit-graph anew all the time: no run refuses it. scripts/races makes more
+  such runs.
 - a file of 300,000 commits, asked by each command, and with one fault late in it, which is named at its position.
 - surroundings that are hostile: streams, paths, chain files, and every amount of memory.
 
@@ -59,6 +61,7 @@ from checks import (
     list_checks,
     path_checks,
     question_checks,
+    race_checks,
     random_checks,
     repeated_checks,
     row_checks,
@@ -120,6 +123,7 @@ def check_others(paths, results, every_value):
     sweep_checks.check_all(program, results, every_value)
     with tempfile.TemporaryDirectory() as folder:
         cgraph_checks.check_all((program, histories), results, folder, partial(new_repository, folder))
+        race_checks.check_all((program, histories), results, os.path.join(folder, "races"), partial(new_repository, folder))
         repeated_checks.check_told((program, histories), results, folder, partial(new_repository, folder))
         further_checks.check_shared_list(histories, results, folder)
         date_checks.check_all(histories, results, folder)

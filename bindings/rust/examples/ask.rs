@@ -94,7 +94,7 @@ fn dates_words(error: DatesError) -> String {
         DatesError::OverflowIndex { pos } => format!("3 position {}", pos.0),
         DatesError::TooLarge { pos } => format!("4 position {}", pos.0),
         DatesError::Date { pos, expected } => format!("5 position {} expected {expected}", pos.0),
-        DatesError::OutOfMemory => panic!("{error}"),
+        error => panic!("{error}"),
     }
 }
 
@@ -109,7 +109,7 @@ fn probe(graph: &Graph, name: &str) -> Answer {
     match graph.probe_path(name.as_bytes(), &positions) {
         Ok(answers) => {
             let past = graph.probe_path(name.as_bytes(), &[Position(graph.num_commits())]);
-            assert_eq!(past, Err(ProbeError::NoSuchPosition));
+            assert_eq!(past, Err(ProbeError::NoSuchPosition { index: 0 }));
             (answers.iter().map(number).collect(), true)
         }
         Err(error) => (format!("refused filters {}\n", filters_words(error)), false),
@@ -127,7 +127,7 @@ fn filters_words(error: ProbeError) -> String {
         ProbeError::PastEnd { pos } => format!("7 position {}", pos.0),
         ProbeError::LeftOver { layer } => format!("8 layer {layer}"),
         ProbeError::Settings { layer } => format!("9 layer {layer}"),
-        ProbeError::NoSuchPosition | ProbeError::OutOfMemory => panic!("{error}"),
+        error => panic!("{error}"),
     }
 }
 
@@ -140,7 +140,7 @@ fn find(graph: &Graph, id: &str) -> Answer {
 }
 
 fn ancestor(graph: &Checked, from: &str, to: &str) -> Answer {
-    let position = |id| graph.lookup(ObjectId::from_hex(id)?);
+    let position = |id| graph.graph().lookup(ObjectId::from_hex(id)?);
     let (Some(from), Some(to)) = (position(from), position(to)) else {
         return (format!("unknown {}\n", if position(from).is_none() { 1 } else { 2 }), false);
     };
@@ -158,7 +158,7 @@ fn ancestor(graph: &Checked, from: &str, to: &str) -> Answer {
 fn not_opened(error: &OpenError, list: bool) -> String {
     match error {
         OpenError::Check(fault) => not_right(fault),
-        OpenError::Layer { layer, number, chunk } => {
+        OpenError::Layer { layer, number, chunk, .. } => {
             let place = if list { String::new() } else { format!("open 5 layer {layer} ") };
             let chunk = if *chunk == 0 { String::new() } else { format!(" chunk {chunk}") };
             format!("refused {place}file {number}{chunk}\n")
@@ -181,6 +181,7 @@ fn not_right(fault: &Fault) -> String {
         Fault::ParentOutOfRange { pos, parent } => format!("7 position {} parent {}", pos.0, parent.0),
         Fault::Generation { pos, expected } => format!("8 position {} expected {expected}", pos.0),
         Fault::DuplicateId { pos, earlier } => format!("11 position {} earlier {}", pos.0, earlier.0),
+        fault => panic!("{fault}"),
     };
     format!("refused verify {words}\n")
 }
@@ -190,6 +191,7 @@ fn commit_number(fault: CommitFault) -> u32 {
         CommitFault::NullId => 1,
         CommitFault::Order => 2,
         CommitFault::NullTree => 3,
+        fault => panic!("{fault}"),
     }
 }
 
@@ -199,5 +201,6 @@ fn parent_number(error: ParentError) -> u32 {
         ParentError::FirstIsEdgeIndex => 2,
         ParentError::NoEdgeList => 3,
         ParentError::EdgeOverflow => 4,
+        error => panic!("{error}"),
     }
 }

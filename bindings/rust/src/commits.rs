@@ -4,6 +4,7 @@ use crate::blocks::ParentBlock;
 use crate::commit::{Few, FEW};
 use crate::sys::ParentCount;
 use crate::{Commit, Graph, Position};
+use std::iter::FusedIterator;
 
 /// An iterator over the commits of a graph, in order. It reads the parents of many by one call.
 pub(crate) struct Commits<'g> {
@@ -56,6 +57,8 @@ impl<'g> Iterator for Commits<'g> {
 }
 
 impl ExactSizeIterator for Commits<'_> {}
+
+impl FusedIterator for Commits<'_> {}
 
 /// The parents of some commits from a position on, or `None` where no commit is left.
 #[cold]

@@ -5,7 +5,7 @@ use crate::fixtures::graphs;
 use graph_commands::line::WriteFailed;
 use graph_commands::program::{Complaints, respond};
 use graph_vectors::Sink;
-use history_commands::command::{Command, Texts};
+use history_program::command::{Command, Texts};
 use std::alloc::Global;
 use std::io;
 use std::process::Abort;
