@@ -6,8 +6,10 @@
 show_graph() {
     filter=keep
     ask_program
-    [ -z "$quiet" ] && [ -n "$held" ] && [ "$passed" -le 128 ] || return 0
-    write_text "$(with_files)"
+    case $quiet,$held,$status in
+    ,?*,[01]) write_text "$(with_files)" ;;
+    *) return 0 ;;
+    esac
     [ "$status" -ne 0 ] || tell_coverage
 }
 
@@ -42,7 +44,7 @@ tell_coverage() {
         said="$said$name: $line$newline"
         return
     fi
-    list_stored >"$scratch/stored" || return 0
+    list_stored >"$scratch/stored" && [ "$before" = "$(find_graph && identity)" ] || { tell_written && return; }
     compare_ids
     write_text "missing $missing${newline}gone $gone${newline}unreachable $unreachable"
     [ "$status" -eq 0 ] || return 0
@@ -88,27 +90,27 @@ say_unused() {
 
 # Says what the commit-graph lacks, or has that is gone, and how it is written so that this is not so.
 say_uncovered() {
+    case $missing in
+    0) ;;
+    1) say '1 reachable commit is not in the commit-graph: Git reads it without' ;;
+    *) say "$missing reachable commits are not in the commit-graph: Git reads them without" ;;
+    esac
+    case $gone in
+    0) ;;
+    1) say "1 commit of the commit-graph is gone, for which 'git commit-graph verify' refuses it" ;;
+    *) say "$gone commits of the commit-graph are gone, for which 'git commit-graph verify' refuses it" ;;
+    esac
     [ "$missing,$gone" != 0,0 ] || return 0
-    [ "$missing" -eq 0 ] || say "$(commits "$missing" '') not in the commit-graph, so that Git reads the objects for them"
-    [ "$gone" -eq 0 ] || say "$(commits "$gone" ' of the commit-graph') no longer there"
     is_hindered || { advice='write it again' && cure=$(covers); }
     say "what to do: $advice:"
     printf '%s\n' "$cure" >&2
-}
-
-# So many commits, as the beginning of a sentence.
-commits() {
-    case $1 in
-    1) printf '1 commit%s is' "$2" ;;
-    *) printf '%d commits%s are' "$1" "$2" ;;
-    esac
 }
 
 # The commands that write a commit-graph of all reachable commits, and of no others. With --reachable Git takes what references
 # lead to; where more is reachable, from the HEAD of a worktree, it has to be named.
 covers() {
     [ "$home" = "$objects" ] || [ -n "$named" ] || { home=$objects folder=$objects/info kind=file; }
-    [ "$gone,$kind" = "0,$kind" ] || removes
+    [ "$gone" -eq 0 ] || [ "$kind" = file ] || removes
     if [ -n "$(git --no-replace-objects rev-list -n 1 --all --not --glob='refs/*' 2>/dev/null)" ]; then
         writes | sed 's/^    \(.*\) commit-graph write --reachable/    \1 rev-list --no-walk --all | \1 commit-graph write --stdin-commits/'
     else

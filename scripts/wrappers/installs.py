@@ -23,6 +23,7 @@ INSTALLED = {
     *("lib/git-cgraph/scripts/explain.awk", "lib/git-cgraph/scripts/manual.awk", "lib/git-cgraph/scripts/alternates.awk"),
     *("lib/git-cgraph/scripts/repository.sh", "lib/git-cgraph/scripts/cures.sh"),
     *("lib/git-cgraph/scripts/progress.sh", "lib/git-cgraph/scripts/objects.sh"),
+    "lib/git-cgraph/scripts/show.sh",
     *("include/commitgraph.h", "lib/libcommitgraph.a"),
     *("share/doc/git-cgraph/LICENSE-MIT", "share/doc/git-cgraph/LICENSE-APACHE"),
 }
