@@ -13,6 +13,7 @@ FILENAME ~ /commands$/ {
         operands[word] = ($3 == "path" ? " PATH" : "")
         for (id = 1; id <= $4 + 0; id++) operands[word] = operands[word] " HEX"
         if ($4 ~ /\+/) operands[word] = operands[word] ".."
+        if ($4 == "range") operands[word] = operands[word] " [FROM TO]"
         about[word] = $0
         for (field = 1; field <= 5; field++) sub(/^[^ ]+ +/, "", about[word])
     }
@@ -21,9 +22,12 @@ FILENAME ~ /commands$/ {
 
 /^## / { end_item(); section = substr($0, 4); next }
 section == "" && /^- / { part = substr($0, 3); if (index(part, "`" program "`: ") == 1) start(part); next }
-section == "What they read" && /^$/ { is_left_out = 0 }
-section == "What they read" && /^`[a-z-]+`/ { split($0, quoted, "`"); is_left_out = !(quoted[2] in is_own) }
-section == "What they read" { if (!is_left_out) read = read $0 "\n"; next }
+section == "What they read" {
+    if (is_first && /^[^ ]/) is_left_out = /^`[a-z-]+` / && !(first_quoted($0) in is_own)
+    if (!is_left_out) read = read $0 "\n"
+    is_first = /^$/
+    next
+}
 section == "What they print" && /^- / { end_item(); item = substr($0, 3); next }
 section == "What they print" && item != "" && /^      / { sample = sample substr($0, 3) "\n"; next }
 section == "What they print" && item != "" && /^  / { sub(/^ +/, ""); item = item " " $0; next }
@@ -38,6 +42,11 @@ END {
     printf "## Diagnostics\n\nA refusal is one line on standard output, such as `refused verify 4 layer 0 fault 1`. Standard error says "
     printf "what it means and what to do.\n\n## See also\n\n`git-cgraph(1)`, `%s(1)`, `git-commit-graph(1)`, ", other()
     printf "`gitformat-commit-graph(5)`\n"
+}
+
+function first_quoted(text,    parts) {
+    split(text, parts, "`")
+    return parts[2]
 }
 
 # The line that says what the program is.

@@ -81,8 +81,9 @@ help() {
 
 PATH is a commit-graph file, a folder with a chain of them, or an info folder.
 HEX is the id of a commit in hexadecimal.
-
 END
+    [ "$name" != historytool ] || echo 'FROM and TO are positions: the first one, and the one after the last.'
+    echo
     awk -v name="$name" '
         /^#/ || $2 != name { next }
         { word = $1; for (field = 1; field <= 5; field++) sub(/^[^ ]+ +/, ""); printf "%-14s  %s\n", word, $0 }

@@ -23,6 +23,8 @@ usage: python3 scripts/real_data GRAPHTOOL HISTORYTOOL TEST_FILTERS [every-value
   order, by hand, and of thousands of graphs at random, most of them damaged, by the plain reading.
 - the filters of these graphs, asked by the program of `test_filters`: each path that a commit changes is possible, and
   all other answers are those of a plain reading; also of version 2, and where bytes were read as unsigned numbers.
+- `ids` and `objects`: right graphs and damaged ones beside the commits as Git writes them, by a plain reading, and beside
+  Git's verdict; streams that are cut or changed at each byte; and commits that Git's own commands do not make.
 - `distinct`: the words of `verify`, and an id that was put into two layers or more, next to one another
   and far apart.
 - each byte of three small files, changed to some other values, or with `every-value` to all of them, beside
@@ -59,6 +61,7 @@ from checks import (
     further_checks,
     large_checks,
     list_checks,
+    object_checks,
     path_checks,
     question_checks,
     race_checks,
@@ -110,6 +113,7 @@ def check_kind(paths, object_format):
         distinct_checks.check_all(program, results, new, differences)
         disk_checks.check_all((program, histories), results, new, differences)
         further_checks.check_all((histories, asker), results, new)
+        object_checks.check_all(histories, results, new)
         damaged_checks.check_all((histories, asker), results, new)
     return results, differences, LINES
 
@@ -124,6 +128,7 @@ def check_others(paths, results, every_value):
     with tempfile.TemporaryDirectory() as folder:
         cgraph_checks.check_all((program, histories), results, folder, partial(new_repository, folder))
         race_checks.check_all((program, histories), results, os.path.join(folder, "races"), partial(new_repository, folder))
+        object_checks.check_told((program, histories), results, os.path.join(folder, "commits"), partial(new_repository, folder))
         repeated_checks.check_told((program, histories), results, folder, partial(new_repository, folder))
         further_checks.check_shared_list(histories, results, folder)
         date_checks.check_all(histories, results, folder)

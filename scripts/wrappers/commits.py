@@ -53,6 +53,7 @@ GONE = (
     "from another copy of the repository"
 )
 PARTIAL = "this is a partial clone, in which the commit is not here, and nothing was fetched: let Git fetch it, and ask again"
+SHALLOW = "this repository is shallow, and the commit lies past its end: fetch the whole history, and ask again"
 WRITTEN = "the commit-graph was written anew meanwhile"
 
 
@@ -110,6 +111,7 @@ def check_all(results):
         for shell in (("sh",), ("dash",), ("bash", "--posix"), ("busybox", "sh")):
             if shutil.which(shell[0]):
                 check_right(results, compared, shell)
+        check_written_to(results, compared)
         check_refused(results, compared)
         check_parts(results, compared)
         check_failures(results, compared)
@@ -135,6 +137,16 @@ def check_right(results, compared, shell):
     out = VERIFIED + "dates none\nfilters none\nobjects commits %d\n" % COUNT
     results.check("%s git-cgraph verify --objects --all-checks" % " ".join(shell), exactly(answer, 0, out))
     results.check("%s git-cgraph verify --objects -q" % " ".join(shell), exactly(compared.ask("-q", shell=shell), 0, ""))
+
+
+def check_written_to(results, compared):
+    """An answer that cannot be written."""
+    rows, unwritten = refusals.read_rows(), "the answer could not be written"
+    err = said([unwritten, *refusals.sentences(rows, unwritten)])
+    with open("/dev/full", "wb") as full:
+        results.check("git cgraph verify --objects, to a full device", exactly(compared.ask(stdout=full), 128, "", err))
+    answer = compared.ask(shell=("sh",), preexec_fn=lambda: os.close(1))
+    results.check("git cgraph verify --objects, output that is closed", exactly(answer, 128, "", err))
 
 
 def check_refused(results, compared):
@@ -227,7 +239,7 @@ def check_objects(results, compared):
 
 
 def check_partial(results, compared):
-    """In a partial clone nothing is fetched, and a commit that is not there is no damage."""
+    """In a partial clone nothing is fetched, and a commit that is not there is no damage; nor is it in a shallow one."""
     rows, commit = refusals.read_rows(), compared.ids[4]
     path, line = loose(compared, commit), "refused objects 4 position 4"
     compared.put(objects="[ \"$commits\" -eq $(($4 - $3)) ] || { echo '%s'; exit 1; }" % line)
@@ -243,6 +255,15 @@ def check_partial(results, compared):
     fetched = [name for name in os.listdir(packs) if name.endswith(".pack")]
     right = answer[:2] == (128, line + "\n") and answer.err.endswith(said(sentences)) and not fetched
     results.check("git cgraph verify --objects, in a partial clone", None if right else "it is %r, with %s" % (answer, fetched))
+    shallow = os.path.join(compared.folder, ".git/shallow")
+    with open(shallow, "w", encoding="ascii") as file:
+        file.write(git(compared.clone, compared.folder, "rev-parse", "HEAD") + "\n")
+    answer = compared.ask()
+    known = refusals.Known("", SHALLOW, ["git fetch --unshallow"])
+    sentences = ["the commit at position 4 is " + commit, *refusals.sentences(rows, line, "verify", known)]
+    right = answer[:2] == (128, line + "\n") and answer.err.endswith(said(sentences))
+    results.check("git cgraph verify --objects, in a shallow clone", None if right else "it is %r" % (answer,))
+    os.remove(shallow)
     git(compared.clone, compared.folder, "cat-file", "-e", commit)
     results.check("git cgraph verify --objects, after the commit was fetched", exactly(compared.ask(), 0, RIGHT))
     for name in os.listdir(packs):
@@ -274,6 +295,8 @@ def check_progress(results, compared):
         right = answer.err.endswith("\r" + last) and "Checking commits:   0%% (0/%d)\r" % COUNT in answer.err if asked else not answer.err
         right = right and answer[:2] == (0, "" if "-q" in words else RIGHT)
         results.check("git cgraph verify --objects %s" % " ".join(words), None if right else "it is %r" % (answer,))
+    answer = compared.ask("--progress", shell=("sh",), stderr=None, preexec_fn=lambda: os.close(2))
+    results.check("git cgraph verify --objects --progress, with no standard error", exactly(answer, 0, RIGHT))
     for words, delay, asked in ((["-j2"], "0", True), ([], "30", False), (["--no-progress"], "0", False), (["-q"], "0", False)):
         shown = on_terminal(compared, words, delay)
         right = shown.replace("\r\n", "\n").endswith(last) if asked else shown == ""

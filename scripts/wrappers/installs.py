@@ -161,6 +161,7 @@ def check_completion(results, clone, repository):
         ("-C", "su"): {"sub"},
         ("verify", ""): set(),
         ("verify", "--a"): {"--all-checks"},
+        ("verify", "--ob"): {"--objects", "--object-dir"},
         ("merge-base", "--a"): {"--all"},
         ("find", "-q", "anno"): {"annotated"},
         ("--object-dir", "su"): {"sub"},

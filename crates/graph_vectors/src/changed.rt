@@ -1,10 +1,9 @@
 //! Files with bytes that are written over those of a plan.
 
-use crate::builder::build;
-use crate::plan::LayerPlan;
-use crate::rows::{DIAMOND, Row};
+use crate::rows::{DIAMOND, Row, plan_of_rows};
 use crate::trailer::reseal;
 use gix_hash_core::Kind;
+use graph_encoder::build;
 use std::alloc::{AllocError, Global};
 
 /// Bytes that are written over those of a file, from a place on.
@@ -21,7 +20,7 @@ pub fn changed_file(
     rows: &[Row<'_>],
     changes: &[Change<'_>],
 ) -> Result<Option<Vec<u8>>, AllocError> {
-    let plan = LayerPlan::of_rows(alloc, &[], rows)?;
+    let plan = plan_of_rows(alloc, &[], rows)?;
     if !plan.is_buildable() {
         return Ok(None);
     }

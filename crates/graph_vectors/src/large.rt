@@ -5,8 +5,9 @@
 //! rounded down, as its second; where i is a multiple of 3, it has commit i / 3 as its third. Its
 //! generation number is i + 1.
 
-use crate::plan::{LayerPlan, PlanCommit};
+use crate::rows::planned_commit;
 use gix_hash_core::{Kind, ObjectId};
+use graph_encoder::LayerPlan;
 use std::alloc::{AllocError, Global};
 
 /// How many commits there are.
@@ -45,7 +46,7 @@ pub fn plan(
     for commit in from..to {
         let parents = parents_of(alloc, commit)?;
         let generation = commit.saturating_add(1);
-        let planned = PlanCommit::new(alloc, id_of(commit), &parents, generation)?;
+        let planned = planned_commit(alloc, id_of(commit), &parents, generation)?;
         plan.commits.push(planned)?;
     }
     Ok(plan)

@@ -2,35 +2,24 @@
 //!
 //! A [`LayerPlan`] lists what a file is to hold, and [`build`] makes the file: a layer whose
 //! decoded values are the plan's. A plan may break the rules of a graph, so that tests can have
-//! damaged graphs: [`LayerPlan::of_rows`] plans small histories, row by row, and the module
+//! damaged graphs: [`plan_of_rows`] plans small histories, row by row, and the module
 //! [`changed`] writes over their files; [`large`] plans a history of 600 commits. [`file_of_parts`]
 //! makes files that no plan does, and [`refused`] lists some that opening refuses. [`Source`] and
 //! [`Sink`] fail where they are told.
 #![tactic(auto)]
 
-mod builder;
 pub mod changed;
-mod edges;
-mod fan;
 mod files;
 pub mod large;
-mod law;
-mod plan;
-mod push;
 mod raw;
-mod records;
 pub mod refused;
 mod rows;
-mod sizes;
 mod streams;
-mod table;
 mod trailer;
 
-pub use builder::build;
 pub use files::{file_of_plan, file_of_rows};
-pub use law::planned_files_say_their_plans;
-pub use plan::{LayerPlan, PlanCommit};
+pub use graph_encoder::{LayerPlan, PlanCommit, build, planned_files_say_their_plans};
 pub use raw::{END, Entry, file_of_parts, file_of_zeros, words};
-pub use rows::{DIAMOND, OCTOPUS, Row, TEN};
+pub use rows::{DIAMOND, OCTOPUS, Row, TEN, plan_of_rows, planned_commit};
 pub use streams::{Sink, Source};
 pub use trailer::reseal;

@@ -3,8 +3,8 @@
 ghost use Rattle.std.specs.Prelude.{◌≡◌, IfOk, length};
 ghost use Rattle.gix_hash_core.specs.declared.kind.Kind.TheVariants.{Sha1};
 
-use crate::plan::{LayerPlan, PlanCommit};
 use gix_hash_core::{Kind, ObjectId};
+use graph_encoder::{LayerPlan, PlanCommit};
 use std::alloc::{AllocError, Global};
 
 /// A commit: the byte that its id repeats, its parents and its generation number.
@@ -43,76 +43,55 @@ pub const TEN: &[Row<'static>] = &[
     (0xaa, &[8], 10),
 ];
 
-impl PlanCommit {
-    /// What a file is to hold for a commit with this SHA-1 id. The id of its root tree repeats the
-    /// byte 0x99, and its time is 7.
-    ///
-    /// # Errors
-    ///
-    /// `AllocError` where an allocation failed.
-    pub fn new(
-        alloc: Global,
-        id: ObjectId,
-        parents: &[u32],
-        generation: u32,
-    ) -> Result<PlanCommit, AllocError>
-        ensures id { IfOk result (λ commit. commit.id ≡ id) }
-        ensures parents { IfOk result (λ commit. commit.parents.items ≡ parents.now) }
-        ensures generation { IfOk result (λ commit. commit.generation ≡ generation) }
-        ensures time { IfOk result (λ commit. commit.time ≡ 7) }
-    {
-        Ok(PlanCommit {
-            id,
-            tree: ObjectId::from([0x99; 20]),
-            parents: Vec::from_slice(alloc, parents)?,
-            generation,
-            time: 7,
-        })
-    }
+/// What a file is to hold for a commit with this SHA-1 id. The id of its root tree repeats the byte
+/// 0x99, and its time is 7.
+///
+/// # Errors
+///
+/// `AllocError` where an allocation failed.
+pub fn planned_commit(
+    alloc: Global,
+    id: ObjectId,
+    parents: &[u32],
+    generation: u32,
+) -> Result<PlanCommit, AllocError>
+    ensures id { IfOk result (λ commit. commit.id ≡ id) }
+    ensures parents { IfOk result (λ commit. commit.parents.items ≡ parents.now) }
+    ensures generation { IfOk result (λ commit. commit.generation ≡ generation) }
+    ensures time { IfOk result (λ commit. commit.time ≡ 7) }
+{
+    Ok(PlanCommit {
+        id,
+        tree: ObjectId::from([0x99; 20]),
+        parents: Vec::from_slice(alloc, parents)?,
+        generation,
+        time: 7,
+    })
 }
 
-impl LayerPlan {
-    /// The plan of a layer of this kind on these bases, without commits.
-    ///
-    /// # Errors
-    ///
-    /// `AllocError` where an allocation failed.
-    pub fn new(alloc: Global, kind: Kind, bases: &[ObjectId]) -> Result<LayerPlan, AllocError>
-        ensures kind { IfOk result (λ plan. plan.kind ≡ kind) }
-        ensures bases { IfOk result (λ plan. plan.bases.items ≡ bases.now) }
-        ensures commits { IfOk result (λ plan. length plan.commits.items ≡ 0) }
-    {
-        Ok(LayerPlan {
-            kind,
-            bases: Vec::from_slice(alloc, bases)?,
-            commits: Vec::new(alloc),
-        })
+/// The SHA-1 plan of these commits on these bases, each as [`planned_commit`] makes it.
+///
+/// # Errors
+///
+/// `AllocError` where an allocation failed.
+pub fn plan_of_rows(
+    alloc: Global,
+    bases: &[ObjectId],
+    rows: &[Row<'_>],
+) -> Result<LayerPlan, AllocError>
+    ensures kind { IfOk result (λ plan. plan.kind ≡ Sha1) }
+    ensures bases { IfOk result (λ plan. plan.bases.items ≡ bases.now) }
+    ensures commits { IfOk result (λ plan. length plan.commits.items ≡ length rows.now) }
+{
+    let mut commits = Vec::new(alloc);
+    for (byte, parents, generation) in rows {
+        let id = ObjectId::from([*byte; 20]);
+        commits.push(planned_commit(alloc, id, parents, *generation)?)?;
     }
-
-    /// The SHA-1 plan of these commits on these bases, each as [`PlanCommit::new`] makes it.
-    ///
-    /// # Errors
-    ///
-    /// `AllocError` where an allocation failed.
-    pub fn of_rows(
-        alloc: Global,
-        bases: &[ObjectId],
-        rows: &[Row<'_>],
-    ) -> Result<LayerPlan, AllocError>
-        ensures kind { IfOk result (λ plan. plan.kind ≡ Sha1) }
-        ensures bases { IfOk result (λ plan. plan.bases.items ≡ bases.now) }
-        ensures commits { IfOk result (λ plan. length plan.commits.items ≡ length rows.now) }
-    {
-        let mut commits = Vec::new(alloc);
-        for (byte, parents, generation) in rows {
-            let id = ObjectId::from([*byte; 20]);
-            commits.push(PlanCommit::new(alloc, id, parents, *generation)?)?;
-        }
-        let bases = Vec::from_slice(alloc, bases)?;
-        Ok(LayerPlan {
-            kind: Kind::Sha1,
-            bases,
-            commits,
-        })
-    }
+    let bases = Vec::from_slice(alloc, bases)?;
+    Ok(LayerPlan {
+        kind: Kind::Sha1,
+        bases,
+        commits,
+    })
 }

@@ -5,6 +5,7 @@ use Rattle.graph_format.specs.Layer.{Layer}
 use Rattle.graph_layer.specs.declared.opening.error.OpenError.{OpenError}
 use Rattle.graph_commands.specs.Text.{◌⧺◌, newline}
 use Rattle.graph_commands.specs.WrittenAnswer.{WritesAnswer}
+use Rattle.show_commands.specs.Show.{MayShow, show_text, show_status}
 use Rattle.object_commands.specs.CommitIds.{MayListIds, ids_text, ids_status}
 use Rattle.object_commands.specs.ComparedObjects.{MayCompareObjects, objects_text, objects_status}
 use Rattle.history_program.specs.declared.command.Command.{Command}
@@ -42,6 +43,8 @@ HistorytoolMayWrite (command.MergeBaseIds path first others) input unread IsLeft
     (MayCompare (first.now ∷ map string_bytes others.now) IsLeftAlone (MayOpenAt path.now)) old new status
 HistorytoolMayWrite (command.Check path) input unread IsLeftAlone MayOpenAt old new status =
     WritesAnswer check_text check_status (MayFindInAll (MayOpenAt path.now)) old new status
+HistorytoolMayWrite (command.Show path) input unread IsLeftAlone MayOpenAt old new status =
+    WritesAnswer show_text show_status (MayShow (MayOpenAt path.now)) old new status
 HistorytoolMayWrite (command.Ids path range) input unread IsLeftAlone MayOpenAt old new status =
     WritesAnswer ids_text ids_status (MayListIds range (MayOpenAt path.now)) old new status
 HistorytoolMayWrite (command.Objects path range) input unread IsLeftAlone MayOpenAt old new status =

@@ -19,6 +19,7 @@ AskAfterName help version words (command.MergeBase path first others) =
 AskAfterName help version words (command.MergeBaseIds path first others) =
     (words ≡ codes "merge-base-ids" ∷ path.now ∷ first.now ∷ map string_bytes others.now) × (others.now ≢ [])
 AskAfterName help version words (command.Check path) = words ≡ codes "check" ∷ path.now ∷ []
+AskAfterName help version words (command.Show path) = words ≡ codes "show" ∷ path.now ∷ []
 AskAfterName help version words (command.Ids path None) = words ≡ codes "ids" ∷ path.now ∷ []
 AskAfterName help version words (command.Ids path (Some range)) =
     (from to : List ℕ) × (words ≡ codes "ids" ∷ path.now ∷ from ∷ to ∷ []) × SpellsRange from to range

@@ -15,6 +15,7 @@ use history_commands::run::{
     run_check, run_is_ancestor, run_merge_base, run_merge_base_ids, run_walk,
 };
 use object_commands::{PositionRange, run_ids, run_objects};
+use show_commands::run::run_show;
 use std::alloc::Global;
 use std::io::{Read, Write};
 
@@ -69,6 +70,11 @@ pub enum Command<'a> {
     },
     /// The graph is to be checked, with its dates and its filters.
     Check {
+        /// The path of the graph.
+        path: &'a str,
+    },
+    /// The layers of the graph are to be shown, and whether the whole is right.
+    Show {
         /// The path of the graph.
         path: &'a str,
     },
@@ -142,6 +148,7 @@ impl<'a> Command<'a> {
     {
         match name {
             "check" => Some(Command::Check { path }),
+            "show" => Some(Command::Show { path }),
             "ids" => Some(Command::Ids { path, range: None }),
             "objects" => Some(Command::Objects { path, range: None }),
             _ => None,
@@ -235,10 +242,10 @@ impl<'a> Command<'a> {
         ensures other { IsNone result → (range : declared.PositionRange)
             → ¬ SpellsRange from.now to.now range }
     {
-        let range = PositionRange::from_texts(from, to)?;
+        let compared = PositionRange::from_texts(from, to)?;
         Some(Command::Objects {
             path,
-            range: Some(range),
+            range: Some(compared),
         })
     }
 }
@@ -279,6 +286,7 @@ impl Run for Command<'_> {
                 others,
             } => run_merge_base_ids(alloc, folder, path, first, others, output),
             Command::Check { path } => run_check(alloc, folder, path, output),
+            Command::Show { path } => run_show(alloc, folder, path, output),
             Command::Ids { path, range } => run_ids(alloc, folder, path, range, output),
             Command::Objects { path, range } => {
                 run_objects(alloc, input, folder, path, range, output)

@@ -17,11 +17,11 @@ use std::{env, io};
 
 const USAGE: &str = "usage: historytool is-ancestor PATH HEX HEX | walk PATH HEX HEX \
     | merge-base PATH HEX HEX.. | merge-base-ids PATH HEX HEX.. | check PATH \
-    | ids PATH [FROM TO] | objects PATH [FROM TO] | --help | --version";
+    | show PATH | ids PATH [FROM TO] | objects PATH [FROM TO] | --help | --version";
 
 const HELP: &str = "usage: historytool is-ancestor PATH HEX HEX | walk PATH HEX HEX \
     | merge-base PATH HEX HEX.. | merge-base-ids PATH HEX HEX.. | check PATH \
-    | ids PATH [FROM TO] | objects PATH [FROM TO] | --help | --version\n\
+    | show PATH | ids PATH [FROM TO] | objects PATH [FROM TO] | --help | --version\n\
     \n\
     PATH is a commit-graph file, a folder with a chain of them, or an info folder.\n\
     HEX is the id of a commit in hexadecimal.\n\
@@ -38,6 +38,7 @@ const HELP: &str = "usage: historytool is-ancestor PATH HEX HEX | walk PATH HEX 
     \x20               have a corrected commit date, and how many a changed-path\n\
     \x20               filter, once both were found right; or the first thing that is\n\
     \x20               wrong\n\
+    show            what each layer says of itself, and whether the whole is right\n\
     ids             the ids of the commits, a line for each, or of those at the\n\
     \x20               positions from FROM up to and without TO, which count from 0\n\
     objects         how many of these commits are those on standard input, which\n\

@@ -2,7 +2,7 @@
 
 use gix_hash_core::{Kind, ObjectId, digest};
 use graph_folder::folder::Memory;
-use graph_vectors::{LayerPlan, Row, build};
+use graph_vectors::{Row, build, plan_of_rows};
 use std::alloc::Global;
 use std::fmt::Display;
 use std::process::Abort;
@@ -14,7 +14,7 @@ pub(super) fn built(
     bases: &[ObjectId],
     rows: &[Row<'_>],
 ) -> Vec<u8> {
-    let plan = LayerPlan::of_rows(alloc, bases, rows).expect(rt, "memory for a plan");
+    let plan = plan_of_rows(alloc, bases, rows).expect(rt, "memory for a plan");
     assert!(rt; plan.is_buildable());
     build(alloc, &plan).expect(rt, "memory for a file")
 }

@@ -10,7 +10,7 @@ use crate::fixtures::{checksum_of, put_chain};
 use gix_hash_core::{Kind, ObjectId};
 use graph_commands::run::run_list;
 use graph_folder::folder::Memory;
-use graph_vectors::{LayerPlan, PlanCommit, Sink, build};
+use graph_vectors::{LayerPlan, Sink, build, planned_commit};
 use std::alloc::Global;
 use std::process::Abort;
 
@@ -40,7 +40,7 @@ fn plan(rt: &impl Abort, alloc: Global, bases: &[ObjectId], from: u32, to: u32) 
     let mut plan = LayerPlan::new(alloc, Kind::Sha1, bases).expect(rt, "memory for a plan");
     for commit in from..to {
         let parents = parents(rt, alloc, commit);
-        let planned = PlanCommit::new(alloc, id(commit), &parents, commit.saturating_add(1));
+        let planned = planned_commit(alloc, id(commit), &parents, commit.saturating_add(1));
         let planned = planned.expect(rt, "memory for a plan");
         plan.commits.push(planned).expect(rt, "memory for a plan");
     }

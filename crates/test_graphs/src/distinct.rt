@@ -4,7 +4,7 @@ use gix_commitgraph::file::Commit;
 use gix_commitgraph::verify::{CommitFault, Outcome, VerifyError, VerifyOptions};
 use gix_commitgraph::{Graph, Position};
 use gix_hash_core::ObjectId;
-use graph_vectors::{LayerPlan, Row};
+use graph_vectors::{Row, plan_of_rows};
 use std::alloc::Global;
 use std::convert::Infallible;
 use std::process::Abort;
@@ -41,7 +41,7 @@ const LOWER: &[Row<'static>] = &[(0x11, &[], 1), (0x22, &[0], 2)];
 /// first commit, at position 2, consists of this byte.
 fn on_lower(rt: &impl Abort, alloc: Global, upper: &[Row<'_>; 3], tree: u8) -> Graph {
     let lower = file(rt, alloc, &[], LOWER);
-    let plan = LayerPlan::of_rows(alloc, &[lower.checksum().to_owned()], upper);
+    let plan = plan_of_rows(alloc, &[lower.checksum().to_owned()], upper);
     let mut plan = plan.expect(rt, "memory");
     if let Some(commit) = plan.commits.first_mut() {
         commit.tree = ObjectId::from([tree; 20]);

@@ -3,7 +3,7 @@
 
 use gix_commitgraph::{File, Graph};
 use gix_hash_core::{Kind, ObjectId};
-use graph_vectors::{LayerPlan, Row, build};
+use graph_vectors::{LayerPlan, Row, build, plan_of_rows};
 use std::alloc::Global;
 use std::fmt::Display;
 use std::process::Abort;
@@ -28,7 +28,7 @@ pub fn built(rt: &impl Abort, alloc: Global, plan: &LayerPlan) -> Vec<u8> {
 /// The file of the SHA-1 layer of these commits on these bases. Where no file can hold them, the
 /// process aborts.
 pub fn layer(rt: &impl Abort, alloc: Global, bases: &[ObjectId], rows: &[Row<'_>]) -> Vec<u8> {
-    let plan = LayerPlan::of_rows(alloc, bases, rows).expect(rt, "memory");
+    let plan = plan_of_rows(alloc, bases, rows).expect(rt, "memory");
     built(rt, alloc, &plan)
 }
 

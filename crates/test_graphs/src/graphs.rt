@@ -1,7 +1,7 @@
 use crate::fixtures::{bare, built, opened};
 use gix_commitgraph::{File, Graph, GraphError, Position, file};
 use gix_hash_core::{Kind, ObjectId};
-use graph_vectors::PlanCommit;
+use graph_vectors::planned_commit;
 use std::alloc::Global;
 use std::process::Abort;
 
@@ -16,7 +16,7 @@ fn id(first: u8, last: u8) -> ObjectId {
 fn layer_of(rt: &impl Abort, alloc: Global, ids: &[ObjectId]) -> File {
     let mut plan = bare(rt, alloc, Kind::Sha1);
     for id in ids {
-        let commit = PlanCommit::new(alloc, *id, &[], 1).expect(rt, "memory");
+        let commit = planned_commit(alloc, *id, &[], 1).expect(rt, "memory");
         plan.commits.push(commit).expect(rt, "memory");
     }
     opened(rt, alloc, built(rt, alloc, &plan), "layer")

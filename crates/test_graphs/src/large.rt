@@ -10,7 +10,7 @@ use crate::verifying::compare_outcome;
 use gix_commitgraph::file::Commit;
 use gix_commitgraph::{File, Graph, Position};
 use gix_hash_core::{Kind, ObjectId};
-use graph_vectors::{LayerPlan, PlanCommit};
+use graph_vectors::{LayerPlan, planned_commit};
 use std::alloc::Global;
 use std::convert::Infallible;
 use std::process::Abort;
@@ -41,7 +41,7 @@ fn layer(rt: &impl Abort, alloc: Global, bases: &[ObjectId], from: u32, to: u32)
     let mut plan = LayerPlan::new(alloc, Kind::Sha1, bases).expect(rt, "memory");
     for commit in from..to {
         let parents = parents(rt, alloc, commit);
-        let planned = PlanCommit::new(alloc, id(commit), &parents, commit.saturating_add(1));
+        let planned = planned_commit(alloc, id(commit), &parents, commit.saturating_add(1));
         let planned = planned.expect(rt, "memory");
         plan.commits.push(planned).expect(rt, "memory");
     }

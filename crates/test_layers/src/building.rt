@@ -1,7 +1,7 @@
 use crate::fixtures::{bare, built, layer, only_commit, opened, planned};
 use gix_hash_core::{Kind, ObjectId};
 use graph_layer::file::Commit;
-use graph_vectors::{DIAMOND, PlanCommit, Row};
+use graph_vectors::{DIAMOND, Row, planned_commit};
 use std::alloc::Global;
 use std::process::Abort;
 
@@ -93,7 +93,7 @@ fn base_ids_follow_the_records(rt: HostRuntime) {
 /// The file of one commit whose time is the greatest.
 fn latest(rt: &impl Abort, alloc: Global) -> Vec<u8> {
     let id = ObjectId::from([0x11; 20]);
-    let mut commit = PlanCommit::new(alloc, id, &[5, 3, 2], 1).expect(rt, "memory");
+    let mut commit = planned_commit(alloc, id, &[5, 3, 2], 1).expect(rt, "memory");
     commit.time = 17179869183;
     let mut plan = bare(rt, alloc, Kind::Sha1, &[]);
     plan.commits.push(commit).expect(rt, "memory");

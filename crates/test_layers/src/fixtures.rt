@@ -6,7 +6,7 @@ use gix_hash_core::{Kind, ObjectId};
 use graph_format::error::FileError;
 use graph_layer::file::{Commit, File, Position};
 use graph_vectors::changed::{Change, changed_diamond, sharing_file};
-use graph_vectors::{END, LayerPlan, Row, build, file_of_parts, words};
+use graph_vectors::{END, LayerPlan, Row, build, file_of_parts, plan_of_rows, words};
 use std::alloc::Global;
 use std::fmt::Display;
 use std::process::Abort;
@@ -90,7 +90,7 @@ pub fn bare(rt: &impl Abort, alloc: Global, kind: Kind, bases: &[ObjectId]) -> L
 
 /// The plan of a SHA-1 layer of these commits, which has no bases.
 pub fn planned(rt: &impl Abort, alloc: Global, rows: &[Row<'_>]) -> LayerPlan {
-    LayerPlan::of_rows(alloc, &[], rows).expect(rt, "memory")
+    plan_of_rows(alloc, &[], rows).expect(rt, "memory")
 }
 
 /// The file of a plan. Where the plan is not buildable, the process aborts.

@@ -1,7 +1,7 @@
 //! What the tests share: files that are built from rows, and the command.
 
 use graph_commands::run::{WriteFailed, run_list};
-use graph_vectors::{LayerPlan, Row, Sink, build};
+use graph_vectors::{Row, Sink, build, plan_of_rows};
 use std::alloc::Global;
 use std::io::Read;
 use std::process::Abort;
@@ -29,7 +29,7 @@ pub(super) fn expect_answer(
 
 /// The bytes of a SHA-1 file of these commits, which has no base layers.
 pub(super) fn built(rt: &impl Abort, alloc: Global, rows: &[Row<'_>]) -> Vec<u8> {
-    let plan = LayerPlan::of_rows(alloc, &[], rows).expect(rt, "memory for a plan");
+    let plan = plan_of_rows(alloc, &[], rows).expect(rt, "memory for a plan");
     assert!(rt; plan.is_buildable());
     build(alloc, &plan).expect(rt, "memory for a file")
 }

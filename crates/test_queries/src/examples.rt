@@ -11,7 +11,7 @@ use graph_uses::parents::parents_of;
 use graph_uses::query::parents_at_path;
 use graph_uses::reaching::{merged, reaches};
 use graph_uses::walking::ancestors;
-use graph_vectors::{DIAMOND, LayerPlan, Row};
+use graph_vectors::{DIAMOND, Row, plan_of_rows};
 use std::alloc::Global;
 use std::fs;
 use std::process::Abort;
@@ -33,7 +33,7 @@ const FIVES: &str = "5555555555555555555555555555555555555555";
 
 /// The bytes of a file of these commits, each of which was made at 1700000000.
 fn file_of(rt: &impl Abort, alloc: Global, rows: &[Row<'_>]) -> Vec<u8> {
-    let mut plan = LayerPlan::of_rows(alloc, &[], rows).expect(rt, "memory for a plan");
+    let mut plan = plan_of_rows(alloc, &[], rows).expect(rt, "memory for a plan");
     for commit in &mut plan.commits {
         commit.time = 1700000000;
     }

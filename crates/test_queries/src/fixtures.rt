@@ -4,7 +4,7 @@
 use gix_commitgraph::{File, Graph};
 use gix_hash_core::{Kind, ObjectId};
 use graph_history::{Checked, Comparer, Comparison};
-use graph_vectors::{LayerPlan, Row, build};
+use graph_vectors::{LayerPlan, Row, build, plan_of_rows};
 use std::alloc::Global;
 use std::process::Abort;
 
@@ -22,7 +22,7 @@ pub fn opened(rt: &impl Abort, alloc: Global, bytes: Vec<u8>, path: &str) -> Fil
 
 /// The SHA-1 layer of these commits on these bases, under a name that no chain gives.
 pub fn layer(rt: &impl Abort, alloc: Global, bases: &[ObjectId], rows: &[Row<'_>]) -> File {
-    let plan = LayerPlan::of_rows(alloc, bases, rows).expect(rt, "memory");
+    let plan = plan_of_rows(alloc, bases, rows).expect(rt, "memory");
     opened(rt, alloc, built(rt, alloc, &plan), "commit-graph")
 }
 

@@ -8,7 +8,7 @@ use graph_vectors::changed::{
     Change, FIRST_IS_EDGE_INDEX, NO_EDGE_LIST, NULL_TREE, SECOND_WITHOUT_FIRST, WRONG_FAN,
     WRONG_GENERATIONS, changed_diamond, sharing_file,
 };
-use graph_vectors::{DIAMOND, LayerPlan, Row};
+use graph_vectors::{DIAMOND, Row, plan_of_rows};
 use std::alloc::Global;
 use std::process::Abort;
 
@@ -99,7 +99,7 @@ fn no_graph_of_wrong_layers_is_checked(rt: HostRuntime) {
     let lower = empty_layer(&rt, alloc, Kind::Sha1);
     compare_refusal(&rt, alloc, graph_of(&rt, alloc, [lower, upper]));
 
-    let plan = LayerPlan::of_rows(alloc, &[], DIAMOND).expect(&rt, "memory");
+    let plan = plan_of_rows(alloc, &[], DIAMOND).expect(&rt, "memory");
     let misnamed = opened(&rt, alloc, built(&rt, alloc, &plan), "graph-.graph");
     compare_refusal(&rt, alloc, graph_of(&rt, alloc, [misnamed]));
     let mut bytes = built(&rt, alloc, &plan);

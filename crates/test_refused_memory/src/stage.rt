@@ -7,7 +7,7 @@ use gix_commitgraph::{File, Graph};
 use gix_hash_core::{Kind, ObjectId};
 use graph_folder::folder::Memory;
 use graph_history::CheckedGraph;
-use graph_vectors::{LayerPlan, Row, build};
+use graph_vectors::{LayerPlan, Row, build, plan_of_rows};
 use std::alloc::{AllocError, Global};
 use std::rt::Files;
 use std::{fs, slice};
@@ -127,7 +127,7 @@ impl Folders {
 
 fn plan(alloc: Global) -> Result<LayerPlan> {
     let rows: [Row<'_>; 4] = [(1, &[], 1), (2, &[0], 2), (3, &[1], 3), (4, &[0, 0, 2], 4)];
-    Ok(LayerPlan::of_rows(alloc, &[], &rows)?)
+    Ok(plan_of_rows(alloc, &[], &rows)?)
 }
 
 fn file(alloc: Global, plan: &LayerPlan) -> Result<Vec<u8>> {
@@ -146,7 +146,7 @@ fn chain_files(alloc: Global) -> Result<Vec<Vec<u8>>> {
     let mut checksums = Vec::new(alloc);
     let rows: [Row<'_>; 2] = [(1, &[], 1), (2, &[0], 2)];
     for row in rows {
-        let bytes = file(alloc, &LayerPlan::of_rows(alloc, &checksums, &[row])?)?;
+        let bytes = file(alloc, &plan_of_rows(alloc, &checksums, &[row])?)?;
         checksums.push(opened(alloc, &bytes)?.checksum().to_owned())?;
         files.push(bytes)?;
     }
@@ -210,7 +210,7 @@ fn branches(alloc: Global) -> Result<Graph> {
 }
 
 fn graph_of_rows(alloc: Global, rows: &[Row<'_>]) -> Result<Graph> {
-    let bytes = file(alloc, &LayerPlan::of_rows(alloc, &[], rows)?)?;
+    let bytes = file(alloc, &plan_of_rows(alloc, &[], rows)?)?;
     Ok(Graph::new(alloc, layers(alloc, slice::from_ref(&bytes))?)?)
 }
 
@@ -218,7 +218,7 @@ fn graph_of_rows(alloc: Global, rows: &[Row<'_>]) -> Result<Graph> {
 fn dated_file(alloc: Global) -> Result<Vec<u8>> {
     let plain = file(
         alloc,
-        &LayerPlan::of_rows(alloc, &[], &[(1, &[], 1), (2, &[0], 2)])?,
+        &plan_of_rows(alloc, &[], &[(1, &[], 1), (2, &[0], 2)])?,
     )?;
     with_chunks(
         alloc,

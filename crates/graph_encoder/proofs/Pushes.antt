@@ -1,0 +1,56 @@
+-- laws of a file that grows at its end
+use Rattle.std.proofs.Common.{◌≡◌, ℕ, ◌+◌, ◌<◌, ◌≤◌, List, [], ◌∷◌, ◌++◌, length, take, drop, get_or, refl, sym, ap, ◌∙◌}
+use Rattle.std.proofs.Common.{append_assoc, append-nil}
+use Rattle.std.specs.List.{flat_map}
+use Rattle.std.proofs.lemmas.List.{take_more, take_all, drop_more, flat_map_more}
+use Rattle.std.proofs.lemmas.Grind.{flat_map-append}
+use Rattle.graph_encoder.specs.declared.plan.PlanCommit.{PlanCommit}
+use Rattle.graph_encoder.specs.ExtraEdges.{extra_words, all_extra_words}
+use Rattle.graph_encoder.specs.Chunks.{word_bytes}
+use Rattle.graph_encoder.specs.Written.{words_bytes, record_bytes, records_from}
+
+-- no words yet, one more word, and all words
+pub words_bytes-nil : (old : List ℕ) → old ≡ old ++ words_bytes []
+unfolding words_bytes
+words_bytes-nil old = sym (append-nil old)
+
+pub words_bytes-more : (old before now ns : List ℕ) (i d : ℕ) → before ≡ old ++ words_bytes (take i ns)
+    → now ≡ before ++ word_bytes (get_or ns i d) → i < length ns → now ≡ old ++ words_bytes (take (i + 1) ns)
+unfolding words_bytes
+words_bytes-more old before now ns i d h e k =
+    e
+    ∙ ap (λ (xs : List ℕ). xs ++ word_bytes (get_or ns i d)) h
+    ∙ flat_map_more word_bytes old (take i ns) (get_or ns i d)
+    ∙ ap (λ (xs : List ℕ). old ++ flat_map word_bytes xs) (sym (take_more ns i d k))
+
+-- all words, and one more
+pub words_bytes-last : (old before now ns : List ℕ) (i n : ℕ) → before ≡ old ++ words_bytes (take i ns)
+    → now ≡ before ++ word_bytes n → length ns ≤ i → now ≡ old ++ words_bytes (ns ++ n ∷ [])
+unfolding words_bytes
+words_bytes-last old before now ns i n h e k =
+    e
+    ∙ ap (λ (xs : List ℕ). xs ++ word_bytes n) (h ∙ ap (λ (xs : List ℕ). old ++ flat_map word_bytes xs) (take_all i ns k))
+    ∙ flat_map_more word_bytes old ns n
+
+-- the extra words of all commits, as those of each
+pub words_bytes-all : (commits : List PlanCommit)
+    → words_bytes (all_extra_words commits) ≡ flat_map (λ c. words_bytes (extra_words c.parents.items)) commits
+unfolding words_bytes all_extra_words
+words_bytes-all [] = refl
+words_bytes-all (commit ∷ commits) =
+    flat_map-append word_bytes (extra_words commit.parents.items) (all_extra_words commits)
+    ∙ ap (λ (bytes : List ℕ). words_bytes (extra_words commit.parents.items) ++ bytes) (words_bytes-all commits)
+
+-- one more record
+pub records-step : (commits : List PlanCommit) (i index count : ℕ) (commit : PlanCommit) (before now all : List ℕ)
+    → i < length commits → commit ≡ get_or commits i commit → count ≡ length (extra_words commit.parents.items)
+    → now ≡ before ++ record_bytes index commit → before ++ records_from index (drop i commits) ≡ all
+    → now ++ records_from (index + count) (drop (i + 1) commits) ≡ all
+records-step commits i index count commit before now all h e k w a =
+    let left : drop i commits ≡ commit ∷ drop (i + 1) commits = drop_more commits i commit h
+    ∙ ap (λ (c : PlanCommit). c ∷ drop (i + 1) commits) (sym e) in
+    ap (λ (bytes : List ℕ). bytes ++ records_from (index + count) (drop (i + 1) commits)) w
+    ∙ append_assoc before (record_bytes index commit) (records_from (index + count) (drop (i + 1) commits))
+    ∙ ap (λ (n : ℕ). before ++ (record_bytes index commit ++ records_from (index + n) (drop (i + 1) commits))) k
+    ∙ ap (λ (cs : List PlanCommit). before ++ records_from index cs) (sym left)
+    ∙ a

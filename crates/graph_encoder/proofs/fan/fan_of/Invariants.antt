@@ -1,0 +1,7 @@
+use Rattle.graph_encoder.specs.Written.{ids_of}
+use Rattle.graph_encoder.proofs.FanSteps.{AreSums}
+use Rattle.graph_encoder.proofs.fan.fan_of.Given as goal
+
+-- the sums below this byte, and the counts from it on
+abbrev pub invariant-loop-byte : goal.invariant-loop-byte
+invariant-loop-byte l = AreSums l.fan (ids_of l.commits) l.byte

@@ -1,0 +1,12 @@
+use Rattle.std.proofs.Common.{◌≡◌, ◌+◌, ◌++◌, length, drop}
+use Rattle.graph_encoder.specs.ExtraEdges.{all_extra_words}
+use Rattle.graph_encoder.specs.Written.{records_from}
+use Rattle.graph_encoder.proofs.records.push_records.Given as goal
+
+-- the records so far and those that are left are all records, and likewise the extra words
+abbrev pub invariant-loop-commit : goal.invariant-loop-commit
+invariant-loop-commit l = record {
+  records : l.file.items ++ records_from l.index (drop l.commit-index l.commits)
+      ≡ l.initial.file.items ++ records_from 0 l.commits;
+  words : l.index + length (all_extra_words (drop l.commit-index l.commits)) ≡ length (all_extra_words l.commits);
+}

@@ -1,0 +1,45 @@
+-- When a layer says what a plan says. (gitformat-commit-graph, "CHUNK DATA" and "TRAILER".)
+use Rattle.std.specs.Prelude.{◌≡◌, ◌+◌, ◌<◌, ℕ, List, [], map, length, take, slice_index, slice_get, Option, Some, None}
+use Rattle.std.specs.Prelude.{IsSomeAnd, MatchOption}
+use Rattle.gix_hash_core.specs.Digest.{digest_of}
+use Rattle.graph_format.specs.Format.{Record, words}
+use Rattle.graph_format.specs.Layer.{Layer, IsLayer}
+use Rattle.graph_format.specs.Parents.{DecodedParents, parents_of}
+use Rattle.graph_encoder.specs.ExtraEdges.{top_bit, all_extra_words}
+use Rattle.graph_encoder.specs.Written.{ids_of, ids_up_to}
+use Rattle.graph_encoder.specs.declared.plan.LayerPlan.{LayerPlan}
+use Rattle.graph_encoder.specs.declared.plan.PlanCommit.{PlanCommit}
+
+-- parents at these positions, and no fault
+abbrev pub planned_parents : List ℕ → DecodedParents
+planned_parents positions = record { positions = map (λ p. record { 0 = p }) positions; fault = None }
+
+-- The record of a commit, in a layer with these edges, says what the plan says of it. Where it has more than two parents,
+-- the second field names its first extra word, which has this index.
+pub record SaysCommit (edges : Option (List ℕ)) (index : ℕ) (commit : PlanCommit) (r : Record) : Type 0 where
+  pub tree : r.tree ≡ commit.tree
+  pub parents : parents_of r edges ≡ planned_parents commit.parents.items
+  pub extra : 2 < length commit.parents.items → r.parent2 ≡ top_bit + index
+  pub generation : r.generation ≡ commit.generation
+  pub time : r.time ≡ commit.time
+
+-- The layer says what the plan says.
+pub record SaysPlan (plan : LayerPlan) (layer : Layer) : Type 0 where
+  pub kind : layer.kind ≡ plan.kind
+  pub bases : layer.bases ≡ plan.bases.items
+  pub ids : layer.ids ≡ ids_of plan.commits.items
+  -- number b of the fan is the number of ids whose first byte is at most b
+  pub fan : (b : ℕ) → b < 256 → slice_index layer.fan b ≡ ids_up_to b layer.ids
+  pub count : length layer.records ≡ length plan.commits.items
+  -- the extra words of a commit come after those of the commits before it
+  pub commits : (i : ℕ) (commit : PlanCommit) → slice_get plan.commits.items i ≡ Some commit
+      → IsSomeAnd (slice_get layer.records i)
+      (SaysCommit layer.edges (length (all_extra_words (take i plan.commits.items))) commit)
+  -- the edges are the extra words, and are missing where there is none
+  pub edges : MatchOption layer.edges (all_extra_words plan.commits.items ≡ [])
+      (λ chunk. words chunk ≡ all_extra_words plan.commits.items)
+  pub checksum : layer.checksum ≡ digest_of plan.kind layer.body
+
+-- The bytes are a file of a layer that says what the plan says.
+abbrev pub IsFileOf : LayerPlan → List ℕ → List ℕ → Type 0
+IsFileOf plan bytes path = (layer : Layer) × IsLayer bytes path layer × SaysPlan plan layer

@@ -1,0 +1,87 @@
+-- The file of a plan. (gitformat-commit-graph, "HEADER" to "TRAILER".)
+use Rattle.std.specs.Prelude.{ℕ, ◌+◌, ◌*◌, ◌^◌, List, [], ◌∷◌, ◌++◌, map, length, slice_index, nat_le, ◌==◌, count_by}
+use Rattle.std.specs.List.{flat_map, range_with_len}
+use Rattle.gix_hash_core.specs.declared.kind.Kind.{Kind}
+use Rattle.gix_hash_core.specs.declared.kind.Kind.TheVariants.{Sha1, Sha256}
+use Rattle.gix_hash_core.specs.Digest.{digest_of}
+use Rattle.graph_format.specs.Format.{signature, fan_id, ids_id, records_id, edges_id, bases_id}
+use Rattle.graph_encoder.specs.Chunks.{NamedChunk, word_bytes, long_bytes, with_chunks}
+use Rattle.graph_encoder.specs.ExtraEdges.{extra_words, all_extra_words, first_field, second_field}
+use Rattle.graph_encoder.specs.declared.plan.LayerPlan.{LayerPlan}
+use Rattle.graph_encoder.specs.declared.plan.PlanCommit.{PlanCommit}
+
+-- the header's byte that names a kind
+abbrev pub kind_byte : Kind → ℕ
+kind_byte Sha1 = 1
+kind_byte Sha256 = 2
+
+-- "HEADER": signature, version, kind, and the numbers of chunks and of base layers
+unfoldable pub header : Kind → ℕ → ℕ → List ℕ
+header kind chunks bases = signature ++ 1 ∷ kind_byte kind ∷ chunks ∷ bases ∷ []
+
+-- the ids of commits
+abbrev pub ids_of : List PlanCommit → List (List ℕ)
+ids_of commits = map (λ c. c.id) commits
+
+-- how many ids have a first byte that is at most this one
+abbrev pub ids_up_to : ℕ → List (List ℕ) → ℕ
+ids_up_to byte ids = count_by (λ id. nat_le (slice_index id 0) byte) ids
+
+-- "OID Fanout": that number for each byte
+unfoldable pub exact_fan : List (List ℕ) → List ℕ
+exact_fan ids = map (λ byte. ids_up_to byte ids) (range_with_len 0 256)
+
+-- how many ids have this first byte
+abbrev pub ids_with : ℕ → List (List ℕ) → ℕ
+ids_with byte ids = count_by (λ id. slice_index id 0 == byte) ids
+
+-- numbers of four bytes, one after another
+unfoldable pub words_bytes : List ℕ → List ℕ
+words_bytes numbers = flat_map word_bytes numbers
+
+-- ids one after another
+unfoldable pub ids_bytes : List (List ℕ) → List ℕ
+ids_bytes ids = flat_map (λ id. id) ids
+
+-- "Commit Data": a commit's tree, its parents, and 64 bits of generation and time
+unfoldable pub record_bytes : ℕ → PlanCommit → List ℕ
+record_bytes index commit =
+    commit.tree
+    ++ (word_bytes (first_field commit.parents.items)
+    ++ (word_bytes (second_field index commit.parents.items)
+    ++ long_bytes (commit.generation * 2 ^ 34 + commit.time)))
+
+-- the records of commits, where the extra words of the first begin at this index and those of each next one follow
+abbrev pub records_from : ℕ → List PlanCommit → List ℕ
+records_from index [] = []
+records_from index (commit ∷ commits) =
+    record_bytes index commit ++ records_from (index + length (extra_words commit.parents.items)) commits
+
+-- "Extra Edge List": a chunk only where there are such words
+abbrev pub edges_chunks : List ℕ → List NamedChunk
+edges_chunks [] = []
+edges_chunks (word ∷ words) = record { id = edges_id; bytes = words_bytes (word ∷ words) } ∷ []
+
+-- "Base Graphs List": a chunk only where there is a base
+abbrev pub bases_chunks : List (List ℕ) → List NamedChunk
+bases_chunks [] = []
+bases_chunks (base ∷ bases) = record { id = bases_id; bytes = ids_bytes (base ∷ bases) } ∷ []
+
+-- the chunks in their order
+abbrev pub planned_chunks : LayerPlan → List NamedChunk
+planned_chunks plan =
+    let commits = plan.commits.items in
+    record { id = fan_id; bytes = words_bytes (exact_fan (ids_of commits)) }
+    ∷ record { id = ids_id; bytes = ids_bytes (ids_of commits) }
+    ∷ record { id = records_id; bytes = records_from 0 commits }
+    ∷ (edges_chunks (all_extra_words commits) ++ bases_chunks plan.bases.items)
+
+-- all but the trailer
+unfoldable pub planned_body : LayerPlan → List ℕ
+planned_body plan =
+    let chunks = planned_chunks plan in
+    with_chunks (header plan.kind (length chunks) (length plan.bases.items)) chunks
+
+-- "TRAILER": the digest of all before it
+unfoldable pub planned_file : LayerPlan → List ℕ
+planned_file plan = planned_body plan ++ digest_of plan.kind (planned_body plan)

@@ -1,0 +1,100 @@
+//! The fields of a record that name parents, and the words of the extra edge list.
+//! (gitformat-commit-graph, "Commit Data" and "Extra Edge List".)
+
+ghost use Rattle.std.specs.Prelude.{◌≡◌, ◌+◌, ◌<◌, ◌++◌, ◌↔◌, IsTrue, OnOk, length, All};
+ghost use Rattle.graph_encoder.specs.ExtraEdges.{extra_words, all_extra_words, top_bit, no_parent};
+ghost use Rattle.graph_encoder.specs.ExtraEdges.{first_field, second_field};
+ghost use Rattle.graph_encoder.specs.Written.{words_bytes};
+
+use crate::plan::PlanCommit;
+use crate::push::push_word;
+use std::alloc::AllocError;
+
+/// The field of a missing parent.
+pub(crate) const NO_PARENT: u32 = 0x70000000;
+
+/// The bit that marks a field as the index of an extra word, and the last word of a commit's list.
+const TOP_BIT: u32 = 0x80000000;
+
+/// A file has fewer extra words than this.
+const EXTRA_WORDS_LIMIT: usize = 0x80000000;
+
+/// How many extra words a commit with these parents has.
+#[tactic(auto, using(crate::proofs::ExtraWords::counted))]
+pub(crate) fn extra_words_len(parents: &[u32]) -> usize
+    ensures { result ≡ length (extra_words parents.now) }
+{
+    if parents.len() > 2 {
+        parents.len() - 1
+    } else {
+        0
+    }
+}
+
+/// How many extra words these commits have together.
+pub(crate) fn count_extra_words(commits: &[PlanCommit]) -> usize
+    requires { length (all_extra_words commits.now) < top_bit }
+    ensures { result ≡ length (all_extra_words commits.now) }
+{
+    let mut words = 0;
+    for commit in commits {
+        words += extra_words_len(&commit.parents);
+    }
+    words
+}
+
+/// Whether the index of each extra word fits in a field beside the top bit.
+pub(crate) fn has_few_extra_words(commits: &[PlanCommit]) -> bool
+    ensures { IsTrue result ↔ (length (all_extra_words commits.now) < top_bit) }
+{
+    let mut words = 0;
+    for commit in commits {
+        words += extra_words_len(&commit.parents);
+        if words >= EXTRA_WORDS_LIMIT {
+            return false;
+        }
+    }
+    true
+}
+
+/// The two parent fields of a record, where the commit's extra words begin at this index.
+pub(crate) fn parent_fields(parents: &[u32], index: u32) -> (u32, u32)
+    requires { index < top_bit }
+    ensures first { result.0 ≡ first_field parents.now }
+    ensures second { result.1 ≡ second_field index parents.now }
+{
+    match parents {
+        [] => (NO_PARENT, NO_PARENT),
+        [first] => (*first, NO_PARENT),
+        [first, second] => (*first, *second),
+        [first, ..] => (*first, TOP_BIT + index),
+    }
+}
+
+/// Adds the extra words of a commit with these parents.
+pub(crate) fn push_extra_words(file: &mut Vec<u8>, parents: &[u32]) -> Result<(), AllocError>
+    requires { All (λ parent. parent < no_parent) parents.now }
+    ensures { OnOk result (file.new.items
+        ≡ file.old.items ++ words_bytes (extra_words parents.now)) }
+{
+    if parents.len() > 2 {
+        let last = parents.len() - 1;
+        for parent in &parents[1..last] {
+            push_word(file, *parent)?;
+        }
+        push_word(file, TOP_BIT + parents[last])?;
+    }
+    Ok(())
+}
+
+/// Adds the extra words of these commits.
+pub(crate) fn push_edges(file: &mut Vec<u8>, commits: &[PlanCommit]) -> Result<(), AllocError>
+    requires { All (λ commit. All (λ parent. parent < no_parent) commit.parents.items) commits.now }
+    ensures { OnOk result (file.new.items
+        ≡ file.old.items ++ words_bytes (all_extra_words commits.now)) }
+{
+    for commit in commits {
+        push_extra_words(file, &commit.parents)?;
+    }
+    Ok(())
+}

@@ -1,0 +1,19 @@
+//! Writes a layer of a graph in Git's commit-graph format.
+//!
+//! A [`LayerPlan`] lists what a file is to hold, and [`build`] makes the file: a layer whose
+//! decoded values are the plan's.
+#![tactic(auto)]
+
+mod builder;
+mod edges;
+mod fan;
+mod law;
+mod plan;
+mod push;
+mod records;
+mod sizes;
+mod table;
+
+pub use builder::build;
+pub use law::planned_files_say_their_plans;
+pub use plan::{LayerPlan, PlanCommit};

@@ -1,0 +1,52 @@
+//! Numbers and ids, added at the end of a file.
+
+ghost use Rattle.std.specs.Prelude.{◌≡◌, ◌++◌, OnOk};
+ghost use Rattle.graph_encoder.specs.Chunks.{word_bytes, long_bytes};
+ghost use Rattle.graph_encoder.specs.Written.{ids_of, ids_bytes};
+
+use crate::plan::PlanCommit;
+use gix_hash_core::ObjectId;
+use std::alloc::AllocError;
+
+/// Adds a number of four bytes.
+#[tactic(auto, unfolding(crate::specs::Chunks::word_bytes))]
+pub(crate) fn push_word(file: &mut Vec<u8>, number: u32) -> Result<(), AllocError>
+    ensures { OnOk result (file.new.items ≡ file.old.items ++ word_bytes number) }
+{
+    file.extend_from_slice(&number.to_be_bytes())
+}
+
+/// Adds a number of eight bytes.
+#[tactic(auto, unfolding(crate::specs::Chunks::long_bytes))]
+pub(crate) fn push_long(file: &mut Vec<u8>, number: u64) -> Result<(), AllocError>
+    ensures { OnOk result (file.new.items ≡ file.old.items ++ long_bytes number) }
+{
+    file.extend_from_slice(&number.to_be_bytes())
+}
+
+/// Adds the bytes of an id.
+pub(crate) fn push_id(file: &mut Vec<u8>, id: &ObjectId) -> Result<(), AllocError>
+    ensures { OnOk result (file.new.items ≡ file.old.items ++ id.now) }
+{
+    file.extend_from_slice(id.as_oid().as_bytes())
+}
+
+/// Adds the bytes of these ids, one after another.
+pub(crate) fn push_ids(file: &mut Vec<u8>, ids: &[ObjectId]) -> Result<(), AllocError>
+    ensures { OnOk result (file.new.items ≡ file.old.items ++ ids_bytes ids.now) }
+{
+    for id in ids {
+        push_id(file, id)?;
+    }
+    Ok(())
+}
+
+/// Adds the bytes of the ids of these commits, one after another.
+pub(crate) fn push_commit_ids(file: &mut Vec<u8>, commits: &[PlanCommit]) -> Result<(), AllocError>
+    ensures { OnOk result (file.new.items ≡ file.old.items ++ ids_bytes (ids_of commits.now)) }
+{
+    for commit in commits {
+        push_id(file, &commit.id)?;
+    }
+    Ok(())
+}

@@ -1,7 +1,0 @@
-use Rattle.graph_vectors.specs.Written.{ids_of}
-use Rattle.graph_vectors.proofs.FanSteps.{AreSums}
-use Rattle.graph_vectors.proofs.fan.fan_of.Given as goal
-
--- the sums below this byte, and the counts from it on
-abbrev pub invariant-loop-byte : goal.invariant-loop-byte
-invariant-loop-byte l = AreSums l.fan (ids_of l.commits) l.byte

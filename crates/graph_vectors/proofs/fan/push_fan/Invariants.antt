@@ -1,6 +1,0 @@
-use Rattle.std.proofs.Common.{◌≡◌, ◌++◌, take}
-use Rattle.graph_vectors.specs.Written.{words_bytes}
-use Rattle.graph_vectors.proofs.fan.push_fan.Given as goal
-
-abbrev pub invariant-loop-count : goal.invariant-loop-count
-invariant-loop-count l = l.file.items ≡ l.initial.file.items ++ words_bytes (take l.count-index l.count-items)

@@ -1,6 +1,0 @@
-use Rattle.std.proofs.Common.{◌≡◌, ◌++◌, take}
-use Rattle.std.specs.List.{flat_map}
-use Rattle.graph_vectors.proofs.push.push_commit_ids.Given as goal
-
-abbrev pub invariant-loop-commit : goal.invariant-loop-commit
-invariant-loop-commit l = l.file.items ≡ l.initial.file.items ++ flat_map (λ c. c.id) (take l.commit-index l.commits)
