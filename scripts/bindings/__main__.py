@@ -18,6 +18,7 @@ import os
 import pathlib
 import real
 import re
+import shlex
 import shutil
 import subprocess
 import sys
@@ -44,6 +45,8 @@ SANITIZED = "-Zsanitizer=thread -Cunsafe-allow-abi-mismatch=sanitizer"
 """Flags of a nightly Rust compiler. Its standard library is not built with them."""
 CALLING_ALL = ("ask.c", "large.c", "memory.c", "threads.c")
 """The programs that make each call. Those of layout.c are the calls that write a struct."""
+IN_HEADER = {"cg_strerror", "cg_closed"}
+"""Functions that the header has whole."""
 STRICT = ["-D_GNU_SOURCE", "-Wall", "-Wextra", "-Wpedantic", "-Werror"]
 COUNTING = threading.Lock()
 passed = failed = 0
@@ -103,7 +106,7 @@ def exports(archive):
     silent = [name for name, contract in found.items() if "ensures" not in contract]
     expect("each export but cg_close says what it answers", silent == ["cg_close"], silent)
     header, rust = HEADER / "commitgraph.h", TOP / "bindings/rust/src/sys.rs"
-    for path, pattern in ((header, r"^[\w ]+ \*?(cg_\w+)\("), (rust, r"pub fn (cg_\w+)\(")):
+    for path, pattern in ((header, r"^(?!static)[\w ]+ \*?(cg_\w+)\("), (rust, r"pub fn (cg_\w+)\(")):
         declared = re.findall(pattern, path.read_text(), re.MULTILINE)
         expect(f"{path.name} declares the exports", sorted(declared) == sorted(found), declared)
     if present("nm", "the names in the library"):
@@ -114,7 +117,7 @@ def exports(archive):
     for program in CALLING_ALL:
         calls[program] = re.findall(r"\b(cg_\w+)\(", (HERE / program).read_text())
     for caller, made in calls.items():
-        expect(f"{caller} makes each call", set(made) == set(found), set(found) ^ set(made))
+        expect(f"{caller} makes each call", set(made) - IN_HEADER == set(found), set(found) ^ set(made))
 
 
 def git(where, *words):
@@ -293,7 +296,7 @@ def fields(name, compiler, archive, scratch):
         rows, _ = layout.without_visits(run(program, file).stdout.splitlines())
         told = [row for row in rows if row[0] == "commit"][verdict[4]]
         expect(f"{name}: each field, {fault}", ["verdict", *verdict] in rows and told[3:] == parents + parents, rows)
-        expect(f"{name}: refused, {fault}", ["checked", 4, verdict[0], 0, 0, 0, 0] in rows, rows)
+        expect(f"{name}: refused, {fault}", ["checked", verdict[0], 0, 0, 0] in rows, rows)
     for fault, data, dates in layout.date_faults(graph.read_bytes(), history):
         file.write_bytes(data)
         rows, _ = layout.without_visits(run(program, file).stdout.splitlines())
@@ -400,7 +403,7 @@ def checked_by_program(folder):
 def rust_tests(crate, environment):
     """The tests of the Rust crate, and that of its threads under ThreadSanitizer, where a toolchain can."""
     done = run("cargo", "test", "--quiet", "--offline", cwd=crate, env=environment)
-    expect("Rust: tests", done.returncode == 0 and "13 passed" in done.stdout and "4 threads read" in done.stdout, done)
+    expect("Rust: tests", done.returncode == 0 and "14 passed" in done.stdout and "4 threads read" in done.stdout, done)
     command = ["cargo", "+nightly", "test", "--quiet", "--offline", "--test", "threads", "--target", "x86_64-unknown-linux-gnu"]
     at = {**environment, "RUSTFLAGS": SANITIZED}
     if run(*command, "--no-run", cwd=crate, env=at).returncode:
@@ -465,11 +468,14 @@ def c(compiler, archive, scratch, graphs):
     fields(compiler, compiler, archive, scratch)
     refused_and_shared(compiler, compiler, archive, scratch, graphs)
     example(compiler, archive, scratch, graphs)
-    headers = [("C11", compiler, "-std=c11", "c"), ("C++17", {"gcc": "g++", "clang": "clang++"}[compiler], "-std=c++17", "c++")]
-    for language, command, standard, kind in headers:
-        if present(command, f"the header as {language}"):
-            done = run(command, standard, *STRICT, "-fsyntax-only", "-x", kind, HEADER / "commitgraph.h")
-            expect(f"{command}: the header alone as {language}", done.returncode == 0, done.stderr)
+    plus = {"gcc": "g++", "clang": "clang++"}[compiler]
+    including = scratch / compiler / "including"
+    including.write_text('#include "commitgraph.h"\ncg_graph closed(void);\ncg_graph closed(void) { return CG_CLOSED; }\n')
+    for command, standard in ((compiler, "c99"), (compiler, "c11"), (plus, "c++98"), (plus, "c++17")):
+        if present(command, f"the header as {standard}"):
+            kind = "c++" if command == plus else "c"
+            done = run(command, f"-std={standard}", *STRICT, "-fsyntax-only", f"-I{HEADER}", "-x", kind, including)
+            expect(f"{command}: the header alone as {standard}", done.returncode == 0, done.stderr)
 
 
 def nothing_left(name, program, scratch, graphs):
@@ -500,11 +506,69 @@ def example(compiler, archive, scratch, graphs):
         expect(f"{compiler}: example, time", record.endswith(" time 1000000000"), done)
 
 
+def installed(compilers, scratch, graphs):
+    """What scripts/library puts below a folder, which is then moved: the example over it, as each kind of library is linked."""
+    prefix, ids = scratch / "installed elsewhere", graphs["sha1"][1]
+    done = run(TOP / "scripts/library", "--put", scratch / "put")
+    expect("scripts/library --put", done.returncode == 0, done)
+    (scratch / "put").rename(prefix)
+    put = {str(path.relative_to(prefix)) for path in prefix.rglob("*") if not path.is_dir()}
+    expect("scripts/library --files", put == set(run(TOP / "scripts/library", "--files").stdout.split()), put)
+    page = (prefix / "share/man/man3/commitgraph.3").read_text()
+    header = (prefix / "include/commitgraph.h").read_text()
+    missing = [name for name in re.findall(r"^(?:static inline )?[\w ]+ \*?(cg_[a-z_]+)\(", header, re.MULTILINE) if name not in page]
+    expect("the manual page names each call", missing == ["cg_closed"], missing)
+    number = (TOP / "VERSION").read_text().split(",")[0]
+    first, second, third = map(int, number.split("."))
+    expect("the header has the version", f"#define CG_VERSION {10000 * first + 100 * second + third}\n" in header, number)
+    at = {**os.environ, "PKG_CONFIG_PATH": str(prefix / "lib/pkgconfig"), "LD_LIBRARY_PATH": str(prefix / "lib")}
+    for compiler in compilers if present("pkg-config", "the installed library by pkg-config") else ():
+        for kind, words in (("shared", ""), ("static", "-static"), ("archive", "")):
+            program = scratch / f"installed-{compiler}-{kind}"
+            flags = shlex.split(run("pkg-config", "--cflags", "--libs", "commitgraph", env=at).stdout)
+            if kind == "archive":
+                flags = ["-l:libcommitgraph.a" if word == "-lcommitgraph" else word for word in flags]
+            done = run(compiler, "-D_GNU_SOURCE", *words.split(), HEADER / "example.c", *flags, "-o", program)
+            done = run(program, graphs["sha1"][0], ids[-1], env=at) if done.returncode == 0 else done
+            expect(f"installed, {compiler}, {kind}", done.returncode == 0 and "\nparent " in done.stdout, done)
+    if compilers and present("cmake", "the installed library by CMake"):
+        by_cmake(compilers[0], prefix, scratch, graphs["sha1"][0], ids[-1])
+
+
+CMAKE = """cmake_minimum_required(VERSION 3.10)
+project(example C)
+find_package(commitgraph %s REQUIRED)
+foreach(kind commitgraph static)
+  add_executable(with-${kind} example.c)
+  target_compile_definitions(with-${kind} PRIVATE _GNU_SOURCE)
+  target_link_libraries(with-${kind} commitgraph::${kind})
+endforeach()
+"""
+
+
+def by_cmake(compiler, prefix, scratch, graph, commit):
+    """Both targets; and another version is not taken."""
+    source, number = scratch / "cmake", (TOP / "VERSION").read_text().split(",")[0]
+    source.mkdir()
+    shutil.copy(HEADER / "example.c", source)
+    for wanted, taken in (("99.0", False), (number, True)):
+        (source / "CMakeLists.txt").write_text(CMAKE % wanted)
+        built = source / f"built-{wanted}"
+        done = run("cmake", "-S", source, "-B", built, f"-DCMAKE_PREFIX_PATH={prefix}", f"-DCMAKE_C_COMPILER={compiler}")
+        expect(f"CMake, version {wanted}", (done.returncode == 0) == taken, done)
+    done = run("cmake", "--build", source / f"built-{number}")
+    expect("CMake: built", done.returncode == 0, done)
+    for kind in ("commitgraph", "static"):
+        done = run(source / f"built-{number}/with-{kind}", graph, commit)
+        expect(f"CMake: {kind}", done.returncode == 0 and "\nparent " in done.stdout, done)
+
+
 def parts(archive, scratch, graphs):
     """The calls for each compiler that is there. One is enough for the graph of many commits."""
     compilers = [compiler for compiler in ("gcc", "clang") if present(compiler, f"C with {compiler}")]
     yield from (functools.partial(c, compiler, archive, scratch, graphs) for compiler in compilers)
     yield from (functools.partial(many_commits, compiler, archive, scratch) for compiler in compilers[:1])
+    yield functools.partial(installed, compilers, scratch, graphs)
     if present("cargo", "Rust"):
         at = {**os.environ, "CARGO_TARGET_DIR": str(scratch / "target")}
         at.pop("COMMITGRAPH_LIB", None)

@@ -17,7 +17,10 @@ COPIED = (
     *("scripts/explain.awk", "scripts/manual.awk", "scripts/alternates.awk"),
     "scripts/git-cgraph.bash",
     *("scripts/install", "scripts/program", "scripts/library", "scripts/package", "bindings/c/commitgraph.h"),
+    *("bindings/c/commitgraph.pc", "bindings/c/commitgraph.3", "bindings/c/commitgraph-config.cmake"),
+    "bindings/c/commitgraph-config-version.cmake",
     *("crates/graphtool/src/main.rt", "crates/historytool/src/main.rt", "LICENSE-MIT", "LICENSE-APACHE"),
+    "docs/DIFFERENCES.md",
 )
 
 
@@ -56,6 +59,11 @@ class Clone:
     def put_program(self, name, text):
         """Makes a built program, newer than the sources, of a shell script."""
         self.put("crates/%s/out/%s" % (name, name), "#!/bin/sh\n" + text)
+
+    def put_library(self):
+        """Makes the built library, newer than the sources, of a line of text."""
+        for name in ("libcommitgraph.a", "libcommitgraph.so"):
+            self.put("crates/commitgraph_c/out/" + name, "the library\n")
 
     def surroundings(self, **more):
         """The variables of a run: a PATH with the tools alone, and no settings of the machine or the user."""

@@ -4,6 +4,7 @@ import os
 import shutil
 import tempfile
 
+import version
 from wrappers.clone import PROGRAMS, Clone, exactly, run
 from wrappers.questions import make_repository
 from wrappers.table import commands, usage
@@ -24,8 +25,10 @@ INSTALLED = {
     *("lib/git-cgraph/scripts/repository.sh", "lib/git-cgraph/scripts/cures.sh"),
     *("lib/git-cgraph/scripts/progress.sh", "lib/git-cgraph/scripts/objects.sh"),
     "lib/git-cgraph/scripts/show.sh",
-    *("include/commitgraph.h", "lib/libcommitgraph.a"),
-    *("share/doc/git-cgraph/LICENSE-MIT", "share/doc/git-cgraph/LICENSE-APACHE"),
+    *("include/commitgraph.h", "lib/libcommitgraph.a", "lib/libcommitgraph.so", "lib/libcommitgraph.so.0"),
+    *("lib/libcommitgraph.so." + version.number(), "lib/pkgconfig/commitgraph.pc", "share/man/man3/commitgraph.3"),
+    *("lib/cmake/commitgraph/commitgraph-config.cmake", "lib/cmake/commitgraph/commitgraph-config-version.cmake"),
+    *("share/doc/git-cgraph/LICENSE-MIT", "share/doc/git-cgraph/LICENSE-APACHE", "share/doc/git-cgraph/DIFFERENCES.md"),
 }
 COMPLETIONS = ("/usr/share/bash-completion/completions/git", "/etc/bash_completion.d/git", "/usr/share/git/completion/git-completion.bash")
 """Where Git's own completion mostly is."""
@@ -48,7 +51,7 @@ def check_all(results):
         clone = Clone(folder)
         for name in PROGRAMS:
             clone.put_program(name, "printf '<%s>' \"$@\"\n")
-        clone.put("crates/commitgraph_c/out/libcommitgraph.a", "the library\n")
+        clone.put_library()
         repository = make_repository(clone, os.path.join(folder, "repository").encode())
         check_words(results, clone)
         check_fresh(results, clone, os.path.join(folder, ODD_PREFIX))

@@ -20,7 +20,7 @@ def check_all(results):
         clone = Clone(folder)
         for name in PROGRAMS:
             clone.put_program(name, "printf '<%s>' \"$@\"\n")
-        clone.put("crates/commitgraph_c/out/libcommitgraph.a", "the library\n")
+        clone.put_library()
         for tool in TOOLS:
             if shutil.which(tool):
                 os.symlink(shutil.which(tool), os.path.join(clone.folder, "bin", tool))

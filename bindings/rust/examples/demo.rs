@@ -31,7 +31,7 @@ fn main() -> Result<(), Box<dyn std::error::Error>> {
 }
 
 fn reaches(graph: &Checked, from: Position, to: Position) -> bool {
-    let leads = graph.is_ancestor(from, to);
+    let leads = graph.is_ancestor(to, from);
     assert_eq!(leads, graph.ancestor_walk(from, to).map(|reached| reached.walk.is_some()));
     leads == Ok(true)
 }

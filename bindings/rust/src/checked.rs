@@ -3,7 +3,7 @@
 use crate::open::{open_at, open_chain, open_file, open_info};
 use crate::room::{collected, positions_of, room_for};
 use crate::verify::{outcome_of, ROOM};
-use crate::{sys, Graph, OpenError, Outcome, PairError, Position, QueryError, VerifyOptions};
+use crate::{codes, sys, Graph, OpenError, Outcome, PairError, Position, QueryError, VerifyOptions};
 use std::path::Path;
 
 /// A graph that its check has found right.
@@ -106,20 +106,22 @@ impl Checked {
         (number(from).saturating_sub(number(to)) as usize + 1).clamp(64, 64.max(commits as usize))
     }
 
-    /// Whether a commit leads along parents to another, which is then its ancestor. A commit leads to itself.
+    /// Whether a commit is an ancestor of another, which then leads to it along parents. A commit is its own ancestor. The order
+    /// is that of `git merge-base --is-ancestor`.
     #[inline]
-    pub fn is_ancestor(&self, from: Position, to: Position) -> Result<bool, QueryError> {
+    pub fn is_ancestor(&self, ancestor: Position, descendant: Position) -> Result<bool, QueryError> {
         // SAFETY: `raw` is open.
-        let leads = unsafe { sys::cg_is_ancestor(self.graph.raw, from.0, to.0) };
+        let leads = unsafe { sys::cg_is_ancestor(self.graph.raw, ancestor.0, descendant.0) };
         refusal_of(leads.code)?;
         Ok(leads.found)
     }
 
-    /// Whether the first commit of each pair leads along parents to the second, as [`Checked::is_ancestor`] answers for one
-    /// pair. The memory of the search is filled once for all pairs.
+    /// Whether the first commit of each pair is an ancestor of the second, as [`Checked::is_ancestor`] answers for one pair. The
+    /// memory of the search is filled once for all pairs.
     pub fn are_ancestors(&self, pairs: &[(Position, Position)]) -> Result<Vec<bool>, PairError> {
         let no_memory = |_| PairError { index: 0, error: QueryError::OutOfMemory };
-        let asked = collected(pairs.iter().map(|&(from, to)| sys::Pair { from: from.0, to: to.0 })).map_err(no_memory)?;
+        let pair = |&(ancestor, descendant): &(Position, Position)| sys::Pair { ancestor: ancestor.0, descendant: descendant.0 };
+        let asked = collected(pairs.iter().map(pair)).map_err(no_memory)?;
         let mut out = room_for(0, asked.len()).map_err(no_memory)?;
         // SAFETY: `raw` is open, and each pointer and length are those of a slice.
         let told =
@@ -175,8 +177,8 @@ pub struct Comparison {
 /// The error that the code of a query stands for.
 fn refusal_of(code: u32) -> Result<(), QueryError> {
     match code {
-        0 => Ok(()),
-        1 => Err(QueryError::NoSuchPosition),
+        codes::OK => Ok(()),
+        codes::NO_SUCH_POSITION => Err(QueryError::NoSuchPosition),
         _ => Err(QueryError::OutOfMemory),
     }
 }

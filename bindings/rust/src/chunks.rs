@@ -1,7 +1,7 @@
 //! The corrected commit dates and the changed-path filters of a graph.
 
 use crate::room::{collected, room_for};
-use crate::{sys, DatesError, Graph, Position, ProbeError};
+use crate::{codes, sys, DatesError, Graph, Position, ProbeError};
 
 /// What the filter of a commit says of a path.
 #[derive(Clone, Copy, Debug, PartialEq, Eq)]
@@ -22,8 +22,8 @@ impl Graph {
         // SAFETY: `raw` is open, and the pointer and the length are those of a vector.
         let told = unsafe { sys::cg_corrected_dates(self.raw, dates.as_mut_ptr(), dates.len()) };
         match told.code {
-            0 => Ok(Some(dates)),
-            7 => Ok(None),
+            codes::OK => Ok(Some(dates)),
+            codes::NO_DATES => Ok(None),
             _ => Err(DatesError::of(&told)),
         }
     }
@@ -39,7 +39,7 @@ impl Graph {
             sys::cg_probe_path(self.raw, path.as_ptr(), path.len(), places, count, out.as_mut_ptr(), out.len())
         };
         match told.code {
-            0 => Ok(collected(out.into_iter().map(Probe::of))?),
+            codes::OK => Ok(collected(out.into_iter().map(Probe::of))?),
             _ => Err(ProbeError::of(&told)),
         }
     }

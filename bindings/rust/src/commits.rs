@@ -3,7 +3,7 @@
 use crate::blocks::ParentBlock;
 use crate::commit::{Few, FEW};
 use crate::sys::ParentCount;
-use crate::{Commit, Graph, Position};
+use crate::{codes, Commit, Graph, Position};
 use std::iter::FusedIterator;
 
 /// An iterator over the commits of a graph, in order. It reads the parents of many by one call.
@@ -30,7 +30,7 @@ impl<'g> Commits<'g> {
         let positions = self.block.parents[self.used..].first_chunk();
         self.given += 1;
         self.used += count as usize;
-        let positions = *positions.filter(|_| code == 0 && count <= FEW as u64)?;
+        let positions = *positions.filter(|_| code == codes::OK && count <= FEW as u64)?;
         Some(Few { positions, count: count as u32 })
     }
 }

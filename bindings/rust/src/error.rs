@@ -1,10 +1,12 @@
 //! Why a graph is refused. What an error says is what `docs/REFUSALS.md` says of it.
 
-use crate::sentences::{of_file, of_graph, OUT_OF_MEMORY};
-use crate::{sys, Position};
+use crate::{codes, sys, FileError, GraphError, Position};
 use std::collections::TryReserveError;
 use std::fmt;
 use std::path::PathBuf;
+
+/// What is said where there is no memory.
+const OUT_OF_MEMORY: &str = "memory ran out";
 
 /// Why no graph was opened.
 #[derive(Debug)]
@@ -30,18 +32,11 @@ pub enum OpenError {
         layer: usize,
         /// The path of its file, which is empty where it was given none.
         path: PathBuf,
-        /// The number of the reason in `docs/REFUSALS.md`, the N of `file N`.
-        number: u32,
-        /// Where the number is 5, what is wrong with the table of chunks, the K of `file 5 chunk K`, and else 0.
-        chunk: u32,
+        /// Why.
+        error: FileError,
     },
     /// The layers make no graph.
-    Graph {
-        /// The number of the reason in `docs/REFUSALS.md`, the N of `graph N`.
-        number: u32,
-        /// Where the number is 3, the first layer of another kind of hash than the one below it, and else 0.
-        layer: usize,
-    },
+    Graph(GraphError),
     /// The check refuses the graph.
     Check(Fault),
     /// Of an info folder neither the file nor the chain was opened, and neither is missing.
@@ -83,13 +78,9 @@ impl fmt::Display for OpenError {
             OpenError::ChainLine { path, line } => {
                 write!(f, "{}: line {line} of the chain file is not UTF-8", path.display())
             }
-            OpenError::Layer { layer, path, number, chunk } if path.as_os_str().is_empty() => {
-                write!(f, "layer {layer}: {}", of_file(*number, *chunk))
-            }
-            OpenError::Layer { path, number, chunk, .. } => {
-                write!(f, "{}: {}", path.display(), of_file(*number, *chunk))
-            }
-            OpenError::Graph { number, .. } => f.write_str(of_graph(*number)),
+            OpenError::Layer { layer, path, error } if path.as_os_str().is_empty() => write!(f, "layer {layer}: {error}"),
+            OpenError::Layer { path, error, .. } => write!(f, "{}: {error}", path.display()),
+            OpenError::Graph(error) => error.fmt(f),
             OpenError::Check(fault) => fault.fmt(f),
             OpenError::Neither { file, chain } => {
                 write!(f, "neither the file nor the chain was opened: ")?;
@@ -266,23 +257,22 @@ impl fmt::Display for CommitFault {
 pub(crate) fn fault_of(verdict: &sys::Verdict) -> Fault {
     let layer = verdict.layer as usize;
     let pos = Position(verdict.position);
-    match (verdict.code, verdict.fault) {
-        (1, _) => Fault::TooManyFiles,
-        (2, _) => Fault::BaseCount { layer },
-        (3, _) => Fault::BaseId { layer, index: verdict.index as usize },
-        (4, 1) => Fault::Layer { layer, fault: LayerFault::Checksum },
-        (4, 2) => Fault::Layer { layer, fault: LayerFault::FileName },
-        (4, _) => Fault::Layer { layer, fault: LayerFault::Fan { byte: verdict.other as u8 } },
-        (5, 1) => Fault::Commit { pos, fault: CommitFault::NullId },
-        (5, 2) => Fault::Commit { pos, fault: CommitFault::Order },
-        (5, _) => Fault::Commit { pos, fault: CommitFault::NullTree },
-        (6, 1) => Fault::Parent { pos, error: ParentError::SecondWithoutFirst },
-        (6, 2) => Fault::Parent { pos, error: ParentError::FirstIsEdgeIndex },
-        (6, 3) => Fault::Parent { pos, error: ParentError::NoEdgeList },
-        (6, _) => Fault::Parent { pos, error: ParentError::EdgeOverflow },
-        (7, _) => Fault::ParentOutOfRange { pos, parent: Position(verdict.other) },
-        (8, _) => Fault::Generation { pos, expected: verdict.other },
-        _ => Fault::DuplicateId { pos, earlier: Position(verdict.other) },
+    let in_layer = |fault| Fault::Layer { layer, fault };
+    let in_commit = |fault| Fault::Commit { pos, fault };
+    match verdict.code {
+        codes::CHECK_TOO_MANY_FILES => Fault::TooManyFiles,
+        codes::CHECK_BASE_COUNT => Fault::BaseCount { layer },
+        codes::CHECK_BASE_ID => Fault::BaseId { layer, index: verdict.index as usize },
+        codes::CHECK_CHECKSUM => in_layer(LayerFault::Checksum),
+        codes::CHECK_FILE_NAME => in_layer(LayerFault::FileName),
+        codes::CHECK_FAN => in_layer(LayerFault::Fan { byte: verdict.other as u8 }),
+        codes::CHECK_NULL_ID => in_commit(CommitFault::NullId),
+        codes::CHECK_ORDER => in_commit(CommitFault::Order),
+        codes::CHECK_NULL_TREE => in_commit(CommitFault::NullTree),
+        codes::CHECK_PARENT_OUT_OF_RANGE => Fault::ParentOutOfRange { pos, parent: Position(verdict.other) },
+        codes::CHECK_GENERATION => Fault::Generation { pos, expected: verdict.other },
+        codes::CHECK_DUPLICATE_ID => Fault::DuplicateId { pos, earlier: Position(verdict.other) },
+        code => Fault::Parent { pos, error: ParentError::of(code).expect("no other fault is told") },
     }
 }
 
@@ -412,11 +402,11 @@ impl DatesError {
     pub(crate) fn of(told: &sys::Dates) -> DatesError {
         let (layer, pos) = (told.layer as usize, Position(told.position));
         match told.code {
-            1 => DatesError::DataSize { layer },
-            2 => DatesError::OverflowSize { layer },
-            3 => DatesError::OverflowIndex { pos },
-            4 => DatesError::TooLarge { pos },
-            5 => DatesError::Date { pos, expected: told.expected },
+            codes::DATES_DATA_SIZE => DatesError::DataSize { layer },
+            codes::DATES_OVERFLOW_SIZE => DatesError::OverflowSize { layer },
+            codes::DATES_OVERFLOW_INDEX => DatesError::OverflowIndex { pos },
+            codes::DATES_TOO_LARGE => DatesError::TooLarge { pos },
+            codes::DATES_WRONG => DatesError::Date { pos, expected: told.expected },
             _ => DatesError::OutOfMemory,
         }
     }
@@ -519,16 +509,16 @@ impl ProbeError {
     pub(crate) fn of(told: &sys::Probed) -> ProbeError {
         let (layer, pos) = (told.layer as usize, Position(told.position));
         match told.code {
-            1 => ProbeError::IndexSize { layer },
-            2 => ProbeError::DataSize { layer },
-            3 => ProbeError::Version { layer, version: told.number },
-            4 => ProbeError::Hashes { layer, hashes: told.number },
-            5 => ProbeError::NoBits { layer },
-            6 => ProbeError::Falls { pos },
-            7 => ProbeError::PastEnd { pos },
-            8 => ProbeError::LeftOver { layer },
-            9 => ProbeError::Settings { layer },
-            11 => ProbeError::NoSuchPosition { index: told.answered as usize },
+            codes::FILTERS_INDEX_SIZE => ProbeError::IndexSize { layer },
+            codes::FILTERS_DATA_SIZE => ProbeError::DataSize { layer },
+            codes::FILTERS_VERSION => ProbeError::Version { layer, version: told.number },
+            codes::FILTERS_HASHES => ProbeError::Hashes { layer, hashes: told.number },
+            codes::FILTERS_NO_BITS => ProbeError::NoBits { layer },
+            codes::FILTERS_FALLS => ProbeError::Falls { pos },
+            codes::FILTERS_PAST_END => ProbeError::PastEnd { pos },
+            codes::FILTERS_LEFT_OVER => ProbeError::LeftOver { layer },
+            codes::FILTERS_SETTINGS => ProbeError::Settings { layer },
+            codes::NO_SUCH_POSITION => ProbeError::NoSuchPosition { index: told.answered as usize },
             _ => ProbeError::OutOfMemory,
         }
     }
@@ -591,10 +581,10 @@ impl ParentError {
     #[inline]
     pub(crate) fn of(code: u32) -> Option<ParentError> {
         match code {
-            1 => Some(ParentError::SecondWithoutFirst),
-            2 => Some(ParentError::FirstIsEdgeIndex),
-            3 => Some(ParentError::NoEdgeList),
-            4 => Some(ParentError::EdgeOverflow),
+            codes::PARENT_SECOND_WITHOUT_FIRST => Some(ParentError::SecondWithoutFirst),
+            codes::PARENT_FIRST_IS_EDGE_INDEX => Some(ParentError::FirstIsEdgeIndex),
+            codes::PARENT_NO_EDGE_LIST => Some(ParentError::NoEdgeList),
+            codes::PARENT_EDGE_OVERFLOW => Some(ParentError::EdgeOverflow),
             _ => None,
         }
     }

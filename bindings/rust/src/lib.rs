@@ -16,13 +16,14 @@
 mod blocks;
 mod checked;
 mod chunks;
+mod codes;
 mod commit;
 mod commits;
 mod error;
+mod file_error;
 mod id;
 mod open;
 mod room;
-mod sentences;
 mod sys;
 mod verify;
 
@@ -34,6 +35,7 @@ use commits::Commits;
 use error::fault_of;
 pub use error::{CommitFault, DatesError, Fault, LayerFault, OpenError, PairError, ParentError, ProbeError, QueryError};
 pub use error::VerifyError;
+pub use file_error::{FileError, GraphError};
 pub use id::{IdError, ObjectId};
 use open::{open_at, open_chain, open_file, open_info};
 use std::fmt;
@@ -127,13 +129,14 @@ impl Graph {
         let mut verdict = sys::Verdict::default();
         let error = open(&files, &mut raw, &mut verdict);
         let layer = error.layer as usize;
-        match (error.code, error.detail) {
+        match error.code {
             // SAFETY: `raw` is open.
-            (0, _) => Ok((Graph { id_len: unsafe { sys::cg_id_len(raw) }, raw }, verdict)),
-            (2, 20) | (3, 4) | (4, 10) => Err(OpenError::OutOfMemory),
-            (2, number) => Err(OpenError::Layer { layer, path: layers[layer].1.into(), number, chunk: error.chunk }),
-            (4, _) => Err(OpenError::Check(fault_of(&verdict))),
-            (_, number) => Err(OpenError::Graph { number, layer }),
+            codes::OK => Ok((Graph { id_len: unsafe { sys::cg_id_len(raw) }, raw }, verdict)),
+            codes::OUT_OF_MEMORY => Err(OpenError::OutOfMemory),
+            code => Err(match FileError::of(code) {
+                Some(error) => OpenError::Layer { layer, path: layers[layer].1.into(), error },
+                None => GraphError::of(code, layer).map_or_else(|| OpenError::Check(fault_of(&verdict)), OpenError::Graph),
+            }),
         }
     }
 
@@ -187,4 +190,10 @@ impl Graph {
 /// Opens the graph at a path.
 pub fn at(path: impl AsRef<Path>) -> Result<Graph, OpenError> {
     Graph::at(path)
+}
+
+/// The version of the library that is linked: 10000 for its first number, 100 for the second and 1 for the third.
+pub fn version() -> u32 {
+    // SAFETY: nothing is passed.
+    unsafe { sys::cg_version() }
 }

@@ -2,7 +2,7 @@
 
 use crate::error::fault_of;
 use crate::room::room_for;
-use crate::{sys, Commit, Graph, Position, VerifyError};
+use crate::{codes, sys, Commit, Graph, Position, VerifyError};
 use std::collections::{BTreeMap, TryReserveError};
 
 /// For so many different numbers of parents there is room at first.
@@ -56,8 +56,8 @@ impl Graph {
             processor(&self.commit_at(pos)).map_err(|error| VerifyError::Processor { pos, error })?;
         }
         match verdict.code {
-            0 => Ok(outcome_of(&verdict, &counts)),
-            10 => Err(VerifyError::OutOfMemory),
+            codes::OK => Ok(outcome_of(&verdict, &counts)),
+            codes::OUT_OF_MEMORY => Err(VerifyError::OutOfMemory),
             _ => Err(VerifyError::Fault(fault_of(&verdict))),
         }
     }
@@ -87,7 +87,7 @@ impl Graph {
 /// The statistics that a verdict on a right graph and its counts tell of.
 pub(crate) fn outcome_of(verdict: &sys::Verdict, counts: &[sys::Count]) -> Outcome {
     Outcome {
-        longest_path_length: verdict.has_longest.then_some(verdict.longest),
+        longest_path_length: (verdict.has_longest == 1).then_some(verdict.longest),
         num_commits: verdict.num_commits,
         parent_counts: counts.iter().map(|count| (count.parents, count.commits)).collect(),
     }

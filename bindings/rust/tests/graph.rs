@@ -2,7 +2,7 @@
 
 mod made;
 
-use commitgraph::{Checked, Commit, Fault, Graph, IdError, ObjectId, OpenError, PairError, Position, ProbeError};
+use commitgraph::{Checked, Commit, Fault, FileError, Graph, GraphError, IdError, ObjectId, OpenError, PairError, Position, ProbeError};
 use commitgraph::{DatesError, LayerFault, QueryError, VerifyError, VerifyOptions};
 use made::made;
 use std::error::Error;
@@ -137,9 +137,9 @@ fn each_date_follows_from_the_time_and_the_dates_of_the_parents() {
 fn what_is_refused_is_told() {
     let bytes = fs::read(&made().file).unwrap();
     let refused = |layers: &[(&[u8], &str)]| Graph::of_bytes(layers).unwrap_err();
-    assert!(matches!(refused(&[]), OpenError::Graph { number: 1, layer: 0 }));
+    assert!(matches!(refused(&[]), OpenError::Graph(GraphError::NoFiles)));
     let short = refused(&[(&bytes, ""), (b"CGPH", ""), (b"", "")]);
-    assert!(matches!(short, OpenError::Layer { layer: 1, number: 1, chunk: 0, .. }));
+    assert!(matches!(short, OpenError::Layer { layer: 1, error: FileError::TooShort, .. }));
     assert_eq!(short.to_string(), "layer 1: the file has fewer than 1100 bytes: often it is truncated");
     let named = refused(&[(b"CGPH", "a/graph-b.graph")]);
     assert_eq!(named.to_string(), "a/graph-b.graph: the file has fewer than 1100 bytes: often it is truncated");
@@ -206,7 +206,7 @@ fn neither_refusal_of_an_info_folder_hides_the_other() {
     let opened = || Graph::from_info_dir(&folder).unwrap_err();
     assert!(matches!(opened(), OpenError::Io { path, .. } if path.ends_with("commit-graph-chain")));
     fs::write(folder.join("commit-graph"), b"CGPH").unwrap();
-    assert!(matches!(opened(), OpenError::Layer { path, number: 1, .. } if path == folder.join("commit-graph")));
+    assert!(matches!(opened(), OpenError::Layer { path, error: FileError::TooShort, .. } if path == folder.join("commit-graph")));
     fs::write(folder.join("commit-graphs/commit-graph-chain"), b"").unwrap();
     let error = opened();
     let OpenError::Neither { file, chain, .. } = &error else {
@@ -214,5 +214,10 @@ fn neither_refusal_of_an_info_folder_hides_the_other() {
     };
     assert!(error.to_string().contains(&file.to_string()) && error.to_string().contains(&chain.to_string()));
     fs::remove_file(folder.join("commit-graph")).unwrap();
-    assert!(matches!(opened(), OpenError::Graph { number: 1, .. }));
+    assert!(matches!(opened(), OpenError::Graph(GraphError::NoFiles)));
+}
+
+#[test]
+fn the_library_is_that_of_the_header() {
+    assert_eq!(commitgraph::version(), 100);
 }

@@ -46,7 +46,7 @@ class Installed:
         for program, name in zip(programs, ("graphtool", "historytool")):
             self.clone.put_program(name, "")
             shutil.copy(program.path, os.path.join(self.clone.folder, "crates", name, "out", name))
-        self.clone.put("crates/commitgraph_c/out/libcommitgraph.a", "the library\n")
+        self.clone.put_library()
         self.prefix = os.path.join(folder, "a prefix")
         self.installation = self.clone.run(["scripts/install", self.prefix])
         tools = os.path.join(self.clone.folder, "bin")
