@@ -45,7 +45,11 @@ tell_coverage() {
         return
     fi
     list_stored >"$scratch/stored" && [ "$before" = "$(find_graph && identity)" ] || { tell_written && return; }
-    compare_ids
+    if ! compare_ids; then
+        line='the ids could not be compared' status=128
+        said="$said$name: $line$newline"
+        return
+    fi
     write_text "missing $missing${newline}gone $gone${newline}unreachable $unreachable"
     [ "$status" -eq 0 ] || return 0
     say_unused
@@ -68,14 +72,14 @@ list_stored() {
 # Sets `missing`, `gone` and `unreachable`, from both lists of ids. A commit that is gone is not one of the unreachable ones.
 compare_ids() {
     for list in reachable stored; do
-        LC_ALL=C sort -u -o "$scratch/$list" "$scratch/$list"
+        LC_ALL=C sort -u -o "$scratch/$list" "$scratch/$list" || return
     done
-    missing=$(LC_ALL=C comm -23 "$scratch/reachable" "$scratch/stored" | wc -l)
-    LC_ALL=C comm -13 "$scratch/reachable" "$scratch/stored" |
-        git_alone cat-file --batch-check='%(objecttype)' --buffer >"$scratch/types"
+    LC_ALL=C comm -23 "$scratch/reachable" "$scratch/stored" >"$scratch/missing" || return
+    LC_ALL=C comm -13 "$scratch/reachable" "$scratch/stored" >"$scratch/others" || return
+    git_alone cat-file --batch-check='%(objecttype)' --buffer <"$scratch/others" >"$scratch/types" || return
+    missing=$(($(wc -l <"$scratch/missing")))
     unreachable=$(grep -c '^commit$' "$scratch/types")
     gone=$(($(wc -l <"$scratch/types") - unreachable))
-    missing=$((missing))
 }
 
 # Says why Git uses no commit-graph here, where that is so.

@@ -7,7 +7,7 @@ from typing import NamedTuple
 
 TOP = os.path.dirname(os.path.dirname(os.path.dirname(os.path.abspath(__file__))))
 TOOLS = ("sh", "awk", "cat", "chmod", "cp", "dirname", "find", "git", "id", "ln", "mkdir", "mktemp", "readlink", "rm", "rmdir")
-MORE_TOOLS = ("comm", "grep", "head", "od", "sed", "sleep", "stat", "tail", "touch", "tr", "wc")
+MORE_TOOLS = ("comm", "grep", "head", "od", "sed", "sleep", "sort", "stat", "tail", "touch", "tr", "wc")
 PROGRAMS = ("graphtool", "historytool")
 COPIED = (
     *("git-cgraph", "graphtool", "historytool", "VERSION", "docs/MANUAL.md", "docs/REFUSALS.md"),

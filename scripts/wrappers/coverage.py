@@ -3,7 +3,6 @@ and `historytool` a shell script that writes lines and ids.
 """
 
 import os
-import shutil
 import tempfile
 
 import refusals
@@ -28,7 +27,6 @@ class Shown:
 
     def __init__(self, folder):
         self.clone = Clone(folder)
-        os.symlink(shutil.which("sort"), os.path.join(self.clone.folder, "bin", "sort"))
         self.folder = os.fsdecode(make_repository(self.clone, os.path.join(folder, "a repository").encode()))
         self.info = os.path.join(self.folder, ".git/objects/info")
         self.list = os.path.join(folder, "ids")
