@@ -56,13 +56,16 @@ def wrong_conditions(texts):
 
 
 HEADER, RUST = "bindings/c/commitgraph.h", "bindings/rust/src/codes.rs"
+PYTHON = "bindings/python/commitgraph.py"
 LIBRARY = "crates/commitgraph_c/specs/"
 IN_HEADER = re.compile(r"^    CG_(\w+) = (\d+)", re.MULTILINE)
 SENTENCE = re.compile(r'^    case CG_(\w+): return "(.+)";$', re.MULTILINE)
 IN_RUST = re.compile(r"^pub\(crate\) const (\w+): u32 = (\d+);$", re.MULTILINE)
+IN_PYTHON = re.compile(r"^    ([A-Z]\w+) = (\d+)$", re.MULTILINE)
+IN_PYTHON_SAID = re.compile(r'^    Code\.(\w+): "(.+)",$', re.MULTILINE)
 IN_SPECS = re.compile(
     r"^(?:\w+_code \S.* = |refusal_of \S.* = refusal_in_\w+ |told_\w+_fault \(.* = without_\w+ )(\d+)\b"
-    r"|^(?:out_of_memory|closed_graph|not_checked|no_such_position|path_not_utf8|no_dates) = (\d+)$",
+    r"|^(?:out_of_memory|closed_graph|not_checked|no_such_position|path_not_utf8|no_dates|more_parents) = (\d+)$",
     re.MULTILINE,
 )
 NEVER = 309
@@ -91,6 +94,10 @@ def wrong_codes(texts):
     numbers = {number for _, number in header}
     if len(numbers) != len(header) or [name for name, _ in SENTENCE.findall(texts[HEADER])] != [name for name, _ in header]:
         yield "%s has not one number and one sentence for each name" % HEADER
+    if [(name, int(number)) for name, number in IN_PYTHON.findall(texts[PYTHON])] != header:
+        yield "%s has other numbers than the header" % PYTHON
+    if IN_PYTHON_SAID.findall(texts[PYTHON]) != SENTENCE.findall(texts[HEADER]):
+        yield "%s has other sentences than the header" % PYTHON
     for name, number in IN_RUST.findall(texts[RUST]):
         if (name, int(number)) not in header:
             yield "%s: %s is not %s in the header" % (RUST, name, number)

@@ -210,11 +210,19 @@ diagnose_object() {
     esac
 }
 
+# Whether Git says that it failed for want of something, which tells nothing of the object.
+lacks_means() {
+    case $1 in
+    *'allocate memory'* | *'ut of memory'* | *'Too many open files'* | *'Input/output error'* | *'unavailable'*) ;;
+    *) return 1 ;;
+    esac
+}
+
 # The same where Git wrote no such object.
 diagnose_missing() {
     file=$(unreadable_file)
-    if git_alone cat-file commit "$commit" >/dev/null 2>&1; then
-        is_absent=yes
+    if why=$(LC_ALL=C git_alone cat-file commit "$commit" 2>&1 >/dev/null) || lacks_means "$why"; then
+        is_absent=yes advice='see what Git says, and ask again'
     elif [ -n "$file" ]; then
         is_absent=yes where="the file '$file' $(obstacle "$file")"
         advice="see to it that whoever runs this may read the objects, and ask again" cure="    ls -l $(quoted "$file")"

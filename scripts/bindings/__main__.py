@@ -1,4 +1,4 @@
-"""Tests the library for C and Rust: `python3 scripts/bindings [GRAPHTOOL [HISTORYTOOL]]`. Its last line is
+"""Tests the library for C, Rust and Python: `python3 scripts/bindings [GRAPHTOOL [HISTORYTOOL]]`. Its last line is
 `N passed, M failed`.
 
 It builds the static library, where it is not built, over what `rt ci` left, as scripts/library hands it out. What C and
@@ -563,12 +563,20 @@ def by_cmake(compiler, prefix, scratch, graph, commit):
         expect(f"CMake: {kind}", done.returncode == 0 and "\nparent " in done.stdout, done)
 
 
+def python(library):
+    """The module for Python: its tests, over the shared library."""
+    tests = TOP / "bindings/python/test_commitgraph.py"
+    done = run(sys.executable, "-B", tests, env={**os.environ, "COMMITGRAPH_LIB": str(library.parent)})
+    expect("Python: tests", done.returncode == 0 and "Ran 3 tests" in done.stderr, done)
+
+
 def parts(archive, scratch, graphs):
     """The calls for each compiler that is there. One is enough for the graph of many commits."""
     compilers = [compiler for compiler in ("gcc", "clang") if present(compiler, f"C with {compiler}")]
     yield from (functools.partial(c, compiler, archive, scratch, graphs) for compiler in compilers)
     yield from (functools.partial(many_commits, compiler, archive, scratch) for compiler in compilers[:1])
     yield functools.partial(installed, compilers, scratch, graphs)
+    yield functools.partial(python, archive)
     if present("cargo", "Rust"):
         at = {**os.environ, "CARGO_TARGET_DIR": str(scratch / "target")}
         at.pop("COMMITGRAPH_LIB", None)

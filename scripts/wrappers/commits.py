@@ -116,6 +116,7 @@ def check_all(results):
         check_refused(results, compared)
         check_parts(results, compared)
         check_failures(results, compared)
+        check_means(results, compared)
         check_objects(results, compared)
         check_partial(results, compared)
         check_written(results, compared)
@@ -220,12 +221,29 @@ def check_failures(results, compared):
         results.check("git cgraph verify --objects, %s" % title, exactly(answer, status, out, said(sentences)))
 
 
+def check_means(results, compared):
+    """Where Git lacks memory, also for the one commit, nothing is known of that."""
+    rows, line, lack = refusals.read_rows(), "refused objects 1 position 0", "fatal: Out of memory, malloc failed"
+    compared.put(objects="echo '%s'; exit 1" % line)
+    os.remove(os.path.join(compared.clone.folder, "bin", "git"))
+    git_path, script = shutil.which("git"), '#!/bin/sh\ncase "$*" in *cat-file*) echo "%s" >&2; exit 128 ;; *) exec "%s" "$@" ;; esac\n'
+    compared.clone.put("bin/git", script % (lack, git_path))
+    answer = compared.ask(shell=("sh",))
+    os.remove(os.path.join(compared.clone.folder, "bin", "git"))
+    os.symlink(git_path, os.path.join(compared.clone.folder, "bin", "git"))
+    sentences = ["the commit at position 0 is " + compared.ids[0], *refusals.sentences(rows, line)]
+    err = lack + "\n" + said(sentences)
+    results.check("git cgraph verify --objects, Git lacks memory", exactly(answer, 128, line + "\n", err))
+
+
 def check_objects(results, compared):
     """An object that is gone, and one that is damaged."""
     rows, commit = refusals.read_rows(), compared.ids[4]
     path, line = loose(compared, commit), "refused objects 4 position 4"
     start = ["the commit at position 4 is " + commit]
     compared.put(objects="echo '%s'; exit 1" % line)
+    err = said(start + refusals.sentences(rows, line, "verify", refusals.Known("", "see what Git says, and ask again")))
+    results.check("git cgraph verify --objects, an object that is there again", exactly(compared.ask(), 128, line + "\n", err))
     os.rename(path, path + " aside")
     known = refusals.Known("", GONE, anew(compared.info, "commit-graph"))
     err = said(start + refusals.sentences(rows, line, "verify", known))

@@ -6,6 +6,9 @@ pub mod Pieces
 pub mod BuiltRecords
 pub mod BuiltParents
 pub mod BuiltFan
+pub mod PossibleChunks
+pub mod OffsetLemmas
+pub mod SizeLemmas
 pub mod PlannedRecords
 pub mod PlannedChunks
 pub mod BuiltFile
@@ -14,5 +17,4 @@ pub mod PlannedLayer
 pub mod ExtraWords
 pub mod Pushes
 pub mod FanSteps
-pub mod BuiltEntries
 pub mod BuiltBody

@@ -25,7 +25,7 @@ pub record AreNamed (chunk : NamedChunk) (chunks : List NamedChunk) : Type 0 whe
   pub first : is_new chunk.id chunks ≡ true
   pub others : are_named chunks ≡ true
 
-differs : (a b : List ℕ) → not (bytes_eq a b) ≡ true → a ≢ b
+pub differs : (a b : List ℕ) → not (bytes_eq a b) ≡ true → a ≢ b
 differs a b h e = both_ways (bytes_eq a b) (not-true _ h) ((bytes_eq-Decides a b).1 e)
 
 pub named_parts : (chunk : NamedChunk) (chunks : List NamedChunk) → are_named (chunk ∷ chunks) ≡ true → AreNamed chunk chunks

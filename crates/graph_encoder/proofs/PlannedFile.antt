@@ -1,6 +1,7 @@
 -- the parts of a plan's file
 use Rattle.std.proofs.Common.{◌≡◌, ℕ, suc, ◌+◌, ◌*◌, ◌^◌, ◌<◌, ◌≤◌, List, [], ◌∷◌, length, map, slice_index, All, refl, sym, ap}
 use Rattle.std.proofs.Common.{subst, ◌∙◌, arith, length-append}
+use Rattle.std.specs.Prelude.{fold, unwrap_or}
 use Rattle.std.proofs.lemmas.List.{length-map}
 use Rattle.gix_hash_core.specs.declared.kind.Kind.{Kind}
 use Rattle.gix_hash_core.specs.declared.kind.Kind.TheVariants.{Sha1, Sha256}
@@ -13,17 +14,19 @@ use Rattle.graph_encoder.specs.declared.plan.PlanCommit.{PlanCommit}
 use Rattle.graph_encoder.specs.ExtraEdges.{no_parent, top_bit, extra_words, all_extra_words, listed_words}
 use Rattle.graph_encoder.specs.Plan.{IsPlan, IsPlannedCommit}
 use Rattle.graph_encoder.specs.Chunks.{chunk_bytes, with_chunks, table_len}
+use Rattle.graph_encoder.specs.DateOffsets.{offsets_of, large_offsets}
 use Rattle.graph_encoder.specs.Written.{header, ids_of, exact_fan, words_bytes, ids_bytes, records_from, planned_chunks}
-use Rattle.graph_encoder.specs.Written.{planned_body, planned_file}
-use Rattle.graph_encoder.specs.declared.sizes.Sizes.{Sizes}
-use Rattle.graph_encoder.specs.Sizes.{AreSizes}
+use Rattle.graph_encoder.specs.Written.{longs_bytes, possible_chunks, planned_body, planned_file}
+use Rattle.graph_encoder.specs.Sizes.{sizes_of, total_size}
 use Rattle.graph_encoder.proofs.Pieces.{All-first, All-others, All-cons, All-append, length-words_bytes}
 use Rattle.graph_encoder.proofs.BuiltFan.{length-exact_fan}
-use Rattle.graph_encoder.proofs.BuiltChunks.{AreLaidOut, bytes_named, length-with_chunks}
+use Rattle.graph_encoder.proofs.BuiltChunks.{AreLaidOut, length-with_chunks}
+use Rattle.graph_encoder.proofs.PossibleChunks.{named_there, bytes_there, found_there, size_of_those, few_there, first-least}
+use Rattle.graph_encoder.proofs.PossibleChunks.{unless_empty-len}
 use Rattle.graph_encoder.proofs.BuiltFile.{length-header, laid_file, IsHeaded, headed, table-laid, end-laid, chunk_of-laid}
 use Rattle.gix_hash_core.proofs.DigestLemmas.{digest_is_sized}
 use Rattle.graph_encoder.proofs.PlannedRecords.{length-records_from}
-use Rattle.graph_encoder.proofs.PlannedChunks.{five-named, five-few, five-size, length-ids_bytes}
+use Rattle.graph_encoder.proofs.PlannedChunks.{offsets-small, length-ids_bytes}
 
 -- ids of commits
 pub All-map : {X Y : Type 0} (P : Y → Type 0) (f : X → Y) (xs : List X) → All (λ x. P (f x)) xs → All P (map f xs)
@@ -68,18 +71,14 @@ header_in plan = header plan.kind (length (planned_chunks plan)) (length plan.ba
 abbrev pub digest_in : LayerPlan → List ℕ
 digest_in plan = digest_of plan.kind (planned_body plan)
 
--- The numbers of bytes of a plan's chunks.
+-- The numbers of bytes of the first three chunks.
 pub record HasSizes (plan : LayerPlan) : Type 0 where
   pub fan : length (words_bytes (exact_fan (ids_of plan.commits.items))) ≡ 1024
   pub ids : length (ids_bytes (ids_of plan.commits.items)) ≡ id_len plan.kind * length plan.commits.items
   pub records : length (records_from 0 plan.commits.items) ≡ record_len plan.kind * length plan.commits.items
-  pub all : length (chunk_bytes (planned_chunks plan))
-      ≡ 1024 + id_len plan.kind * length plan.commits.items + record_len plan.kind * length plan.commits.items
-      + (4 * length (all_extra_words plan.commits.items) + id_len plan.kind * length plan.bases.items)
 
 pub sizes : (plan : LayerPlan) → IsPlan plan → HasSizes plan
 sizes plan h =
-    let commits : List PlanCommit = plan.commits.items in
     let fan : ◌≡◌ {A = ℕ} (length (words_bytes (exact_fan (ids_of plan.commits.items)))) 1024 =
     length-words_bytes (exact_fan (ids_of plan.commits.items))
     ∙ ap (λ (n : ℕ). 4 * n) (length-exact_fan (ids_of plan.commits.items)) in
@@ -88,20 +87,52 @@ sizes plan h =
     ∙ ap (λ (n : ℕ). id_len plan.kind * n) (length-map plan.commits.items (λ (c : PlanCommit). c.id)) in
     let records : length (records_from 0 plan.commits.items) ≡ record_len plan.kind * length plan.commits.items =
     length-records_from plan.kind 0 plan.commits.items h.commits in
-    record {
-      fan = fan;
-      ids = ids;
-      records = records;
-      all = five-size plan.kind _ _ _ (all_extra_words plan.commits.items) plan.bases.items h.bases
-          ∙ ap (λ (n : ℕ). n + (4 * length (all_extra_words plan.commits.items) + id_len plan.kind * length plan.bases.items))
-          (omega (arith, fan, ids, records));
-    }
+    record { fan = fan; ids = ids; records = records }
 
 -- the sizes are no larger than an offset can be
 fits : (kind : Kind) (commits words bases : ℕ) → commits < 2147483648 → words < top_bit → bases ≤ 255
-    → 1024 + id_len kind * commits + record_len kind * commits + (4 * words + id_len kind * bases) < 2 ^ 40
+    → 1024 + id_len kind * commits + record_len kind * commits + 12 * commits + (4 * words + id_len kind * bases) < 2 ^ 40
 fits Sha1 commits words bases h e k = omega (arith, h, e, k)
 fits Sha256 commits words bases h e k = omega (arith, h, e, k)
+
+-- seven sizes together
+seven-small : (a b c d e f g n : ℕ) → a + b + c + d + e + f + g < n → fold (λ s x. s + x) 0 (a ∷ b ∷ c ∷ d ∷ e ∷ f ∷ g ∷ []) < n
+seven-small a b c d e f g n h = omega (arith, h)
+
+pub sizes-small : (plan : LayerPlan) → IsPlan plan → total_size (sizes_of plan) < 2 ^ 40
+sizes-small plan h =
+    let known = sizes plan h in
+    let few = offsets-small (offsets_of plan) (length plan.commits.items) h.offsets in
+    let bases : length (ids_bytes plan.bases.items) ≡ id_len plan.kind * length plan.bases.items =
+    length-ids_bytes plan.kind plan.bases.items h.bases in
+    seven-small (length (words_bytes (exact_fan (ids_of plan.commits.items)))) (length (ids_bytes (ids_of plan.commits.items)))
+    (length (records_from 0 plan.commits.items)) _ _ _ _ (2 ^ 40)
+    (omega (
+      arith,
+      known.fan,
+      known.ids,
+      known.records,
+      few.0,
+      few.1,
+      unless_empty-len (longs_bytes (large_offsets (unwrap_or (offsets_of plan) []))),
+      unless_empty-len (words_bytes (all_extra_words plan.commits.items)),
+      unless_empty-len (ids_bytes plan.bases.items),
+      length-words_bytes (all_extra_words plan.commits.items),
+      bases,
+      fits plan.kind (length plan.commits.items) (length (all_extra_words plan.commits.items)) (length plan.bases.items)
+          h.few_commits h.few_words h.few_bases,
+    ))
+
+-- how many chunks there are
+pub chunks-few : (plan : LayerPlan) → length (planned_chunks plan) ≤ 7
+chunks-few plan = few_there (possible_chunks plan)
+
+pub chunks-some : (plan : LayerPlan) → 3 ≤ length (planned_chunks plan)
+chunks-some plan = omega arith
+
+pub id-small : (kind : Kind) → id_len kind ≤ 32
+id-small Sha1 = omega arith
+id-small Sha256 = omega arith
 
 twenty : (kind : Kind) → 20 ≤ id_len kind
 twenty Sha1 = omega arith
@@ -109,20 +140,15 @@ twenty Sha256 = omega arith
 
 laid : (plan : LayerPlan) → IsPlan plan → AreLaidOut (header_in plan) (digest_in plan) (planned_chunks plan)
 laid plan h =
-    let few =
-    five-few (words_bytes (exact_fan (ids_of plan.commits.items))) (ids_bytes (ids_of plan.commits.items))
-    (records_from 0 plan.commits.items) (all_extra_words plan.commits.items) plan.bases.items in
     record {
-      named = five-named (words_bytes (exact_fan (ids_of plan.commits.items))) (ids_bytes (ids_of plan.commits.items))
-          (records_from 0 plan.commits.items) (all_extra_words plan.commits.items) plan.bases.items;
-      some = omega (arith, few.0);
+      named = named_there (possible_chunks plan) refl;
+      some = omega (arith, chunks-some plan);
       short = omega (
         arith,
-        few.1,
+        chunks-few plan,
         length-header plan.kind (length (planned_chunks plan)) (length plan.bases.items),
-        (sizes plan h).all,
-        fits plan.kind (length plan.commits.items) (length (all_extra_words plan.commits.items))
-            (length plan.bases.items) h.few_commits h.few_words h.few_bases,
+        size_of_those (possible_chunks plan),
+        sizes-small plan h,
       );
     }
 
@@ -138,9 +164,10 @@ planned_body-is plan = refl
 
 -- a chunk of the file is the one that was laid out
 pub chunk_of-planned : (plan : LayerPlan) (id : List ℕ) → IsPlan plan
-    → chunk_of (planned_file plan) id ≡ bytes_named (planned_chunks plan) id
+    → chunk_of (planned_file plan) id ≡ bytes_there (possible_chunks plan) id
 chunk_of-planned plan id h = ap (λ (bytes : List ℕ). chunk_of bytes id) (planned_file-is plan)
     ∙ chunk_of-laid plan.kind (length plan.bases.items) (planned_chunks plan) (digest_in plan) id (laid plan h)
+    ∙ found_there (possible_chunks plan) id refl
 
 pub end-planned : (plan : LayerPlan) → IsPlan plan → (table_of (planned_file plan)).end ≡ length (planned_body plan)
 end-planned plan h =
@@ -173,34 +200,13 @@ length-planned_body plan h =
 pub planned_file-size : (plan : LayerPlan) → IsPlan plan → least_size ≤ length (planned_file plan)
 unfolding planned_file
 planned_file-size plan h =
-    let few =
-    five-few (words_bytes (exact_fan (ids_of plan.commits.items))) (ids_bytes (ids_of plan.commits.items))
-    (records_from 0 plan.commits.items) (all_extra_words plan.commits.items) plan.bases.items in
     omega (
       arith,
-      few.0,
+      chunks-some plan,
       length-append (planned_body plan) (digest_in plan),
       length-planned_body plan h,
-      (sizes plan h).all,
+      first-least (possible_chunks plan),
+      (sizes plan h).fan,
       digest_is_sized plan.kind (planned_body plan),
       twenty plan.kind,
-    )
-
--- sizes are no larger than an offset can be
-pub sizes-small : (plan : LayerPlan) (s : Sizes) → IsPlan plan → AreSizes plan s → s.ids + s.records + s.edges + s.bases < 2 ^ 40
-sizes-small plan s h e =
-    let known = sizes plan h in
-    let bases = length-ids_bytes plan.kind plan.bases.items h.bases in
-    omega (
-      arith,
-      e.ids,
-      e.records,
-      e.edges,
-      e.bases,
-      known.ids,
-      known.records,
-      bases,
-      length-words_bytes (all_extra_words plan.commits.items),
-      fits plan.kind (length plan.commits.items) (length (all_extra_words plan.commits.items)) (length plan.bases.items)
-          h.few_commits h.few_words h.few_bases,
     )

@@ -5,20 +5,24 @@ use Rattle.std.proofs.lemmas.List.{take_at, drop_at, length-map}
 use Rattle.gix_hash_core.specs.declared.kind.Kind.{Kind}
 use Rattle.gix_hash_core.specs.Kind.{id_len}
 use Rattle.gix_hash_core.specs.Digest.{digest_of}
-use Rattle.graph_format.specs.Format.{record_of, record_len, pieces, words, commits_of, table_of, chunk_of, fan_id, ids_id}
+use Rattle.std.specs.Prelude.{zip, codes}
+use Rattle.graph_chunks.specs.GraphStoredDates.{HasDates, times_in, dates_in}
+use Rattle.graph_encoder.proofs.OffsetLemmas.{dates-said}
+use Rattle.graph_format.specs.Format.{Record, record_of, record_len, pieces, words, commits_of, table_of, chunk_of, fan_id, ids_id}
 use Rattle.graph_format.specs.Format.{records_id, edges_id, bases_id}
 use Rattle.graph_format.specs.Layer.{Layer, IsLayer}
 use Rattle.graph_encoder.specs.declared.plan.LayerPlan.{LayerPlan}
 use Rattle.graph_encoder.specs.declared.plan.PlanCommit.{PlanCommit}
 use Rattle.graph_encoder.specs.ExtraEdges.{all_extra_words}
 use Rattle.graph_encoder.specs.Plan.{IsPlan}
-use Rattle.graph_encoder.specs.Written.{ids_of, exact_fan, words_bytes, ids_bytes, records_from, planned_body, planned_file}
+use Rattle.graph_encoder.specs.DateOffsets.{offsets_of}
+use Rattle.graph_encoder.specs.Written.{ids_of, exact_fan, planned_body, planned_file}
 use Rattle.graph_encoder.specs.Said.{SaysPlan, IsFileOf}
 use Rattle.graph_encoder.proofs.Pieces.{words-words_bytes}
 use Rattle.graph_encoder.proofs.BuiltFan.{exact_fan-at, exact_fan-small, exact_fan-last, ids_up_to-rising}
 use Rattle.gix_hash_core.proofs.DigestLemmas.{digest_is_sized}
 use Rattle.graph_encoder.proofs.PlannedRecords.{planned_records, length-planned_records, records_from-read, records-say}
-use Rattle.graph_encoder.proofs.PlannedChunks.{edges_bytes, bases_bytes, edges-named, bases-named, edges-hold, edges-words}
+use Rattle.graph_encoder.proofs.PlannedChunks.{edges_bytes, bases_bytes, edges-unless, bases-unless, edges-hold, edges-words}
 use Rattle.graph_encoder.proofs.PlannedChunks.{edges-few, length-ids_bytes, ids_bytes-read}
 use Rattle.graph_encoder.proofs.PlannedFile.{digest_in, sizes, ids_of-sized, all_extra_words-small, chunk_of-planned, end-planned}
 use Rattle.graph_encoder.proofs.PlannedFile.{table-planned, headed-planned, planned_file-size}
@@ -93,14 +97,22 @@ bases-right kind (base ∷ bases) h = (length-ids_bytes kind (base ∷ bases) h,
 
 named-edges : (plan : LayerPlan) → IsPlan plan
     → chunk_of (planned_file plan) edges_id ≡ edges_bytes (all_extra_words plan.commits.items)
-named-edges plan h = chunk_of-planned plan edges_id h
-    ∙ edges-named (words_bytes (exact_fan (ids_of plan.commits.items))) (ids_bytes (ids_of plan.commits.items))
-    (records_from 0 plan.commits.items) (all_extra_words plan.commits.items) plan.bases.items
+named-edges plan h = chunk_of-planned plan edges_id h ∙ edges-unless (all_extra_words plan.commits.items)
 
 named-bases : (plan : LayerPlan) → IsPlan plan → chunk_of (planned_file plan) bases_id ≡ bases_bytes plan.bases.items
-named-bases plan h = chunk_of-planned plan bases_id h
-    ∙ bases-named (words_bytes (exact_fan (ids_of plan.commits.items))) (ids_bytes (ids_of plan.commits.items))
-    (records_from 0 plan.commits.items) (all_extra_words plan.commits.items) plan.bases.items
+named-bases plan h = chunk_of-planned plan bases_id h ∙ bases-unless plan.kind plan.bases.items h.bases
+
+-- the offsets of dates, if there are any
+dates-planned : (plan : LayerPlan) (path : List ℕ) → IsPlan plan
+    → MatchOption (offsets_of plan) (HasDates (planned_layer plan path) → ⊥) (λ offsets.
+    HasDates (planned_layer plan path)
+    × (dates_in (planned_layer plan path) ≡ map (λ pair. pair.0 + pair.1) (zip (times_in (planned_layer plan path)) offsets)))
+unfolding planned_file
+dates-planned plan path h =
+    dates-said (offsets_of plan) (planned_layer plan path) (length plan.commits.items) (chunk_of-planned plan (codes "GDA2") h)
+    (chunk_of-planned plan (codes "GDO2") h) h.offsets
+    (length-map (planned_records 0 plan.commits.items) (λ (r : Record). r.time)
+    ∙ length-planned_records 0 plan.commits.items) h.few_commits
 
 bases-planned : (plan : LayerPlan) → IsPlan plan
     → MatchOption (chunk_of (planned_file plan) bases_id) ((slice_index (planned_file plan) 7 ≡ 0) × (plan.bases.items ≡ []))
@@ -167,6 +179,7 @@ says-planned plan path h =
           (edges-hold (all_extra_words plan.commits.items) (all_extra_words-small plan.kind plan.commits.items h.commits));
       edges = edges-words (all_extra_words plan.commits.items) (all_extra_words-small plan.kind plan.commits.items h.commits);
       checksum = refl;
+      dates = dates-planned plan path h;
     }
 
 -- The law.

@@ -2,12 +2,15 @@
 use Rattle.std.proofs.Common.{◌≡◌, ℕ, ◌+◌, ◌<◌, ◌≤◌, List, [], ◌∷◌, ◌++◌, length, take, drop, get_or, refl, sym, ap, ◌∙◌}
 use Rattle.std.proofs.Common.{append_assoc, append-nil}
 use Rattle.std.specs.List.{flat_map}
+use Rattle.std.proofs.Common.{Bool, true, false, cond}
+use Rattle.std.proofs.lemmas.List.Elements.{filter_more}
 use Rattle.std.proofs.lemmas.List.{take_more, take_all, drop_more, flat_map_more}
 use Rattle.std.proofs.lemmas.Grind.{flat_map-append}
 use Rattle.graph_encoder.specs.declared.plan.PlanCommit.{PlanCommit}
 use Rattle.graph_encoder.specs.ExtraEdges.{extra_words, all_extra_words}
-use Rattle.graph_encoder.specs.Chunks.{word_bytes}
-use Rattle.graph_encoder.specs.Written.{words_bytes, record_bytes, records_from}
+use Rattle.graph_encoder.specs.Chunks.{word_bytes, long_bytes}
+use Rattle.graph_encoder.specs.DateOffsets.{is_large, large_offsets}
+use Rattle.graph_encoder.specs.Written.{words_bytes, longs_bytes, record_bytes, records_from}
 
 -- no words yet, one more word, and all words
 pub words_bytes-nil : (old : List ℕ) → old ≡ old ++ words_bytes []
@@ -31,6 +34,31 @@ words_bytes-last old before now ns i n h e k =
     e
     ∙ ap (λ (xs : List ℕ). xs ++ word_bytes n) (h ∙ ap (λ (xs : List ℕ). old ++ flat_map word_bytes xs) (take_all i ns k))
     ∙ flat_map_more word_bytes old ns n
+
+-- no long numbers yet, and one more offset, which is written if it is large
+pub longs_bytes-nil : (old : List ℕ) → old ≡ old ++ longs_bytes []
+unfolding longs_bytes
+longs_bytes-nil old = sym (append-nil old)
+
+pub large-more : (old before now offsets : List ℕ) (i : ℕ) (b : Bool) → i < length offsets
+    → before ≡ old ++ longs_bytes (large_offsets (take i offsets)) → b ≡ is_large (get_or offsets i 0)
+    → now ≡ before ++ cond b (long_bytes (get_or offsets i 0)) []
+    → now ≡ old ++ longs_bytes (large_offsets (take (i + 1) offsets))
+unfolding longs_bytes
+large-more old before now offsets i true h e k w =
+    let more : large_offsets (take (i + 1) offsets) ≡ large_offsets (take i offsets) ++ get_or offsets i 0 ∷ [] =
+    filter_more is_large offsets i 0 h
+    ∙ ap (λ (b : Bool). large_offsets (take i offsets) ++ cond b (get_or offsets i 0 ∷ []) []) (sym k) in
+    w
+    ∙ ap (λ (bytes : List ℕ). bytes ++ long_bytes (get_or offsets i 0)) e
+    ∙ flat_map_more long_bytes old (large_offsets (take i offsets)) (get_or offsets i 0)
+    ∙ ap (λ (ns : List ℕ). old ++ flat_map long_bytes ns) (sym more)
+large-more old before now offsets i false h e k w =
+    let more : large_offsets (take (i + 1) offsets) ≡ large_offsets (take i offsets) =
+    filter_more is_large offsets i 0 h
+    ∙ ap (λ (b : Bool). large_offsets (take i offsets) ++ cond b (get_or offsets i 0 ∷ []) []) (sym k)
+    ∙ append-nil (large_offsets (take i offsets)) in
+    w ∙ append-nil before ∙ e ∙ ap (λ (ns : List ℕ). old ++ flat_map long_bytes ns) (sym more)
 
 -- the extra words of all commits, as those of each
 pub words_bytes-all : (commits : List PlanCommit)

@@ -1,7 +1,7 @@
 -- Chunks as a file holds them. (gitformat-chunk, "DESCRIPTION".)
-use Rattle.std.specs.Prelude.{ℕ, ◌+◌, ◌*◌, List, [], ◌∷◌, ◌++◌, length}
+use Rattle.std.specs.Prelude.{ℕ, ◌+◌, ◌*◌, List, [], ◌∷◌, ◌++◌, length, Option, Some, None, option_map}
 use Rattle.std.specs.Int.{w32, w64, to_be_bytes}
-use Rattle.std.specs.List.{flat_map}
+use Rattle.std.specs.List.{flat_map, filter_map}
 use Rattle.gix_chunk_core.specs.Entry.{end_id}
 
 -- a number of four bytes, and one of eight
@@ -15,6 +15,24 @@ long_bytes number = to_be_bytes w64 number
 pub record NamedChunk : Type 0 where
   pub id : List ℕ
   pub bytes : List ℕ
+
+-- A chunk that a file may have: its name, and its bytes, which are none where the file does not have it.
+pub record PossibleChunk : Type 0 where
+  pub id : List ℕ
+  pub bytes : Option (List ℕ)
+
+-- the bytes of a chunk that is left out where it would have none
+abbrev pub unless_empty : List ℕ → Option (List ℕ)
+unless_empty [] = None
+unless_empty (byte ∷ bytes) = Some (byte ∷ bytes)
+
+-- a chunk, if a file has it
+abbrev pub if_there : PossibleChunk → Option NamedChunk
+if_there chunk = option_map (λ bytes. record { id = chunk.id; bytes = bytes }) chunk.bytes
+
+-- the chunks that a file has
+abbrev pub those_there : List PossibleChunk → List NamedChunk
+those_there chunks = filter_map if_there chunks
 
 -- the bytes of chunks, one after another
 unfoldable pub chunk_bytes : List NamedChunk → List ℕ

@@ -1,5 +1,6 @@
 pub mod Plan
 pub mod ExtraEdges
+pub mod DateOffsets
 pub mod Chunks
 pub mod Written
 pub mod Said

@@ -1,7 +1,8 @@
 -- When a file can hold what a plan lists. (gitformat-commit-graph.)
-use Rattle.std.specs.Prelude.{◌≡◌, ◌<◌, ◌≤◌, length, All}
+use Rattle.std.specs.Prelude.{◌≡◌, ◌<◌, ◌≤◌, ◌^◌, ℕ, List, length, All, IfSome}
 use Rattle.gix_hash_core.specs.declared.kind.Kind.{Kind}
 use Rattle.gix_hash_core.specs.Kind.{id_len}
+use Rattle.graph_encoder.specs.DateOffsets.{offsets_of}
 use Rattle.graph_encoder.specs.ExtraEdges.{no_parent, top_bit, all_extra_words}
 use Rattle.graph_encoder.specs.declared.plan.LayerPlan.{LayerPlan}
 use Rattle.graph_encoder.specs.declared.plan.PlanCommit.{PlanCommit}
@@ -14,6 +15,11 @@ pub record IsPlannedCommit (kind : Kind) (commit : PlanCommit) : Type 0 where
   pub generation : commit.generation ≤ 1073741823
   pub time : commit.time ≤ 17179869183
 
+-- There is an offset for each of so many commits, and it fits in eight bytes ("Generation Data Overflow").
+pub record AreOffsets (commits : ℕ) (offsets : List ℕ) : Type 0 where
+  pub count : length offsets ≡ commits
+  pub fit : All (λ offset. offset < 2 ^ 64) offsets
+
 -- What one file can hold: the header counts the bases in one byte ("HEADER"), and a field names an extra word in 31 bits
 -- ("Extra Edge List").
 pub record IsPlan (plan : LayerPlan) : Type 0 where
@@ -22,3 +28,4 @@ pub record IsPlan (plan : LayerPlan) : Type 0 where
   pub few_commits : length plan.commits.items < 2147483648
   pub commits : All (IsPlannedCommit plan.kind) plan.commits.items
   pub few_words : length (all_extra_words plan.commits.items) < top_bit
+  pub offsets : IfSome (offsets_of plan) (AreOffsets (length plan.commits.items))

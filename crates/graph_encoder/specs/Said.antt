@@ -1,12 +1,15 @@
 -- When a layer says what a plan says. (gitformat-commit-graph, "CHUNK DATA" and "TRAILER".)
 use Rattle.std.specs.Prelude.{◌≡◌, ◌+◌, ◌<◌, ℕ, List, [], map, length, take, slice_index, slice_get, Option, Some, None}
 use Rattle.std.specs.Prelude.{IsSomeAnd, MatchOption}
+use Rattle.std.specs.List.{zip}
 use Rattle.gix_hash_core.specs.Digest.{digest_of}
 use Rattle.graph_format.specs.Format.{Record, words}
 use Rattle.graph_format.specs.Layer.{Layer, IsLayer}
 use Rattle.graph_format.specs.Parents.{DecodedParents, parents_of}
 use Rattle.graph_encoder.specs.ExtraEdges.{top_bit, all_extra_words}
+use Rattle.graph_chunks.specs.GraphStoredDates.{HasDates, times_in, dates_in}
 use Rattle.graph_encoder.specs.Written.{ids_of, ids_up_to}
+use Rattle.graph_encoder.specs.DateOffsets.{offsets_of}
 use Rattle.graph_encoder.specs.declared.plan.LayerPlan.{LayerPlan}
 use Rattle.graph_encoder.specs.declared.plan.PlanCommit.{PlanCommit}
 
@@ -39,6 +42,9 @@ pub record SaysPlan (plan : LayerPlan) (layer : Layer) : Type 0 where
   pub edges : MatchOption layer.edges (all_extra_words plan.commits.items ≡ [])
       (λ chunk. words chunk ≡ all_extra_words plan.commits.items)
   pub checksum : layer.checksum ≡ digest_of plan.kind layer.body
+  -- the corrected dates are the times with these offsets, and are missing where the plan has none
+  pub dates : MatchOption (offsets_of plan) (HasDates layer → ⊥) (λ offsets.
+      HasDates layer × (dates_in layer ≡ map (λ pair. pair.0 + pair.1) (zip (times_in layer) offsets)))
 
 -- The bytes are a file of a layer that says what the plan says.
 abbrev pub IsFileOf : LayerPlan → List ℕ → List ℕ → Type 0

@@ -1,26 +1,43 @@
--- How many bytes the chunks of a plan's file have.
-use Rattle.std.specs.Prelude.{◌≡◌, ℕ, ◌+◌, ◌++◌, List, [], length, nat_lt, if◌then◌else◌}
-use Rattle.graph_encoder.specs.Chunks.{long_bytes, table_len}
-use Rattle.graph_encoder.specs.ExtraEdges.{all_extra_words}
-use Rattle.graph_encoder.specs.Written.{ids_of, ids_bytes, words_bytes, records_from}
+-- How many bytes the chunks of a plan's file have; for private contracts alone.
+use Rattle.std.specs.Prelude.{ℕ, ◌+◌, ◌++◌, List, [], ◌∷◌, length, map, sum_by, Option, Some, None, option_map, unwrap_or}
+use Rattle.std.specs.Prelude.{is_some, count_by, nat_lt, if◌then◌else◌}
+use Rattle.gix_chunk_core.specs.Entry.{end_id}
+use Rattle.graph_encoder.specs.Chunks.{PossibleChunk, long_bytes}
+use Rattle.graph_encoder.specs.Written.{possible_chunks}
 use Rattle.graph_encoder.specs.declared.plan.LayerPlan.{LayerPlan}
-use Rattle.graph_encoder.specs.declared.sizes.Sizes.{Sizes}
+use Rattle.graph_encoder.specs.declared.sizes.ChunkSize.{ChunkSize}
 
--- These are the sizes of the plan's chunks but for the fan, 0 where a chunk is missing.
-pub record AreSizes (plan : LayerPlan) (sizes : Sizes) : Type 0 where
-  pub ids : sizes.ids ≡ length (ids_bytes (ids_of plan.commits.items))
-  pub records : sizes.records ≡ length (records_from 0 plan.commits.items)
-  pub edges : sizes.edges ≡ length (words_bytes (all_extra_words plan.commits.items))
-  pub bases : sizes.bases ≡ length (ids_bytes plan.bases.items)
+-- the size of a chunk, if it is there
+abbrev pub size_of : PossibleChunk → ChunkSize
+size_of chunk = record { id = chunk.id; size = option_map length chunk.bytes }
 
--- how many chunks there are
-abbrev pub chunk_count_of : Sizes → ℕ
-chunk_count_of sizes = 3 + (if nat_lt 0 sizes.edges then 1 else 0) + (if nat_lt 0 sizes.bases then 1 else 0)
+-- the sizes of all chunks that the file of a plan may have
+abbrev pub sizes_of : LayerPlan → List ChunkSize
+sizes_of plan = map size_of (possible_chunks plan)
 
--- where the first chunk begins, directly after the header and the table
-abbrev pub first_offset_of : Sizes → ℕ
-first_offset_of sizes = 8 + table_len (chunk_count_of sizes)
+-- a size, which is missing where there are no bytes
+abbrev pub unless_zero : ℕ → Option ℕ
+unless_zero size = if nat_lt 0 size then Some size else None
 
--- the table's entry of a chunk that is missing where it has no bytes
-abbrev pub optional_entry : List ℕ → ℕ → ℕ → List ℕ
-optional_entry id offset size = if nat_lt 0 size then (id ++ long_bytes offset) else []
+-- how many bytes a chunk takes
+abbrev pub bytes_in : ChunkSize → ℕ
+bytes_in chunk = unwrap_or chunk.size 0
+
+-- how many of the chunks are there
+abbrev pub number_there : List ChunkSize → ℕ
+number_there chunks = count_by (λ chunk. is_some chunk.size) chunks
+
+-- how many bytes they have together
+abbrev pub total_size : List ChunkSize → ℕ
+total_size chunks = sum_by bytes_in chunks
+
+-- the table's entry of a chunk that lies at an offset, if it is there
+abbrev pub entry_bytes : List ℕ → Option ℕ → ℕ → List ℕ
+entry_bytes id None offset = []
+entry_bytes id (Some size) offset = id ++ long_bytes offset
+
+-- the table of chunks of these sizes that lie one after another from an offset on
+abbrev pub table_by_sizes : ℕ → List ChunkSize → List ℕ
+table_by_sizes offset [] = end_id ++ long_bytes offset
+table_by_sizes offset (chunk ∷ chunks) =
+    entry_bytes chunk.id chunk.size offset ++ table_by_sizes (offset + bytes_in chunk) chunks

@@ -1,12 +1,14 @@
 -- The file of a plan. (gitformat-commit-graph, "HEADER" to "TRAILER".)
-use Rattle.std.specs.Prelude.{ℕ, ◌+◌, ◌*◌, ◌^◌, List, [], ◌∷◌, ◌++◌, map, length, slice_index, nat_le, ◌==◌, count_by}
+use Rattle.std.specs.Prelude.{ℕ, ◌+◌, ◌*◌, ◌^◌, List, [], ◌∷◌, ◌++◌, map, length, slice_index, nat_le, ◌==◌, count_by, codes}
+use Rattle.std.specs.Prelude.{Some, option_map, unwrap_or}
 use Rattle.std.specs.List.{flat_map, range_with_len}
 use Rattle.gix_hash_core.specs.declared.kind.Kind.{Kind}
 use Rattle.gix_hash_core.specs.declared.kind.Kind.TheVariants.{Sha1, Sha256}
 use Rattle.gix_hash_core.specs.Digest.{digest_of}
 use Rattle.graph_format.specs.Format.{signature, fan_id, ids_id, records_id, edges_id, bases_id}
-use Rattle.graph_encoder.specs.Chunks.{NamedChunk, word_bytes, long_bytes, with_chunks}
+use Rattle.graph_encoder.specs.Chunks.{NamedChunk, PossibleChunk, unless_empty, those_there, word_bytes, long_bytes, with_chunks}
 use Rattle.graph_encoder.specs.ExtraEdges.{extra_words, all_extra_words, first_field, second_field}
+use Rattle.graph_encoder.specs.DateOffsets.{offsets_of, large_offsets, offset_words}
 use Rattle.graph_encoder.specs.declared.plan.LayerPlan.{LayerPlan}
 use Rattle.graph_encoder.specs.declared.plan.PlanCommit.{PlanCommit}
 
@@ -39,6 +41,10 @@ ids_with byte ids = count_by (λ id. slice_index id 0 == byte) ids
 unfoldable pub words_bytes : List ℕ → List ℕ
 words_bytes numbers = flat_map word_bytes numbers
 
+-- numbers of eight bytes, one after another
+unfoldable pub longs_bytes : List ℕ → List ℕ
+longs_bytes numbers = flat_map long_bytes numbers
+
 -- ids one after another
 unfoldable pub ids_bytes : List (List ℕ) → List ℕ
 ids_bytes ids = flat_map (λ id. id) ids
@@ -57,24 +63,23 @@ records_from index [] = []
 records_from index (commit ∷ commits) =
     record_bytes index commit ++ records_from (index + length (extra_words commit.parents.items)) commits
 
--- "Extra Edge List": a chunk only where there are such words
-abbrev pub edges_chunks : List ℕ → List NamedChunk
-edges_chunks [] = []
-edges_chunks (word ∷ words) = record { id = edges_id; bytes = words_bytes (word ∷ words) } ∷ []
-
--- "Base Graphs List": a chunk only where there is a base
-abbrev pub bases_chunks : List (List ℕ) → List NamedChunk
-bases_chunks [] = []
-bases_chunks (base ∷ bases) = record { id = bases_id; bytes = ids_bytes (base ∷ bases) } ∷ []
-
--- the chunks in their order
-abbrev pub planned_chunks : LayerPlan → List NamedChunk
-planned_chunks plan =
+-- All chunks that the file of a plan may have, in their order. "Generation Data" is there where the plan has dates, the three
+-- after it where they have bytes.
+abbrev pub possible_chunks : LayerPlan → List PossibleChunk
+possible_chunks plan =
     let commits = plan.commits.items in
-    record { id = fan_id; bytes = words_bytes (exact_fan (ids_of commits)) }
-    ∷ record { id = ids_id; bytes = ids_bytes (ids_of commits) }
-    ∷ record { id = records_id; bytes = records_from 0 commits }
-    ∷ (edges_chunks (all_extra_words commits) ++ bases_chunks plan.bases.items)
+    record { id = fan_id; bytes = Some (words_bytes (exact_fan (ids_of commits))) }
+    ∷ record { id = ids_id; bytes = Some (ids_bytes (ids_of commits)) }
+    ∷ record { id = records_id; bytes = Some (records_from 0 commits) }
+    ∷ record { id = codes "GDA2"; bytes = option_map (λ offsets. words_bytes (offset_words offsets)) (offsets_of plan) }
+    ∷ record { id = codes "GDO2"; bytes = unless_empty (longs_bytes (large_offsets (unwrap_or (offsets_of plan) []))) }
+    ∷ record { id = edges_id; bytes = unless_empty (words_bytes (all_extra_words commits)) }
+    ∷ record { id = bases_id; bytes = unless_empty (ids_bytes plan.bases.items) }
+    ∷ []
+
+-- the chunks of the file
+abbrev pub planned_chunks : LayerPlan → List NamedChunk
+planned_chunks plan = those_there (possible_chunks plan)
 
 -- all but the trailer
 unfoldable pub planned_body : LayerPlan → List ℕ

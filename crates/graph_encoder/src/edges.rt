@@ -14,7 +14,7 @@ use std::alloc::AllocError;
 pub(crate) const NO_PARENT: u32 = 0x70000000;
 
 /// The bit that marks a field as the index of an extra word, and the last word of a commit's list.
-const TOP_BIT: u32 = 0x80000000;
+pub(crate) const TOP_BIT: u32 = 0x80000000;
 
 /// A file has fewer extra words than this.
 const EXTRA_WORDS_LIMIT: usize = 0x80000000;

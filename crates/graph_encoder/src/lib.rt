@@ -1,13 +1,14 @@
 //! Writes a layer of a graph in Git's commit-graph format.
 //!
 //! A [`LayerPlan`] lists what a file is to hold, and [`build`] makes the file: a layer whose
-//! decoded values are the plan's.
+//! decoded values are the plan's. Its corrected dates are the times and offsets of the plan.
 #![tactic(auto)]
 
 mod builder;
 mod edges;
 mod fan;
 mod law;
+mod offsets;
 mod plan;
 mod push;
 mod records;

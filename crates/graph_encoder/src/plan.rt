@@ -1,7 +1,8 @@
 //! What a file is to hold.
 
-ghost use Rattle.std.specs.Prelude.{◌≡◌, ◌↔◌, IsTrue, IfOk, All, length};
+ghost use Rattle.std.specs.Prelude.{◌≡◌, ◌↔◌, IsTrue, IfOk, IfSome, All, [], length, Option, None, unwrap_or};
 ghost use Rattle.gix_hash_core.specs.Kind.{id_len};
+ghost use Rattle.graph_encoder.specs.Plan.{AreOffsets};
 
 use crate::edges::{NO_PARENT, has_few_extra_words};
 use gix_hash_core::{Kind, ObjectId};
@@ -18,6 +19,9 @@ pub struct LayerPlan {
     pub bases: Vec<ObjectId>,
     /// The commits in the order of the file.
     pub commits: Vec<PlanCommit>,
+    /// For each commit how many seconds its corrected date is past its time, or `None` for a layer
+    /// without corrected dates ("Generation Data").
+    pub date_offsets: Option<Vec<u64>>,
 }
 
 /// What a file is to hold for one commit ("Commit Data").
@@ -48,9 +52,10 @@ const MAX_BASES: usize = 255;
 const COMMITS_LIMIT: usize = 2147483648;
 
 impl LayerPlan {
-    ghost use Rattle.graph_encoder.specs.Plan.{IsPlan};
+    ghost use Rattle.graph_encoder.specs.Plan.{IsPlan, AreOffsets};
+    ghost use Rattle.graph_encoder.specs.DateOffsets.{offsets_of};
 
-    /// The plan of a layer of this kind on these bases, without commits.
+    /// The plan of a layer of this kind on these bases, without commits and without dates.
     ///
     /// # Errors
     ///
@@ -59,11 +64,13 @@ impl LayerPlan {
         ensures kind { IfOk result (λ plan. plan.kind ≡ kind) }
         ensures bases { IfOk result (λ plan. plan.bases.items ≡ bases.now) }
         ensures commits { IfOk result (λ plan. length plan.commits.items ≡ 0) }
+        ensures dates { IfOk result (λ plan. plan.date_offsets ≡ None) }
     {
         Ok(LayerPlan {
             kind,
             bases: Vec::from_slice(alloc, bases)?,
             commits: Vec::new(alloc),
+            date_offsets: None,
         })
     }
 
@@ -71,7 +78,7 @@ impl LayerPlan {
     /// bases and fewer than 2147483648 commits, each generation number is at most 1073741823 and
     /// each time at most 17179869183, each parent is below 0x70000000, and there are fewer than
     /// 2147483648 extra words, which are the parents from the second on of each commit that has
-    /// more than two.
+    /// more than two. Where there are date offsets, there is one for each commit.
     pub fn is_buildable(&self) -> bool
         ensures { IsTrue result ↔ IsPlan self.now }
     {
@@ -80,6 +87,28 @@ impl LayerPlan {
             && self.commits.len() < COMMITS_LIMIT
             && self.commits.iter().all(|commit| commit.fits(self.kind))
             && has_few_extra_words(&self.commits)
+            && self.has_offsets_of_all()
+    }
+
+    /// Whether there is an offset for each commit, if there are any.
+    fn has_offsets_of_all(&self) -> bool
+        ensures { IsTrue result
+            ↔ (IfSome (offsets_of self.now) (AreOffsets (length self.now.commits.items))) }
+    {
+        match &self.date_offsets {
+            Some(offsets) => are_offsets(offsets, self.commits.len()),
+            None => true,
+        }
+    }
+
+    /// The date offsets, none of them for a plan without dates.
+    pub(crate) fn offsets(&self) -> &[u64]
+        ensures { result.now ≡ unwrap_or (offsets_of self.now) [] }
+    {
+        match &self.date_offsets {
+            Some(offsets) => offsets,
+            None => &[],
+        }
     }
 }
 
@@ -96,6 +125,13 @@ impl PlanCommit {
             && self.generation <= MAX_GENERATION
             && self.time <= MAX_TIME
     }
+}
+
+/// Whether there is an offset for each of so many commits.
+fn are_offsets(offsets: &[u64], commits: usize) -> bool
+    ensures { IsTrue result ↔ AreOffsets commits offsets.now }
+{
+    offsets.len() == commits
 }
 
 fn is_of_kind(id: &ObjectId, kind: Kind) -> bool

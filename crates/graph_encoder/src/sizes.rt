@@ -1,67 +1,111 @@
 //! How many bytes the chunks of a file have.
 
-ghost use Rattle.std.specs.Prelude.{◌≡◌, ◌+◌, ◌<◌, ◌^◌};
+ghost use Rattle.std.specs.Prelude.{◌≡◌, ◌+◌, ◌*◌, ◌<◌, ◌≤◌, ◌^◌, length, option_map};
 ghost use Rattle.graph_encoder.specs.Plan.{IsPlan};
+ghost use Rattle.graph_encoder.specs.Sizes.{sizes_of, unless_zero, number_there, total_size};
+ghost use Rattle.graph_encoder.specs.Chunks.{table_len};
+ghost use Rattle.graph_encoder.specs.DateOffsets.{offsets_of};
 
 use crate::edges::count_extra_words;
+use crate::offsets::count_large;
 use crate::plan::LayerPlan;
 
 /// The fan has 256 numbers of four bytes.
-pub(crate) const FAN_SIZE: usize = 1024;
+const FAN_SIZE: usize = 1024;
 
 /// The bytes of a record beside its tree's id.
 const RECORD_FIELDS_LEN: usize = 16;
 
 const WORD_LEN: usize = 4;
 
+const LONG_LEN: usize = 8;
+
 const HEADER_LEN: usize = 8;
 
 const TABLE_ENTRY_LEN: usize = 12;
 
-/// The sizes in bytes of all chunks but the fan, 0 where a chunk is missing.
+/// A chunk that a file may have: its name, and its size in bytes, or `None` where the file does not
+/// have it.
 #[derive(Clone, Copy)]
-pub(crate) struct Sizes {
-    pub(crate) ids: usize,
-    pub(crate) records: usize,
-    pub(crate) edges: usize,
-    pub(crate) bases: usize,
+pub(crate) struct ChunkSize {
+    pub(crate) id: [u8; 4],
+    pub(crate) size: Option<usize>,
 }
 
-impl Sizes {
-    ghost use Rattle.graph_encoder.specs.Sizes.{AreSizes, chunk_count_of, first_offset_of};
+/// All chunks that the plan's file may have, in their order.
+pub(crate) fn chunk_sizes(plan: &LayerPlan) -> [ChunkSize; 7]
+    requires { IsPlan plan.now }
+    ensures { result ≡ sizes_of plan.now }
+{
+    let id_len = plan.kind.len_in_bytes();
+    let commits = plan.commits.len();
+    let words = count_extra_words(&plan.commits);
+    [
+        sized(*b"OIDF", Some(FAN_SIZE)),
+        sized(*b"OIDL", Some(id_len * commits)),
+        sized(*b"CDAT", Some((id_len + RECORD_FIELDS_LEN) * commits)),
+        sized(*b"GDA2", offsets_size(plan)),
+        sized(
+            *b"GDO2",
+            unless_zero(LONG_LEN * count_large(plan.offsets())),
+        ),
+        sized(*b"EDGE", unless_zero(WORD_LEN * words)),
+        sized(*b"BASE", unless_zero(id_len * plan.bases.len())),
+    ]
+}
 
-    pub(crate) fn of(plan: &LayerPlan) -> Sizes
-        requires { IsPlan plan.now }
-        ensures { AreSizes plan.now result }
-    {
-        let id_len = plan.kind.len_in_bytes();
-        Sizes {
-            ids: id_len * plan.commits.len(),
-            records: (id_len + RECORD_FIELDS_LEN) * plan.commits.len(),
-            edges: WORD_LEN * count_extra_words(&plan.commits),
-            bases: id_len * plan.bases.len(),
-        }
-    }
+fn sized(id: [u8; 4], size: Option<usize>) -> ChunkSize
+    ensures id { result.id ≡ id }
+    ensures size { result.size ≡ size }
+{
+    ChunkSize { id, size }
+}
 
-    /// How many chunks there are.
-    pub(crate) fn chunk_count(self) -> u8
-        ensures { result ≡ chunk_count_of self }
-    {
-        3 + u8::from(self.edges > 0) + u8::from(self.bases > 0)
-    }
+/// A size, or `None` where a chunk is left out, since it would have no bytes.
+fn unless_zero(size: usize) -> Option<usize>
+    ensures { result ≡ unless_zero size }
+{
+    if size > 0 { Some(size) } else { None }
+}
 
-    /// Where the first chunk begins, directly after the table.
-    pub(crate) fn first_offset(self) -> usize
-        ensures { result ≡ first_offset_of self }
-    {
-        HEADER_LEN + TABLE_ENTRY_LEN * (usize::from(self.chunk_count()) + 1)
+/// The size of "Generation Data", which is there where the plan has dates.
+fn offsets_size(plan: &LayerPlan) -> Option<usize>
+    requires { IsPlan plan.now }
+    ensures { result ≡ option_map (λ offsets. 4 * length offsets) (offsets_of plan.now) }
+{
+    match &plan.date_offsets {
+        Some(offsets) => Some(WORD_LEN * offsets.len()),
+        None => None,
     }
+}
 
-    /// How many bytes the file has before its trailer.
-    pub(crate) fn body_len(self) -> usize
-        requires { self.ids + self.records + self.edges + self.bases < 2 ^ 40 }
-        ensures { result < 2 ^ 41 }
-    {
-        self.first_offset() + FAN_SIZE + self.ids + self.records + self.edges + self.bases
+/// How many of the chunks are there.
+pub(crate) fn chunk_count(chunks: &[ChunkSize]) -> u8
+    requires { length chunks.now ≤ 255 }
+    ensures { result ≡ number_there chunks.now }
+{
+    let mut count = 0;
+    for chunk in chunks {
+        count += u8::from(chunk.size.is_some());
     }
+    count
+}
+
+/// Where the first chunk begins, directly after the header and a table of so many chunks.
+pub(crate) fn first_offset(count: u8) -> usize
+    ensures { result ≡ 8 + table_len count }
+{
+    HEADER_LEN + TABLE_ENTRY_LEN * (usize::from(count) + 1)
+}
+
+/// How many bytes the chunks have together.
+pub(crate) fn total_size(chunks: &[ChunkSize]) -> usize
+    requires { total_size chunks.now < 2 ^ 64 }
+    ensures { result ≡ total_size chunks.now }
+{
+    let mut total = 0;
+    for chunk in chunks {
+        total += chunk.size.unwrap_or(0);
+    }
+    total
 }

@@ -1,20 +1,21 @@
 //! The header, and the table of chunks.
 
 ghost use Rattle.std.specs.Prelude.{◌≡◌, ◌+◌, ◌<◌, ◌≤◌, ◌^◌, ◌++◌, OnOk, IfOk, length};
-ghost use Rattle.graph_encoder.specs.Chunks.{long_bytes, table_from};
-ghost use Rattle.graph_encoder.specs.Plan.{IsPlan};
-ghost use Rattle.graph_encoder.specs.Sizes.{AreSizes, optional_entry, first_offset_of};
-ghost use Rattle.graph_encoder.specs.Written.{header, planned_chunks};
+ghost use Rattle.graph_encoder.specs.Sizes.{bytes_in, entry_bytes, table_by_sizes, total_size};
+ghost use Rattle.graph_encoder.specs.Written.{header};
 
 use crate::plan::LayerPlan;
 use crate::push::push_long;
-use crate::sizes::{FAN_SIZE, Sizes};
+use crate::sizes::ChunkSize;
 use gix_hash_core::Kind;
 use std::alloc::AllocError;
 
 const SIGNATURE: [u8; 4] = *b"CGPH";
 
 const VERSION: u8 = 1;
+
+/// The name of the entry that ends the table.
+const END_ID: [u8; 4] = [0; 4];
 
 /// Adds the header.
 #[tactic(auto, unfolding(crate::specs::Written::header))]
@@ -35,57 +36,36 @@ pub(crate) fn push_header(
     file.extend_from_slice(&[VERSION, kind, chunks, plan.bases.len() as u8])
 }
 
-/// Adds the entry of a chunk of this size in bytes, and returns where the next chunk begins.
-fn push_entry(
-    file: &mut Vec<u8>,
-    id: [u8; 4],
-    offset: usize,
-    size: usize,
-) -> Result<usize, AllocError>
-    requires { offset + size < 2 ^ 64 }
-    ensures entry { OnOk result (file.new.items ≡ file.old.items ++ (id ++ long_bytes offset)) }
-    ensures next { IfOk result (λ next. next ≡ offset + size) }
+/// Adds the entry of a chunk at this offset, if it is there, and returns where the next one begins.
+fn push_entry(file: &mut Vec<u8>, chunk: &ChunkSize, offset: usize) -> Result<usize, AllocError>
+    requires { offset + bytes_in chunk.now < 2 ^ 64 }
+    ensures entry { OnOk result (file.new.items
+        ≡ file.old.items ++ entry_bytes chunk.now.id chunk.now.size offset) }
+    ensures next { IfOk result (λ next. next ≡ offset + bytes_in chunk.now) }
 {
-    file.extend_from_slice(&id)?;
-    push_long(file, offset as u64)?;
-    Ok(offset + size)
-}
-
-/// The same for a chunk that is left out where it would have no bytes.
-fn push_optional_entry(
-    file: &mut Vec<u8>,
-    id: [u8; 4],
-    offset: usize,
-    size: usize,
-) -> Result<usize, AllocError>
-    requires { offset + size < 2 ^ 64 }
-    ensures entry { OnOk result (file.new.items ≡ file.old.items ++ optional_entry id offset size) }
-    ensures next { IfOk result (λ next. next ≡ offset + size) }
-{
-    if size > 0 {
-        push_entry(file, id, offset, size)
-    } else {
-        Ok(offset)
+    match chunk.size {
+        Some(size) => {
+            file.extend_from_slice(&chunk.id)?;
+            push_long(file, offset as u64)?;
+            Ok(offset + size)
+        }
+        None => Ok(offset),
     }
 }
 
-/// Adds the table of the plan's chunks.
+/// Adds the table of these chunks, of which the first that is there begins at this offset.
 pub(crate) fn push_table(
     file: &mut Vec<u8>,
-    plan: &LayerPlan,
-    sizes: Sizes,
+    chunks: &[ChunkSize],
+    first: usize,
 ) -> Result<(), AllocError>
-    requires plan { IsPlan plan.now }
-    requires sizes { AreSizes plan.now sizes }
-    ensures { let table = table_from (first_offset_of sizes) (planned_chunks plan.now) in
-        OnOk result (file.new.items ≡ file.old.items ++ table) }
+    requires { first + total_size chunks.now < 2 ^ 64 }
+    ensures { OnOk result (file.new.items ≡ file.old.items ++ table_by_sizes first chunks.now) }
 {
-    let offset = sizes.first_offset();
-    let ids = push_entry(file, *b"OIDF", offset, FAN_SIZE)?;
-    let records = push_entry(file, *b"OIDL", ids, sizes.ids)?;
-    let edges = push_entry(file, *b"CDAT", records, sizes.records)?;
-    let bases = push_optional_entry(file, *b"EDGE", edges, sizes.edges)?;
-    let end = push_optional_entry(file, *b"BASE", bases, sizes.bases)?;
-    push_entry(file, [0; 4], end, 0)?;
-    Ok(())
+    let mut offset = first;
+    for chunk in chunks {
+        offset = push_entry(file, chunk, offset)?;
+    }
+    file.extend_from_slice(&END_ID)?;
+    push_long(file, offset as u64)
 }

@@ -69,7 +69,7 @@ pub fn planned_commit(
     })
 }
 
-/// The SHA-1 plan of these commits on these bases, each as [`planned_commit`] makes it.
+/// The SHA-1 plan of these commits on these bases, each as [`planned_commit`] makes it, without dates.
 ///
 /// # Errors
 ///
@@ -93,5 +93,6 @@ pub fn plan_of_rows(
         kind: Kind::Sha1,
         bases,
         commits,
+        date_offsets: None,
     })
 }

@@ -138,6 +138,7 @@ fn built(
         kind,
         bases: Vec::from_slice(alloc, bases).expect(rt, "memory"),
         commits,
+        date_offsets: None,
     };
     file_of_plan(alloc, &plan).expect(rt, "a file")
 }
@@ -176,6 +177,7 @@ pub(super) fn line(rt: &impl Abort, alloc: Global, count: u32) -> Memory {
         kind: Kind::Sha1,
         bases: Vec::new(alloc),
         commits,
+        date_offsets: None,
     };
     let mut memory = Memory::new(alloc);
     let file = file_of_plan(alloc, &plan).expect(rt, "a file");

@@ -43,6 +43,7 @@ fn planned(rt: &impl Abort, alloc: Global, rows: &[RightRow<'_>]) -> Vec<u8> {
         kind: Kind::Sha1,
         bases: Vec::new(alloc),
         commits,
+        date_offsets: None,
     };
     file_of_plan(alloc, &plan).expect(rt, "a file")
 }

@@ -23,6 +23,7 @@ fn root_on_a_base(rt: &impl Abort, alloc: Global) -> Vec<u8> {
         kind: Kind::Sha256,
         bases: bases.expect(rt, "memory for a base"),
         commits: vec![in alloc; commit].expect(rt, "memory for a commit"),
+        date_offsets: None,
     };
     assert!(rt; plan.is_buildable());
     build(alloc, &plan).expect(rt, "memory for a file")

@@ -200,6 +200,8 @@ def check_words(installed, results, title, way, graph, sums=(None,)):
         **{("find", name): found(words, layers)[ids[at]] for name, at in
            (("HEAD", -1), (ODD_TAG, 2), ("annotated", 1), (ids[4][:12], 4), ("HEAD^2", -2), (":/commit 0", 0))},
     }
+    if installed.knows_objects:
+        wanted["verify", "--objects", "-j2"] = verified(words) + "objects commits %d\n" % len(ids)
     for question, out in wanted.items():
         answer = installed.ask(way, *question)
         complaint = None if answer == (0, out, "") else "it is %r, expected %r" % (answer, out)
@@ -352,6 +354,10 @@ def check_pool(installed, results, pool, flags):
     check_cure(installed, results, fork, (title, "refused verify 4 layer 0 fault 1\n", 1, start))
     verdicts = installed.ask(Way(pool.folder), "verify").status, pool.git_verdict().status
     results.check("the cure of %s, in the pool" % title, None if verdicts == (0, 0) else "then %r" % (verdicts,))
+    if installed.knows_objects:
+        answer = installed.ask(Way(fork.folder), "verify", "--objects", "-j2")
+        right = answer.status == 0 and answer.out.endswith("\nobjects commits %d\n" % len(history)) and not answer.err
+        results.check("git cgraph verify --objects, layers and commits in a pool", None if right else "it is %r" % (answer,))
     files = [os.path.join(it.chain_path(), name) for it in (pool, fork) for name in os.listdir(it.chain_path())]
     kept = {b"BDAT" in read_bytes(file) for file in files if file.endswith(".graph")}
     complaint = None if kept == {"--changed-paths" in flags} else "it is %s" % kept

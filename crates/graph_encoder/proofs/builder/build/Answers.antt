@@ -1,7 +1,12 @@
 use Rattle.std.proofs.Common.{◌≡◌, List, ℕ, sym, subst}
 use Rattle.graph_encoder.specs.Said.{IsFileOf}
 use Rattle.graph_encoder.specs.Written.{planned_file}
-use Rattle.graph_encoder.proofs.PlannedFile.{sizes-small}
+use Rattle.std.proofs.Common.{◌^◌, ◌<◌, ap, arith}
+use Rattle.graph_encoder.specs.Plan.{IsPlan}
+use Rattle.graph_encoder.specs.Sizes.{sizes_of, total_size}
+use Rattle.graph_encoder.specs.declared.plan.LayerPlan.{LayerPlan}
+use Rattle.graph_encoder.specs.declared.sizes.ChunkSize.{ChunkSize}
+use Rattle.graph_encoder.proofs.PlannedFile.{sizes-small, id-small}
 use Rattle.graph_encoder.proofs.PlannedLayer.{planned_file-read, planned_file-added}
 use Rattle.graph_encoder.proofs.builder.build.Goals as goal
 
@@ -11,8 +16,34 @@ bytes c =
     planned_file-added c.args.plan.now _ _ _ _ _ c.in_ok-push_body.ensures.body c.in_ok-file.ensures.items c.in_ok-push_id.ensures
     c.digest-checksum.ensures c.deref.ensures.value
 
-pub body_len-requires : goal.body_len-requires
-body_len-requires c = sizes-small c.args.plan.now c.of-sizes.result c.requires c.of-sizes.ensures
+-- the chunks are not too large
+small : (plan : LayerPlan) (chunks : List ChunkSize) → IsPlan plan → chunks ≡ sizes_of plan → total_size chunks < 2 ^ 40
+small plan chunks h e = omega (arith, ap total_size e, sizes-small plan h)
+
+pub total_size-requires : goal.total_size-requires
+total_size-requires c = omega (arith, small c.args.plan.now c.chunk_sizes-chunks.result c.requires c.chunk_sizes-chunks.ensures)
+
+pub overflow_add-body : goal.overflow_add-body
+overflow_add-body c =
+    omega (
+      arith,
+      small c.args.plan.now c.chunk_sizes-chunks.result c.requires c.chunk_sizes-chunks.ensures,
+      c.total_size.ensures,
+      c.first_offset.ensures,
+      c.chunk_count.type_inv,
+    )
+
+pub overflow_add-body-2 : goal.overflow_add-body-2
+overflow_add-body-2 c =
+    omega (
+      arith,
+      small c.args.plan.now c.chunk_sizes-chunks.result c.requires c.chunk_sizes-chunks.ensures,
+      c.total_size.ensures,
+      c.first_offset.ensures,
+      c.chunk_count.type_inv,
+      c.len_in_bytes.ensures,
+      id-small c.args.plan.now.kind,
+    )
 
 pub returns-clause-layout : goal.returns-clause-layout
 returns-clause-layout c = bytes c

@@ -1,0 +1,1 @@
+-- From the name and the ids to the question.
