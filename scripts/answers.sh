@@ -37,7 +37,7 @@ find_program() {
 #
 # Standard output is 3 here, and 4 leads to the variable `told`.
 ask() {
-    line='' said='' status=2 passed=1
+    line='' said='' held='' status=2 passed=1
     if (exec 3>&1) 2>/dev/null; then
         exec 3>&1
         told=$({ { "$@" 2>&4 3>&- 4>&-; echo "status $?" >&4; } | pass_on >&3 2>/dev/null; } 4>&1)
@@ -71,7 +71,7 @@ pass_on() {
     fi
 }
 
-# Sets `line`, `status` and `said` from the lines of what was told of a program.
+# Sets `line`, `held`, `status` and `said` from the lines of what was told of a program.
 take_apart() {
     rest=$1$newline
     while [ -n "$rest" ]; do

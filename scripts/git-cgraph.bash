@@ -2,7 +2,7 @@
 # hand, `source` this file after Git's.
 
 _git_cgraph() {
-    local commands='verify check distinct list find is-ancestor walk merge-base'
+    local commands='verify check distinct show list find is-ancestor walk merge-base'
     local command
     command=$(__git_find_on_cmdline "$commands")
     local options='-C --object-dir --quiet --progress --no-progress --help --version'

@@ -145,13 +145,17 @@ is_scattered() {
     }
 }
 
+# Makes a folder for files of a moment, `scratch`, if there is none.
+make_scratch() {
+    [ -z "$scratch" ] || return 0
+    scratch=$(mktemp -d) || exit 128
+    trap 'rm -rf "$scratch"' EXIT
+    for signal in HUP INT TERM; do trap "rm -rf \"\$scratch\"; trap - $signal EXIT; kill -$signal \$\$" $signal; done
+}
+
 # Makes a folder of links to the layers of a chain, as the programs look for them beside the chain file.
 gather_layers() {
-    if [ -z "$scratch" ]; then
-        scratch=$(mktemp -d) || exit 128
-        trap 'rm -rf "$scratch"' EXIT
-        for signal in HUP INT TERM; do trap "rm -rf \"\$scratch\"; trap - $signal EXIT; kill -$signal \$\$" $signal; done
-    fi
+    make_scratch
     rm -rf "${scratch:?}/chain"
     mkdir "$scratch/chain"
     cp "$(chain_file)" "$scratch/chain/commit-graph-chain"
@@ -172,7 +176,7 @@ place_graph() {
     place=$home graph=info
     [ "$kind" = file ] || return 0
     case $word in
-    verify | check | distinct) graph=info/commit-graph ;;
+    verify | check | distinct | show) graph=info/commit-graph ;;
     *) is_there "$(chain_file)" || graph=info/commit-graph ;;
     esac
 }

@@ -25,6 +25,8 @@ usage: python3 scripts/real_data GRAPHTOOL HISTORYTOOL TEST_FILTERS [every-value
   all other answers are those of a plain reading; also of version 2, and where bytes were read as unsigned numbers.
 - `ids` and `objects`: right graphs and damaged ones beside the commits as Git writes them, by a plain reading, and beside
   Git's verdict; streams that are cut or changed at each byte; and commits that Git's own commands do not make.
+- `show`: graphs that Git writes, with dates and filters or without, and damaged ones, by a plain reading; and what
+  `git cgraph show` says that they cover, beside Git's own lists, in repositories of every kind.
 - `distinct`: the words of `verify`, and an id that was put into two layers or more, next to one another
   and far apart.
 - each byte of three small files, changed to some other values, or with `every-value` to all of them, beside
@@ -68,6 +70,7 @@ from checks import (
     random_checks,
     repeated_checks,
     row_checks,
+    show_checks,
     surroundings_checks,
     sweep_checks,
     verify_checks,
@@ -114,6 +117,7 @@ def check_kind(paths, object_format):
         disk_checks.check_all((program, histories), results, new, differences)
         further_checks.check_all((histories, asker), results, new)
         object_checks.check_all(histories, results, new)
+        show_checks.check_all(histories, results, new)
         damaged_checks.check_all((histories, asker), results, new)
     return results, differences, LINES
 

@@ -7,13 +7,13 @@ from typing import NamedTuple
 
 TOP = os.path.dirname(os.path.dirname(os.path.dirname(os.path.abspath(__file__))))
 TOOLS = ("sh", "awk", "cat", "chmod", "cp", "dirname", "find", "git", "id", "ln", "mkdir", "mktemp", "readlink", "rm", "rmdir")
-MORE_TOOLS = ("grep", "head", "od", "sed", "sleep", "stat", "tail", "touch", "tr", "wc")
+MORE_TOOLS = ("comm", "grep", "head", "od", "sed", "sleep", "sort", "stat", "tail", "touch", "tr", "wc")
 PROGRAMS = ("graphtool", "historytool")
 COPIED = (
     *("git-cgraph", "graphtool", "historytool", "VERSION", "docs/MANUAL.md", "docs/REFUSALS.md"),
     *("docs/PROGRAMS.md", "scripts/programs.awk", "scripts/completions.awk"),
     *("scripts/answers.sh", "scripts/usage.sh", "scripts/repository.sh", "scripts/cures.sh", "scripts/commands"),
-    *("scripts/progress.sh", "scripts/objects.sh"),
+    *("scripts/progress.sh", "scripts/objects.sh", "scripts/show.sh"),
     *("scripts/explain.awk", "scripts/manual.awk", "scripts/alternates.awk"),
     "scripts/git-cgraph.bash",
     *("scripts/install", "scripts/program", "scripts/library", "scripts/package", "bindings/c/commitgraph.h"),

@@ -20,14 +20,14 @@ ODD_REF = "odd';$(id)\"&|<>`\u00e9!#%"
 ECHO = "printf '<%s>' \"$@\"\npwd -P >&2\n"
 """A program that writes its words, and says in which folder it is."""
 
-USAGE = "usage: git cgraph [<options>] verify | check | distinct | list\n   or: git cgraph [<options>] verify [--all-checks] "
+USAGE = "usage: git cgraph [<options>] verify | check | distinct | show | list\n   or: git cgraph [<options>] verify [--all-checks] "
 REVISIONS = ("HEAD", "HEAD~1", "HEAD")
 WORDS = {
     command.word: (command.program, REVISIONS[: command.least() + command.takes_more()])
     for command in commands()
-    if command.by_git and command.word != "list"
+    if command.by_git and command.word not in ("list", "show")
 }
-"""The program that answers each word, and revisions after the word; `list` is by itself."""
+"""The program that answers each word, and revisions after the word; `list` and `show` are by themselves."""
 
 ASKED = {"merge-base": "merge-base-ids"}
 """By which word a program is asked, where that is another."""
@@ -153,7 +153,7 @@ def check_told(results, clone):
     """Help and version, alone and after each word, and outside a repository."""
     version = "git-cgraph " + read("VERSION")
     manual = read("docs", "MANUAL.md")
-    for word in (None, "list", *WORDS):
+    for word in (None, "list", "show", *WORDS):
         before = [word] if word else []
         helps = [ask(clone, [*before, option], clone.folder, ("sh",)) for option in ("--help", "-h")]
         answer = helps[0]

@@ -19,7 +19,8 @@ layer_generations : (layer : Layer) → generations (layer_history layer) ≡ ma
 unfolding layer_history
 layer_generations layer = record_generations layer layer.records
 
-history-push : (layers : List Layer) (layer : Layer) → history_of (layers ++ layer ∷ []) ≡ history_of layers ++ layer_history layer
+history-push : (layers : List Layer) (layer : Layer)
+    → history_of (layers ++ layer ∷ []) ≡ history_of layers ++ layer_history layer
 unfolding history_of
 history-push layers layer =
     flat_map-append layer_history layers (layer ∷ [])

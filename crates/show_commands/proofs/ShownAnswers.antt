@@ -7,12 +7,12 @@ use Rattle.graph_commands.specs.Text.{◌⧺◌}
 use Rattle.graph_commands.specs.WrittenAnswer.{WritesAnswer, WritesRefusal}
 use Rattle.graph_commands.specs.declared.refusal.Refusal.TheVariants.{Open}
 use Rattle.history_commands.specs.declared.check.CheckRefusal.{CheckRefusal}
-use Rattle.show_commands.specs.Show.{MayShow, IsVerdict, graph_text, verdict_line, verdict_status, show_text, show_status}
+use Rattle.show_commands.specs.Show.{MayShow, IsCheckVerdict, graph_text, verdict_line, verdict_status, show_text, show_status}
 
 pub writes_shown : {E : Type 0} (May : Result (List Layer) OpenError → Type 0) (layers : List Layer) (result : Result ℕ E)
     (old new : Option (List ℕ)) → May (Ok layers)
     → IfOk result (WritesAnswer (λ (verdict : Option CheckRefusal). graph_text layers ⧺ verdict_line verdict) verdict_status
-    (IsVerdict layers) old new)
+    (IsCheckVerdict layers) old new)
     → IfOk result (WritesAnswer show_text show_status (MayShow May) old new)
 writes_shown May layers (Ok status) old new opens (verdict, is, written, same) =
     (Ok (layers, verdict), (opens, is), written, same)

@@ -21,8 +21,8 @@ chunk_names =
 abbrev pub chunk_size : Layer → List ℕ → Option ℕ
 chunk_size layer name = option_map length (chunk_of (bytes_of layer) name)
 
--- the three numbers before the filters: the version of the hash, how often a path is hashed, and the least number of bits of a path
--- ("Bloom Filter Data"); none where there are not twelve bytes
+-- the three numbers before the filters: the version of the hash, how often a path is hashed, and the least number of bits of a
+-- path ("Bloom Filter Data"); none where there are not twelve bytes
 abbrev pub header_of : List ℕ → Option FilterHeader
 header_of body =
     if nat_lt (length body) 12 then None

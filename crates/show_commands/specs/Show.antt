@@ -40,13 +40,13 @@ MayFindWrong layers (Dates error) = Sound layers × MayRefuseDates layers error
 MayFindWrong layers (Filters error) = Sound layers × HasRightDates layers × MayRefuseFilters layers error
 
 -- what is found of a graph: nothing wrong, or why it is refused
-abbrev pub IsVerdict : List Layer → Option CheckRefusal → Type 0
-IsVerdict layers None = IsRightThroughout layers
-IsVerdict layers (Some refusal) = MayFindWrong layers refusal
+abbrev pub IsCheckVerdict : List Layer → Option CheckRefusal → Type 0
+IsCheckVerdict layers None = IsRightThroughout layers
+IsCheckVerdict layers (Some refusal) = MayFindWrong layers refusal
 
 -- what `show` may tell: the layers of a graph that the opener may answer, and what is found of it; or why none is opened
 abbrev pub MayShow : (Result (List Layer) OpenError → Type 0) → Result (List Layer × Option CheckRefusal) OpenError → Type 0
-MayShow MayOpen (Ok (layers, verdict)) = MayOpen (Ok layers) × IsVerdict layers verdict
+MayShow MayOpen (Ok (layers, verdict)) = MayOpen (Ok layers) × IsCheckVerdict layers verdict
 MayShow MayOpen (Err error) = MayOpen (Err error)
 
 -- the line of the whole graph: how many layers and commits it has, and its greatest generation number

@@ -29,20 +29,20 @@ pub(crate) fn write_layer<W: Write>(
     write_line(writer, ChunksText(file))
 }
 
-/// Writes the first line of a layer. `WriteFailed` comes where the writer fails.
-fn write_counts<W: Write>(writer: &mut W, number: usize, file: &File) -> Result<(), WriteFailed>
+/// Writes the first line of the layer with this number. `WriteFailed` comes where the writer fails.
+fn write_counts<W: Write>(writer: &mut W, layer: usize, file: &File) -> Result<(), WriteFailed>
     ensures { OnOk result (Appends (W.contents writer.old) (W.contents writer.new)
-        (counts_line number file.now)) }
+        (counts_line layer file.now)) }
 {
     let commits = file.num_commits();
     let hash = hash_name(file.object_hash());
     let bases = file.base_graph_count();
     let dates = has_dates(file);
-    let filters = HeaderText(filter_header(file));
+    let made = HeaderText(filter_header(file));
     write_line(
         writer,
         format_args!(
-            "layer {number} commits {commits} hash {hash} bases {bases} dates {dates} filters {filters}"
+            "layer {layer} commits {commits} hash {hash} bases {bases} dates {dates} filters {made}"
         ),
     )
 }

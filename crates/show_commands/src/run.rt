@@ -9,7 +9,7 @@ ghost use Rattle.graph_commands.specs.OpenerAnswer.{MayOpen};
 ghost use Rattle.graph_commands.specs.WrittenAnswer.{WritesAnswer};
 ghost use Rattle.graph_commands.specs.Text.{◌⧺◌};
 ghost use Rattle.show_commands.specs.Show.{MayShow, show_text, show_status};
-ghost use Rattle.show_commands.specs.Show.{IsVerdict, graph_line, graph_text};
+ghost use Rattle.show_commands.specs.Show.{IsCheckVerdict, graph_line, graph_text};
 ghost use Rattle.show_commands.specs.Show.{verdict_line, verdict_status};
 
 use crate::checking::check_throughout;
@@ -27,7 +27,7 @@ use std::io::Write;
 
 /// Shows the graph that the path opens, whether it is right or not.
 ///
-/// It writes the lines of each layer, the lowest first: its number, and how many commits it has, the
+/// It writes the lines of each layer, the lowest first: its number, how many commits it has, the
 /// kind of its ids, how many layers are below it, whether it has corrected dates, and how its
 /// filters are made, or `none`; its checksum; and the chunks of the format that its file has, each
 /// with its number of bytes. Then comes a line of the whole: how many layers and commits there are,
@@ -59,7 +59,7 @@ pub fn run_show<T: Folder, W: Write>(
 fn show<W: Write>(alloc: Global, graph: &Graph, writer: &mut W) -> Result<u8, WriteFailed>
     ensures { IfOk result (WritesAnswer
         (λ verdict. graph_text graph.now ⧺ verdict_line verdict) verdict_status
-        (IsVerdict graph.now) (W.contents writer.old) (W.contents writer.new)) }
+        (IsCheckVerdict graph.now) (W.contents writer.old) (W.contents writer.new)) }
 {
     write_graph(writer, graph)?;
     match check_throughout(alloc, graph) {
@@ -74,8 +74,8 @@ fn show<W: Write>(alloc: Global, graph: &Graph, writer: &mut W) -> Result<u8, Wr
     }
 }
 
-/// Writes the lines of a graph's layers, and that of the whole. `WriteFailed` comes where the writer
-/// fails.
+/// Writes the lines of a graph's layers, and that of the whole. `WriteFailed` comes where the
+/// writer fails.
 fn write_graph<W: Write>(writer: &mut W, graph: &Graph) -> Result<(), WriteFailed>
     ensures { OnOk result
         (Appends (W.contents writer.old) (W.contents writer.new) (graph_text graph.now)) }

@@ -10,7 +10,7 @@ import shutil
 import subprocess
 
 import refusals
-from checks import disk_checks, verify_checks
+from checks import disk_checks, show_checks, verify_checks
 from damage import trees, wrong_commits, wrong_layout, wrong_trees
 from damage.layer import sealed
 from expected import reading
@@ -73,6 +73,7 @@ def check_all(programs, results, folder, new):
     for kind in ("sha1", "sha256"):
         check_kinds(installed, results, new(kind, "asked"))
         check_split(installed, results, new(kind, "asked, split"))
+        show_checks.check_told(installed, results, os.path.join(folder, "shown, " + kind), new(kind, "asked, shown.git"), Way)
     check_empty(installed, results, new("sha1", "asked, empty"))
     check_abbreviation(installed, results, new("sha1", "asked, abbreviations"))
     check_session(installed, results, os.path.join(folder, "repository"))

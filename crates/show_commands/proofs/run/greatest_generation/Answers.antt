@@ -16,7 +16,8 @@ loop-file-preserved c =
     let at = c.loop-file.file-index in
     let layer = c.file-item.result in
     let more =
-    one_more layers c.layers-file-items.result.now at layer c.layers-file-items.ensures.same c.loop-file-test.true c.file-item.is in
+    one_more layers c.layers-file-items.result.now at layer c.layers-file-items.ensures.same c.loop-file-test.true
+    c.file-item.is in
     let pushed =
     greatest-push (take at layers) layer ∙ ap (λ (l : List Layer). greatest (generations (history_of l))) (sym more) in
     cc

@@ -18,4 +18,5 @@ returns g c =
     let graph = c.args.graph.now in
     let all : take c.loop-number.number graph ≡ graph =
     take_all c.loop-number.number graph (omega (arith, ap length c.layers-layers.ensures.same)) in
-    appends_last c.write_totals.result _ _ _ _ (graph_line graph) _ (rw all at c.loop-number.invariant) c.write_totals.ensures refl
+    appends_last c.write_totals.result _ _ _ _ (graph_line graph) _ (rw all at c.loop-number.invariant)
+    c.write_totals.ensures refl
