@@ -1,6 +1,7 @@
 -- From the bytes that were taken so far to a line.
 use Rattle.std.proofs.Common.{◌≡◌, ℕ, zero, suc, ◌+◌, ◌-◌, ◌<◌, ◌≤◌, Bool, true, false, List, [], ◌∷◌, ◌++◌, Option, Some}
-use Rattle.std.proofs.Common.{None, Vec, vec_len, length, not, take, drop, add-one, refl, sym, ap, subst, ◌∙◌, arith, append_assoc, append-nil, inl, inr, ⊎_elim}
+use Rattle.std.proofs.Common.{None, Vec, vec_len, length, not, take, drop, add-one, refl, sym, ap, subst, ◌∙◌, arith}
+use Rattle.std.proofs.Common.{append_assoc, append-nil, inl, inr, ⊎_elim}
 use Rattle.std.specs.Prelude.{◌==◌, min, slice_index, slice_range, if◌then◌else◌}
 use Rattle.std.specs.List.{slice_split}
 use Rattle.std.specs.Io.KnownBytes.{Consumes, IsAtEnd, Keeps, prepend_known}
@@ -8,7 +9,8 @@ use Rattle.std.proofs.KnownBytes.{Consumes-kept}
 use Rattle.std.specs.Str.Lines.{lines, lines_of_parts, strip_carriage_return}
 use Rattle.std.specs.Global.{Global}
 use Rattle.std.proofs.lemmas.Bool.{cases_lt, eq-eqb, eqb-true, ne_eqb}
-use Rattle.std.proofs.lemmas.List.{drop-drop, drop-take, length-take, nil_from_length, take-append-drop, take_all, take_min, take_more}
+use Rattle.std.proofs.lemmas.List.{drop-drop, drop-take, length-take, nil_from_length, take-append-drop, take_all, take_min}
+use Rattle.std.proofs.lemmas.List.{take_more}
 use Rattle.std.proofs.lemmas.List.Elements.{All-append, All-push}
 use Rattle.std.proofs.lemmas.List.Splits.{length-slice_split, slice_split_at, slice_split_none}
 use Rattle.question_commands.specs.InputLines.{IsKeptAs, LeavesBehind, TakesLine, HasNoLine, most_kept_bytes}
@@ -41,7 +43,8 @@ take_front (suc k) (x ∷ xs) ys = ap (λ (rest : List ℕ). x ∷ rest) (take_f
 
 stripped_length : (text : List ℕ) → length text ≤ length (strip_carriage_return text) + 1
 stripped_length text =
-    elim (slice_index text (length text - 1) == 13) as (λ (ends : Bool). length text ≤ length (if ends then take (length text - 1) text else text) + 1)
+    elim (slice_index text (length text - 1) == 13) as (λ (ends : Bool). length text ≤ length (if ends then take (length text -
+    1) text else text) + 1)
     [ true ↦ omega (arith, length-take (length text - 1) text) | false ↦ omega arith ]
 
 -- what is kept of a line, without its carriage return
@@ -189,5 +192,6 @@ pub taken_to_end : (before known last : Option (List ℕ)) (taken ahead left : L
     → Consumes before last (taken ++ ahead)
 taken_to_end before known last taken ahead left consumed kept none =
     let more = consumes_ahead before last (taken ++ ahead) left
-    (Consumes-kept before known (prepend_known left last) (taken ++ ahead) (consumes_ahead before known taken ahead consumed) kept) in
+    (Consumes-kept before known (prepend_known left last) (taken ++ ahead) (consumes_ahead before known taken ahead consumed)
+    kept) in
     subst (Consumes before last) (ap (λ (l : List ℕ). (taken ++ ahead) ++ l) none ∙ append-nil (taken ++ ahead)) more

@@ -1,5 +1,7 @@
 -- From the words of a line to the question that it asks.
-use Rattle.std.proofs.Common.{◌≡◌, ◌≢◌, ℕ, ◌+◌, ◌≤◌, List, [], ◌∷◌, ◌++◌, suc, Result, Ok, Err, IfErr, IfOk, OnErr, Bool, true, false, Vec, vec_len, add-one, append-nil, append_assoc, drop, length, take, refl, sym, ap, subst, ◌∙◌, arith}
+use Rattle.std.proofs.Common.{◌≡◌, ◌≢◌, ℕ, ◌+◌, ◌≤◌, List, [], ◌∷◌, ◌++◌, suc, Result, Ok, Err, IfErr, IfOk, OnErr, Bool, true}
+use Rattle.std.proofs.Common.{false, Vec, vec_len, add-one, append-nil, append_assoc, drop, length, take, refl, sym, ap, subst}
+use Rattle.std.proofs.Common.{◌∙◌, arith}
 use Rattle.std.specs.Prelude.{◌==◌, if◌then◌else◌}
 use Rattle.std.specs.List.{AllZip}
 use Rattle.std.specs.Result.{is_err}
@@ -88,7 +90,8 @@ pub nothing_asked : (line word : List ℕ) (texts : List (List ℕ)) (name : Nam
     → word ≡ name_text name → ((ids : List (List ℕ)) → FitName name ids → ¬ (AllZip SpellsId texts ids)) → AsksNothing line
 nothing_asked line word texts name are is none asked asks =
     let whole : word ∷ texts ≡ name_text (question_name asked) ∷ asks.0 = sym are ∙ asks.2 in
-    let same : question_name asked ≡ name = one_name (question_name asked) name (let e : name_text (question_name asked) ≡ name_text name = cc in e) in
+    let same : question_name asked ≡ name = one_name (question_name asked) name (let e : name_text (question_name asked) ≡
+    name_text name = cc in e) in
     let those : asks.0 ≡ texts = cc in
     none (question_ids asked) (subst (λ (n : Name). FitName n (question_ids asked)) same (fit_name asked asks.4))
     (subst (λ (t : List (List ℕ)). AllZip SpellsId t (question_ids asked)) those asks.3)
@@ -215,7 +218,8 @@ no_others others empty is holds =
     let counted = eqb-true (vec_len others) 0 (sym is ∙ holds) in
     nil_from_length others.items (omega (arith, sized.0, counted))
 
-pub some_others : (others : Vec (List ℕ) Global) (empty : Bool) → empty ≡ (vec_len others == 0) → empty ≡ false → others.items ≢ []
+pub some_others : (others : Vec (List ℕ) Global) (empty : Bool) → empty ≡ (vec_len others == 0) → empty ≡ false → others.items ≢
+    []
 some_others others empty is fails none =
     let sized = others.ok in
     let counted = eq-eqb (vec_len others) 0 (omega (arith, sized.0, ap length none)) in

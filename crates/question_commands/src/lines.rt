@@ -40,7 +40,8 @@ impl Model for LineReader {
 
     ghost Value = { LineView };
 
-    ghost view = { λ r. record { line = r.line.items; ahead = slice_range r.piece.items r.start r.end } };
+    ghost view = { λ r.
+        record { line = r.line.items; ahead = slice_range r.piece.items r.start r.end } };
 
     ghost invariant = { λ r. (r.start ≤ r.end) × (r.end ≤ length r.piece.items)
         × (length r.piece.items ≡ 65536) };

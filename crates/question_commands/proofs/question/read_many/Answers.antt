@@ -9,7 +9,8 @@ returns-in_default-clause-none c = λ none first others some all. no_first c.arg
 
 pub loop-id-init : goal.loop-id-init
 loop-id-init c =
-    rw c.new-others.ensures.items (one_read c.args.words c.args.words c.next_id.new.words [] c.in-Some.first (none_read c.args.words) c.in-Some.ensures)
+    rw c.new-others.ensures.items (one_read c.args.words c.args.words c.next_id.new.words [] c.in-Some.first (none_read
+    c.args.words) c.in-Some.ensures)
 
 pub loop-id-preserved : goal.loop-id-preserved
 loop-id-preserved c =
@@ -29,7 +30,8 @@ returns-in_err-push-clause-memory c =
 
 pub returns-then-is_empty-clause-none : goal.returns-then-is_empty-clause-none
 returns-then-is_empty-clause-none c = λ none first others some all.
-    let left = none_left c.args.words c.loop-id.words (c.in-Some.first ∷ c.loop-id.others.items) (first ∷ others) c.loop-id.invariant all
+    let left = none_left c.args.words c.loop-id.words (c.in-Some.first ∷ c.loop-id.others.items) (first ∷ others)
+    c.loop-id.invariant all
     c.in_default-next_id.ensures in
     let read = all_read c.args.words c.loop-id.words (c.in-Some.first ∷ c.loop-id.others.items) c.loop-id.invariant left in
     let empty = no_others c.loop-id.others c.is_empty.result c.is_empty.ensures c.if-is_empty.true in
@@ -38,7 +40,8 @@ returns-then-is_empty-clause-none c = λ none first others some all.
 pub returns-clause-some : goal.returns-clause-some
 returns-clause-some c =
     let those = rw c.again.ensures at (c.are_ids.ensures.yes c.if-not-are_ids.false) in
-    let left = none_left c.args.words c.loop-id.words (c.in-Some.first ∷ c.loop-id.others.items) those.0 c.loop-id.invariant those.1
+    let left = none_left c.args.words c.loop-id.words (c.in-Some.first ∷ c.loop-id.others.items) those.0 c.loop-id.invariant
+    those.1
     c.in_default-next_id.ensures in (
       all_read c.args.words c.loop-id.words (c.in-Some.first ∷ c.loop-id.others.items) c.loop-id.invariant left,
       some_others c.loop-id.others c.is_empty.result c.is_empty.ensures c.if-is_empty.false,

@@ -40,13 +40,15 @@ returns-then-not-branch-clause-line g c = λ yes.
     let line = ap (λ (v : LineView). v.line) c.self-in-loop.view_is in
     let before = prepend_known c.args.self.now.ahead (known c.args.reader.now) in
     let consumed = rw view at taken.3 in
-    let some = subst (λ (l : List ℕ). 0 < length l) line (some_bytes c.self-in-loop.inside.line c.is_empty.result c.is_empty.ensures yes) in
+    let some = subst (λ (l : List ℕ). 0 < length l) line (some_bytes c.self-in-loop.inside.line c.is_empty.result
+    c.is_empty.ensures yes) in
     rw end.0
     (takes_last before (known c.read_piece.new.reader) (taken.0 ++ c.loop.self.ahead) c.read_piece.new.self.line
     (taken_to_end before (known c.loop.reader) (known c.read_piece.new.reader) taken.0 c.loop.self.ahead
     c.read_piece.new.self.ahead consumed c.in_ok-read_piece.ensures.kept end.0) end.1
     (none_append taken.0 c.loop.self.ahead taken.1 none.0)
-    (c.in_ok-read_piece.ensures.line ∙ taken_more taken.0 c.loop.self.ahead c.loop.self.line c.take_to_feed.new.self.line taken.2 none.2)
+    (c.in_ok-read_piece.ensures.line ∙ taken_more taken.0 c.loop.self.ahead c.loop.self.line c.take_to_feed.new.self.line taken.2
+    none.2)
     some)
 
 pub returns-then-not-branch-clause-end : goal.returns-then-not-branch-clause-end
@@ -59,12 +61,14 @@ returns-then-not-branch-clause-end g c = λ no.
     let line = ap (λ (v : LineView). v.line) c.self-in-loop.view_is in
     let before = prepend_known c.args.self.now.ahead (known c.args.reader.now) in
     let consumed = rw view at taken.3 in
-    let empty = subst (λ (l : List ℕ). length l ≡ 0) line (no_bytes c.self-in-loop.inside.line c.is_empty.result c.is_empty.ensures no) in
+    let empty = subst (λ (l : List ℕ). length l ≡ 0) line (no_bytes c.self-in-loop.inside.line c.is_empty.result
+    c.is_empty.ensures no) in
     rw end.0
     (takes_none before (known c.read_piece.new.reader) (taken.0 ++ c.loop.self.ahead) c.read_piece.new.self.line
     (taken_to_end before (known c.loop.reader) (known c.read_piece.new.reader) taken.0 c.loop.self.ahead
     c.read_piece.new.self.ahead consumed c.in_ok-read_piece.ensures.kept end.0) end.1
-    (c.in_ok-read_piece.ensures.line ∙ taken_more taken.0 c.loop.self.ahead c.loop.self.line c.take_to_feed.new.self.line taken.2 none.2)
+    (c.in_ok-read_piece.ensures.line ∙ taken_more taken.0 c.loop.self.ahead c.loop.self.line c.take_to_feed.new.self.line taken.2
+    none.2)
     empty)
 
 pub loop-preserved : goal.loop-preserved
@@ -74,6 +78,8 @@ loop-preserved g c =
     let none = c.in_ok-take_to_feed.ensures.none c.if-branch.false in (
       taken.0 ++ c.loop.self.ahead,
       none_append taken.0 c.loop.self.ahead taken.1 none.0,
-      c.in_ok-read_piece.ensures.line ∙ taken_more taken.0 c.loop.self.ahead c.loop.self.line c.take_to_feed.new.self.line taken.2 none.2,
-      Consumes-kept _ (known c.loop.reader) _ (taken.0 ++ c.loop.self.ahead) (consumes_ahead _ (known c.loop.reader) taken.0 c.loop.self.ahead taken.3) c.in_ok-read_piece.ensures.kept,
+      c.in_ok-read_piece.ensures.line ∙ taken_more taken.0 c.loop.self.ahead c.loop.self.line c.take_to_feed.new.self.line
+          taken.2 none.2,
+      Consumes-kept _ (known c.loop.reader) _ (taken.0 ++ c.loop.self.ahead) (consumes_ahead _ (known c.loop.reader) taken.0
+          c.loop.self.ahead taken.3) c.in_ok-read_piece.ensures.kept,
     )

@@ -1,1 +1,0 @@
--- From the name and the ids to the question.
