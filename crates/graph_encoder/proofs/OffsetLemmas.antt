@@ -1,5 +1,6 @@
 -- the offsets of dates that are put one after another, and are read again
-use Rattle.std.proofs.Common.{◌≡◌, ℕ, zero, suc, ◌+◌, ◌-◌, ◌*◌, ◌/◌, ◌^◌, ◌<◌, ◌≤◌, List, [], ◌∷◌, ◌++◌, length, map, take, get_or}
+use Rattle.std.proofs.Common.{◌≡◌, ℕ, zero, suc, ◌+◌, ◌-◌, ◌*◌, ◌/◌, ◌^◌, ◌<◌, ◌≤◌, List, [], ◌∷◌, ◌++◌, length, map, take}
+use Rattle.std.proofs.Common.{get_or}
 use Rattle.std.proofs.Common.{slice_range, Option, Some, None, All, IfSome, MatchOption, Bool, true, false, cond}
 use Rattle.std.proofs.Common.{refl, sym, ap, ◌∙◌, arith, add-zero, append_assoc, length-append, ⊎_elim}
 use Rattle.std.specs.Prelude.{zip, codes, unwrap_or, option_map}
@@ -22,7 +23,8 @@ use Rattle.graph_encoder.specs.Plan.{AreOffsets}
 use Rattle.graph_encoder.specs.Written.{words_bytes, longs_bytes}
 use Rattle.graph_encoder.proofs.Parts.{slice_range-middle}
 use Rattle.graph_encoder.proofs.BuiltTable.{length-long_bytes, long_bytes-read}
-use Rattle.graph_encoder.proofs.Pieces.{All-first, All-others, AllSized, length-flat_map-sized, length-word_bytes, word_bytes-read}
+use Rattle.graph_encoder.proofs.Pieces.{All-first, All-others, AllSized, length-flat_map-sized, length-word_bytes}
+use Rattle.graph_encoder.proofs.Pieces.{word_bytes-read}
 use Rattle.graph_encoder.proofs.PossibleChunks.{unless_empty-bytes}
 
 -- one of several pieces of one size

@@ -8,7 +8,8 @@ use Rattle.gix_hash_core.specs.Digest.{digest_of}
 use Rattle.std.specs.Prelude.{zip, codes}
 use Rattle.graph_chunks.specs.GraphStoredDates.{HasDates, times_in, dates_in}
 use Rattle.graph_encoder.proofs.OffsetLemmas.{dates-said}
-use Rattle.graph_format.specs.Format.{Record, record_of, record_len, pieces, words, commits_of, table_of, chunk_of, fan_id, ids_id}
+use Rattle.graph_format.specs.Format.{Record, record_of, record_len, pieces, words, commits_of, table_of, chunk_of, fan_id}
+use Rattle.graph_format.specs.Format.{ids_id}
 use Rattle.graph_format.specs.Format.{records_id, edges_id, bases_id}
 use Rattle.graph_format.specs.Layer.{Layer, IsLayer}
 use Rattle.graph_encoder.specs.declared.plan.LayerPlan.{LayerPlan}

@@ -9,7 +9,7 @@ use Rattle.std.proofs.lemmas.List.Sums.{sum_by-cons}
 use Rattle.std.proofs.lemmas.Slice.Eq.{bytes_eq-Decides}
 use Rattle.gix_chunk_core.specs.Entry.{end_id}
 use Rattle.graph_encoder.specs.Chunks.{NamedChunk, PossibleChunk, unless_empty, those_there, long_bytes, chunk_bytes, table_from}
-use Rattle.graph_encoder.specs.Sizes.{size_of, bytes_in, unless_zero, number_there, total_size, entry_bytes, table_by_sizes}
+use Rattle.graph_encoder.specs.Sizes.{size_if_there, bytes_in, unless_zero, number_there, total_size, entry_bytes, table_by_sizes}
 use Rattle.graph_encoder.specs.declared.sizes.ChunkSize.{ChunkSize}
 use Rattle.graph_encoder.proofs.Names.{are_named, is_new, differs}
 use Rattle.graph_encoder.proofs.BuiltChunks.{bytes_named}
@@ -117,22 +117,23 @@ size_one id None others rest h = omega (arith, h)
 size_one id (Some bytes) others rest h = omega (arith, h, length-append bytes (chunk_bytes others))
 
 -- how many bytes they have
-pub size_of_those : (chunks : List PossibleChunk) → length (chunk_bytes (those_there chunks)) ≡ total_size (map size_of chunks)
+pub size_of_those : (chunks : List PossibleChunk)
+    → length (chunk_bytes (those_there chunks)) ≡ total_size (map size_if_there chunks)
 unfolding chunk_bytes
 size_of_those [] = refl
 size_of_those (chunk ∷ chunks) =
     size_one chunk.id chunk.bytes (those_there chunks) _ (size_of_those chunks)
-    ∙ sym (sum_by-cons bytes_in (size_of chunk) (map size_of chunks))
+    ∙ sym (sum_by-cons bytes_in (size_if_there chunk) (map size_if_there chunks))
 
 -- the first of them has some of the bytes
 abbrev pub first_size : List PossibleChunk → ℕ
 first_size [] = 0
-first_size (chunk ∷ chunks) = bytes_in (size_of chunk)
+first_size (chunk ∷ chunks) = bytes_in (size_if_there chunk)
 
 pub first-least : (chunks : List PossibleChunk) → first_size chunks ≤ length (chunk_bytes (those_there chunks))
 first-least [] = omega arith
 first-least (chunk ∷ chunks) =
-    omega (arith, size_of_those (chunk ∷ chunks), sum_by-cons bytes_in (size_of chunk) (map size_of chunks))
+    omega (arith, size_of_those (chunk ∷ chunks), sum_by-cons bytes_in (size_if_there chunk) (map size_if_there chunks))
 
 count_one : (id : List ℕ) (bytes : Option (List ℕ)) (others : List NamedChunk) (n : ℕ) → n ≡ length others
     → cond (is_some (option_map length bytes)) 1 0 + n ≡ length (with_one id bytes others)
@@ -140,10 +141,10 @@ count_one id None others n h = omega (arith, h)
 count_one id (Some bytes) others n h = omega (arith, h)
 
 -- how many they are
-pub count_of_those : (chunks : List PossibleChunk) → number_there (map size_of chunks) ≡ length (those_there chunks)
+pub count_of_those : (chunks : List PossibleChunk) → number_there (map size_if_there chunks) ≡ length (those_there chunks)
 count_of_those [] = refl
 count_of_those (chunk ∷ chunks) =
-    count_by-cons (λ (c : ChunkSize). is_some c.size) (size_of chunk) (map size_of chunks)
+    count_by-cons (λ (c : ChunkSize). is_some c.size) (size_if_there chunk) (map size_if_there chunks)
     ∙ count_one chunk.id chunk.bytes (those_there chunks) _ (count_of_those chunks)
 
 few_one : (id : List ℕ) (bytes : Option (List ℕ)) (others : List NamedChunk) (n : ℕ) → length others ≤ n
@@ -167,11 +168,11 @@ table_one offset id (Some bytes) others sizes h =
 
 -- their table
 pub table_of_those : (offset : ℕ) (chunks : List PossibleChunk)
-    → table_by_sizes offset (map size_of chunks) ≡ table_from offset (those_there chunks)
+    → table_by_sizes offset (map size_if_there chunks) ≡ table_from offset (those_there chunks)
 table_of_those offset [] = refl
 table_of_those offset (chunk ∷ chunks) =
-    table_one offset chunk.id chunk.bytes (those_there chunks) (map size_of chunks)
-    (table_of_those (offset + bytes_in (size_of chunk)) chunks)
+    table_one offset chunk.id chunk.bytes (those_there chunks) (map size_if_there chunks)
+    (table_of_those (offset + bytes_in (size_if_there chunk)) chunks)
 
 -- a chunk that is left out where it would have no bytes
 pub unless_empty-bytes : (bytes : List ℕ) → unwrap_or (unless_empty bytes) [] ≡ bytes

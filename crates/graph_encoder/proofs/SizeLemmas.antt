@@ -8,7 +8,7 @@ use Rattle.std.proofs.lemmas.List.Filters.{length-filter_more}
 use Rattle.std.proofs.lemmas.List.Sums.{length-filter, count_by-le-length, sum_by-drop_more}
 use Rattle.graph_encoder.specs.Chunks.{PossibleChunk}
 use Rattle.graph_encoder.specs.DateOffsets.{is_large, large_offsets}
-use Rattle.graph_encoder.specs.Sizes.{size_of, bytes_in, number_there, total_size, entry_bytes, table_by_sizes}
+use Rattle.graph_encoder.specs.Sizes.{size_if_there, bytes_in, number_there, total_size, entry_bytes, table_by_sizes}
 use Rattle.graph_encoder.specs.declared.sizes.ChunkSize.{ChunkSize}
 
 -- what stands past the end of a list
@@ -73,7 +73,7 @@ table-step chunks i offset next before now all h w k a =
     ∙ a
 
 -- seven sizes are those of seven chunks
-pub same_size : (s : ChunkSize) (c : PossibleChunk) → s.id ≡ c.id → s.size ≡ option_map length c.bytes → s ≡ size_of c
+pub same_size : (s : ChunkSize) (c : PossibleChunk) → s.id ≡ c.id → s.size ≡ option_map length c.bytes → s ≡ size_if_there c
 same_size s c h e =
     ap (λ (id : List ℕ). record { id = id; size = s.size }) h ∙ ap (λ (size : Option ℕ). record { id = c.id; size = size }) e
 

@@ -8,12 +8,12 @@ use Rattle.graph_encoder.specs.declared.plan.LayerPlan.{LayerPlan}
 use Rattle.graph_encoder.specs.declared.sizes.ChunkSize.{ChunkSize}
 
 -- the size of a chunk, if it is there
-abbrev pub size_of : PossibleChunk → ChunkSize
-size_of chunk = record { id = chunk.id; size = option_map length chunk.bytes }
+abbrev pub size_if_there : PossibleChunk → ChunkSize
+size_if_there chunk = record { id = chunk.id; size = option_map length chunk.bytes }
 
 -- the sizes of all chunks that the file of a plan may have
 abbrev pub sizes_of : LayerPlan → List ChunkSize
-sizes_of plan = map size_of (possible_chunks plan)
+sizes_of plan = map size_if_there (possible_chunks plan)
 
 -- a size, which is missing where there are no bytes
 abbrev pub unless_zero : ℕ → Option ℕ

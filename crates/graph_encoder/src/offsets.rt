@@ -1,7 +1,8 @@
-//! How far corrected dates are past the times of their commits. (gitformat-commit-graph, "Generation
-//! Data" and "Generation Data Overflow".)
+//! How far corrected dates are past the times of their commits. (gitformat-commit-graph,
+//! "Generation Data" and "Generation Data Overflow".)
 
-ghost use Rattle.std.specs.Prelude.{◌≡◌, ◌+◌, ◌<◌, ◌≤◌, ◌++◌, ◌↔◌, IsTrue, OnOk, length, if◌then◌else◌};
+ghost use Rattle.std.specs.Prelude.{◌≡◌, ◌+◌, ◌<◌, ◌≤◌, ◌++◌, ◌↔◌, IsTrue, OnOk, length};
+ghost use Rattle.std.specs.Prelude.{if◌then◌else◌};
 ghost use Rattle.graph_encoder.specs.ExtraEdges.{top_bit};
 ghost use Rattle.graph_encoder.specs.DateOffsets.{is_large, large_offsets, offset_words};
 ghost use Rattle.graph_encoder.specs.Written.{words_bytes, longs_bytes};

@@ -1,6 +1,7 @@
 //! What a file is to hold.
 
-ghost use Rattle.std.specs.Prelude.{◌≡◌, ◌↔◌, IsTrue, IfOk, IfSome, All, [], length, Option, None, unwrap_or};
+ghost use Rattle.std.specs.Prelude.{◌≡◌, ◌↔◌, IsTrue, IfOk, IfSome, All, [], length, Option, None};
+ghost use Rattle.std.specs.Prelude.{unwrap_or};
 ghost use Rattle.gix_hash_core.specs.Kind.{id_len};
 ghost use Rattle.graph_encoder.specs.Plan.{AreOffsets};
 

@@ -13,6 +13,8 @@ mod chunk_tables;
 #[cfg(test)]
 mod commits;
 #[cfg(test)]
+mod dated;
+#[cfg(test)]
 mod disks;
 #[cfg(test)]
 mod fixtures;

@@ -6,7 +6,8 @@ use Rattle.graph_encoder.proofs.offsets.count_large.Goals as goal
 
 -- one more offset is counted, if it is large
 more : (c : goal.After-from-count)
-    → c.loop-offset.count + c.from-count.result ≡ length (large_offsets (take (c.loop-offset.offset-index + 1) c.args.offsets.now))
+    → c.loop-offset.count + c.from-count.result
+    ≡ length (large_offsets (take (c.loop-offset.offset-index + 1) c.args.offsets.now))
 more c =
     large-counted c.args.offsets.now c.loop-offset.offset-index c.loop-offset.count c.from-count.result c.is_large.result
     c.loop-offset-test.true c.loop-offset.invariant c.is_large.ensures c.from-count.ensures

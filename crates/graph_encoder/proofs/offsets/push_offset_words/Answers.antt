@@ -11,7 +11,8 @@ use Rattle.graph_encoder.proofs.offsets.push_offset_words.Goals as goal
 
 -- one more offset is counted, if it is large
 more : (c : goal.After-from-index)
-    → c.loop-offset.index + c.from-index.result ≡ length (large_offsets (take (c.loop-offset.offset-index + 1) c.args.offsets.now))
+    → c.loop-offset.index + c.from-index.result
+    ≡ length (large_offsets (take (c.loop-offset.offset-index + 1) c.args.offsets.now))
 more c =
     large-counted c.args.offsets.now c.loop-offset.offset-index c.loop-offset.index c.from-index.result c.is_large.result
     c.loop-offset-test.true c.loop-offset.invariant.large c.is_large.ensures c.from-index.ensures

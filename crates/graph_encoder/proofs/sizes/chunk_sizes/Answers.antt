@@ -59,9 +59,12 @@ returns c =
     seven_same c.sized.result c.sized-2.result c.sized-3.result c.sized-4.result c.sized-5.result c.sized-6.result
     c.sized-7.result _ _ _ _ _ _ _
     (same_size c.sized.result
-    (record { id = fan_id; bytes = Some (words_bytes (exact_fan (ids_of c.args.plan.now.commits.items))) }) c.sized.ensures.id (c.sized.ensures.size ∙ ap (λ n. Some n) (sym known.fan)))
-    (same_size c.sized-2.result (record { id = ids_id; bytes = Some (ids_bytes (ids_of c.args.plan.now.commits.items)) }) c.sized-2.ensures.id (c.sized-2.ensures.size ∙ ap (λ n. Some n) (sym (known.ids ∙ ids))))
-    (same_size c.sized-3.result (record { id = records_id; bytes = Some (records_from 0 c.args.plan.now.commits.items) }) c.sized-3.ensures.id
+    (record { id = fan_id; bytes = Some (words_bytes (exact_fan (ids_of c.args.plan.now.commits.items))) })
+    c.sized.ensures.id (c.sized.ensures.size ∙ ap (λ n. Some n) (sym known.fan)))
+    (same_size c.sized-2.result (record { id = ids_id; bytes = Some (ids_bytes (ids_of c.args.plan.now.commits.items)) })
+    c.sized-2.ensures.id (c.sized-2.ensures.size ∙ ap (λ n. Some n) (sym (known.ids ∙ ids))))
+    (same_size c.sized-3.result (record { id = records_id; bytes = Some (records_from 0 c.args.plan.now.commits.items) })
+    c.sized-3.ensures.id
     (c.sized-3.ensures.size ∙ ap (λ n. Some n) (sym (known.records ∙ records))))
     (same_size c.sized-4.result _ c.sized-4.ensures.id
     (c.sized-4.ensures.size ∙ c.offsets_size.ensures ∙ sym (offsets-size (offsets_of c.args.plan.now))))
