@@ -1,4 +1,4 @@
 pub mod HistoryLemmas
 pub mod KnownParentLemmas
 pub mod IdWalkLemmas
-pub mod GraphTallyLemmas
+pub mod ParentSumLemmas

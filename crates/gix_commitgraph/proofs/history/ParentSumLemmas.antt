@@ -15,9 +15,9 @@ use Rattle.gix_commitgraph.specs.declared.verify.Outcome as verify
 use Rattle.gix_commitgraph.proofs.history.HistoryLemmas.{length-history}
 
 -- the numbers of parents of a graph's commits, counted in a map whose keys ascend
-pub graph_tallied : (layers : List Layer) (outcome : verify.Outcome) → tree.IsOrdered nat_cmp outcome.parent_counts
+pub parents_add_up : (layers : List Layer) (outcome : verify.Outcome) → tree.IsOrdered nat_cmp outcome.parent_counts
     → All IsOpened layers → Stats layers outcome → sum (tree.values outcome.parent_counts) ≡ outcome.num_commits
-graph_tallied layers outcome ordered opened stats =
+parents_add_up layers outcome ordered opened stats =
     let history = history_of layers in
     counts_add_up (eq_by_cmp nat_cmp) unsigned_tied outcome.parent_counts.entries (parent_numbers history)
     (IsDistinct-from_sorted nat_cmp (tree.keys outcome.parent_counts) ordered) stats.parent_counts
