@@ -69,7 +69,8 @@ pub fn planned_commit(
     })
 }
 
-/// The SHA-1 plan of these commits on these bases, each as [`planned_commit`] makes it, without dates.
+/// The SHA-1 plan of these commits on these bases, each as [`planned_commit`] makes it, without
+/// dates.
 ///
 /// # Errors
 ///
