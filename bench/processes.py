@@ -1,15 +1,14 @@
 #!/usr/bin/env python3
-"""Measures whole processes: `graphtool list`, `verify` and `distinct`, and how `verify` grows.
+"""Measures whole processes: `graphtool list`, `verify`, `distinct` and `find`, and how `verify` grows.
 
 usage: python3 bench/processes.py FOLDER [NAME=PROGRAM ..]
 
 FOLDER keeps the files for further runs; making them takes some minutes, and the largest has 1.7 GB.
 The program that scripts/program gives is measured beside each PROGRAM, as one of an older state of
 this repository, and beside bench/lookup/baseline.rs: `PROGRAM list`, with the file as its input,
-`PROGRAM verify PATH` and `PROGRAM distinct PATH`, each where the program ends with 0. The programs take
-turns. A line a figure
-and a program: the least processor time and the least elapsed time of all runs, the greatest memory,
-and the ratio of our processor time to the program's.
+`PROGRAM verify PATH`, `PROGRAM distinct PATH` and `PROGRAM find PATH ID`, each where the program ends
+with 0. The programs take turns. A line a figure and a program: the least processor time and the least
+elapsed time of all runs, the greatest memory, and the ratio of our processor time to the program's.
 
 The files are those of bench/lookup.py, one layer of a million commits and a chain of ten, the same
 commits in a chain of 256 layers, and three layers whose parents stand at random positions, by
@@ -56,6 +55,10 @@ def main(folder, *others):
     for command in ("verify", "distinct"):
         measure("%s, ten layers" % command, programs, [command, chain], None, RUNS)
         measure("%s, %d layers" % (command, MOST_LAYERS), programs, [command, long_chain], None, RUNS)
+    with open(files[lookup.NAMES.index("present")], "rb") as file:
+        wanted = file.read(20).hex()
+    for title, path in (("one layer", layer), ("ten layers", chain)):
+        measure("find, " + title, programs, ["find", path, wanted], None, RUNS)
     for size in SIZES:
         path = random_layer(folder, size)
         measure("verify, %d" % size, programs, ["verify", path], None, RUNS if size < 10_000_000 else LONG_RUNS)
@@ -71,7 +74,7 @@ def measure(figure, programs, words, source, runs):
         best = best_of([run[name] for run in rounds])
         ratio = best_of([run["ours"] for run in rounds]).processor / best.processor
         row = (figure, name, best.processor, best.elapsed, best.memory / 1e6, ratio)
-        print("%-22s %-10s %11.3f %11.3f %9.1f %10.3f" % row, flush=True)
+        print("%-22s %-10s %11.4f %11.4f %9.1f %10.3f" % row, flush=True)
 
 
 def best_of(runs):

@@ -3,7 +3,7 @@
 
 newline='
 '
-filter='' holds='' beside='' where='' advice='' cure=''
+filter='' holds='' beside='' where='' advice='' cure='' commit=''
 
 # Says one line on standard error.
 say() {
@@ -37,7 +37,7 @@ find_program() {
 #
 # Standard output is 3 here, and 4 leads to the variable `told`.
 ask() {
-    line='' said='' status=2 passed=1
+    line='' said='' held='' status=2 passed=1
     if (exec 3>&1) 2>/dev/null; then
         exec 3>&1
         told=$({ { "$@" 2>&4 3>&- 4>&-; echo "status $?" >&4; } | pass_on >&3 2>/dev/null; } 4>&1)
@@ -71,7 +71,7 @@ pass_on() {
     fi
 }
 
-# Sets `line`, `status` and `said` from the lines of what was told of a program.
+# Sets `line`, `held`, `status` and `said` from the lines of what was told of a program.
 take_apart() {
     rest=$1$newline
     while [ -n "$rest" ]; do
@@ -79,6 +79,7 @@ take_apart() {
         rest=${rest#*"$newline"}
         case $part in
         'line '*) line=${part#line } ;;
+        'held '*) held=$held${part#held }$newline ;;
         'status '*) status=${part#status } ;;
         *) said="$said$part$newline" ;;
         esac
@@ -95,7 +96,7 @@ report() {
     [ "$status,$beside" != 0, ] || return 0
     command=$1 path=$2
     shift 2
-    NAME=$name LINE=$line COMMAND=$command IDS=$* COMMIT=$(commit_at "$path") BESIDE=$beside \
+    NAME=$name LINE=$line COMMAND=$command IDS=$* COMMIT=${commit:-$(commit_at "$path")} BESIDE=$beside \
         WHERE=$where ADVICE=$advice CURE=$cure LC_ALL=C \
         awk -f "$top/scripts/explain.awk" "$top/docs/REFUSALS.md" >&2
 }

@@ -164,7 +164,9 @@ is_hindered() {
 diagnose() {
     case $line in
     'refused open 7' | 'refused verify 10' | 'refused dates 6' | 'refused filters 10' | 'refused walk') is_absent=yes ;;
+    'refused read '*) is_absent=yes ;;
     'refused open 1' | 'refused open 2' | 'refused open 3') diagnose_opening ;;
+    'refused objects '*) diagnose_object ;;
     'refused '*)
         name_file
         is_hindered || cure=$(anew)

@@ -3,7 +3,11 @@
 import re
 
 DEFINED = re.compile(r"^(\w+)_number \(?(?:\w+\.)?(\w+)[^=]*= (\d+)$", re.MULTILINE)
-TABLES = ("crates/graph_format/specs/ErrorNumbers.antt", "crates/graph_commands/specs/InputErrorNumbers.antt")
+TABLES = (
+    "crates/graph_format/specs/ErrorNumbers.antt",
+    "crates/graph_commands/specs/InputErrorNumbers.antt",
+    "crates/object_commands/specs/ObjectsRefusalLines.antt",
+)
 REFUSALS, READING = "docs/REFUSALS.md", "scripts/real_data/expected/reading.py"
 
 ROWS = {
@@ -14,6 +18,8 @@ ROWS = {
     "parent": re.compile(r"^\| `!(\d+)` ", re.MULTILINE),
     "id": re.compile(r"^\| `refused id (\d+)` ", re.MULTILINE),
     "read": re.compile(r"^\| `refused read (\d+)` ", re.MULTILINE),
+    "entry": re.compile(r"^\| `refused objects ([1-5]) position P` ", re.MULTILINE),
+    "mismatch": re.compile(r"^\| `refused objects ([6-9]|10) position P(?: index J)?` ", re.MULTILINE),
 }
 """The rows of the document that tell the errors of each kind."""
 
@@ -47,3 +53,58 @@ def wrong_conditions(texts):
     wanted = {(error[0], number) for error, number in numbers.items() if error[0] in ("file", "chunk") and error not in NOT_READ}
     for kind, number in sorted(read ^ wanted):
         yield "%s and the definitions differ in %s error %d" % (READING, kind, number)
+
+
+HEADER, RUST = "bindings/c/commitgraph.h", "bindings/rust/src/codes.rs"
+PYTHON = "bindings/python/commitgraph.py"
+LIBRARY = "crates/commitgraph_c/specs/"
+IN_HEADER = re.compile(r"^    CG_(\w+) = (\d+)", re.MULTILINE)
+SENTENCE = re.compile(r'^    case CG_(\w+): return "(.+)";$', re.MULTILINE)
+IN_RUST = re.compile(r"^pub\(crate\) const (\w+): u32 = (\d+);$", re.MULTILINE)
+IN_PYTHON = re.compile(r"^    ([A-Z]\w+) = (\d+)$", re.MULTILINE)
+IN_PYTHON_SAID = re.compile(r'^    Code\.(\w+): "(.+)",$', re.MULTILINE)
+IN_SPECS = re.compile(
+    r"^(?:\w+_code \S.* = |refusal_of \S.* = refusal_in_\w+ |told_\w+_fault \(.* = without_\w+ )(\d+)\b"
+    r"|^(?:out_of_memory|closed_graph|not_checked|no_such_position|path_not_utf8|no_dates|more_parents) = (\d+)$",
+    re.MULTILINE,
+)
+NEVER = 309
+"""The number of an error of a processor, which no check of the library has."""
+
+GROUPS = {
+    100: ROWS["file"],
+    150: ROWS["chunk"],
+    200: ROWS["graph"],
+    300: re.compile(r"^\| `refused verify (1|2|3|7|8|11)\b", re.MULTILINE),
+    340: re.compile(r"^\| `refused verify 4 layer L fault (\d+)\b", re.MULTILINE),
+    350: ROWS["commit"],
+    360: ROWS["parent"],
+    400: re.compile(r"^\| `refused dates ([1-5])\b", re.MULTILINE),
+    500: re.compile(r"^\| `refused filters ([1-9])\b(?!0)", re.MULTILINE),
+}
+"""The rows of the document whose numbers, added to this one, are those by which the library tells the same causes."""
+
+MEMORY = {120}
+"""The sums of rows that tell of memory, for which the library has one number."""
+
+
+def wrong_codes(texts):
+    """Where the header, the Rust crate, the definitions and the document disagree in the library's numbers of causes."""
+    header = [(name, int(number)) for name, number in IN_HEADER.findall(texts[HEADER])]
+    numbers = {number for _, number in header}
+    if len(numbers) != len(header) or [name for name, _ in SENTENCE.findall(texts[HEADER])] != [name for name, _ in header]:
+        yield "%s has not one number and one sentence for each name" % HEADER
+    if [(name, int(number)) for name, number in IN_PYTHON.findall(texts[PYTHON])] != header:
+        yield "%s has other numbers than the header" % PYTHON
+    if IN_PYTHON_SAID.findall(texts[PYTHON]) != SENTENCE.findall(texts[HEADER]):
+        yield "%s has other sentences than the header" % PYTHON
+    for name, number in IN_RUST.findall(texts[RUST]):
+        if (name, int(number)) not in header:
+            yield "%s: %s is not %s in the header" % (RUST, name, number)
+    specs = "".join(text for path, text in texts.items() if path.startswith(LIBRARY))
+    defined_ = {int(one or other) for one, other in IN_SPECS.findall(specs)} - {NEVER}
+    if defined_ != numbers - {0}:
+        yield "%s and %s differ in %s" % (HEADER, LIBRARY, sorted(defined_ ^ (numbers - {0})))
+    told = {base + int(row) for base, rows in GROUPS.items() for row in rows.findall(texts[REFUSALS])} - MEMORY
+    if told != {number for number in numbers if number > 100}:
+        yield "%s and %s differ in %s" % (HEADER, REFUSALS, sorted(told ^ {number for number in numbers if number > 100}))

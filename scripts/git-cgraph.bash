@@ -2,10 +2,10 @@
 # hand, `source` this file after Git's.
 
 _git_cgraph() {
-    local commands='verify check distinct list find is-ancestor walk merge-base'
+    local commands='verify check distinct show list find is-ancestor walk merge-base'
     local command
     command=$(__git_find_on_cmdline "$commands")
-    local options='-C --object-dir --quiet --help --version'
+    local options='-C --object-dir --quiet --progress --no-progress --help --version'
     case $prev in
     -C | --object-dir)
         compopt -o filenames 2>/dev/null
@@ -15,7 +15,7 @@ _git_cgraph() {
     esac
     case $command,$cur in
     merge-base,-*) __gitcomp "--all --verbose $options" ;;
-    verify,-*) __gitcomp "--all-checks $options" ;;
+    verify,-*) __gitcomp "--all-checks --objects --jobs $options" ;;
     *,-*) __gitcomp "$options" ;;
     ,*) __gitcomp "$commands" ;;
     find,* | is-ancestor,* | walk,* | merge-base,*) __git_complete_refs ;;

@@ -1,6 +1,6 @@
 # Makes texts of docs/MANUAL.md: awk -v mode=usage|help|page [-v word=COMMAND] -f scripts/manual.awk docs/MANUAL.md
 #
-# `usage` is the synopsis, `help` the whole as plain text, or with a word the part on that command, and
+# `usage` is the synopsis, `help` the whole as plain text, or with a word the part on that command and its options, and
 # `page` the manual page, in which -v version=TEXT stands at the foot. The document has headings,
 # indented lines that are kept, items that begin with “- ” and a term in backquotes, and paragraphs.
 
@@ -44,7 +44,7 @@ function heading(text) {
 
 # A line that is kept as it is; those of the synopsis are the usage text.
 function kept(line) {
-    sub(/^ +/, "", line)
+    sub(/^    /, "", line)
     if (mode == "page")
         printf "%s%s\n", is_kept ? "" : (lines++ ? ".PP\n" : "") ".nf\n", section == "Synopsis" ? bold(line) : roff(line)
     else if (section == "Synopsis" && has_word(line)) printf "%s%s\n", usage_start(lines++), line
@@ -83,9 +83,13 @@ function item(term, text) {
     else if (mode == "help" && word == "") {
         printf "  %s\n", plain(term)
         wrap(plain(text), "      ")
+        lines++
     } else if (mode == "help" && section == "Commands" && first_word(plain(term)) == word) {
         print ""
         wrap(plain(text), "")
+    } else if (mode == "help" && text ~ "^With `" word "[ `]") {
+        printf "%s  %s\n", options++ ? "" : "\n", plain(term)
+        wrap(plain(text), "      ")
     }
 }
 

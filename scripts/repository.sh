@@ -128,11 +128,11 @@ layer_file() {
     fi
 }
 
-# Which commit-graph there is at this moment: the object folder, and of a chain its lines. A file is read as it was when it
-# was opened, whatever takes its place.
+# Which commit-graph there is at this moment: the object folder, and of a chain its lines and when they were written. A file is
+# read as it was when it was opened, whatever takes its place.
 identity() {
     echo "$kind $home"
-    [ "$kind" != chain ] || cat "$(chain_file)" 2>/dev/null
+    [ "$kind" != chain ] || { stat -c '%i %z' "$(chain_file)" && cat "$(chain_file)"; } 2>/dev/null
 }
 
 # Whether some layer of a chain stands in another object folder than the chain.
@@ -145,13 +145,17 @@ is_scattered() {
     }
 }
 
+# Makes a folder for files of a moment, `scratch`, if there is none.
+make_scratch() {
+    [ -z "$scratch" ] || return 0
+    scratch=$(mktemp -d) || exit 128
+    trap 'rm -rf "$scratch"' EXIT
+    for signal in HUP INT TERM; do trap "rm -rf \"\$scratch\"; trap - $signal EXIT; kill -$signal \$\$" $signal; done
+}
+
 # Makes a folder of links to the layers of a chain, as the programs look for them beside the chain file.
 gather_layers() {
-    if [ -z "$scratch" ]; then
-        scratch=$(mktemp -d) || exit 128
-        trap 'rm -rf "$scratch"' EXIT
-        for signal in HUP INT TERM; do trap "rm -rf \"\$scratch\"; trap - $signal EXIT; kill -$signal \$\$" $signal; done
-    fi
+    make_scratch
     rm -rf "${scratch:?}/chain"
     mkdir "$scratch/chain"
     cp "$(chain_file)" "$scratch/chain/commit-graph-chain"
@@ -172,7 +176,7 @@ place_graph() {
     place=$home graph=info
     [ "$kind" = file ] || return 0
     case $word in
-    verify | check | distinct) graph=info/commit-graph ;;
+    verify | check | distinct | show) graph=info/commit-graph ;;
     *) is_there "$(chain_file)" || graph=info/commit-graph ;;
     esac
 }
@@ -208,8 +212,10 @@ has_grafts() {
     [ -s "$common/info/grafts" ]
 }
 
+# Whether some branch or tag leads to a commit, be it one that cannot be read.
 has_commits() {
-    [ -n "$(git -c core.commitGraph=false rev-list -n 1 --all 2>/dev/null)" ]
+    tip=$(git -c core.commitGraph=false rev-list -n 1 --all 2>/dev/null) || return 0
+    [ -n "$tip" ]
 }
 
 # Whether the commit-graph has changed-path filters, by the table of chunks of its files.

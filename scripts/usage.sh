@@ -19,9 +19,10 @@ look_up() {
     return 1
 }
 
-# Whether a command that was looked up takes so many ids.
+# Whether a command that was looked up takes so many ids, or positions.
 takes_ids() {
     case $takes in
+    range) [ "$1" -eq 0 ] || [ "$1" -eq 2 ] ;;
     *+) [ "$1" -ge "${takes%+}" ] ;;
     *) [ "$1" -eq "$takes" ] ;;
     esac
@@ -67,6 +68,7 @@ usage() {
             if ($3 == "path") printf " PATH"
             for (id = 1; id <= $4 + 0; id++) printf " HEX"
             if ($4 ~ /\+/) printf ".."
+            if ($4 == "range") printf " [FROM TO]"
         }
         END { print name == "historytool" ? " | --help | --version" : "" }
     ' "$top/scripts/commands"
@@ -79,8 +81,9 @@ help() {
 
 PATH is a commit-graph file, a folder with a chain of them, or an info folder.
 HEX is the id of a commit in hexadecimal.
-
 END
+    [ "$name" != historytool ] || echo 'FROM and TO are positions: the first one, and the one after the last.'
+    echo
     awk -v name="$name" '
         /^#/ || $2 != name { next }
         { word = $1; for (field = 1; field <= 5; field++) sub(/^[^ ]+ +/, ""); printf "%-14s  %s\n", word, $0 }

@@ -109,7 +109,7 @@ fn calls(graph: &Graph) -> Seen {
 
 /// Walks between pairs of commits; and whether there is one, by a call each, and for all in one call.
 fn queries(layers: &str, kind: &str, graph: &Checked, ids: &[u8]) {
-    let position = |id: &[u8]| graph.lookup(id).unwrap();
+    let position = |id: &[u8]| graph.graph().lookup(id).unwrap();
     let pair = |ids: &[u8]| (position(&ids[..ID_LEN]), position(&ids[ID_LEN..]));
     let pairs: Vec<_> = ids.chunks_exact(2 * ID_LEN).map(pair).collect();
     let (mut walks, mut commits, mut visits, mut yes) = (0, 0, 0, 0);
@@ -157,7 +157,7 @@ fn measure(layers: &str, inputs: &Inputs, paths: &[String]) {
     pass("integrity", &|| integrity(&graph));
     pass("calls", &|| calls(&graph));
     drop(graph);
-    let checked = timed(layers, "open_checked", || Checked::of_bytes(&files).unwrap(), |graph| commits(graph));
+    let checked = timed(layers, "open_checked", || Checked::of_bytes(&files).unwrap(), |checked| commits(checked.graph()));
     queries(layers, "any", &checked, &inputs.pairs[0]);
     queries(layers, "newest", &checked, &inputs.pairs[1]);
 }

@@ -12,9 +12,14 @@
  *   running, and none follows.
  * - No call keeps a pointer that it was given. No call is made from a signal handler, or in the child of a process with
  *   threads before it execs. Memory comes from malloc, realloc and free.
- * - Calls with a graph that is CG_CLOSED answer as each says.
+ * - What an out parameter holds before a call does not matter, but for the cg_graph of cg_open and cg_open_checked, which
+ *   has to be CG_CLOSED.
+ * - Where a call answers a code, CG_OK, 0, is a full answer, and any other the number of the cause: see CG_OK. Other codes than
+ *   those that are named beside a call do not come. Calls with a graph that is CG_CLOSED answer CG_CLOSED_GRAPH, or as each says.
  *
- * Link with libcommitgraph_c.a, the library, and liblibc_c.a of the Rattle kit, which asks the program's malloc for memory.
+ * The library is for x86-64 Linux. Link with libcommitgraph.a or libcommitgraph.so.0; memory comes from the program's malloc.
+ * Until version 1.0, a program is built with the header of the library that it is linked with: structs and numbers may change
+ * with the second number of the version, and with it the number of libcommitgraph.so. They do not with the third.
  */
 #ifndef COMMITGRAPH_H
 #define COMMITGRAPH_H
@@ -27,13 +32,107 @@
 extern "C" {
 #endif
 
+/* The version of this header, 0.1.0: 10000 for the first number, 100 for the second and 1 for the third. */
+#define CG_VERSION 100
+
+/* The version of the library, which has to be CG_VERSION. */
+uint32_t cg_version(void);
+
+/* Each cause has one number, the same in all calls; cg_strerror (below) has a sentence for it, and
+ * docs/REFUSALS.md says what to do. */
+enum cg_code {
+    CG_OK = 0,
+    CG_OUT_OF_MEMORY = 1,
+    CG_CLOSED_GRAPH = 2,
+    CG_NOT_CHECKED = 3,
+    CG_NO_SUCH_POSITION = 4,
+    CG_PATH_NOT_UTF8 = 5,
+    CG_NO_DATES = 6,
+
+    /* The bytes of a layer are refused: "file N" in docs/REFUSALS.md. */
+    CG_FILE_TOO_SHORT = 101,
+    CG_FILE_SIGNATURE = 102,
+    CG_FILE_VERSION = 103,
+    CG_FILE_HASH = 104,
+    CG_FILE_BASE_SIZE = 106,
+    CG_FILE_BASE_COUNT = 107,
+    CG_FILE_NO_COMMIT_DATA = 108,
+    CG_FILE_COMMIT_DATA_SIZE = 109,
+    CG_FILE_NO_FAN = 110,
+    CG_FILE_FAN_SIZE = 111,
+    CG_FILE_NO_IDS = 112,
+    CG_FILE_IDS_SIZE = 113,
+    CG_FILE_TOO_MANY_EDGES = 114,
+    CG_FILE_TRAILER = 115,
+    CG_FILE_BASE_MISSING = 116,
+    CG_FILE_FAN_FALLS = 117,
+    CG_FILE_ID_COUNT = 118,
+    CG_FILE_RECORD_COUNT = 119,
+
+    /* Its table of chunks is: "file 5 chunk K". */
+    CG_CHUNK_NONE = 151,
+    CG_CHUNK_TABLE_TOO_SMALL = 152,
+    CG_CHUNK_EARLY_END = 153,
+    CG_CHUNK_DUPLICATE = 154,
+    CG_CHUNK_OUT_OF_FILE = 155,
+    CG_CHUNK_FALLING = 156,
+    CG_CHUNK_NO_END = 157,
+
+    /* Layers make no graph: "graph N". */
+    CG_GRAPH_NO_FILES = 201,
+    CG_GRAPH_TOO_MANY_COMMITS = 202,
+    CG_GRAPH_HASH_MISMATCH = 203,
+
+    /* The check refuses a graph: "verify N", "verify 4 .. fault N" and "verify 5 .. fault N". */
+    CG_CHECK_TOO_MANY_FILES = 301,
+    CG_CHECK_BASE_COUNT = 302,
+    CG_CHECK_BASE_ID = 303,
+    CG_CHECK_PARENT_OUT_OF_RANGE = 307,
+    CG_CHECK_GENERATION = 308,
+    CG_CHECK_DUPLICATE_ID = 311,
+    CG_CHECK_CHECKSUM = 341,
+    CG_CHECK_FILE_NAME = 342,
+    CG_CHECK_FAN = 343,
+    CG_CHECK_NULL_ID = 351,
+    CG_CHECK_ORDER = 352,
+    CG_CHECK_NULL_TREE = 353,
+
+    /* The parents of a commit, or the rest of them, cannot be decoded: "!N". The check refuses them too. */
+    CG_PARENT_SECOND_WITHOUT_FIRST = 361,
+    CG_PARENT_FIRST_IS_EDGE_INDEX = 362,
+    CG_PARENT_NO_EDGE_LIST = 363,
+    CG_PARENT_EDGE_OVERFLOW = 364,
+
+    /* Corrected dates are refused: "dates N". */
+    CG_DATES_DATA_SIZE = 401,
+    CG_DATES_OVERFLOW_SIZE = 402,
+    CG_DATES_OVERFLOW_INDEX = 403,
+    CG_DATES_TOO_LARGE = 404,
+    CG_DATES_WRONG = 405,
+
+    /* Changed-path filters are refused: "filters N". */
+    CG_FILTERS_INDEX_SIZE = 501,
+    CG_FILTERS_DATA_SIZE = 502,
+    CG_FILTERS_VERSION = 503,
+    CG_FILTERS_HASHES = 504,
+    CG_FILTERS_NO_BITS = 505,
+    CG_FILTERS_FALLS = 506,
+    CG_FILTERS_PAST_END = 507,
+    CG_FILTERS_LEFT_OVER = 508,
+    CG_FILTERS_SETTINGS = 509
+};
+
+
 /* No position. Positions count from 0 over all layers, the lowest first, and are below cg_num_commits. */
 #define CG_NOWHERE 0xffffffffu
 
 /* An open graph, or none. */
 typedef struct cg_graph { const void *address; bool opened; } cg_graph;
-#ifdef __cplusplus
-#define CG_CLOSED (cg_graph{ nullptr, false })
+#if defined(__cplusplus) && __cplusplus >= 201103L
+#define CG_CLOSED (cg_graph{ NULL, false })
+#elif defined(__cplusplus)
+static inline cg_graph cg_closed() { cg_graph closed = { NULL, false }; return closed; }
+#define CG_CLOSED (cg_closed())
 #else
 #define CG_CLOSED ((cg_graph){ NULL, false })
 #endif
@@ -42,31 +141,30 @@ typedef struct cg_graph { const void *address; bool opened; } cg_graph;
  * the path's last part is that of a layer of a chain, graph-X.graph, cg_verify checks that X is the file's checksum. */
 typedef struct cg_file { const uint8_t *bytes; size_t len; const uint8_t *path; size_t path_len; } cg_file;
 
-/* Why no graph was opened. `code` is
- *   0  where one was;
- *   2  where the bytes of `layer`, which counts from 0, are no layer: `detail` is the N of "file N" in docs/REFUSALS.md, and where
- *      it is 5, `chunk` the K of "file 5 chunk K"; 20: memory ran out, and they are those of one;
- *   3  where the layers make no graph: `detail` is the N of "graph N" there, and where it is 3, `layer` the first of another kind
- *      of hash than the one below it; 4: memory ran out, and they make one;
- *   4  from cg_open_checked alone, where the check refuses the graph: `detail` is the code of the verdict; 10: memory ran out;
- *   5  where the path of `layer` is not UTF-8.
- * What is not named is 0. The first refusal is told, in the order of the layers. */
-typedef struct cg_error { uint32_t code, detail, chunk; uint64_t layer; } cg_error;
+/* Why no graph was opened, and the layer, counted from 0, that is refused. `code` is
+ *   CG_OK               where one was opened;
+ *   CG_PATH_NOT_UTF8    where the path of `layer` is not UTF-8;
+ *   101 to 199          where the bytes of `layer` are no layer;
+ *   201 to 299          where the layers make no graph: of CG_GRAPH_HASH_MISMATCH `layer` is the first of another kind of hash
+ *                       than the one below it;
+ *   301 to 399          from cg_open_checked alone, where the check refuses the graph: the verdict has more;
+ *   CG_OUT_OF_MEMORY    where nothing else is wrong: at `layer`, or where it is 0 perhaps later.
+ * `layer` is 0 elsewhere. The first refusal is told, in the order of the layers. */
+typedef struct cg_error { uint32_t code; uint64_t layer; } cg_error;
 
-/* Opens the graph of these layers, the lowest first: one file, or the files of a chain (see cg_chain_line). On code 0 *out is the
+/* Opens the graph of these layers, the lowest first: one file, or the files of a chain (see cg_chain_line). On CG_OK *out is the
  * graph, which is the caller's to close; else *out is left as it was. What *out was before is not freed: let it be CG_CLOSED.
  *
  * The bytes and the paths are copied, so that they may go once the call has returned; a graph takes 20 bytes a commit, and 4 a
- * word of the extra edge list, besides the bytes. They are read once, by the copy: where a mapped file changes meanwhile, the
- * graph is one of the bytes that were read, but no proof says so. Only where there is no memory for the copy they are read in
- * place, for what is wrong with them. A mapped file that gets shorter meanwhile ends the program by SIGBUS, as any read of it
- * does; who fears a change reads the file instead. */
+ * word of the extra edge list, besides the bytes. What is no layer is refused before it is copied. All that is read of a graph
+ * is read of the copy: where a mapped file changes meanwhile, the graph is one of the bytes that were copied, but no proof says
+ * so. A mapped file that gets shorter meanwhile ends the program by SIGBUS, as any read of it does; who fears a change reads the
+ * file instead. */
 cg_error cg_open(const cg_file *files, size_t count, cg_graph *out);
 
-/* Opens the graph and checks it, as cg_verify does: code 4, and no graph, where the check refuses it for the reason that
- * *verdict then has, whose number is `detail` (10: memory ran out). *verdict is written where the code is 0 or 4, and `counts`
- * as by cg_verify where it is 0; nothing else is. Only such a graph answers cg_ancestor_walk, cg_is_ancestor, cg_are_ancestors
- * and cg_merge_bases. The rest is as in cg_open. */
+/* Opens the graph and checks it, as cg_verify does. *verdict is always written, and has the code of the error: on CG_OK the
+ * statistics, and then `counts` is written as by cg_verify; on 301 to 399 the fault; elsewhere code and layer alone. Only such a
+ * graph answers cg_ancestor_walk, cg_is_ancestor, cg_are_ancestors and cg_merge_bases. The rest is as in cg_open. */
 struct cg_verdict;
 struct cg_count;
 cg_error cg_open_checked(const cg_file *files, size_t count, bool distinct_ids, struct cg_verdict *verdict,
@@ -101,10 +199,9 @@ bool cg_commit_at(cg_graph graph, uint32_t pos, cg_commit *out);
 uint32_t cg_commits(cg_graph graph, uint32_t first, cg_commit *out, size_t len);
 
 /* The parents of a commit: so many as `count` can be decoded. `code` is
- *   0       where these are all: always so in a graph that was found right;
- *   1 to 4  where the next one cannot be decoded, for the reason of that number, the N of "!N" in docs/REFUSALS.md;
- *   5       where the position is none;
- *   6       of CG_CLOSED. */
+ *   CG_OK                  where these are all: always so in a graph that was found right;
+ *   361 to 364             where the next one cannot be decoded;
+ *   CG_NO_SUCH_POSITION    where the position is none; and CG_CLOSED_GRAPH. */
 typedef struct cg_parent_count { uint32_t code; uint64_t count; } cg_parent_count;
 
 /* Writes the positions of a commit's parents, the first parent first, as many as there is room for. */
@@ -120,75 +217,75 @@ typedef struct cg_block { uint32_t commits; uint64_t length; } cg_block;
 cg_block cg_parents_from(cg_graph graph, uint32_t first, cg_parent_count *answers, size_t answers_len,
                          uint32_t *out, size_t len);
 
-/* What a check found. `code` is 0 where the graph is right: `num_commits` is the number of commits, `longest` that of the edges of
- * the longest walk (0 where that is not known, and has_longest false), and `kinds` that of the different numbers of parents. Else
- * it tells of the first fault, and is the N of "verify N" in docs/REFUSALS.md:
- *   1   too many layers;
- *   2   `layer` has not one base id for each layer below it;
- *   3   its base id of number `index`, which counts from 0, is not the checksum of that layer;
- *   4   `layer` has the fault of number `fault`, where that is 3 at the byte `other` of the fan;
- *   5   the commit at `position` has the fault of number `fault`;
- *   6   its parents cannot be decoded, for the reason of number `fault`, as the code of cg_parents;
- *   7   its parent at position `other` is none of its layer or of those below;
- *   8   its generation number is not `other`;
- *   10  memory ran out before the check was done;
- *   11  its id stands at the earlier position `other` too: only where distinct ids are asked for;
- *   12  CG_CLOSED.
- * What is not named is 0, but for `called`: the number of commits that the check passed before the fault, or of all on code 0.
- * Whoever has something to say of each commit goes over so many, and what is refused among them comes first. It is 0 for 10 and
- * 12, and where cg_open_checked refuses. */
+/* What a check found. `code` is CG_OK where the graph is right: `num_commits` is the number of commits, `longest` that of the
+ * edges of the longest walk (0 where that is not known, and has_longest 0), and `kinds` that of the different numbers of parents.
+ * Else it tells of the first fault:
+ *   CG_CHECK_TOO_MANY_FILES;
+ *   CG_CHECK_BASE_COUNT             `layer` has not one base id for each layer below it;
+ *   CG_CHECK_BASE_ID                its base id of number `index`, which counts from 0, is not the checksum of that layer;
+ *   341 to 343                      `layer` has a fault, and CG_CHECK_FAN at the byte `other`;
+ *   351 to 353                      the commit at `position` has a fault;
+ *   361 to 364                      its parents cannot be decoded;
+ *   CG_CHECK_PARENT_OUT_OF_RANGE    its parent at position `other` is none of its layer or of those below;
+ *   CG_CHECK_GENERATION             its generation number is not `other`;
+ *   CG_CHECK_DUPLICATE_ID           its id stands at the earlier position `other` too: only where distinct ids are asked for;
+ *   CG_OUT_OF_MEMORY                memory ran out before the check was done; and CG_CLOSED_GRAPH.
+ * What is not named is 0, but for `called`: the number of commits that the check passed before the fault, or of all on CG_OK.
+ * Whoever has something to say of each commit goes over so many, and what is refused among them comes first. It is 0 on
+ * CG_OUT_OF_MEMORY and CG_CLOSED_GRAPH, and where cg_open_checked refuses. */
 typedef struct cg_verdict {
-    uint32_t code, num_commits, longest;
-    bool has_longest;
-    uint32_t position, other, fault, called;
+    uint32_t code, num_commits, longest, has_longest;
+    uint32_t position, other, called;
     uint64_t layer, index, kinds;
 } cg_verdict;
 typedef struct cg_count { uint32_t parents, commits; } cg_count;
 
 /* Checks a graph, with `distinct_ids` also that no id stands in two layers. Answers the verdict's code.
- * `counts` gets, from the least number of parents on, how many commits have it, as many as there is room for, where the code
- * is 0, and else nothing. */
+ * `counts` gets, from the least number of parents on, how many commits have it, as many as there is room for, on CG_OK, and else
+ * nothing. */
 uint32_t cg_verify(cg_graph graph, bool distinct_ids, cg_verdict *out, cg_count *counts, size_t counts_len);
 
 /* A search for a walk. `code` is
- *   4  of CG_CLOSED; else
- *   2  where the graph was not opened by cg_open_checked; else
- *   1  where a position is none; else
- *   3  where memory ran out; else
- *   0: `length` is the number of commits on a shortest walk, both ends included, or 0 where there is none, and `visits` that of
- *      the commits that were visited.
- * Where the code is not 0, all else is 0, and nothing is written. Each search fills some memory for each commit of the graph. */
+ *   CG_CLOSED_GRAPH; else
+ *   CG_NOT_CHECKED         where the graph was not opened by cg_open_checked; else
+ *   CG_NO_SUCH_POSITION    where a position is none; else
+ *   CG_OUT_OF_MEMORY; else
+ *   CG_OK: `length` is the number of commits on a shortest walk, both ends included, or 0 where there is none, and `visits`
+ *      that of the commits that were visited.
+ * Where the code is not CG_OK, all else is 0, and nothing is written. Each search fills some memory for each commit of the
+ * graph. */
 typedef struct cg_reached { uint32_t code, visits; uint64_t length; } cg_reached;
 
 /* Looks for a shortest walk along parents, and writes its positions, as many as there is room for. */
 cg_reached cg_ancestor_walk(cg_graph graph, uint32_t from, uint32_t to, uint32_t *out, size_t len);
 
-/* Whether a commit leads to another, along parents: `found` says so where the code is 0, and is false elsewhere. The codes are
- * those of cg_reached. */
+/* Whether a commit is an ancestor of another: `found` says so on CG_OK, and is false elsewhere. The codes are those of
+ * cg_reached. */
 typedef struct cg_leads { uint32_t code; bool found; } cg_leads;
 
-/* Looks whether the commit at `from` leads to the one at `to`, which is then its ancestor. A commit leads to itself. */
-cg_leads cg_is_ancestor(cg_graph graph, uint32_t from, uint32_t to);
+/* Looks whether the commit at `ancestor` is an ancestor of the one at `descendant`, which then leads to it along parents. A
+ * commit is its own ancestor. The order is that of `git merge-base --is-ancestor`. */
+cg_leads cg_is_ancestor(cg_graph graph, uint32_t ancestor, uint32_t descendant);
 
-/* Two commits, by their positions. */
-typedef struct cg_pair { uint32_t from, to; } cg_pair;
+/* Two commits, by their positions, in the order of cg_is_ancestor. */
+typedef struct cg_pair { uint32_t ancestor, descendant; } cg_pair;
 
 /* How many pairs were answered. `code` is
- *   4  of CG_CLOSED; else
- *   2  where the graph was not opened by cg_open_checked; else
- *   0  where `answered` is the smaller of the two lengths, so that each pair was answered for which there is room; else
- *   1  where a position of the next pair, whose number `answered` is, is none; else
- *   3  where memory ran out on that pair.
- * The first `answered` places of the room were written, and no other. It is 0 for 2 and 4. */
+ *   CG_CLOSED_GRAPH; else
+ *   CG_NOT_CHECKED         where the graph was not opened by cg_open_checked; else
+ *   CG_OK                  where `answered` is the smaller of the two lengths: each pair was answered for which there is room; else
+ *   CG_NO_SUCH_POSITION    where a position of the next pair, whose number `answered` is, is none; else
+ *   CG_OUT_OF_MEMORY       where memory ran out on that pair.
+ * The first `answered` places of the room were written, and no other. It is 0 on the first two. */
 typedef struct cg_answered { uint32_t code; uint64_t answered; } cg_answered;
 
-/* Asks for many pairs what cg_is_ancestor asks for one, and writes of each 1 where `from` leads to `to`, and else 0. The memory
- * of the search is filled once for all pairs, which takes most of the time where the commits of a pair are near each other. */
+/* Asks for many pairs what cg_is_ancestor asks for one, and writes of each 1 where `ancestor` is one of `descendant`, and
+ * else 0. The memory of the search is filled once for all pairs, which takes most of the time where the commits of a pair are near each other. */
 cg_answered cg_are_ancestors(cg_graph graph, const cg_pair *pairs, size_t count, uint8_t *out, size_t len);
 
-/* The merge bases of a commit and some others. code 0: there are `length`; `ahead` commits are those that the first leads to
+/* The merge bases of a commit and some others. On CG_OK there are `length`; `ahead` commits are those that the first leads to
  * and none of the others does, and `behind` those that some of the others leads to and the first does not; `visits` commits
- * were visited. The other codes are those of cg_reached; 1 where a position of any of them is none. */
+ * were visited. The other codes are those of cg_reached; CG_NO_SUCH_POSITION where a position of any of them is none. */
 typedef struct cg_bases { uint32_t code, ahead, behind; uint64_t visits, length; } cg_bases;
 
 /* Looks for the merge bases that `git merge-base --all FIRST OTHERS..` names, and writes their positions, the least first, as
@@ -196,27 +293,25 @@ typedef struct cg_bases { uint32_t code, ahead, behind; uint64_t visits, length;
 cg_bases cg_merge_bases(cg_graph graph, uint32_t first, const uint32_t *others, size_t count, uint32_t *out, size_t len);
 
 /* The corrected commit dates of a graph, by which Git orders commits. `code` is
- *   0       where each commit has one, and all are right: there are `length`;
- *   1 to 5  where they are refused, for the reason of that number, the N of "dates N" in docs/REFUSALS.md: those of `layer` (1, 2),
- *           or that of the commit at `position` (3 to 5), whose date has to be `expected` (5). The first refusal is told;
- *   6       where memory ran out;
- *   7       where a layer has no dates, so that Git reads none of the graph;
- *   8       of CG_CLOSED.
+ *   CG_OK               where each commit has one, and all are right: there are `length`;
+ *   401 to 405          where they are refused: those of `layer` (401, 402), or that of the commit at `position` (403 to 405),
+ *                       whose date has to be `expected` (CG_DATES_WRONG). The first refusal is told;
+ *   CG_OUT_OF_MEMORY;
+ *   CG_NO_DATES         where a layer has no dates, so that Git reads none of the graph; and CG_CLOSED_GRAPH.
  * What is not named is 0. */
 typedef struct cg_dates { uint32_t code, position; uint64_t layer, expected, length; } cg_dates;
 
 /* Writes the corrected dates of all commits, in seconds since 1970-01-01 00:00:00 UTC, from position 0 on, as many as there is
- * room for; nothing where the code is not 0. The graph need not be checked: parents are then those that can be decoded. Each call
+ * room for; nothing where the code is not CG_OK. The graph need not be checked: parents are then those that can be decoded. Each call
  * reads and compares all dates, and takes 8 bytes for each commit while it runs. */
 cg_dates cg_corrected_dates(cg_graph graph, uint64_t *out, size_t len);
 
 /* Of how many commits the changed-path filters were asked for a path. `code` is
- *   0       where `answered` is the smaller of the two lengths, so that each commit was answered for which there is room;
- *   1 to 9  where the filters of the graph are refused, for the reason of that number, the N of "filters N" in docs/REFUSALS.md:
- *           those of `layer`, whose version (3) or number of hashes (4) is `number`, or that of the commit at `position` (6, 7);
- *   10      where memory ran out;
- *   11      where the next position, whose number `answered` is, is none;
- *   12      of CG_CLOSED.
+ *   CG_OK                  where `answered` is the smaller of the two lengths: each commit was answered for which there is room;
+ *   501 to 509             where the filters of the graph are refused: those of `layer`, whose version (CG_FILTERS_VERSION) or
+ *                          number of hashes (CG_FILTERS_HASHES) is `number`, or that of the commit at `position` (506, 507);
+ *   CG_OUT_OF_MEMORY;
+ *   CG_NO_SUCH_POSITION    where the next position, whose number `answered` is, is none; and CG_CLOSED_GRAPH.
  * The first `answered` places of the room were written, and no other. What is not named is 0. */
 typedef struct cg_probed { uint32_t code, position, number; uint64_t layer, answered; } cg_probed;
 
@@ -234,6 +329,78 @@ typedef struct cg_line { bool found; size_t end, next; } cg_line;
 
 /* The line that begins at the byte `start` of a chain file: 0 for the first one, and then `next` of the one before. */
 cg_line cg_chain_line(const uint8_t *text, size_t len, size_t start);
+
+/* What happened, as a sentence; another number than those of cg_code is not known. */
+static inline const char *cg_strerror(uint32_t code) {
+    switch (code) {
+    case CG_OK: return "no error";
+    case CG_OUT_OF_MEMORY: return "memory ran out";
+    case CG_CLOSED_GRAPH: return "no graph is open";
+    case CG_NOT_CHECKED: return "the graph was not opened by cg_open_checked";
+    case CG_NO_SUCH_POSITION: return "the graph has no such position";
+    case CG_PATH_NOT_UTF8: return "the path of a layer is not UTF-8";
+    case CG_NO_DATES: return "a layer has no corrected dates";
+    case CG_FILE_TOO_SHORT: return "the file has fewer than 1100 bytes: often it is truncated";
+    case CG_FILE_SIGNATURE: return "the bytes do not begin with `CGPH`";
+    case CG_FILE_VERSION: return "another version than 1";
+    case CG_FILE_HASH: return "another kind of hash than SHA-1 (1) and SHA-256 (2)";
+    case CG_FILE_BASE_SIZE: return "`BASE` ends within an id";
+    case CG_FILE_BASE_COUNT: return "`BASE` has another number of ids than the header says";
+    case CG_FILE_NO_COMMIT_DATA: return "there is no `CDAT`";
+    case CG_FILE_COMMIT_DATA_SIZE: return "`CDAT` ends within a record";
+    case CG_FILE_NO_FAN: return "there is no `OIDF`";
+    case CG_FILE_FAN_SIZE: return "`OIDF` does not have 256 numbers, 1024 bytes";
+    case CG_FILE_NO_IDS: return "there is no `OIDL`";
+    case CG_FILE_IDS_SIZE: return "`OIDL` ends within an id";
+    case CG_FILE_TOO_MANY_EDGES: return "`EDGE` has more than 4,294,967,294 words";
+    case CG_FILE_TRAILER: return "what follows the chunks is not as long as a checksum: often a truncated file";
+    case CG_FILE_BASE_MISSING: return "the header counts base ids, and there is no `BASE`";
+    case CG_FILE_FAN_FALLS: return "a number of `OIDF` is less than the one before it";
+    case CG_FILE_ID_COUNT: return "`OIDL` has another number of ids than `OIDF` says";
+    case CG_FILE_RECORD_COUNT: return "`CDAT` has another number of records than `OIDF` says";
+    case CG_CHUNK_NONE: return "the number of chunks is 0";
+    case CG_CHUNK_TABLE_TOO_SMALL: return "the table of chunks passes the end of the file";
+    case CG_CHUNK_EARLY_END: return "an entry before the last has the id 0";
+    case CG_CHUNK_DUPLICATE: return "two chunks have one id";
+    case CG_CHUNK_OUT_OF_FILE: return "a chunk begins past the end of the file: often a truncated file";
+    case CG_CHUNK_FALLING: return "a chunk ends before it begins";
+    case CG_CHUNK_NO_END: return "the table does not end with the id 0";
+    case CG_GRAPH_NO_FILES: return "the chain file names no layer";
+    case CG_GRAPH_TOO_MANY_COMMITS: return "there are more than 1,879,048,191 commits";
+    case CG_GRAPH_HASH_MISMATCH: return "layers have different kinds of hash";
+    case CG_CHECK_TOO_MANY_FILES: return "there are more than 256 layers";
+    case CG_CHECK_BASE_COUNT: return "a layer has another number of base layers than there are layers before it";
+    case CG_CHECK_BASE_ID: return "a base id of a layer is not the checksum of the layer that it stands for";
+    case CG_CHECK_PARENT_OUT_OF_RANGE: return "a parent of a commit lies past the end of the commit's own layer";
+    case CG_CHECK_GENERATION: return "the generation number of a commit is not one more than the greatest of its parents'";
+    case CG_CHECK_DUPLICATE_ID: return "the id of a commit stands at an earlier position too, in an earlier layer";
+    case CG_CHECK_CHECKSUM: return "the checksum of a layer is not the digest of its bytes: they were changed or lost";
+    case CG_CHECK_FILE_NAME: return "a file is named `graph-X.graph`, and X is not its checksum";
+    case CG_CHECK_FAN: return "the fan (chunk `OIDF`) does not count the ids whose first byte is at most some byte";
+    case CG_CHECK_NULL_ID: return "the id of a commit is null, all zeros";
+    case CG_CHECK_ORDER: return "the id of a commit is not above the one before it in its layer";
+    case CG_CHECK_NULL_TREE: return "the id of the root tree of a commit is null";
+    case CG_PARENT_SECOND_WITHOUT_FIRST: return "the record of a commit in `CDAT` has a second parent and no first";
+    case CG_PARENT_FIRST_IS_EDGE_INDEX: return "the first parent field of a commit points into `EDGE`";
+    case CG_PARENT_NO_EDGE_LIST: return "the second parent field of a commit points into `EDGE`, which is not there";
+    case CG_PARENT_EDGE_OVERFLOW: return "the list of a commit in `EDGE` runs past the end";
+    case CG_DATES_DATA_SIZE: return "`GDA2` has not four bytes for each commit";
+    case CG_DATES_OVERFLOW_SIZE: return "the length of `GDO2` is no multiple of eight";
+    case CG_DATES_OVERFLOW_INDEX: return "the word of a commit is past the end of `GDO2`";
+    case CG_DATES_TOO_LARGE: return "the date of a commit is 2^63 or more";
+    case CG_DATES_WRONG: return "the date of a commit is not its time or, if later, one second after the latest date of its parents";
+    case CG_FILTERS_INDEX_SIZE: return "`BIDX` has not four bytes for each commit";
+    case CG_FILTERS_DATA_SIZE: return "`BDAT` has fewer than twelve bytes";
+    case CG_FILTERS_VERSION: return "the version of the hash of the filters is neither 1 nor 2";
+    case CG_FILTERS_HASHES: return "the number of hashes is 0, or more than 65,535";
+    case CG_FILTERS_NO_BITS: return "the number of bits per entry is 0";
+    case CG_FILTERS_FALLS: return "a commit's filter ends before it begins";
+    case CG_FILTERS_PAST_END: return "a commit's filter ends past the end of `BDAT`";
+    case CG_FILTERS_LEFT_OVER: return "there are bytes after the last filter";
+    case CG_FILTERS_SETTINGS: return "the version or number of hashes is not that of the lowest layer with filters";
+    default: return "a number that is not known";
+    }
+}
 
 #ifdef __cplusplus
 }

@@ -67,8 +67,8 @@ int main(int argc, char **argv) {
     }
     cg_error error = cg_open_checked(&file, 1, false, &verdict, counts, 64, &graph);
     munmap((void *)file.bytes, file.len);
-    if (error.code) {
-        printf("refused: code %" PRIu32 ", number %" PRIu32 "\n", error.code, error.detail);
+    if (error.code != CG_OK) {
+        printf("refused: %s\n", cg_strerror(error.code));
         return 1;
     }
     printf("%" PRIu32 " commits\n", cg_num_commits(graph));

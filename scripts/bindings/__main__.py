@@ -1,8 +1,8 @@
-"""Tests the library for C and Rust: `python3 scripts/bindings [GRAPHTOOL [HISTORYTOOL]]`. Its last line is
+"""Tests the library for C, Rust and Python: `python3 scripts/bindings [GRAPHTOOL [HISTORYTOOL]]`. Its last line is
 `N passed, M failed`.
 
-It builds the static library, where it is not built, over what `rt ci` left, and links it with the kit's own
-heap. What C and Rust list and count is compared with what the program at the path GRAPHTOOL does, and what they
+It builds the static library, where it is not built, over what `rt ci` left, as scripts/library hands it out. What C and
+Rust list and count is compared with what the program at the path GRAPHTOOL does, and what they
 tell of dates and filters also with what the one at HISTORYTOOL does. Where one is not given, or a compiler or a tool is missing,
 one line says what is left out.
 
@@ -18,6 +18,7 @@ import os
 import pathlib
 import real
 import re
+import shlex
 import shutil
 import subprocess
 import sys
@@ -44,6 +45,8 @@ SANITIZED = "-Zsanitizer=thread -Cunsafe-allow-abi-mismatch=sanitizer"
 """Flags of a nightly Rust compiler. Its standard library is not built with them."""
 CALLING_ALL = ("ask.c", "large.c", "memory.c", "threads.c")
 """The programs that make each call. Those of layout.c are the calls that write a struct."""
+IN_HEADER = {"cg_strerror", "cg_closed"}
+"""Functions that the header has whole."""
 STRICT = ["-D_GNU_SOURCE", "-Wall", "-Wextra", "-Wpedantic", "-Werror"]
 COUNTING = threading.Lock()
 passed = failed = 0
@@ -70,8 +73,7 @@ def present(tool, part):
 
 
 def built():
-    """The archives to link with: the library, built if it is older than a source, and the kit's own heap."""
-    archive = proving.made(NAME)
+    """The library, built if it is older than a source."""
     newest = max(path.stat().st_mtime for crate in (NAME, *proving.below(NAME)) for path in proving.source_files(crate))
     if proving.made_at(NAME) < newest:
         try:
@@ -82,7 +84,7 @@ def built():
         except RuntimeError as error:
             complaint = error
         expect("the library is proved and built", not complaint, complaint)
-    return archive, proving.kit() / "c/liblibc_c.a"
+    return pathlib.Path(run(TOP / "scripts/library").stdout.strip())
 
 
 def wait_for_crates(log):
@@ -104,18 +106,18 @@ def exports(archive):
     silent = [name for name, contract in found.items() if "ensures" not in contract]
     expect("each export but cg_close says what it answers", silent == ["cg_close"], silent)
     header, rust = HEADER / "commitgraph.h", TOP / "bindings/rust/src/sys.rs"
-    for path, pattern in ((header, r"^[\w ]+ \*?(cg_\w+)\("), (rust, r"pub fn (cg_\w+)\(")):
+    for path, pattern in ((header, r"^(?!static)[\w ]+ \*?(cg_\w+)\("), (rust, r"pub fn (cg_\w+)\(")):
         declared = re.findall(pattern, path.read_text(), re.MULTILINE)
         expect(f"{path.name} declares the exports", sorted(declared) == sorted(found), declared)
     if present("nm", "the names in the library"):
-        named = re.findall(r" [A-Z] (cg_\w+)$", run("nm", "--extern-only", "--defined-only", archive).stdout, re.MULTILINE)
-        expect("the library has the exports", sorted(named) == sorted(found), named)
+        named = re.findall(r" [A-Z] (\w+)$", run("nm", "--extern-only", "--defined-only", archive).stdout, re.MULTILINE)
+        expect("the library has the exports, and no other names", sorted(named) == sorted(found), named)
     crate = "".join(path.read_text() for path in rust.parent.glob("*.rs"))
     calls = {"the Rust crate": re.findall(r"sys::(cg_\w+)\(", crate)}
     for program in CALLING_ALL:
         calls[program] = re.findall(r"\b(cg_\w+)\(", (HERE / program).read_text())
     for caller, made in calls.items():
-        expect(f"{caller} makes each call", set(made) == set(found), set(found) ^ set(made))
+        expect(f"{caller} makes each call", set(made) - IN_HEADER == set(found), set(found) ^ set(made))
 
 
 def git(where, *words):
@@ -247,10 +249,10 @@ def lines_of(text):
     return [line.removesuffix(b"\r") for line in lines] + ([last] if last else [])
 
 
-def refused_and_shared(name, compiler, archives, scratch, graphs):
+def refused_and_shared(name, compiler, archive, scratch, graphs):
     """Each allocation of each call refused in turn, over a file and over a chain; and four threads that read one graph."""
     program = scratch / compiler / "memory"
-    done = run(compiler, "-std=c11", "-O1", *STRICT, f"-I{HEADER}", HERE / "memory.c", *REFUSING, *archives, "-o", program)
+    done = run(compiler, "-std=c11", "-O1", *STRICT, f"-I{HEADER}", HERE / "memory.c", *REFUSING, archive, "-o", program)
     expect(f"{name}: memory.c", done.returncode == 0, done.stderr)
     for kind, (graph, ids) in graphs.items():
         for layers, tip in (([graph], ids[-1]), (layers_of(chain(scratch, kind)), git(chain(scratch, kind), "rev-parse", "main"))):
@@ -264,7 +266,7 @@ def refused_and_shared(name, compiler, archives, scratch, graphs):
     for tool, flags, words in (("", ["-fsanitize=thread"], []), ("valgrind", [], HELGRIND)):
         program = scratch / compiler / "threads"
         done = run(compiler, "-std=c11", "-O1", *flags, *STRICT, "-pthread", f"-I{HEADER}", HERE / "threads.c",
-                   *archives, "-o", program)
+                   archive, "-o", program)
         if flags and done.returncode:
             print(f"{name}: ThreadSanitizer: left out, since {compiler} does not link it")
         elif not tool or present(tool, "helgrind"):
@@ -279,10 +281,10 @@ def layers_of(where):
     return [folder / f"graph-{name}.graph" for name in (folder / "commit-graph-chain").read_text().split()]
 
 
-def fields(name, compiler, archives, scratch):
+def fields(name, compiler, archive, scratch):
     """What calls write into each field of each struct, read by the layout of the header."""
     program, file = scratch / compiler / "layout", scratch / compiler / "changed"
-    done = run(compiler, "-std=c11", "-O1", *STRICT, f"-I{HEADER}", HERE / "layout.c", *archives, "-o", program)
+    done = run(compiler, "-std=c11", "-O1", *STRICT, f"-I{HEADER}", HERE / "layout.c", archive, "-o", program)
     expect(f"{name}: layout.c", done.returncode == 0, done.stderr)
     graph = scratch / "sha1/.git/objects/info/commit-graph"
     history = layout.History(git(scratch / "sha1", "rev-list", "--parents", "main").splitlines())
@@ -294,7 +296,7 @@ def fields(name, compiler, archives, scratch):
         rows, _ = layout.without_visits(run(program, file).stdout.splitlines())
         told = [row for row in rows if row[0] == "commit"][verdict[4]]
         expect(f"{name}: each field, {fault}", ["verdict", *verdict] in rows and told[3:] == parents + parents, rows)
-        expect(f"{name}: refused, {fault}", ["checked", 4, verdict[0], 0, 0, 0, 0] in rows, rows)
+        expect(f"{name}: refused, {fault}", ["checked", verdict[0], 0, 0, 0] in rows, rows)
     for fault, data, dates in layout.date_faults(graph.read_bytes(), history):
         file.write_bytes(data)
         rows, _ = layout.without_visits(run(program, file).stdout.splitlines())
@@ -308,10 +310,10 @@ def fields(name, compiler, archives, scratch):
         expect(f"{name}: each field, {fault}", rows[0] == ["error", *error] and rows[1] == ["verdict", *verdict], rows)
 
 
-def many_commits(compiler, archives, scratch):
+def many_commits(compiler, archive, scratch):
     """A graph of 300,000 commits through each call, and faults that stand near its end."""
     program, file, questions, answers = (scratch / f"large-{name}" for name in ("program", "graph", "questions", "answers"))
-    done = run(compiler, "-std=c11", "-O1", *STRICT, f"-I{HEADER}", HERE / "large.c", *archives, "-o", program)
+    done = run(compiler, "-std=c11", "-O1", *STRICT, f"-I{HEADER}", HERE / "large.c", archive, "-o", program)
     expect("large.c", done.returncode == 0, done.stderr)
     data = large.graph()
     file.write_bytes(data)
@@ -401,7 +403,7 @@ def checked_by_program(folder):
 def rust_tests(crate, environment):
     """The tests of the Rust crate, and that of its threads under ThreadSanitizer, where a toolchain can."""
     done = run("cargo", "test", "--quiet", "--offline", cwd=crate, env=environment)
-    expect("Rust: tests", done.returncode == 0 and "8 passed" in done.stdout and "4 threads read" in done.stdout, done)
+    expect("Rust: tests", done.returncode == 0 and "14 passed" in done.stdout and "4 threads read" in done.stdout, done)
     command = ["cargo", "+nightly", "test", "--quiet", "--offline", "--test", "threads", "--target", "x86_64-unknown-linux-gnu"]
     at = {**environment, "RUSTFLAGS": SANITIZED}
     if run(*command, "--no-run", cwd=crate, env=at).returncode:
@@ -411,16 +413,28 @@ def rust_tests(crate, environment):
         expect("Rust: ThreadSanitizer", done.returncode == 0 and "4 threads read" in done.stdout, done)
 
 
-def rust(environment, scratch, graphs):
-    """The Rust crate: its tests, its example, and its answers beside those of `graphtool`."""
-    crate = shutil.copytree(TOP / "bindings/rust", scratch / "rust")
+def linked_anew(crate, environment, archive):
+    """A newer archive is linked anew, and a folder that is named by a part of its path is found."""
+    missing = run("cargo", "build", "--offline", cwd=crate, env={**environment, "COMMITGRAPH_LIB": "no/such/folder"})
+    expect("Rust: a folder without the library", "no/such/folder" in missing.stderr and missing.returncode, missing)
+    for named in ({}, {"COMMITGRAPH_LIB": "../../crates/commitgraph_c/out", "PWD": str(crate)}):
+        at = {**environment, **named}
+        built = [run("cargo", "build", "--offline", cwd=crate, env=at) for _ in range(2)]
+        os.utime(archive)
+        built.append(run("cargo", "build", "--offline", cwd=crate, env=at))
+        compiled = ["Compiling" in done.stderr for done in built]
+        expect(f"Rust: linked anew, {named}", compiled == [True, False, True], built)
+
+
+def rust(environment, archive, scratch, graphs):
+    """The Rust crate, in a clone with the library: its tests, its example, and its answers beside those of `graphtool`."""
+    library = scratch / "clone/crates/commitgraph_c/out"
+    library.mkdir(parents=True)
+    shutil.copy(archive, library)
+    crate = shutil.copytree(TOP / "bindings/rust", scratch / "clone/bindings/rust", ignore=shutil.ignore_patterns("target"))
+    rust_tests(crate, environment)
+    linked_anew(crate, environment, library / archive.name)
     graph, ids = graphs["sha1"]
-    history = layout.History(git(scratch / "sha1", "rev-list", "--parents", "main").splitlines())
-    faulty = {fault: data for fault, data, _, _ in layout.faults(graph.read_bytes(), history)}
-    (scratch / "faulty").write_bytes(faulty["number"])
-    folder = chain(scratch, "sha1") / ".git/objects/info/commit-graphs"
-    named = {"COMMIT_GRAPH": graph, "FAULTY_COMMIT_GRAPH": scratch / "faulty", "COMMIT_GRAPHS_FOLDER": folder}
-    rust_tests(crate, {**environment, **{name: str(path) for name, path in named.items()}})
     done = run("cargo", "build", "--quiet", "--offline", "--examples", cwd=crate, env=environment)
     expect("Rust: examples", done.returncode == 0, done)
     built = scratch / "target/debug/examples"
@@ -435,13 +449,13 @@ def rust(environment, scratch, graphs):
     same_chunks("Rust", built / "ask", scratch, folders=True)
 
 
-def c(compiler, archives, scratch, graphs):
+def c(compiler, archive, scratch, graphs):
     """The C programs by a compiler: the answers, the fields, refused allocations, threads, and the example."""
     program = scratch / compiler / "ask"
     program.parent.mkdir()
     for flags in ([], ["-g", "-fsanitize=address,undefined", "-fno-sanitize-recover=undefined"]):
         name = " ".join([compiler, *flags[1:2]])
-        done = run(compiler, "-std=c11", "-O1", *flags, *STRICT, f"-I{HEADER}", HERE / "ask.c", *archives, "-o", program)
+        done = run(compiler, "-std=c11", "-O1", *flags, *STRICT, f"-I{HEADER}", HERE / "ask.c", archive, "-o", program)
         expect(f"{name}: ask.c", done.returncode == 0, done.stderr)
         for kind, (graph, ids) in graphs.items():
             compare(f"{name}, {kind}", program, graph, ids)
@@ -451,14 +465,17 @@ def c(compiler, archives, scratch, graphs):
             same_chunks(name, program, scratch)
         elif present("valgrind", "valgrind"):
             nothing_left(name, program, scratch, graphs)
-    fields(compiler, compiler, archives, scratch)
-    refused_and_shared(compiler, compiler, archives, scratch, graphs)
-    example(compiler, archives, scratch, graphs)
-    headers = [("C11", compiler, "-std=c11", "c"), ("C++17", {"gcc": "g++", "clang": "clang++"}[compiler], "-std=c++17", "c++")]
-    for language, command, standard, kind in headers:
-        if present(command, f"the header as {language}"):
-            done = run(command, standard, *STRICT, "-fsyntax-only", "-x", kind, HEADER / "commitgraph.h")
-            expect(f"{command}: the header alone as {language}", done.returncode == 0, done.stderr)
+    fields(compiler, compiler, archive, scratch)
+    refused_and_shared(compiler, compiler, archive, scratch, graphs)
+    example(compiler, archive, scratch, graphs)
+    plus = {"gcc": "g++", "clang": "clang++"}[compiler]
+    including = scratch / compiler / "including"
+    including.write_text('#include "commitgraph.h"\ncg_graph closed(void);\ncg_graph closed(void) { return CG_CLOSED; }\n')
+    for command, standard in ((compiler, "c99"), (compiler, "c11"), (plus, "c++98"), (plus, "c++17")):
+        if present(command, f"the header as {standard}"):
+            kind = "c++" if command == plus else "c"
+            done = run(command, f"-std={standard}", *STRICT, "-fsyntax-only", f"-I{HEADER}", "-x", kind, including)
+            expect(f"{command}: the header alone as {standard}", done.returncode == 0, done.stderr)
 
 
 def nothing_left(name, program, scratch, graphs):
@@ -476,10 +493,10 @@ def nothing_left(name, program, scratch, graphs):
         expect(f"{name}: valgrind {kind}, a refused file", done.returncode == 1 and not done.stderr, done)
 
 
-def example(compiler, archives, scratch, graphs):
+def example(compiler, archive, scratch, graphs):
     """The example: what it prints of a merge of three parents."""
     program = scratch / compiler / "example"
-    done = run(compiler, "-std=c11", *STRICT, f"-I{HEADER}", HEADER / "example.c", *archives, "-o", program)
+    done = run(compiler, "-std=c11", *STRICT, f"-I{HEADER}", HEADER / "example.c", archive, "-o", program)
     expect(f"{compiler}: example.c", done.returncode == 0, done.stderr)
     for kind, (graph, ids) in graphs.items():
         done = run(program, graph, ids[-1])
@@ -489,15 +506,81 @@ def example(compiler, archives, scratch, graphs):
         expect(f"{compiler}: example, time", record.endswith(" time 1000000000"), done)
 
 
-def parts(archives, scratch, graphs):
+def installed(compilers, scratch, graphs):
+    """What scripts/library puts below a folder, which is then moved: the example over it, as each kind of library is linked."""
+    prefix, ids = scratch / "installed elsewhere", graphs["sha1"][1]
+    done = run(TOP / "scripts/library", "--put", scratch / "put")
+    expect("scripts/library --put", done.returncode == 0, done)
+    (scratch / "put").rename(prefix)
+    put = {str(path.relative_to(prefix)) for path in prefix.rglob("*") if not path.is_dir()}
+    expect("scripts/library --files", put == set(run(TOP / "scripts/library", "--files").stdout.split()), put)
+    page = (prefix / "share/man/man3/commitgraph.3").read_text()
+    header = (prefix / "include/commitgraph.h").read_text()
+    missing = [name for name in re.findall(r"^(?:static inline )?[\w ]+ \*?(cg_[a-z_]+)\(", header, re.MULTILINE) if name not in page]
+    expect("the manual page names each call", missing == ["cg_closed"], missing)
+    number = (TOP / "VERSION").read_text().split(",")[0]
+    first, second, third = map(int, number.split("."))
+    expect("the header has the version", f"#define CG_VERSION {10000 * first + 100 * second + third}\n" in header, number)
+    at = {**os.environ, "PKG_CONFIG_PATH": str(prefix / "lib/pkgconfig"), "LD_LIBRARY_PATH": str(prefix / "lib")}
+    for compiler in compilers if present("pkg-config", "the installed library by pkg-config") else ():
+        for kind, words in (("shared", ""), ("static", "-static"), ("archive", "")):
+            program = scratch / f"installed-{compiler}-{kind}"
+            flags = shlex.split(run("pkg-config", "--cflags", "--libs", "commitgraph", env=at).stdout)
+            if kind == "archive":
+                flags = ["-l:libcommitgraph.a" if word == "-lcommitgraph" else word for word in flags]
+            done = run(compiler, "-D_GNU_SOURCE", *words.split(), HEADER / "example.c", *flags, "-o", program)
+            done = run(program, graphs["sha1"][0], ids[-1], env=at) if done.returncode == 0 else done
+            expect(f"installed, {compiler}, {kind}", done.returncode == 0 and "\nparent " in done.stdout, done)
+    if compilers and present("cmake", "the installed library by CMake"):
+        by_cmake(compilers[0], prefix, scratch, graphs["sha1"][0], ids[-1])
+
+
+CMAKE = """cmake_minimum_required(VERSION 3.10)
+project(example C)
+find_package(commitgraph %s REQUIRED)
+foreach(kind commitgraph static)
+  add_executable(with-${kind} example.c)
+  target_compile_definitions(with-${kind} PRIVATE _GNU_SOURCE)
+  target_link_libraries(with-${kind} commitgraph::${kind})
+endforeach()
+"""
+
+
+def by_cmake(compiler, prefix, scratch, graph, commit):
+    """Both targets; and another version is not taken."""
+    source, number = scratch / "cmake", (TOP / "VERSION").read_text().split(",")[0]
+    source.mkdir()
+    shutil.copy(HEADER / "example.c", source)
+    for wanted, taken in (("99.0", False), (number, True)):
+        (source / "CMakeLists.txt").write_text(CMAKE % wanted)
+        built = source / f"built-{wanted}"
+        done = run("cmake", "-S", source, "-B", built, f"-DCMAKE_PREFIX_PATH={prefix}", f"-DCMAKE_C_COMPILER={compiler}")
+        expect(f"CMake, version {wanted}", (done.returncode == 0) == taken, done)
+    done = run("cmake", "--build", source / f"built-{number}")
+    expect("CMake: built", done.returncode == 0, done)
+    for kind in ("commitgraph", "static"):
+        done = run(source / f"built-{number}/with-{kind}", graph, commit)
+        expect(f"CMake: {kind}", done.returncode == 0 and "\nparent " in done.stdout, done)
+
+
+def python(library):
+    """The module for Python: its tests, over the shared library."""
+    tests = TOP / "bindings/python/test_commitgraph.py"
+    done = run(sys.executable, "-B", tests, env={**os.environ, "COMMITGRAPH_LIB": str(library.parent)})
+    expect("Python: tests", done.returncode == 0 and "Ran 3 tests" in done.stderr, done)
+
+
+def parts(archive, scratch, graphs):
     """The calls for each compiler that is there. One is enough for the graph of many commits."""
     compilers = [compiler for compiler in ("gcc", "clang") if present(compiler, f"C with {compiler}")]
-    yield from (functools.partial(c, compiler, archives, scratch, graphs) for compiler in compilers)
-    yield from (functools.partial(many_commits, compiler, archives, scratch) for compiler in compilers[:1])
+    yield from (functools.partial(c, compiler, archive, scratch, graphs) for compiler in compilers)
+    yield from (functools.partial(many_commits, compiler, archive, scratch) for compiler in compilers[:1])
+    yield functools.partial(installed, compilers, scratch, graphs)
+    yield functools.partial(python, archive)
     if present("cargo", "Rust"):
-        folders = ":".join(str(archive.parent) for archive in archives)
-        at = {**os.environ, "COMMITGRAPH_LIB": folders, "CARGO_TARGET_DIR": str(scratch / "target")}
-        yield functools.partial(rust, at, scratch, graphs)
+        at = {**os.environ, "CARGO_TARGET_DIR": str(scratch / "target")}
+        at.pop("COMMITGRAPH_LIB", None)
+        yield functools.partial(rust, at, archive, scratch, graphs)
 
 
 def together(calls):
@@ -512,8 +595,8 @@ def main():
         wait_for_crates(pathlib.Path(sys.argv[2]))
         built()
         return
-    archives = built()
-    exports(archives[0])
+    archive = built()
+    exports(archive)
     if not GRAPHTOOL:
         print("what graphtool lists and counts: left out, since no GRAPHTOOL is given")
     if not HISTORYTOOL:
@@ -530,7 +613,7 @@ def main():
             real.graphs(scratch / "real", kind)
             real.damaged(scratch / "real", kind)
             chunked.graphs(scratch / "chunked", kind)
-        together(parts(archives, scratch, graphs))
+        together(parts(archive, scratch, graphs))
     print(f"{passed} passed, {failed} failed")
     return failed != 0
 

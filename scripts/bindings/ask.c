@@ -30,26 +30,29 @@ enum { ROOM = 64, PLACES = 3, FEW = 4 };
 
 /* The line of a graph that was not opened. */
 static int not_opened(cg_error error, bool one_file) {
-    if (error.code == 3) printf("refused open 6 graph %" PRIu32 "\n", error.detail);
-    else if (one_file) printf("refused file %" PRIu32, error.detail);
-    else printf("refused open 5 layer %" PRIu64 " file %" PRIu32, error.layer, error.detail);
-    if (error.code == 2 && error.chunk) printf(" chunk %" PRIu32, error.chunk);
-    if (error.code == 2) putchar('\n');
-    return error.code == 2 || error.code == 3 ? 1 : 9;
+    bool chunks = error.code >= CG_CHUNK_NONE && error.code <= CG_CHUNK_NO_END;
+    if (error.code > 200 && error.code < 300) { printf("refused open 6 graph %" PRIu32 "\n", error.code - 200); return 1; }
+    if (error.code < 100 || error.code > 199) return 9;
+    if (one_file) printf("refused file ");
+    else printf("refused open 5 layer %" PRIu64 " file ", error.layer);
+    if (chunks) printf("5 chunk %" PRIu32 "\n", error.code - 150);
+    else printf("%" PRIu32 "\n", error.code - 100);
+    return 1;
 }
 
 /* The line of a graph that is not right. */
 static int not_right(cg_verdict v) {
-    printf("refused verify %" PRIu32, v.code);
-    if (v.code >= 2 && v.code <= 4) printf(" layer %" PRIu64, v.layer);
-    if (v.code == 3) printf(" index %" PRIu64, v.index);
-    if (v.code == 5 || v.code == 6 || v.code == 7 || v.code == 8 || v.code == 11) printf(" position %" PRIu32, v.position);
-    if (v.code == 4 || v.code == 5) printf(" fault %" PRIu32, v.fault);
-    if (v.code == 4 && v.fault == 3) printf(" byte %" PRIu32, v.other);
-    if (v.code == 6) printf(" error %" PRIu32, v.fault);
-    if (v.code == 7) printf(" parent %" PRIu32, v.other);
-    if (v.code == 8) printf(" expected %" PRIu32, v.other);
-    if (v.code == 11) printf(" earlier %" PRIu32, v.other);
+    uint32_t kind = v.code > 340 ? (v.code - 300) / 10 : v.code - 300, fault = v.code > 340 ? v.code % 10 : 0;
+    printf("refused verify %" PRIu32, kind);
+    if (kind >= 2 && kind <= 4) printf(" layer %" PRIu64, v.layer);
+    if (kind == 3) printf(" index %" PRIu64, v.index);
+    if (kind >= 5) printf(" position %" PRIu32, v.position);
+    if (kind == 4 || kind == 5) printf(" fault %" PRIu32, fault);
+    if (v.code == CG_CHECK_FAN) printf(" byte %" PRIu32, v.other);
+    if (kind == 6) printf(" error %" PRIu32, fault);
+    if (v.code == CG_CHECK_PARENT_OUT_OF_RANGE) printf(" parent %" PRIu32, v.other);
+    if (v.code == CG_CHECK_GENERATION) printf(" expected %" PRIu32, v.other);
+    if (v.code == CG_CHECK_DUPLICATE_ID) printf(" earlier %" PRIu32, v.other);
     putchar('\n');
     return 1;
 }
@@ -97,7 +100,7 @@ static void print_line(cg_graph graph, uint32_t pos, cg_commit commit, cg_parent
     print_hex(id, cg_tree_at(graph, pos, id, cg_id_len(graph)));
     printf(" %" PRIu32 " %" PRIu64 " ", commit.generation, commit.time);
     for (uint64_t i = 0; i < answer.count; i++) printf(i ? ",%" PRIu32 : "%" PRIu32, parents[i]);
-    if (answer.code) printf(answer.count ? ",!%" PRIu32 : "!%" PRIu32, answer.code);
+    if (answer.code) printf(answer.count ? ",!%" PRIu32 : "!%" PRIu32, answer.code - 360);
     puts(answer.count || answer.code ? "" : "-");
 }
 
@@ -144,12 +147,12 @@ static uint32_t position_of(cg_graph graph, const char *hex) {
 static int parents(cg_graph graph, const char *hex) {
     uint32_t pos = position_of(graph, hex), out[ROOM], small[1] = { 7 };
     cg_parent_count all = cg_parents(graph, pos, out, ROOM), none = cg_parents(graph, pos, small, 0);
-    if (all.code) { printf("refused parents %" PRIu32 "\n", all.code); return 1; }
+    if (all.code) { printf("refused parents %s\n", cg_strerror(all.code)); return 1; }
     if (none.code || none.count != all.count || small[0] != 7) return 9;
     if (cg_parents(graph, pos, small, 1).count != all.count || (all.count && small[0] != out[0])) return 9;
     print_ids(graph, out, all.count);
     for (uint64_t i = 0; i < all.count && i < ROOM; i++) {
-        cg_leads down = cg_is_ancestor(graph, pos, out[i]), up = cg_is_ancestor(graph, out[i], pos);
+        cg_leads down = cg_is_ancestor(graph, out[i], pos), up = cg_is_ancestor(graph, pos, out[i]);
         if (down.code || !down.found || up.code || up.found) return 9;
     }
     return 0;
@@ -157,13 +160,13 @@ static int parents(cg_graph graph, const char *hex) {
 
 /* Whether the call for many pairs answers these, in a room that ends too early, up to a pair that is none, and in all. */
 static bool answers_pairs(cg_graph graph, uint32_t from, uint32_t to, bool leads) {
-    cg_pair pairs[] = { { from, to }, { to, from }, { from, from }, { cg_num_commits(graph), to }, { from, to } };
+    cg_pair pairs[] = { { to, from }, { from, to }, { from, from }, { to, cg_num_commits(graph) }, { to, from } };
     uint8_t out[5] = { 7, 7, 7, 7, 7 };
-    uint8_t wanted[5] = { leads, cg_is_ancestor(graph, to, from).found, 1, 7, 7 };
+    uint8_t wanted[5] = { leads, cg_is_ancestor(graph, from, to).found, 1, 7, 7 };
     cg_answered few = cg_are_ancestors(graph, pairs, 5, out, 1);
     if (few.code || few.answered != 1 || out[0] != leads || out[1] != 7) return false;
     cg_answered some = cg_are_ancestors(graph, pairs, 5, out, 5), none = cg_are_ancestors(graph, pairs, 0, out, 5);
-    return some.code == 1 && some.answered == 3 && !memcmp(out, wanted, 5) && !none.code && !none.answered;
+    return some.code == CG_NO_SUCH_POSITION && some.answered == 3 && !memcmp(out, wanted, 5) && !none.code && !none.answered;
 }
 
 /* A shortest walk from a commit to another, and how many commits were visited. */
@@ -171,7 +174,7 @@ static int ancestor(cg_graph graph, char **hex) {
     uint32_t from = position_of(graph, hex[0]), to = position_of(graph, hex[1]), out[ROOM];
     if (from == CG_NOWHERE || to == CG_NOWHERE) { puts(from == CG_NOWHERE ? "unknown 1" : "unknown 2"); return 1; }
     cg_reached reached = cg_ancestor_walk(graph, from, to, out, ROOM);
-    cg_leads leads = cg_is_ancestor(graph, from, to);
+    cg_leads leads = cg_is_ancestor(graph, to, from);
     if (reached.code || reached.length > ROOM || leads.code || leads.found != (reached.length > 0)) return 9;
     if (!answers_pairs(graph, from, to, leads.found)) return 9;
     if (reached.length) printf("walk");
@@ -186,7 +189,7 @@ static int bases(cg_graph graph, int count, char **hex) {
     uint32_t others[ROOM], out[ROOM];
     for (int i = 1; i < count && i <= ROOM; i++) others[i - 1] = position_of(graph, hex[i]);
     cg_bases found = cg_merge_bases(graph, position_of(graph, hex[0]), others, (size_t)count - 1, out, ROOM);
-    if (found.code) { printf("refused bases %" PRIu32 "\n", found.code); return 1; }
+    if (found.code) { printf("refused bases %s\n", cg_strerror(found.code)); return 1; }
     print_ids(graph, out, found.length);
     printf("ahead %" PRIu32 " behind %" PRIu32 "\n", found.ahead, found.behind);
     return 0;
@@ -203,15 +206,15 @@ static int dates(cg_graph graph) {
         if (out[i]) return 9;
     all = cg_corrected_dates(graph, out, count);
     if (memcmp(&told, &few, sizeof told) || memcmp(&told, &all, sizeof told) || out[count] != 7) return 9;
-    if (told.code == 0) printf("dates commits %" PRIu64 "\n", told.length);
-    else if (told.code == 7) puts("dates none");
-    else if (told.code < 3) printf("refused dates %" PRIu32 " layer %" PRIu64 "\n", told.code, told.layer);
-    else printf("refused dates %" PRIu32 " position %" PRIu32, told.code, told.position);
-    if (told.code == 5) printf(" expected %" PRIu64, told.expected);
-    if (told.code >= 3 && told.code <= 5) putchar('\n');
+    if (told.code == CG_OK) printf("dates commits %" PRIu64 "\n", told.length);
+    else if (told.code == CG_NO_DATES) puts("dates none");
+    else if (told.code < CG_DATES_OVERFLOW_INDEX) printf("refused dates %" PRIu32 " layer %" PRIu64, told.code - 400, told.layer);
+    else printf("refused dates %" PRIu32 " position %" PRIu32, told.code - 400, told.position);
+    if (told.code == CG_DATES_WRONG) printf(" expected %" PRIu64, told.expected);
+    if (told.code > 400) putchar('\n');
     for (uint64_t i = 0; i < told.length; i++) printf("%" PRIu64 "\n", out[i]);
     free(out);
-    return told.code == 0 || told.code == 7 ? 0 : 1;
+    return told.code == CG_OK || told.code == CG_NO_DATES ? 0 : 1;
 }
 
 /* What the filters of all commits say of a path, in a room that ends too early, and up to a position that is none. */
@@ -223,13 +226,13 @@ static int probe(cg_graph graph, const char *name) {
     few[count / 2] = out[count] = 7;
     cg_probed half = cg_probe_path(graph, (const uint8_t *)name, strlen(name), all, count + 1, few, count / 2);
     cg_probed told = cg_probe_path(graph, (const uint8_t *)name, strlen(name), all, count + 1, out, count + 1);
-    bool refused = told.code > 0 && told.code < 11;
-    if (few[count / 2] != 7 || out[count] != 7 || half.code != (refused ? told.code : 0)) return 9;
+    bool refused = told.code != CG_NO_SUCH_POSITION, falls = told.code == CG_FILTERS_FALLS || told.code == CG_FILTERS_PAST_END;
+    if (few[count / 2] != 7 || out[count] != 7 || half.code != (refused ? told.code : CG_OK)) return 9;
     if (half.answered != (refused ? 0 : count / 2) || told.answered != (refused ? 0 : count)) return 9;
-    if (memcmp(few, out, count / 2) || (told.code == 4 && told.number - 1 < 65535)) return 9;
-    if (refused && (told.code == 6 || told.code == 7)) printf("refused filters %" PRIu32 " position %" PRIu32, told.code, told.position);
-    else if (refused) printf("refused filters %" PRIu32 " layer %" PRIu64, told.code, told.layer);
-    if (told.code == 3) printf(" version %" PRIu32, told.number);
+    if (memcmp(few, out, count / 2) || (told.code == CG_FILTERS_HASHES && told.number - 1 < 65535)) return 9;
+    if (refused && falls) printf("refused filters %" PRIu32 " position %" PRIu32, told.code - 500, told.position);
+    else if (refused) printf("refused filters %" PRIu32 " layer %" PRIu64, told.code - 500, told.layer);
+    if (told.code == CG_FILTERS_VERSION) printf(" version %" PRIu32, told.number);
     if (refused) putchar('\n');
     for (uint64_t i = 0; i < told.answered; i++) printf("%d\n", out[i]);
     free(all);
@@ -251,13 +254,14 @@ static bool closed_answers(void) {
     cg_close(CG_CLOSED);
     bool good = cg_num_commits(CG_CLOSED) == 0 && cg_id_len(CG_CLOSED) == 0 && cg_lookup(CG_CLOSED, id, 20) == CG_NOWHERE
         && cg_id_at(CG_CLOSED, 0, id, 20) == 0 && cg_tree_at(CG_CLOSED, 0, id, 20) == 0 && !cg_commit_at(CG_CLOSED, 0, &commit)
-        && cg_commits(CG_CLOSED, 0, &commit, 1) == 0 && cg_parents(CG_CLOSED, 0, out, 1).code == 6
+        && cg_commits(CG_CLOSED, 0, &commit, 1) == 0 && cg_parents(CG_CLOSED, 0, out, 1).code == CG_CLOSED_GRAPH
         && cg_parents_from(CG_CLOSED, 0, &answer, 1, out, 1).commits == 0
-        && cg_verify(CG_CLOSED, true, &verdict, &count, 1) == 12 && verdict.code == 12 && verdict.called == 0
-        && cg_ancestor_walk(CG_CLOSED, 0, 0, out, 1).code == 4 && cg_is_ancestor(CG_CLOSED, 0, 0).code == 4
-        && cg_merge_bases(CG_CLOSED, 0, out, 1, out, 0).code == 4
-        && cg_are_ancestors(CG_CLOSED, &pair, 1, id, 1).code == 4 && cg_corrected_dates(CG_CLOSED, &date, 1).code == 8
-        && cg_probe_path(CG_CLOSED, (const uint8_t *)"a", 1, out, 1, id, 1).code == 12;
+        && cg_verify(CG_CLOSED, true, &verdict, &count, 1) == CG_CLOSED_GRAPH && verdict.code == CG_CLOSED_GRAPH && verdict.called == 0
+        && cg_ancestor_walk(CG_CLOSED, 0, 0, out, 1).code == CG_CLOSED_GRAPH && cg_is_ancestor(CG_CLOSED, 0, 0).code == CG_CLOSED_GRAPH
+        && cg_merge_bases(CG_CLOSED, 0, out, 1, out, 0).code == CG_CLOSED_GRAPH
+        && cg_are_ancestors(CG_CLOSED, &pair, 1, id, 1).code == CG_CLOSED_GRAPH
+        && cg_corrected_dates(CG_CLOSED, &date, 1).code == CG_CLOSED_GRAPH && cg_version() == CG_VERSION
+        && cg_probe_path(CG_CLOSED, (const uint8_t *)"a", 1, out, 1, id, 1).code == CG_CLOSED_GRAPH;
     return good && date == 7 && out[0] == 7 && id[0] == 7 && commit.time == 7 && answer.code == 7 && count.parents == 7;
 }
 
@@ -266,9 +270,9 @@ static bool unchecked_answers(cg_graph graph) {
     uint32_t out[1] = { 7 };
     uint8_t bit = 7;
     cg_pair pair = { 0, 0 };
-    return cg_ancestor_walk(graph, 0, 0, out, 1).code == 2 && cg_is_ancestor(graph, 0, 0).code == 2
-        && cg_are_ancestors(graph, &pair, 1, &bit, 1).code == 2 && bit == 7
-        && cg_merge_bases(graph, 0, out, 0, out, 1).code == 2 && out[0] == 7;
+    return cg_ancestor_walk(graph, 0, 0, out, 1).code == CG_NOT_CHECKED && cg_is_ancestor(graph, 0, 0).code == CG_NOT_CHECKED
+        && cg_are_ancestors(graph, &pair, 1, &bit, 1).code == CG_NOT_CHECKED && bit == 7
+        && cg_merge_bases(graph, 0, out, 0, out, 1).code == CG_NOT_CHECKED && out[0] == 7;
 }
 
 enum { LAYERS = 32, PATH = 4096 };
@@ -348,7 +352,8 @@ int main(int argc, char **argv) {
     bool asks = strchr("ab", argv[2][0]) || !strcmp(argv[2], "parents");
     cg_error error = asks ? cg_open_checked(files, count, false, &verdict, counts, 1, &graph) : cg_open(files, count, &graph);
     while (count) free((void *)files[--count].bytes);
-    if (error.code == 4) return error.detail == verdict.code ? not_right(verdict) : 9;
+    if (asks && verdict.code != error.code) return 9;
+    if (error.code > 300 && error.code < 400) return not_right(verdict);
     if (error.code) return not_opened(error, !strcmp(argv[2], "list"));
     int status = asks || unchecked_answers(graph) ? answer(graph, argc - 2, argv + 2) : 9;
     cg_close(graph);

@@ -43,7 +43,7 @@ static void put(FILE *file, const void *items, size_t count, size_t size) {
 static void agree(bool good) { if (!good) exit(9); }
 
 static void print_verdict(cg_verdict v, const cg_count *counts) {
-    PRINT("verdict", v.code, v.num_commits, v.longest, N(v.has_longest), v.position, v.other, v.fault, v.called, v.layer, v.index,
+    PRINT("verdict", v.code, v.num_commits, v.longest, N(v.has_longest), v.position, v.other, v.called, v.layer, v.index,
           v.kinds);
     for (uint64_t i = 0; i < v.kinds && i < KINDS; i++) PRINT("count", counts[i].parents, counts[i].commits);
 }
@@ -116,10 +116,10 @@ static void tell_pairs(cg_graph graph, FILE *file, cg_pair *pairs, uint32_t coun
     PRINT("answered", all.code, all.answered);
     put(file, out, all.answered, 1);
     for (uint32_t i = 0; i < count; i++) {
-        cg_leads leads = cg_is_ancestor(graph, pairs[i].from, pairs[i].to);
+        cg_leads leads = cg_is_ancestor(graph, pairs[i].ancestor, pairs[i].descendant);
         agree(!leads.code && leads.found == out[i]);
     }
-    pairs[count - 1].to = cg_num_commits(graph);
+    pairs[count - 1].ancestor = cg_num_commits(graph);
     all = cg_are_ancestors(graph, pairs, count, out, count);
     PRINT("answered", all.code, all.answered);
 }
@@ -127,7 +127,7 @@ static void tell_pairs(cg_graph graph, FILE *file, cg_pair *pairs, uint32_t coun
 /* The walk of a pair. */
 static void tell_walk(cg_graph graph, FILE *file, cg_pair pair) {
     uint32_t count = cg_num_commits(graph), *out = room(count, sizeof *out);
-    cg_reached reached = cg_ancestor_walk(graph, pair.from, pair.to, out, count);
+    cg_reached reached = cg_ancestor_walk(graph, pair.descendant, pair.ancestor, out, count);
     PRINT("reached", reached.code, reached.length);
     put(file, out, reached.length, sizeof *out);
 }
@@ -178,12 +178,13 @@ int main(int argc, char **argv) {
     cg_file file = { read_all(argv[1], &len), 0, (const uint8_t *)"", 0 };
     file.len = len;
     cg_graph graph = CG_CLOSED, checked = CG_CLOSED;
+    agree(cg_version() == CG_VERSION);
     cg_verdict verdict = { .code = 0 };
     cg_count counts[KINDS];
     cg_error error = cg_open(&file, 1, &graph);
-    PRINT("error", error.code, error.detail, error.chunk, error.layer, N(graph.opened));
+    PRINT("error", error.code, error.layer, N(graph.opened));
     cg_error told = cg_open_checked(&file, 1, true, &verdict, counts, KINDS, &checked);
-    PRINT("checked", told.code, told.detail, told.chunk, told.layer, N(checked.opened));
+    PRINT("checked", told.code, told.layer, N(checked.opened));
     if (error.code) return 0;
     print_verdict(verdict, counts);
     print_check(graph, false);

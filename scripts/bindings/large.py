@@ -98,30 +98,30 @@ def asked():
 
 
 def questions():
-    """The same as numbers of 32 bits, by positions."""
+    """The same as numbers of 32 bits, by positions; of a pair first the one that may be an ancestor."""
     pairs, first, others = asked()
-    flat = [number for pair in pairs for number in pair]
+    flat = [number for pair in pairs for number in reversed(pair)]
     return array.array("I", [PAIRS, *map(position, flat), position(first), OTHERS, *map(position, others)]).tobytes()
 
 
 def verdict():
     """Of the right graph: its longest walk goes through all blocks, and 2 commits have no parent."""
     blocks = COMMITS // 3
-    yield ["verdict", 0, COMMITS, 2 * blocks - 1, 1, 0, 0, 0, COMMITS, 0, 0, 3]
+    yield ["verdict", 0, COMMITS, 2 * blocks - 1, 1, 0, 0, COMMITS, 0, 0, 3]
     yield from (["count", 0, 2], ["count", 1, 2 * blocks - 2], ["count", 2, blocks])
 
 
 def rows():
     """All that is printed of the right graph. The commit that is compared, and the last other one, are those of the last block:
     each leads to itself, and to all of the blocks below."""
-    yield from (["error", 0, 0, 0, 0, 1], ["checked", 0, 0, 0, 0, 1])
+    yield from (["error", 0, 0, 1], ["checked", 0, 0, 1])
     yield from [*verdict()] * 3
     yield ["block", COMMITS, sum(len(parents(number)) for number in range(COMMITS))]
     yield ["dates", 0, 0, 0, 0, COMMITS]
-    yield ["probed", 11, 0, 0, 0, COMMITS]
+    yield ["probed", 4, 0, 0, 0, COMMITS]
     yield ["reached", 0, 2 * COMMITS // 3]
-    yield from (["answered", 0, PAIRS], ["answered", 1, PAIRS - 1])
-    yield from (["bases", 0, 1, 1, 1], ["bases", 1, 0, 0, 0], ["bases", 0, COMMITS - 2, 0, 0])
+    yield from (["answered", 0, PAIRS], ["answered", 4, PAIRS - 1])
+    yield from (["bases", 0, 1, 1, 1], ["bases", 4, 0, 0, 0], ["bases", 0, COMMITS - 2, 0, 0])
 
 
 def answers():
@@ -160,13 +160,13 @@ def faults(data):
     for place in range(at, at + 20, 4):
         tree = layout.changed(tree, place, 0)
     checks = (
-        ("tree", tree, layout.verdict(5, last, 0, 3, last)),
-        ("parent", layout.changed(data, at + 20, COMMITS), layout.verdict(7, last, COMMITS, 0, last)),
-        ("number", layout.changed(data, at + 28, (number + 1) << 2), layout.verdict(8, last, number, 0, last)),
-        ("checksum", data[:-1] + bytes([data[-1] ^ 1]), layout.verdict(4, fault=1)),
+        ("tree", tree, layout.verdict(353, last, 0, last)),
+        ("parent", layout.changed(data, at + 20, COMMITS), layout.verdict(307, last, COMMITS, last)),
+        ("number", layout.changed(data, at + 28, (number + 1) << 2), layout.verdict(308, last, number, last)),
+        ("checksum", data[:-1] + bytes([data[-1] ^ 1]), layout.verdict(341)),
     )
     for fault, changed, told in checks:
-        yield fault, changed, [["checked", 4, told[0], 0, 0, 0], ["verdict", *told]]
-    yield "date", layout.changed(data, dates, number), [["dates", 5, last, 0, TIME - 1 + number, 0]]
-    yield "filter", layout.changed(data, index, 0), [["probed", 6, last, 0, 0, 0]]
-    yield "cut", data[:-1], [["error", 2, 15, 0, 0, 0]]
+        yield fault, changed, [["checked", told[0], 0, 0], ["verdict", *told]]
+    yield "date", layout.changed(data, dates, number), [["dates", 405, last, 0, TIME - 1 + number, 0]]
+    yield "filter", layout.changed(data, index, 0), [["probed", 506, last, 0, 0, 0]]
+    yield "cut", data[:-1], [["error", 115, 0, 0]]

@@ -9,17 +9,17 @@
 #define AT(name, field, place) _Static_assert(offsetof(name, field) == (place), #name "." #field)
 SIZE(cg_graph, 16); AT(cg_graph, address, 0); AT(cg_graph, opened, 8);
 SIZE(cg_file, 32); AT(cg_file, bytes, 0); AT(cg_file, len, 8); AT(cg_file, path, 16); AT(cg_file, path_len, 24);
-SIZE(cg_error, 24); AT(cg_error, code, 0); AT(cg_error, detail, 4); AT(cg_error, chunk, 8); AT(cg_error, layer, 16);
+SIZE(cg_error, 16); AT(cg_error, code, 0); AT(cg_error, layer, 8);
 SIZE(cg_commit, 16); AT(cg_commit, time, 0); AT(cg_commit, generation, 8);
 SIZE(cg_parent_count, 16); AT(cg_parent_count, code, 0); AT(cg_parent_count, count, 8);
 SIZE(cg_block, 16); AT(cg_block, commits, 0); AT(cg_block, length, 8);
 SIZE(cg_verdict, 56); AT(cg_verdict, code, 0); AT(cg_verdict, num_commits, 4); AT(cg_verdict, longest, 8);
-AT(cg_verdict, has_longest, 12); AT(cg_verdict, position, 16); AT(cg_verdict, other, 20); AT(cg_verdict, fault, 24);
-AT(cg_verdict, called, 28); AT(cg_verdict, layer, 32); AT(cg_verdict, index, 40); AT(cg_verdict, kinds, 48);
+AT(cg_verdict, has_longest, 12); AT(cg_verdict, position, 16); AT(cg_verdict, other, 20); AT(cg_verdict, called, 24);
+ AT(cg_verdict, layer, 32); AT(cg_verdict, index, 40); AT(cg_verdict, kinds, 48);
 SIZE(cg_count, 8); AT(cg_count, parents, 0); AT(cg_count, commits, 4);
 SIZE(cg_reached, 16); AT(cg_reached, code, 0); AT(cg_reached, visits, 4); AT(cg_reached, length, 8);
 SIZE(cg_leads, 8); AT(cg_leads, code, 0); AT(cg_leads, found, 4);
-SIZE(cg_pair, 8); AT(cg_pair, from, 0); AT(cg_pair, to, 4);
+SIZE(cg_pair, 8); AT(cg_pair, ancestor, 0); AT(cg_pair, descendant, 4);
 SIZE(cg_answered, 16); AT(cg_answered, code, 0); AT(cg_answered, answered, 8);
 SIZE(cg_probed, 32); AT(cg_probed, code, 0); AT(cg_probed, position, 4); AT(cg_probed, number, 8); AT(cg_probed, layer, 16);
 AT(cg_probed, answered, 24);
@@ -46,7 +46,7 @@ static void print_check(cg_graph graph) {
     memset(&v, OTHER, sizeof v);
     memset(counts, OTHER, sizeof counts);
     cg_verify(graph, false, &v, counts, ROOM);
-    PRINT("verdict", v.code, v.num_commits, v.longest, N(v.has_longest), v.position, v.other, v.fault, v.called, v.layer, v.index,
+    PRINT("verdict", v.code, v.num_commits, v.longest, N(v.has_longest), v.position, v.other, v.called, v.layer, v.index,
           v.kinds);
     for (uint64_t i = 0; i < v.kinds; i++) PRINT("count", counts[i].parents, counts[i].commits);
 }
@@ -84,9 +84,9 @@ static void print_chunks(cg_graph graph) {
 static void print_queries(cg_graph graph, uint32_t first, uint32_t second) {
     uint32_t out[ROOM];
     cg_reached reached = cg_ancestor_walk(graph, first, second, out, ROOM);
-    cg_leads leads = cg_is_ancestor(graph, first, second);
+    cg_leads leads = cg_is_ancestor(graph, second, first);
     cg_bases bases = cg_merge_bases(graph, first, &second, 1, out, ROOM);
-    cg_pair pairs[] = { { first, second }, { second, first }, { first, CG_NOWHERE } };
+    cg_pair pairs[] = { { second, first }, { first, second }, { CG_NOWHERE, first } };
     uint8_t bits[3] = { OTHER, OTHER, OTHER };
     cg_answered many = cg_are_ancestors(graph, pairs, 3, bits, 3);
     PRINT("asked", first, second);
@@ -109,12 +109,12 @@ int main(int argc, char **argv) {
         fclose(input);
     }
     cg_error error = cg_open(files, (size_t)argc - 1, &graph);
-    PRINT("error", error.code, error.detail, error.chunk, error.layer, N(graph.opened), N(graph.address != NULL));
+    PRINT("error", error.code, error.layer, N(graph.opened), N(graph.address != NULL));
     print_check(graph);
     print_commits(graph);
     print_chunks(graph);
     error = cg_open_checked(files, (size_t)argc - 1, false, &verdict, counts, 1, &checked);
-    PRINT("checked", error.code, error.detail, error.chunk, error.layer, N(checked.opened), N(checked.address != NULL));
+    PRINT("checked", error.code, error.layer, N(checked.opened), N(checked.address != NULL));
     uint32_t count = cg_num_commits(checked);
     for (uint32_t pos = 0; pos < count * count; pos++) print_queries(checked, pos / count, pos % count);
     if (!count) print_queries(graph, 0, 1);

@@ -4,7 +4,7 @@ import hashlib
 import struct
 
 WORD = struct.Struct(">I")
-CLOSED = [12] + 10 * [0]
+CLOSED = [2] + 9 * [0]
 """The fields of a verdict where no graph is open."""
 
 
@@ -36,11 +36,11 @@ class History:
     def verdict(self):
         longest = max(map(self.generation, self.ids)) - 1
         kinds = len(set(map(len, self.parents.values())))
-        return [0, len(self.ids), longest, 1, 0, 0, 0, len(self.ids), 0, 0, kinds]
+        return [0, len(self.ids), longest, 1, 0, 0, len(self.ids), 0, 0, kinds]
 
     def lines(self):
         """All that is printed of a right graph of one layer, but for numbers of visits."""
-        yield ["error", 0, 0, 0, 0, 1, 1]
+        yield ["error", 0, 0, 1, 1]
         yield ["verdict", *self.verdict()]
         counts = collections.Counter(map(len, self.parents.values()))
         yield from (["count", *count] for count in sorted(counts.items()))
@@ -50,8 +50,8 @@ class History:
             yield ["commit", 1000000000, self.generation(commit), 0, parents, 0, parents]
         yield ["dates", 0, 0, 0, 0, len(self.ids)]
         yield from (["date", self.date(commit)] for commit in self.ids)
-        yield ["probed", 11, 0, 0, 0, 1, 2, 0xAA]
-        yield ["checked", 0, 0, 0, 0, 1, 1]
+        yield ["probed", 4, 0, 0, 0, 1, 2, 0xAA]
+        yield ["checked", 0, 0, 1, 1]
         for first, one in enumerate(self.ids):
             for second, other in enumerate(self.ids):
                 yield ["asked", first, second]
@@ -64,7 +64,7 @@ class History:
         below = {it for commit in common for it in self.reached(commit) if it != commit}
         yield ["reached", 0, one.get(other, -1) + 1]
         yield ["leads", 0, int(other in one)]
-        yield ["answered", 1, 2, int(other in one), int(first in two), 0xAA]
+        yield ["answered", 4, 2, int(other in one), int(first in two), 0xAA]
         yield ["bases", 0, len(set(one) - set(two)), len(set(two) - set(one)), len(common - below)]
 
 
@@ -91,8 +91,8 @@ def word(data, at):
     return WORD.unpack_from(data, at)[0]
 
 
-def verdict(code, position=0, other=0, fault=0, called=0, layer=0, index=0):
-    return [code, 0, 0, 0, position, other, fault, called, layer, index, 0]
+def verdict(code, position=0, other=0, called=0, layer=0, index=0):
+    return [code, 0, 0, 0, position, other, called, layer, index, 0]
 
 
 def faults(data, history):
@@ -105,18 +105,18 @@ def faults(data, history):
         tree = changed(tree, place, 0)
     generation = history.generation(history.ids[merge])
     stored = word(data, record + 28)
-    yield "tree", tree, verdict(5, merge, 0, 3, merge), [0, 3]
-    yield "edges", changed(data, edges + 4, word(data, edges + 4) & 0x7fffffff), verdict(6, merge, 0, 4, merge), [4, 3]
-    yield "parent", changed(data, record + 20, count + 5), verdict(7, merge, count + 5, 0, merge), [0, 3]
-    yield "number", changed(data, record + 28, stored ^ 0x40), verdict(8, merge, generation, 0, merge), [0, 3]
+    yield "tree", tree, verdict(353, merge, 0, merge), [0, 3]
+    yield "edges", changed(data, edges + 4, word(data, edges + 4) & 0x7fffffff), verdict(364, merge, 0, merge), [364, 3]
+    yield "parent", changed(data, record + 20, count + 5), verdict(307, merge, count + 5, merge), [0, 3]
+    yield "number", changed(data, record + 28, stored ^ 0x40), verdict(308, merge, generation, merge), [0, 3]
 
 
 def date_faults(data, history):
     """Files of one layer with another date of the merge, each with what is told of the dates."""
     merge = next(pos for pos, commit in enumerate(history.ids) if len(history.parents[commit]) == 3)
     place = chunk(data, b"GDA2") + 4 * merge
-    yield "a later date", changed(data, place, 1000), [5, merge, 0, history.date(history.ids[merge]), 0]
-    yield "no such date", changed(data, place, 1 << 31), [3, merge, 0, 0, 0]
+    yield "a later date", changed(data, place, 1000), [405, merge, 0, history.date(history.ids[merge]), 0]
+    yield "no such date", changed(data, place, 1 << 31), [403, merge, 0, 0, 0]
 
 
 def layered(layers):
@@ -128,7 +128,7 @@ def layered(layers):
     fan = chunk(layers[1], b"OIDF")
     byte = next(it for it in range(255) if word(layers[1], fan + 4 * it) < word(layers[1], fan + 4 * it + 4))
     counts = changed(layers[1], fan + 4 * byte, word(layers[1], fan + 4 * byte) + 1)
-    opened = [0, 0, 0, 0, 1, 1]
-    yield "table", [layers[0], table_end, *layers[2:]], [2, 5, 7, 1, 0, 0], CLOSED
-    yield "base", [*layers[:2], base_id, layers[3]], opened, verdict(3, called=sum(sizes[:2]), layer=2, index=1)
-    yield "fan", [layers[0], counts], opened, verdict(4, other=byte, fault=3, called=sizes[0], layer=1)
+    opened = [0, 0, 1, 1]
+    yield "table", [layers[0], table_end, *layers[2:]], [157, 1, 0, 0], CLOSED
+    yield "base", [*layers[:2], base_id, layers[3]], opened, verdict(303, called=sum(sizes[:2]), layer=2, index=1)
+    yield "fan", [layers[0], counts], opened, verdict(343, other=byte, called=sizes[0], layer=1)

@@ -1,6 +1,6 @@
 /* memory ID ID FILE..: over the layers of these files, makes each call that allocates again and again, and refuses one later
- * allocation of it each time. It has to answer the code for memory, to leave no block and to write nothing, but the verdict on code
- * 4. It is linked with --wrap for malloc, realloc and free. */
+ * allocation of it each time. It has to answer the code for memory, to leave no block and to write nothing, but the
+ * verdict's code. It is linked with --wrap for malloc, realloc and free. */
 #include "commitgraph.h"
 #include <stdio.h>
 #include <stdlib.h>
@@ -50,16 +50,14 @@ static uint32_t from, to, out[ROOM];
 static cg_verdict verdict;
 static cg_count counts[8];
 
-static outcome outcome_of(uint32_t code, uint32_t no_memory) {
-    return code == 0 ? DONE : code == no_memory ? NO_MEMORY : WRONG;
+static outcome outcome_of(uint32_t code) {
+    return code == CG_OK ? DONE : code == CG_OUT_OF_MEMORY ? NO_MEMORY : WRONG;
 }
 
 /* An error of opening, and what stands in the room of the graph after it. */
 static outcome opening(cg_error error, cg_graph opened) {
-    if (error.code == 0) { cg_close(opened); return DONE; }
-    bool memory = (error.code == 2 && error.detail == 20) || (error.code == 3 && error.detail == 4)
-        || (error.code == 4 && error.detail == 10);
-    return memory && opened.address == (void *)files && !opened.opened ? NO_MEMORY : WRONG;
+    if (error.code == CG_OK) { cg_close(opened); return DONE; }
+    return error.code == CG_OUT_OF_MEMORY && opened.address == (void *)files && !opened.opened ? NO_MEMORY : WRONG;
 }
 
 /* Whether no byte of some was written. */
@@ -80,40 +78,39 @@ static outcome open_checked(void) {
     memset(&verdict, OTHER, sizeof verdict);
     memset(counts, OTHER, sizeof counts);
     cg_error error = cg_open_checked(files, layers, true, &verdict, counts, 8, &opened);
-    bool told = error.code == 0 || error.code == 4;
-    if (told == unwritten(&verdict, sizeof verdict) || (error.code != 0) != unwritten(counts, sizeof counts)) return WRONG;
+    if (verdict.code != error.code || (error.code != CG_OK) != unwritten(counts, sizeof counts)) return WRONG;
     return opening(error, opened);
 }
 
 static outcome verify(void) {
     memset(counts, OTHER, sizeof counts);
-    outcome found = outcome_of(cg_verify(graph, true, &verdict, counts, 8), 10);
+    outcome found = outcome_of(cg_verify(graph, true, &verdict, counts, 8));
     return found == NO_MEMORY && !unwritten(counts, sizeof counts) ? WRONG : found;
 }
 
 static outcome walk(void) {
     memset(out, OTHER, sizeof out);
-    outcome found = outcome_of(cg_ancestor_walk(graph, from, to, out, ROOM).code, 3);
+    outcome found = outcome_of(cg_ancestor_walk(graph, from, to, out, ROOM).code);
     return found == NO_MEMORY && !unwritten(out, sizeof out) ? WRONG : found;
 }
 
-static outcome ancestor(void) { return outcome_of(cg_is_ancestor(graph, from, to).code, 3); }
+static outcome ancestor(void) { return outcome_of(cg_is_ancestor(graph, to, from).code); }
 
 static outcome ancestors(void) {
-    cg_pair pairs[] = { { to, from }, { from, to }, { from, from } };
+    cg_pair pairs[] = { { from, to }, { to, from }, { from, from } };
     uint8_t bits[3];
     memset(bits, OTHER + 1, sizeof bits);
     cg_answered many = cg_are_ancestors(graph, pairs, 3, bits, 3);
     for (uint64_t i = 0; i < 3; i++)
         if ((i < many.answered) != (bits[i] < OTHER + 1)) return WRONG;
-    return outcome_of(many.code, 3);
+    return outcome_of(many.code);
 }
 
 /* The same pair so many times in one call: after the first time the search has its memory. */
 static outcome same_pair(uint64_t times) {
-    cg_pair pairs[] = { { from, to }, { from, to }, { from, to } };
+    cg_pair pairs[] = { { to, from }, { to, from }, { to, from } };
     uint8_t bits[3];
-    return outcome_of(cg_are_ancestors(graph, pairs, times, bits, times).code, 3);
+    return outcome_of(cg_are_ancestors(graph, pairs, times, bits, times).code);
 }
 
 static outcome one_pair(void) { return same_pair(1); }
@@ -123,21 +120,21 @@ static outcome dates(void) {
     static uint64_t found[ROOM];
     memset(found, OTHER, sizeof found);
     cg_dates told = cg_corrected_dates(graph, found, ROOM);
-    outcome seen = outcome_of(told.code, 6);
+    outcome seen = outcome_of(told.code);
     return seen == NO_MEMORY && (told.length || !unwritten(found, sizeof found)) ? WRONG : seen;
 }
 
 static outcome probe(void) {
     uint8_t bits[1] = { OTHER + 2 };
     cg_probed told = cg_probe_path(graph, (const uint8_t *)"a", 1, &from, 1, bits, 1);
-    outcome seen = outcome_of(told.code, 10);
+    outcome seen = outcome_of(told.code);
     return told.answered != (seen == DONE) || (bits[0] == OTHER + 1) != (seen == DONE) ? WRONG : seen;
 }
 
 static outcome bases(void) {
     uint32_t others[2] = { to, from };
     memset(out, OTHER, sizeof out);
-    outcome found = outcome_of(cg_merge_bases(graph, from, others, 2, out, ROOM).code, 3);
+    outcome found = outcome_of(cg_merge_bases(graph, from, others, 2, out, ROOM).code);
     return found == NO_MEMORY && !unwritten(out, sizeof out) ? WRONG : found;
 }
 
@@ -149,7 +146,8 @@ static outcome reading(void) {
     size_t len = cg_id_at(graph, from, id, cg_id_len(graph));
     bool good = cg_lookup(graph, id, len) == from && cg_tree_at(graph, from, id, len) == len && cg_commit_at(graph, from, &commit)
         && cg_commits(graph, from, &commit, 1) == cg_num_commits(graph) - from && cg_parents(graph, from, out, 4).code == 0
-        && cg_parents_from(graph, 0, answers, 4, out, 8).commits > 0 && cg_chain_line(id, len, 0).found;
+        && cg_parents_from(graph, 0, answers, 4, out, 8).commits > 0 && cg_chain_line(id, len, 0).found
+        && cg_version() == CG_VERSION;
     return good && !refused ? DONE : WRONG;
 }
 

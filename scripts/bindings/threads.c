@@ -32,17 +32,17 @@ static uint64_t sum(void) {
         size_t len = cg_id_at(graph, pos, id, cg_id_len(graph));
         cg_block block = cg_parents_from(graph, pos, answers, ROOM, out, ROOM);
         all = all * 31 + cg_lookup(graph, id, len) + cg_commits(graph, pos, commits, ROOM) + commits[0].generation;
-        all = all * 31 + block.length + out[0] + cg_is_ancestor(graph, count - 1, pos).found;
+        all = all * 31 + block.length + out[0] + cg_is_ancestor(graph, pos, count - 1).found;
         all = all * 31 + cg_ancestor_walk(graph, count - 1, pos, out, ROOM).length;
         all = all * 31 + cg_merge_bases(graph, pos, &pos, 1, out, ROOM).length;
         all = all * 31 + cg_parents(graph, pos, out, ROOM).count + cg_commit_at(graph, pos, commits) + commits[0].time;
         all = all * 31 + cg_tree_at(graph, pos, id, len) + id[0] + cg_chain_line(id, len, 0).next;
-        all = all * 31 + cg_are_ancestors(graph, &(cg_pair){ count - 1, pos }, 1, id, 1).answered + id[0];
+        all = all * 31 + cg_are_ancestors(graph, &(cg_pair){ pos, count - 1 }, 1, id, 1).answered + id[0];
     }
     all = all * 31 + cg_corrected_dates(graph, dates, ROOM).length + dates[count - 1];
     all = all * 31 + cg_probe_path(graph, (const uint8_t *)"a", 1, out, 0, (uint8_t *)commits, 0).code;
     all = all * 31 + opened();
-    return all * 31 + cg_verify(graph, true, &verdict, counts, ROOM) + verdict.longest + counts[0].commits;
+    return all * 31 + cg_version() + cg_verify(graph, true, &verdict, counts, ROOM) + verdict.longest + counts[0].commits;
 }
 
 static void *read_graph(void *result) {

@@ -23,12 +23,18 @@ usage: python3 scripts/real_data GRAPHTOOL HISTORYTOOL TEST_FILTERS [every-value
   order, by hand, and of thousands of graphs at random, most of them damaged, by the plain reading.
 - the filters of these graphs, asked by the program of `test_filters`: each path that a commit changes is possible, and
   all other answers are those of a plain reading; also of version 2, and where bytes were read as unsigned numbers.
+- `ids` and `objects`: right graphs and damaged ones beside the commits as Git writes them, by a plain reading, and beside
+  Git's verdict; streams that are cut or changed at each byte; and commits that Git's own commands do not make.
+- `show`: graphs that Git writes, with dates and filters or without, and damaged ones, by a plain reading; and what
+  `git cgraph show` says that they cover, beside Git's own lists, in repositories of every kind.
 - `distinct`: the words of `verify`, and an id that was put into two layers or more, next to one another
   and far apart.
 - each byte of three small files, changed to some other values, or with `every-value` to all of them, beside
   a slow reading of the file; two million runs then, which take more than half an hour.
 - `git cgraph`: each word, installed, in repositories of every kind, beside Git's own answers, and what is said
   of damaged ones.
+- `git cgraph` beside a process that writes the commit-graph anew all the time: no run refuses it. scripts/races makes more
+  such runs.
 - a file of 300,000 commits, asked by each command, and with one fault late in it, which is named at its position.
 - surroundings that are hostile: streams, paths, chain files, and every amount of memory.
 
@@ -57,11 +63,14 @@ from checks import (
     further_checks,
     large_checks,
     list_checks,
+    object_checks,
     path_checks,
     question_checks,
+    race_checks,
     random_checks,
     repeated_checks,
     row_checks,
+    show_checks,
     surroundings_checks,
     sweep_checks,
     verify_checks,
@@ -107,6 +116,8 @@ def check_kind(paths, object_format):
         distinct_checks.check_all(program, results, new, differences)
         disk_checks.check_all((program, histories), results, new, differences)
         further_checks.check_all((histories, asker), results, new)
+        object_checks.check_all(histories, results, new)
+        show_checks.check_all(histories, results, new)
         damaged_checks.check_all((histories, asker), results, new)
     return results, differences, LINES
 
@@ -120,6 +131,8 @@ def check_others(paths, results, every_value):
     sweep_checks.check_all(program, results, every_value)
     with tempfile.TemporaryDirectory() as folder:
         cgraph_checks.check_all((program, histories), results, folder, partial(new_repository, folder))
+        race_checks.check_all((program, histories), results, os.path.join(folder, "races"), partial(new_repository, folder))
+        object_checks.check_told((program, histories), results, os.path.join(folder, "commits"), partial(new_repository, folder))
         repeated_checks.check_told((program, histories), results, folder, partial(new_repository, folder))
         further_checks.check_shared_list(histories, results, folder)
         date_checks.check_all(histories, results, folder)

@@ -7,15 +7,20 @@ from typing import NamedTuple
 
 TOP = os.path.dirname(os.path.dirname(os.path.dirname(os.path.abspath(__file__))))
 TOOLS = ("sh", "awk", "cat", "chmod", "cp", "dirname", "find", "git", "id", "ln", "mkdir", "mktemp", "readlink", "rm", "rmdir")
-MORE_TOOLS = ("grep", "head", "od", "sed", "sleep", "tail", "touch", "tr", "wc")
+MORE_TOOLS = ("comm", "grep", "head", "od", "sed", "sleep", "sort", "stat", "tail", "touch", "tr", "wc")
 PROGRAMS = ("graphtool", "historytool")
 COPIED = (
     *("git-cgraph", "graphtool", "historytool", "VERSION", "docs/MANUAL.md", "docs/REFUSALS.md"),
+    *("docs/PROGRAMS.md", "scripts/programs.awk", "scripts/completions.awk"),
     *("scripts/answers.sh", "scripts/usage.sh", "scripts/repository.sh", "scripts/cures.sh", "scripts/commands"),
+    *("scripts/progress.sh", "scripts/objects.sh", "scripts/show.sh"),
     *("scripts/explain.awk", "scripts/manual.awk", "scripts/alternates.awk"),
     "scripts/git-cgraph.bash",
     *("scripts/install", "scripts/program", "scripts/library", "scripts/package", "bindings/c/commitgraph.h"),
+    *("bindings/c/commitgraph.pc", "bindings/c/commitgraph.3", "bindings/c/commitgraph-config.cmake"),
+    "bindings/c/commitgraph-config-version.cmake",
     *("crates/graphtool/src/main.rt", "crates/historytool/src/main.rt", "LICENSE-MIT", "LICENSE-APACHE"),
+    "docs/DIFFERENCES.md",
 )
 
 
@@ -54,6 +59,11 @@ class Clone:
     def put_program(self, name, text):
         """Makes a built program, newer than the sources, of a shell script."""
         self.put("crates/%s/out/%s" % (name, name), "#!/bin/sh\n" + text)
+
+    def put_library(self):
+        """Makes the built library, newer than the sources, of a line of text."""
+        for name in ("libcommitgraph.a", "libcommitgraph.so"):
+            self.put("crates/commitgraph_c/out/" + name, "the library\n")
 
     def surroundings(self, **more):
         """The variables of a run: a PATH with the tools alone, and no settings of the machine or the user."""

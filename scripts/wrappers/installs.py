@@ -1,18 +1,21 @@
-"""Checks scripts/install, the manual page and the completion."""
+"""Checks scripts/install, the manual pages and the completion for bash."""
 
 import os
 import shutil
 import tempfile
 
+import version
 from wrappers.clone import PROGRAMS, Clone, exactly, run
 from wrappers.questions import make_repository
-from wrappers.table import commands
+from wrappers.table import commands, usage
 from wrappers.tools import read, usage_of
 
 ODD_PREFIX = "a prefix's \"$(name)\" *\n;"
 USAGE = "usage: scripts/install PREFIX | --remove PREFIX\n"
 INSTALLED = {
-    *("bin/git-cgraph", "bin/graphtool", "bin/historytool", "share/man/man1/git-cgraph.1"),
+    *("bin/git-cgraph", "bin/graphtool", "bin/historytool"),
+    *("share/man/man1/git-cgraph.1", "share/man/man1/graphtool.1", "share/man/man1/historytool.1"),
+    *("share/zsh/site-functions/_git-cgraph", "share/fish/vendor_completions.d/git-cgraph.fish"),
     *("share/bash-completion/completions/git-cgraph", "lib/git-cgraph/installed", "lib/git-cgraph/VERSION"),
     *("lib/git-cgraph/git-cgraph", "lib/git-cgraph/graphtool", "lib/git-cgraph/historytool"),
     *("lib/git-cgraph/programs/graphtool", "lib/git-cgraph/programs/historytool"),
@@ -20,8 +23,12 @@ INSTALLED = {
     *("lib/git-cgraph/scripts/answers.sh", "lib/git-cgraph/scripts/usage.sh", "lib/git-cgraph/scripts/commands"),
     *("lib/git-cgraph/scripts/explain.awk", "lib/git-cgraph/scripts/manual.awk", "lib/git-cgraph/scripts/alternates.awk"),
     *("lib/git-cgraph/scripts/repository.sh", "lib/git-cgraph/scripts/cures.sh"),
-    *("include/commitgraph.h", "lib/libcommitgraph.a"),
-    *("share/doc/git-cgraph/LICENSE-MIT", "share/doc/git-cgraph/LICENSE-APACHE"),
+    *("lib/git-cgraph/scripts/progress.sh", "lib/git-cgraph/scripts/objects.sh"),
+    "lib/git-cgraph/scripts/show.sh",
+    *("include/commitgraph.h", "lib/libcommitgraph.a", "lib/libcommitgraph.so", "lib/libcommitgraph.so.0"),
+    *("lib/libcommitgraph.so." + version.number(), "lib/pkgconfig/commitgraph.pc", "share/man/man3/commitgraph.3"),
+    *("lib/cmake/commitgraph/commitgraph-config.cmake", "lib/cmake/commitgraph/commitgraph-config-version.cmake"),
+    *("share/doc/git-cgraph/LICENSE-MIT", "share/doc/git-cgraph/LICENSE-APACHE", "share/doc/git-cgraph/DIFFERENCES.md"),
 }
 COMPLETIONS = ("/usr/share/bash-completion/completions/git", "/etc/bash_completion.d/git", "/usr/share/git/completion/git-completion.bash")
 """Where Git's own completion mostly is."""
@@ -44,12 +51,12 @@ def check_all(results):
         clone = Clone(folder)
         for name in PROGRAMS:
             clone.put_program(name, "printf '<%s>' \"$@\"\n")
-        clone.put("crates/commitgraph_c/out/libcommitgraph.a", "the library\n")
+        clone.put_library()
         repository = make_repository(clone, os.path.join(folder, "repository").encode())
         check_words(results, clone)
         check_fresh(results, clone, os.path.join(folder, ODD_PREFIX))
         check_beside(results, clone, os.path.join(folder, "prefix"))
-        check_page(results, clone, os.path.join(folder, "prefix"))
+        check_pages(results, clone, os.path.join(folder, "prefix"))
         check_completion(results, clone, repository)
         check_away(results, clone, folder, repository)
         results.check("scripts/install, nothing is left over", clone.left_over())
@@ -112,24 +119,31 @@ def check_beside(results, clone, prefix):
     results.check("scripts/install --remove, beside other files", complaint)
 
 
-def check_page(results, clone, prefix):
-    """The manual page is rendered without a warning, has all words, and is what Git shows."""
+def check_pages(results, clone, prefix):
+    """The manual pages are rendered without a warning, have all words, and are what Git and `man` show."""
     install(clone, prefix)
-    page = os.path.join(prefix, "share", "man", "man1", "git-cgraph.1")
-    variables = {**clone.surroundings(), "PATH": os.path.join(prefix, "bin") + ":" + os.environ["PATH"]}
-    renderers = {
-        "man": (["man", "--warnings", "-l", page], ["git", "help", "cgraph"]),
-        "groff": (["groff", "-ww", "-man", "-Tascii", "-P-c", page],),
-    }
-    for tool, commands in renderers.items():
+    pages = os.path.join(prefix, "share", "man", "man1")
+    variables = {**clone.surroundings(), "PATH": os.path.join(prefix, "bin") + ":" + os.environ["PATH"], "MANWIDTH": "300"}
+    for tool in ("man", "groff"):
         if not shutil.which(tool):
-            print("left out, since there is no %s: the manual page as it shows it" % tool)
+            print("left out, since there is no %s: the manual pages as it shows them" % tool)
             continue
-        for command in commands:
-            answer = run([shutil.which(command[0]), *command[1:]], variables)
-            right = answer.status == 0 and "GIT-CGRAPH(1)" in answer.out and not answer.err
-            results.check("the manual page, by %s" % " ".join(command[:2]), None if right else "it is %r" % (answer,))
+        for name in ("git-cgraph", *PROGRAMS):
+            page = os.path.join(pages, name + ".1")
+            shown = {"man": [["man", "--warnings", "-l", page], ["man", name]], "groff": [["groff", "-ww", "-man", "-Tascii", "-P-c", page]]}[tool]
+            for command in shown + [["git", "help", "cgraph"]] * (name == "git-cgraph" and tool == "man"):
+                answer = run([shutil.which(command[0]), *command[1:]], variables)
+                missing = [word for word in words_of_page(name) if word not in answer.out] if tool == "man" else []
+                right = answer.status == 0 and name.upper() + "(1)" in answer.out and not answer.err and not missing
+                results.check("the manual page of %s, by %s" % (name, " ".join(command[:2])), None if right else "it is %r" % (answer,))
     install(clone, "--remove", prefix)
+
+
+def words_of_page(name):
+    """What the page of a command has to have: each of its commands, of a program with its operands."""
+    if name == "git-cgraph":
+        return [command.word for command in commands() if command.by_git]
+    return usage(name).replace("usage: %s " % name, "").split(" | ") + [command.about[1:] for command in commands(name)]
 
 
 def check_completion(results, clone, repository):
@@ -150,6 +164,7 @@ def check_completion(results, clone, repository):
         ("-C", "su"): {"sub"},
         ("verify", ""): set(),
         ("verify", "--a"): {"--all-checks"},
+        ("verify", "--ob"): {"--objects", "--object-dir"},
         ("merge-base", "--a"): {"--all"},
         ("find", "-q", "anno"): {"annotated"},
         ("--object-dir", "su"): {"sub"},

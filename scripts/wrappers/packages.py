@@ -20,7 +20,7 @@ def check_all(results):
         clone = Clone(folder)
         for name in PROGRAMS:
             clone.put_program(name, "printf '<%s>' \"$@\"\n")
-        clone.put("crates/commitgraph_c/out/libcommitgraph.a", "the library\n")
+        clone.put_library()
         for tool in TOOLS:
             if shutil.which(tool):
                 os.symlink(shutil.which(tool), os.path.join(clone.folder, "bin", tool))
@@ -64,8 +64,9 @@ def check_debian(results, clone, made, root):
     answer = run([*dpkg, "--install", package], variables)
     files = {path[len("usr/"):] for path in below(root) if path.startswith("usr/") and not path.endswith("/")}
     documents = "share/doc/git-cgraph/"
-    left = {documents + "LICENSE-MIT", documents + "LICENSE-APACHE", "share/man/man1/git-cgraph.1", LIST}
-    right = answer.status == 0 and files == INSTALLED - left | {documents + "copyright", "share/man/man1/git-cgraph.1.gz"}
+    pages = {path for path in INSTALLED if path.startswith("share/man/")}
+    left = {documents + "LICENSE-MIT", documents + "LICENSE-APACHE", *pages, LIST}
+    right = answer.status == 0 and files == INSTALLED - left | {documents + "copyright", *(page + ".gz" for page in pages)}
     results.check("the package for Debian is installed", None if right else "it is %r with %s" % (answer, sorted(files)))
     check_commands(results, clone, "the package for Debian", os.path.join(root, "usr"))
     answer = run([*dpkg, "--purge", "git-cgraph"], variables)

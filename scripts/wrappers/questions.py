@@ -20,14 +20,14 @@ ODD_REF = "odd';$(id)\"&|<>`\u00e9!#%"
 ECHO = "printf '<%s>' \"$@\"\npwd -P >&2\n"
 """A program that writes its words, and says in which folder it is."""
 
-USAGE = "usage: git cgraph [<options>] verify | check | distinct | list\n   or: git cgraph [<options>] find <commit>\n"
+USAGE = "usage: git cgraph [<options>] verify | check | distinct | show | list\n   or: git cgraph [<options>] verify [--all-checks] "
 REVISIONS = ("HEAD", "HEAD~1", "HEAD")
 WORDS = {
     command.word: (command.program, REVISIONS[: command.least() + command.takes_more()])
     for command in commands()
-    if command.by_git and command.word != "list"
+    if command.by_git and command.word not in ("list", "show")
 }
-"""The program that answers each word, and revisions after the word; `list` is by itself."""
+"""The program that answers each word, and revisions after the word; `list` and `show` are by themselves."""
 
 ASKED = {"merge-base": "merge-base-ids"}
 """By which word a program is asked, where that is another."""
@@ -45,6 +45,11 @@ WRONG = {
     "'merge-base' takes two revisions or more": ["merge-base", "HEAD"],
     "'find' has no option '-x'": ["find", "-x"],
     "'verify' has no option '-v'": ["verify", "-v"],
+    "'find' has no option '--objects'": ["find", "--objects", "HEAD"],
+    "after -j there has to be a number": ["verify", "-j"],
+    "'0' is no number of jobs from 1 to 99": ["verify", "--objects", "--jobs=0"],
+    "'x' is no number of jobs from 1 to 99": ["verify", "--objects", "-jx"],
+    "'--jobs' goes with '--objects'": ["verify", "--jobs", "2"],
 }
 STATUSES = [
     *(("verify", "refused verify 1", 1, 1), ("check", "refused dates 6", 1, 128), ("distinct", "refused open 7", 1, 128)),
@@ -148,12 +153,12 @@ def check_told(results, clone):
     """Help and version, alone and after each word, and outside a repository."""
     version = "git-cgraph " + read("VERSION")
     manual = read("docs", "MANUAL.md")
-    for word in (None, "list", *WORDS):
+    for word in (None, "list", "show", *WORDS):
         before = [word] if word else []
         helps = [ask(clone, [*before, option], clone.folder, ("sh",)) for option in ("--help", "-h")]
         answer = helps[0]
         line = next(line for line in manual.split("\n") if line.startswith("    ") and " %s" % (word or "verify") in line)
-        told = line.strip() in answer.out and (not word or len(answer.out.split("\n")) < 12)
+        told = line.strip() in answer.out and (not word or len(answer.out.split("\n")) < 30)
         right = answer.status == 0 and answer.out.startswith(("usage: git cgraph", "git-cgraph: ")) and not answer.err
         title = " ".join(["git-cgraph", *before, "--help"])
         results.check(title, None if right and told and helps[0] == helps[1] else "they are %r" % (helps,))

@@ -7,7 +7,8 @@ from wrappers.clone import TOP
 
 
 class Command(NamedTuple):
-    """A row of the table: a word, its program, what it reads, how many ids it takes, if `git cgraph` has it, what it does."""
+    """A row of the table: a word, its program, what it reads, how many ids it takes, if `git cgraph` has it,
+    what it does."""
 
     word: str
     program: str
@@ -18,11 +19,15 @@ class Command(NamedTuple):
 
     def least(self) -> int:
         """How many ids the command takes at least."""
-        return int(self.ids.rstrip("+"))
+        return 0 if self.takes_range() else int(self.ids.rstrip("+"))
 
     def takes_more(self) -> bool:
         """Whether it takes any number of further ids."""
         return self.ids.endswith("+")
+
+    def takes_range(self) -> bool:
+        """Whether it takes two positions, or none."""
+        return self.ids == "range"
 
     def operands(self, number=None) -> List[str]:
         """A path, if the command reads one, and so many ids, or as few as it takes."""
@@ -43,5 +48,6 @@ def usage(program):
     parts = []
     for command in commands(program):
         path = ["PATH"] if command.reads == "path" else []
-        parts.append(" ".join([command.word, *path, *["HEX"] * command.least()]) + (".." if command.takes_more() else ""))
+        more = ".." if command.takes_more() else " [FROM TO]" if command.takes_range() else ""
+        parts.append(" ".join([command.word, *path, *["HEX"] * command.least()]) + more)
     return "usage: %s %s" % (program, " | ".join(parts))

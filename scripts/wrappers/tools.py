@@ -22,11 +22,16 @@ class Wrapper(NamedTuple):
 def wrapper_of(name):
     """The wrapper of a program. Words that are no command have too few or too many operands, or are none of its own."""
     own = commands(name)
-    wrong = [[], ["help"], ["help", "--help"], ["--version", "--help"], ["--help", "."], [own[-1].word, ".", "--help", "0"]]
+    wrong = [[], ["help"], ["help", "--help"], ["--version", "--help"], ["--help", "."], [without_ids(own), ".", "--help", "0"]]
     wrong += [[command.word, *command.operands()] for command in commands() if command.program != name]
     wrong += [[command.word, *command.operands()[:-1]] for command in own if command.operands()]
     wrong += [[command.word, *command.operands(command.least() + 1)] for command in own if not command.takes_more()]
     return Wrapper(name, wrong, {command.word: command.operands(command.least() + command.takes_more()) for command in own})
+
+
+def without_ids(own):
+    """The last of some commands that takes neither ids nor positions."""
+    return [command.word for command in own if command.ids == "0"][-1]
 
 
 KIT = re.compile(r"^ {4}(rattle-kit-\S+ logic \w+)$", re.MULTILINE)

@@ -1,8 +1,8 @@
 //! `ask PATH list | verify | distinct | dates | probe NAME | find ID | ancestor ID ID`: answers of the graph at the path, in the
 //! lines of `graphtool`, and `dates` and what refuses a `probe` in lines of `historytool check`.
 
-use commitgraph::{Checked, CommitFault, DatesError, Fault, Graph, LayerFault, ObjectId, OpenError, ParentError, Position};
-use commitgraph::{Probe, ProbeError, VerifyError, VerifyOptions};
+use commitgraph::{Checked, CommitFault, DatesError, Fault, FileError, Graph, GraphError, LayerFault, ObjectId, OpenError};
+use commitgraph::{ParentError, Position, Probe, ProbeError, VerifyError, VerifyOptions};
 use std::convert::Infallible;
 use std::process::ExitCode;
 
@@ -94,7 +94,7 @@ fn dates_words(error: DatesError) -> String {
         DatesError::OverflowIndex { pos } => format!("3 position {}", pos.0),
         DatesError::TooLarge { pos } => format!("4 position {}", pos.0),
         DatesError::Date { pos, expected } => format!("5 position {} expected {expected}", pos.0),
-        DatesError::OutOfMemory => panic!("{error}"),
+        error => panic!("{error}"),
     }
 }
 
@@ -109,7 +109,7 @@ fn probe(graph: &Graph, name: &str) -> Answer {
     match graph.probe_path(name.as_bytes(), &positions) {
         Ok(answers) => {
             let past = graph.probe_path(name.as_bytes(), &[Position(graph.num_commits())]);
-            assert_eq!(past, Err(ProbeError::NoSuchPosition));
+            assert_eq!(past, Err(ProbeError::NoSuchPosition { index: 0 }));
             (answers.iter().map(number).collect(), true)
         }
         Err(error) => (format!("refused filters {}\n", filters_words(error)), false),
@@ -127,7 +127,7 @@ fn filters_words(error: ProbeError) -> String {
         ProbeError::PastEnd { pos } => format!("7 position {}", pos.0),
         ProbeError::LeftOver { layer } => format!("8 layer {layer}"),
         ProbeError::Settings { layer } => format!("9 layer {layer}"),
-        ProbeError::NoSuchPosition | ProbeError::OutOfMemory => panic!("{error}"),
+        error => panic!("{error}"),
     }
 }
 
@@ -140,14 +140,14 @@ fn find(graph: &Graph, id: &str) -> Answer {
 }
 
 fn ancestor(graph: &Checked, from: &str, to: &str) -> Answer {
-    let position = |id| graph.lookup(ObjectId::from_hex(id)?);
+    let position = |id| graph.graph().lookup(ObjectId::from_hex(id)?);
     let (Some(from), Some(to)) = (position(from), position(to)) else {
         return (format!("unknown {}\n", if position(from).is_none() { 1 } else { 2 }), false);
     };
     let reached = graph.ancestor_walk(from, to).expect("both are positions of the graph");
-    assert_eq!(graph.is_ancestor(from, to), Ok(reached.walk.is_some()));
-    let back = graph.is_ancestor(to, from).expect("both are positions of the graph");
-    let pairs = [(from, to), (to, from), (to, to)];
+    assert_eq!(graph.is_ancestor(to, from), Ok(reached.walk.is_some()));
+    let back = graph.is_ancestor(from, to).expect("both are positions of the graph");
+    let pairs = [(to, from), (from, to), (to, to)];
     assert_eq!(graph.are_ancestors(&pairs), Ok(vec![reached.walk.is_some(), back, true]));
     let steps = |walk: &Vec<Position>| walk.iter().map(|pos| format!(" {}", pos.0)).collect::<String>();
     let walk = reached.walk.as_ref().map_or("none".to_owned(), |walk| format!("walk{}", steps(walk)));
@@ -158,12 +158,11 @@ fn ancestor(graph: &Checked, from: &str, to: &str) -> Answer {
 fn not_opened(error: &OpenError, list: bool) -> String {
     match error {
         OpenError::Check(fault) => not_right(fault),
-        OpenError::Layer { layer, number, chunk } => {
+        OpenError::Layer { layer, error, .. } => {
             let place = if list { String::new() } else { format!("open 5 layer {layer} ") };
-            let chunk = if *chunk == 0 { String::new() } else { format!(" chunk {chunk}") };
-            format!("refused {place}file {number}{chunk}\n")
+            format!("refused {place}file {}\n", file_number(*error))
         }
-        OpenError::Graph { number, .. } => format!("refused open 6 graph {number}\n"),
+        OpenError::Graph(error) => format!("refused open 6 graph {}\n", graph_number(*error)),
         error => panic!("{error}"),
     }
 }
@@ -181,6 +180,7 @@ fn not_right(fault: &Fault) -> String {
         Fault::ParentOutOfRange { pos, parent } => format!("7 position {} parent {}", pos.0, parent.0),
         Fault::Generation { pos, expected } => format!("8 position {} expected {expected}", pos.0),
         Fault::DuplicateId { pos, earlier } => format!("11 position {} earlier {}", pos.0, earlier.0),
+        fault => panic!("{fault}"),
     };
     format!("refused verify {words}\n")
 }
@@ -190,6 +190,7 @@ fn commit_number(fault: CommitFault) -> u32 {
         CommitFault::NullId => 1,
         CommitFault::Order => 2,
         CommitFault::NullTree => 3,
+        fault => panic!("{fault}"),
     }
 }
 
@@ -199,5 +200,47 @@ fn parent_number(error: ParentError) -> u32 {
         ParentError::FirstIsEdgeIndex => 2,
         ParentError::NoEdgeList => 3,
         ParentError::EdgeOverflow => 4,
+        error => panic!("{error}"),
+    }
+}
+
+/// The number of a refused file, and where the table of chunks is refused, that of what is wrong with it.
+fn file_number(error: FileError) -> &'static str {
+    match error {
+        FileError::TooShort => "1",
+        FileError::Signature => "2",
+        FileError::Version => "3",
+        FileError::Hash => "4",
+        FileError::BaseSize => "6",
+        FileError::BaseCount => "7",
+        FileError::NoCommitData => "8",
+        FileError::CommitDataSize => "9",
+        FileError::NoFan => "10",
+        FileError::FanSize => "11",
+        FileError::NoIds => "12",
+        FileError::IdsSize => "13",
+        FileError::TooManyEdges => "14",
+        FileError::Trailer => "15",
+        FileError::BaseMissing => "16",
+        FileError::FanFalls => "17",
+        FileError::IdCount => "18",
+        FileError::RecordCount => "19",
+        FileError::NoChunks => "5 chunk 1",
+        FileError::TableTooSmall => "5 chunk 2",
+        FileError::EarlyEnd => "5 chunk 3",
+        FileError::DuplicateChunk => "5 chunk 4",
+        FileError::ChunkOutOfFile => "5 chunk 5",
+        FileError::ChunkFalls => "5 chunk 6",
+        FileError::NoEnd => "5 chunk 7",
+        error => panic!("{error}"),
+    }
+}
+
+fn graph_number(error: GraphError) -> u32 {
+    match error {
+        GraphError::NoFiles => 1,
+        GraphError::TooManyCommits => 2,
+        GraphError::HashMismatch { .. } => 3,
+        error => panic!("{error}"),
     }
 }

@@ -1,6 +1,7 @@
 //! What is said of many commits, read by one call for many of them.
 
 use crate::{sys, Graph, ParentError, Position};
+use std::iter::FusedIterator;
 
 /// Of so many commits one call tells.
 const BLOCK: usize = 256;
@@ -40,7 +41,7 @@ impl ParentBlock {
     }
 
     /// The parents of each commit, in the order of the commits; or why they cannot be decoded, or not all of them.
-    pub fn iter(&self) -> impl Iterator<Item = Result<&[Position], ParentError>> {
+    pub fn iter(&self) -> impl ExactSizeIterator<Item = Result<&[Position], ParentError>> + FusedIterator {
         let mut rest = &self.parents[..];
         self.answers.iter().map(move |answer| {
             let (parents, later) = rest.split_at(answer.count as usize);
@@ -52,13 +53,13 @@ impl ParentBlock {
 
 impl Graph {
     /// What the records of the commits say, in the order of their positions.
-    pub fn iter_records(&self) -> impl Iterator<Item = Record> + '_ {
-        (0..self.num_commits()).step_by(BLOCK).flat_map(|first| self.records_from(first))
+    pub fn iter_records(&self) -> impl FusedIterator<Item = Record> + '_ {
+        (0..self.num_commits()).step_by(BLOCK).fuse().flat_map(|first| self.records_from(first))
     }
 
     /// The records of some commits from a position on.
-    fn records_from(&self, first: u32) -> impl Iterator<Item = Record> {
-        let mut records = vec![sys::Commit::default(); BLOCK];
+    fn records_from(&self, first: u32) -> impl FusedIterator<Item = Record> {
+        let mut records = [sys::Commit::default(); BLOCK];
         // SAFETY: `raw` is open, and the pointer and the length are those of a vector.
         let left = unsafe { sys::cg_commits(self.raw, first, records.as_mut_ptr(), records.len()) };
         let record = |told: sys::Commit| Record { committer_timestamp: told.time, generation: told.generation };
@@ -66,19 +67,20 @@ impl Graph {
     }
 
     /// The parents of each commit, in the order of their positions, as [`crate::Commit::parents`] has them.
-    pub fn iter_parents(&self) -> impl Iterator<Item = Result<Vec<Position>, ParentError>> + '_ {
+    pub fn iter_parents(&self) -> impl FusedIterator<Item = Result<Vec<Position>, ParentError>> + '_ {
         let owned = |block: ParentBlock| block.iter().map(|parents| parents.map(<[_]>::to_vec)).collect::<Vec<_>>();
         self.parent_blocks().flat_map(owned)
     }
 
     /// The parents of all commits, in blocks: the fastest way to go over them, since nothing is allocated for each commit.
-    pub fn parent_blocks(&self) -> impl Iterator<Item = ParentBlock> + '_ {
+    pub fn parent_blocks(&self) -> impl FusedIterator<Item = ParentBlock> + '_ {
         let mut next = Position(0);
         std::iter::from_fn(move || {
             let block = self.parents_from(next)?;
             next = Position(next.0 + block.len() as u32);
             Some(block)
         })
+        .fuse()
     }
 
     /// The parents of some commits from a position on, or `None` where no commit is left.

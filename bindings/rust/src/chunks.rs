@@ -1,6 +1,7 @@
 //! The corrected commit dates and the changed-path filters of a graph.
 
-use crate::{sys, DatesError, Graph, Position, ProbeError};
+use crate::room::{collected, room_for};
+use crate::{codes, sys, DatesError, Graph, Position, ProbeError};
 
 /// What the filter of a commit says of a path.
 #[derive(Clone, Copy, Debug, PartialEq, Eq)]
@@ -17,12 +18,12 @@ impl Graph {
     /// The corrected commit dates of all commits, in order, in seconds since 1970-01-01 00:00:00 UTC; or `None` where a layer
     /// has none, so that Git reads none of the graph. The dates that are answered are right.
     pub fn corrected_dates(&self) -> Result<Option<Vec<u64>>, DatesError> {
-        let mut dates = vec![0; self.num_commits() as usize];
+        let mut dates = room_for(0, self.num_commits() as usize)?;
         // SAFETY: `raw` is open, and the pointer and the length are those of a vector.
         let told = unsafe { sys::cg_corrected_dates(self.raw, dates.as_mut_ptr(), dates.len()) };
         match told.code {
-            0 => Ok(Some(dates)),
-            7 => Ok(None),
+            codes::OK => Ok(Some(dates)),
+            codes::NO_DATES => Ok(None),
             _ => Err(DatesError::of(&told)),
         }
     }
@@ -31,14 +32,14 @@ impl Graph {
     /// for the paths that a commit changes against its first parent, and the folders that lead to them. Each call reads the
     /// sizes of all filters.
     pub fn probe_path(&self, path: &[u8], positions: &[Position]) -> Result<Vec<Probe>, ProbeError> {
-        let mut out = vec![0; positions.len()];
+        let mut out = room_for(0, positions.len())?;
         let (places, count) = (positions.as_ptr().cast(), positions.len());
         // SAFETY: `raw` is open, each pointer and length are those of a slice, and a position is one number.
         let told = unsafe {
             sys::cg_probe_path(self.raw, path.as_ptr(), path.len(), places, count, out.as_mut_ptr(), out.len())
         };
         match told.code {
-            0 => Ok(out.into_iter().map(Probe::of).collect()),
+            codes::OK => Ok(collected(out.into_iter().map(Probe::of))?),
             _ => Err(ProbeError::of(&told)),
         }
     }

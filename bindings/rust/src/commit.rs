@@ -2,6 +2,7 @@
 
 use crate::{sys, Graph, ObjectId, ParentError, Position, Record};
 use std::fmt;
+use std::iter::FusedIterator;
 
 /// Of a commit with at most so many parents they stand in no memory of their own.
 pub(crate) const FEW: usize = 2;
@@ -173,3 +174,5 @@ impl Iterator for Parents {
 }
 
 impl ExactSizeIterator for Parents {}
+
+impl FusedIterator for Parents {}

@@ -3,7 +3,8 @@
 use crate::blocks::ParentBlock;
 use crate::commit::{Few, FEW};
 use crate::sys::ParentCount;
-use crate::{Commit, Graph, Position};
+use crate::{codes, Commit, Graph, Position};
+use std::iter::FusedIterator;
 
 /// An iterator over the commits of a graph, in order. It reads the parents of many by one call.
 pub(crate) struct Commits<'g> {
@@ -29,7 +30,7 @@ impl<'g> Commits<'g> {
         let positions = self.block.parents[self.used..].first_chunk();
         self.given += 1;
         self.used += count as usize;
-        let positions = *positions.filter(|_| code == 0 && count <= FEW as u64)?;
+        let positions = *positions.filter(|_| code == codes::OK && count <= FEW as u64)?;
         Some(Few { positions, count: count as u32 })
     }
 }
@@ -56,6 +57,8 @@ impl<'g> Iterator for Commits<'g> {
 }
 
 impl ExactSizeIterator for Commits<'_> {}
+
+impl FusedIterator for Commits<'_> {}
 
 /// The parents of some commits from a position on, or `None` where no commit is left.
 #[cold]

@@ -1,25 +1,52 @@
-//! Why a graph is refused.
+//! Why a graph is refused. What an error says is what `docs/REFUSALS.md` says of it.
 
-use crate::{sys, Position};
+use crate::{codes, sys, FileError, GraphError, Position};
+use std::collections::TryReserveError;
 use std::fmt;
 use std::path::PathBuf;
 
+/// What is said where there is no memory.
+const OUT_OF_MEMORY: &str = "memory ran out";
+
 /// Why no graph was opened.
 #[derive(Debug)]
+#[non_exhaustive]
 pub enum OpenError {
     /// A file could not be read.
-    Io { path: PathBuf, error: std::io::Error },
-    /// A path, or a line of a chain file, is not UTF-8.
-    Text { path: PathBuf },
-    /// The bytes of a layer, counted from 0, are refused, for the reason of this number in `docs/REFUSALS.md`. Where it is 5,
-    /// `chunk` is that of what is wrong with the table of chunks, and else 0.
-    Layer { layer: usize, number: u32, chunk: u32 },
-    /// The layers make no graph, for the reason of this number. Where it is 3, `layer` is of another kind of hash than the
-    /// one below it.
-    Graph { number: u32, layer: usize },
+    Io {
+        /// The file.
+        path: PathBuf,
+        /// What the system says.
+        error: std::io::Error,
+    },
+    /// A line of a chain file is not UTF-8.
+    ChainLine {
+        /// The chain file.
+        path: PathBuf,
+        /// The line, counted from 0.
+        line: usize,
+    },
+    /// The bytes of a layer are refused.
+    Layer {
+        /// The layer, counted from 0.
+        layer: usize,
+        /// The path of its file, which is empty where it was given none.
+        path: PathBuf,
+        /// Why.
+        error: FileError,
+    },
+    /// The layers make no graph.
+    Graph(GraphError),
     /// The check refuses the graph.
     Check(Fault),
-    /// An allocation of the library failed.
+    /// Of an info folder neither the file nor the chain was opened, and neither is missing.
+    Neither {
+        /// Why the file was not.
+        file: Box<OpenError>,
+        /// Why the chain was not.
+        chain: Box<OpenError>,
+    },
+    /// Memory ran out.
     OutOfMemory,
 }
 
@@ -28,21 +55,49 @@ impl OpenError {
     pub(crate) fn is_settled(&self) -> bool {
         matches!(self, OpenError::Check(_) | OpenError::OutOfMemory)
     }
+
+    /// Whether a file is not there.
+    fn is_missing(&self) -> bool {
+        matches!(self, OpenError::Io { error, .. } if error.kind() == std::io::ErrorKind::NotFound)
+    }
+
+    /// Why neither the file of an info folder nor its chain was opened, by why each was not.
+    pub(crate) fn of_both(file: OpenError, chain: OpenError) -> OpenError {
+        match (file.is_missing(), chain.is_settled(), chain.is_missing()) {
+            (true, ..) | (_, true, _) => chain,
+            (.., true) => file,
+            _ => OpenError::Neither { file: Box::new(file), chain: Box::new(chain) },
+        }
+    }
 }
 
 impl fmt::Display for OpenError {
     fn fmt(&self, f: &mut fmt::Formatter<'_>) -> fmt::Result {
         match self {
-            OpenError::Io { path, error } => write!(f, "{}: {error}", path.display()),
-            OpenError::Text { path } => write!(f, "{}: not UTF-8", path.display()),
-            OpenError::Layer { layer, number, chunk: 0 } => write!(f, "layer {layer} is refused: file {number}"),
-            OpenError::Layer { layer, number, chunk } => {
-                write!(f, "layer {layer} is refused: file {number} chunk {chunk}")
+            OpenError::Io { path, .. } => write!(f, "cannot read {}", path.display()),
+            OpenError::ChainLine { path, line } => {
+                write!(f, "{}: line {line} of the chain file is not UTF-8", path.display())
             }
-            OpenError::Graph { number, .. } => write!(f, "the layers make no graph: graph {number}"),
-            OpenError::Check(fault) => write!(f, "the check refuses the graph: {fault}"),
-            OpenError::OutOfMemory => write!(f, "out of memory"),
+            OpenError::Layer { layer, path, error } if path.as_os_str().is_empty() => write!(f, "layer {layer}: {error}"),
+            OpenError::Layer { path, error, .. } => write!(f, "{}: {error}", path.display()),
+            OpenError::Graph(error) => error.fmt(f),
+            OpenError::Check(fault) => fault.fmt(f),
+            OpenError::Neither { file, chain } => {
+                write!(f, "neither the file nor the chain was opened: ")?;
+                write_with_source(f, file)?;
+                write!(f, "; ")?;
+                write_with_source(f, chain)
+            }
+            OpenError::OutOfMemory => f.write_str(OUT_OF_MEMORY),
         }
+    }
+}
+
+/// An error that has no one above it to ask for its source.
+fn write_with_source(f: &mut fmt::Formatter<'_>, error: &OpenError) -> fmt::Result {
+    match error {
+        OpenError::Io { error: source, .. } => write!(f, "{error}: {source}"),
+        _ => write!(f, "{error}"),
     }
 }
 
@@ -57,30 +112,93 @@ impl std::error::Error for OpenError {
 
 /// What the check of a graph finds wrong: its first fault.
 #[derive(Clone, Copy, Debug, PartialEq, Eq)]
+#[non_exhaustive]
 pub enum Fault {
     /// There are more than 256 layers.
     TooManyFiles,
     /// The layer does not have one base id for each layer below it.
-    BaseCount { layer: usize },
-    /// The base id of this index is not the checksum of the layer of that index.
-    BaseId { layer: usize, index: usize },
-    /// Something is wrong with the layer as a whole.
-    Layer { layer: usize, fault: LayerFault },
-    /// Something is wrong with the ids of the commit.
-    Commit { pos: Position, fault: CommitFault },
-    /// The parents of the commit cannot be decoded.
-    Parent { pos: Position, error: ParentError },
-    /// A parent of the commit stands neither in its layer nor in one below.
-    ParentOutOfRange { pos: Position, parent: Position },
-    /// The generation number of the commit is not the expected one.
-    Generation { pos: Position, expected: u32 },
-    /// The id of the commit stands at an earlier position too.
-    DuplicateId { pos: Position, earlier: Position },
+    BaseCount {
+        /// The layer, counted from 0.
+        layer: usize,
+    },
+    /// A base id is not the checksum of the layer that it stands for.
+    BaseId {
+        /// The layer that has the base id.
+        layer: usize,
+        /// The number of the base id, and of the layer that it stands for.
+        index: usize,
+    },
+    /// Something is wrong with a layer as a whole.
+    Layer {
+        /// The layer, counted from 0.
+        layer: usize,
+        /// What is wrong.
+        fault: LayerFault,
+    },
+    /// Something is wrong with the ids of a commit.
+    Commit {
+        /// The commit's position.
+        pos: Position,
+        /// What is wrong.
+        fault: CommitFault,
+    },
+    /// The parents of a commit cannot be decoded.
+    Parent {
+        /// The commit's position.
+        pos: Position,
+        /// Why.
+        error: ParentError,
+    },
+    /// A parent of a commit stands neither in its layer nor in one below.
+    ParentOutOfRange {
+        /// The commit's position.
+        pos: Position,
+        /// The position that is given for its parent.
+        parent: Position,
+    },
+    /// The generation number of a commit is not the expected one.
+    Generation {
+        /// The commit's position.
+        pos: Position,
+        /// One more than the greatest of its parents'.
+        expected: u32,
+    },
+    /// The id of a commit stands at an earlier position too.
+    DuplicateId {
+        /// The commit's position.
+        pos: Position,
+        /// The earlier position.
+        earlier: Position,
+    },
 }
 
 impl fmt::Display for Fault {
     fn fmt(&self, f: &mut fmt::Formatter<'_>) -> fmt::Result {
-        write!(f, "{self:?}")
+        match self {
+            Fault::TooManyFiles => f.write_str("there are more than 256 layers"),
+            Fault::BaseCount { layer } => {
+                write!(f, "layer {layer} has another number of base layers than there are layers before it")
+            }
+            Fault::BaseId { layer, index } => {
+                write!(f, "base id {index} of layer {layer} is not the checksum of layer {index}")
+            }
+            Fault::Layer { layer, fault } => write!(f, "layer {layer}: {fault}"),
+            Fault::Commit { pos, fault } => write!(f, "the commit at position {pos}: {fault}"),
+            Fault::Parent { pos, error } => {
+                write!(f, "the commit at position {pos}: its parents cannot be read: {error}")
+            }
+            Fault::ParentOutOfRange { pos, parent } => write!(
+                f,
+                "the commit at position {pos}: its parent, position {parent}, lies past the end of the commit's own layer"
+            ),
+            Fault::Generation { pos, expected } => write!(
+                f,
+                "the commit at position {pos}: its generation number is not {expected}, one more than the greatest of its parents'"
+            ),
+            Fault::DuplicateId { pos, earlier } => {
+                write!(f, "the commit at position {pos}: its id stands at position {earlier} too, in an earlier layer")
+            }
+        }
     }
 }
 
@@ -88,17 +206,34 @@ impl std::error::Error for Fault {}
 
 /// What is wrong with a layer as a whole.
 #[derive(Clone, Copy, Debug, PartialEq, Eq)]
+#[non_exhaustive]
 pub enum LayerFault {
     /// The checksum is not the digest of the bytes before it.
     Checksum,
     /// The file is named as a layer of a chain, and not after its checksum.
     FileName,
     /// The fan does not count the ids whose first byte is at most this one.
-    Fan { byte: u8 },
+    Fan {
+        /// The byte.
+        byte: u8,
+    },
+}
+
+impl fmt::Display for LayerFault {
+    fn fmt(&self, f: &mut fmt::Formatter<'_>) -> fmt::Result {
+        match self {
+            LayerFault::Checksum => f.write_str("the checksum is not the digest of its bytes: they were changed or lost"),
+            LayerFault::FileName => f.write_str("the file is named `graph-X.graph`, and X is not its checksum"),
+            LayerFault::Fan { byte } => {
+                write!(f, "the fan (chunk `OIDF`) does not count the ids whose first byte is at most {byte}")
+            }
+        }
+    }
 }
 
 /// What is wrong with the ids of a commit.
 #[derive(Clone, Copy, Debug, PartialEq, Eq)]
+#[non_exhaustive]
 pub enum CommitFault {
     /// Its id is null.
     NullId,
@@ -108,88 +243,157 @@ pub enum CommitFault {
     NullTree,
 }
 
+impl fmt::Display for CommitFault {
+    fn fmt(&self, f: &mut fmt::Formatter<'_>) -> fmt::Result {
+        f.write_str(match self {
+            CommitFault::NullId => "its id is null, all zeros",
+            CommitFault::Order => "its id is not above the one before it in its layer",
+            CommitFault::NullTree => "the id of its root tree is null",
+        })
+    }
+}
+
 /// The fault that a verdict tells of.
 pub(crate) fn fault_of(verdict: &sys::Verdict) -> Fault {
     let layer = verdict.layer as usize;
     let pos = Position(verdict.position);
-    match (verdict.code, verdict.fault) {
-        (1, _) => Fault::TooManyFiles,
-        (2, _) => Fault::BaseCount { layer },
-        (3, _) => Fault::BaseId { layer, index: verdict.index as usize },
-        (4, 1) => Fault::Layer { layer, fault: LayerFault::Checksum },
-        (4, 2) => Fault::Layer { layer, fault: LayerFault::FileName },
-        (4, _) => Fault::Layer { layer, fault: LayerFault::Fan { byte: verdict.other as u8 } },
-        (5, 1) => Fault::Commit { pos, fault: CommitFault::NullId },
-        (5, 2) => Fault::Commit { pos, fault: CommitFault::Order },
-        (5, _) => Fault::Commit { pos, fault: CommitFault::NullTree },
-        (6, 1) => Fault::Parent { pos, error: ParentError::SecondWithoutFirst },
-        (6, 2) => Fault::Parent { pos, error: ParentError::FirstIsEdgeIndex },
-        (6, 3) => Fault::Parent { pos, error: ParentError::NoEdgeList },
-        (6, _) => Fault::Parent { pos, error: ParentError::EdgeOverflow },
-        (7, _) => Fault::ParentOutOfRange { pos, parent: Position(verdict.other) },
-        (8, _) => Fault::Generation { pos, expected: verdict.other },
-        _ => Fault::DuplicateId { pos, earlier: Position(verdict.other) },
+    let in_layer = |fault| Fault::Layer { layer, fault };
+    let in_commit = |fault| Fault::Commit { pos, fault };
+    match verdict.code {
+        codes::CHECK_TOO_MANY_FILES => Fault::TooManyFiles,
+        codes::CHECK_BASE_COUNT => Fault::BaseCount { layer },
+        codes::CHECK_BASE_ID => Fault::BaseId { layer, index: verdict.index as usize },
+        codes::CHECK_CHECKSUM => in_layer(LayerFault::Checksum),
+        codes::CHECK_FILE_NAME => in_layer(LayerFault::FileName),
+        codes::CHECK_FAN => in_layer(LayerFault::Fan { byte: verdict.other as u8 }),
+        codes::CHECK_NULL_ID => in_commit(CommitFault::NullId),
+        codes::CHECK_ORDER => in_commit(CommitFault::Order),
+        codes::CHECK_NULL_TREE => in_commit(CommitFault::NullTree),
+        codes::CHECK_PARENT_OUT_OF_RANGE => Fault::ParentOutOfRange { pos, parent: Position(verdict.other) },
+        codes::CHECK_GENERATION => Fault::Generation { pos, expected: verdict.other },
+        codes::CHECK_DUPLICATE_ID => Fault::DuplicateId { pos, earlier: Position(verdict.other) },
+        code => Fault::Parent { pos, error: ParentError::of(code).expect("no other fault is told") },
     }
 }
 
 /// Why a check ended without statistics.
 #[derive(Clone, Copy, Debug, PartialEq, Eq)]
+#[non_exhaustive]
 pub enum VerifyError<E> {
     /// The graph is not right.
     Fault(Fault),
-    /// The processor answered this error on the commit at this position.
-    Processor { pos: Position, error: E },
-    /// An allocation of the library failed.
+    /// The processor refused a commit.
+    Processor {
+        /// The commit's position.
+        pos: Position,
+        /// What it answered.
+        error: E,
+    },
+    /// Memory ran out.
     OutOfMemory,
 }
 
-impl<E: fmt::Display> fmt::Display for VerifyError<E> {
+impl<E> fmt::Display for VerifyError<E> {
     fn fmt(&self, f: &mut fmt::Formatter<'_>) -> fmt::Result {
         match self {
-            VerifyError::Fault(fault) => write!(f, "{fault}"),
-            VerifyError::Processor { pos, error } => write!(f, "the commit at position {}: {error}", pos.0),
-            VerifyError::OutOfMemory => write!(f, "out of memory"),
+            VerifyError::Fault(fault) => fault.fmt(f),
+            VerifyError::Processor { pos, .. } => write!(f, "the processor refused the commit at position {pos}"),
+            VerifyError::OutOfMemory => f.write_str(OUT_OF_MEMORY),
         }
     }
 }
 
-impl<E: std::error::Error> std::error::Error for VerifyError<E> {}
+impl<E: std::error::Error + 'static> std::error::Error for VerifyError<E> {
+    fn source(&self) -> Option<&(dyn std::error::Error + 'static)> {
+        match self {
+            VerifyError::Processor { error, .. } => Some(error),
+            _ => None,
+        }
+    }
+}
 
 /// Why a query has no answer.
 #[derive(Clone, Copy, Debug, PartialEq, Eq)]
+#[non_exhaustive]
 pub enum QueryError {
     /// A position is none of the graph's.
     NoSuchPosition,
-    /// An allocation of the library failed.
+    /// Memory ran out.
     OutOfMemory,
 }
 
 impl fmt::Display for QueryError {
     fn fmt(&self, f: &mut fmt::Formatter<'_>) -> fmt::Result {
-        match self {
-            QueryError::NoSuchPosition => write!(f, "no such position"),
-            QueryError::OutOfMemory => write!(f, "out of memory"),
-        }
+        f.write_str(match self {
+            QueryError::NoSuchPosition => "the graph has no such position",
+            QueryError::OutOfMemory => OUT_OF_MEMORY,
+        })
     }
 }
 
 impl std::error::Error for QueryError {}
 
+impl From<TryReserveError> for QueryError {
+    fn from(_: TryReserveError) -> QueryError {
+        QueryError::OutOfMemory
+    }
+}
+
+/// Why many pairs were not all answered.
+#[derive(Clone, Copy, Debug, PartialEq, Eq)]
+#[non_exhaustive]
+pub struct PairError {
+    /// The pair, counted from 0, that has no answer. Those before it have one.
+    pub index: usize,
+    /// Why it has none.
+    pub error: QueryError,
+}
+
+impl fmt::Display for PairError {
+    fn fmt(&self, f: &mut fmt::Formatter<'_>) -> fmt::Result {
+        write!(f, "pair {} has no answer", self.index)
+    }
+}
+
+impl std::error::Error for PairError {
+    fn source(&self) -> Option<&(dyn std::error::Error + 'static)> {
+        Some(&self.error)
+    }
+}
+
 /// Why the corrected dates of a graph are refused: the first that holds, of the lowest layer whose dates cannot be read, and
 /// then of the first commit.
 #[derive(Clone, Copy, Debug, PartialEq, Eq)]
+#[non_exhaustive]
 pub enum DatesError {
-    /// The chunk `GDA2` of the layer does not have four bytes for each commit.
-    DataSize { layer: usize },
-    /// The length of the chunk `GDO2` of the layer is no multiple of eight.
-    OverflowSize { layer: usize },
-    /// The commit names a number that the chunk `GDO2` of its layer does not have.
-    OverflowIndex { pos: Position },
-    /// The date of the commit is 2^63 or more.
-    TooLarge { pos: Position },
-    /// The date of the commit is not the expected one: its time or, if later, one second after the latest date of its parents.
-    Date { pos: Position, expected: u64 },
-    /// An allocation of the library failed.
+    /// The chunk `GDA2` of a layer does not have four bytes for each commit.
+    DataSize {
+        /// The layer, counted from 0.
+        layer: usize,
+    },
+    /// The length of the chunk `GDO2` of a layer is no multiple of eight.
+    OverflowSize {
+        /// The layer, counted from 0.
+        layer: usize,
+    },
+    /// A commit names a number that the chunk `GDO2` of its layer does not have.
+    OverflowIndex {
+        /// The commit's position.
+        pos: Position,
+    },
+    /// The date of a commit is 2^63 or more.
+    TooLarge {
+        /// The commit's position.
+        pos: Position,
+    },
+    /// The date of a commit is not the expected one.
+    Date {
+        /// The commit's position.
+        pos: Position,
+        /// Its time or, if later, one second after the latest date of its parents.
+        expected: u64,
+    },
+    /// Memory ran out.
     OutOfMemory,
 }
 
@@ -198,11 +402,11 @@ impl DatesError {
     pub(crate) fn of(told: &sys::Dates) -> DatesError {
         let (layer, pos) = (told.layer as usize, Position(told.position));
         match told.code {
-            1 => DatesError::DataSize { layer },
-            2 => DatesError::OverflowSize { layer },
-            3 => DatesError::OverflowIndex { pos },
-            4 => DatesError::TooLarge { pos },
-            5 => DatesError::Date { pos, expected: told.expected },
+            codes::DATES_DATA_SIZE => DatesError::DataSize { layer },
+            codes::DATES_OVERFLOW_SIZE => DatesError::OverflowSize { layer },
+            codes::DATES_OVERFLOW_INDEX => DatesError::OverflowIndex { pos },
+            codes::DATES_TOO_LARGE => DatesError::TooLarge { pos },
+            codes::DATES_WRONG => DatesError::Date { pos, expected: told.expected },
             _ => DatesError::OutOfMemory,
         }
     }
@@ -211,39 +415,92 @@ impl DatesError {
 impl fmt::Display for DatesError {
     fn fmt(&self, f: &mut fmt::Formatter<'_>) -> fmt::Result {
         match self {
-            DatesError::OutOfMemory => write!(f, "out of memory"),
-            error => write!(f, "{error:?}"),
+            DatesError::DataSize { layer } => write!(f, "layer {layer}: `GDA2` has not four bytes for each commit"),
+            DatesError::OverflowSize { layer } => {
+                write!(f, "layer {layer}: the length of `GDO2` is no multiple of eight")
+            }
+            DatesError::OverflowIndex { pos } => {
+                write!(f, "the commit at position {pos}: the word of the commit is past the end of `GDO2`")
+            }
+            DatesError::TooLarge { pos } => {
+                write!(f, "the commit at position {pos}: the date of the commit is 2^63 or more")
+            }
+            DatesError::Date { pos, expected } => {
+                write!(f, "the commit at position {pos}: the date of the commit is not {expected}")
+            }
+            DatesError::OutOfMemory => f.write_str(OUT_OF_MEMORY),
         }
     }
 }
 
 impl std::error::Error for DatesError {}
 
+impl From<TryReserveError> for DatesError {
+    fn from(_: TryReserveError) -> DatesError {
+        DatesError::OutOfMemory
+    }
+}
+
 /// Why the changed-path filters of a graph cannot be asked: the first that holds, of the lowest layer whose filters are refused,
 /// or else of the positions.
 #[derive(Clone, Copy, Debug, PartialEq, Eq)]
+#[non_exhaustive]
 pub enum ProbeError {
-    /// The chunk `BIDX` of the layer does not have four bytes for each commit.
-    IndexSize { layer: usize },
-    /// The chunk `BDAT` of the layer has fewer than twelve bytes.
-    DataSize { layer: usize },
+    /// The chunk `BIDX` of a layer does not have four bytes for each commit.
+    IndexSize {
+        /// The layer, counted from 0.
+        layer: usize,
+    },
+    /// The chunk `BDAT` of a layer has fewer than twelve bytes.
+    DataSize {
+        /// The layer, counted from 0.
+        layer: usize,
+    },
     /// The version of the hash is neither 1 nor 2.
-    Version { layer: usize, version: u32 },
-    /// The number of hashes is 0, or more than 65535.
-    Hashes { layer: usize, hashes: u32 },
+    Version {
+        /// The layer, counted from 0.
+        layer: usize,
+        /// The version.
+        version: u32,
+    },
+    /// The number of hashes is 0, or more than 65,535.
+    Hashes {
+        /// The layer, counted from 0.
+        layer: usize,
+        /// The number of hashes.
+        hashes: u32,
+    },
     /// The number of bits per entry is 0.
-    NoBits { layer: usize },
-    /// The filter of the commit ends before it begins.
-    Falls { pos: Position },
-    /// The filter of the commit ends past the end of the chunk `BDAT` of its layer.
-    PastEnd { pos: Position },
-    /// There are bytes after the last filter of the layer.
-    LeftOver { layer: usize },
+    NoBits {
+        /// The layer, counted from 0.
+        layer: usize,
+    },
+    /// The filter of a commit ends before it begins.
+    Falls {
+        /// The commit's position.
+        pos: Position,
+    },
+    /// The filter of a commit ends past the end of the chunk `BDAT` of its layer.
+    PastEnd {
+        /// The commit's position.
+        pos: Position,
+    },
+    /// There are bytes after the last filter of a layer.
+    LeftOver {
+        /// The layer, counted from 0.
+        layer: usize,
+    },
     /// The version or the number of hashes is not that of the lowest layer with filters.
-    Settings { layer: usize },
-    /// A position is none of the graph's.
-    NoSuchPosition,
-    /// An allocation of the library failed.
+    Settings {
+        /// The layer, counted from 0.
+        layer: usize,
+    },
+    /// A position that was asked about is none of the graph's.
+    NoSuchPosition {
+        /// Its number among those that were asked about, counted from 0.
+        index: usize,
+    },
+    /// Memory ran out.
     OutOfMemory,
 }
 
@@ -252,16 +509,16 @@ impl ProbeError {
     pub(crate) fn of(told: &sys::Probed) -> ProbeError {
         let (layer, pos) = (told.layer as usize, Position(told.position));
         match told.code {
-            1 => ProbeError::IndexSize { layer },
-            2 => ProbeError::DataSize { layer },
-            3 => ProbeError::Version { layer, version: told.number },
-            4 => ProbeError::Hashes { layer, hashes: told.number },
-            5 => ProbeError::NoBits { layer },
-            6 => ProbeError::Falls { pos },
-            7 => ProbeError::PastEnd { pos },
-            8 => ProbeError::LeftOver { layer },
-            9 => ProbeError::Settings { layer },
-            11 => ProbeError::NoSuchPosition,
+            codes::FILTERS_INDEX_SIZE => ProbeError::IndexSize { layer },
+            codes::FILTERS_DATA_SIZE => ProbeError::DataSize { layer },
+            codes::FILTERS_VERSION => ProbeError::Version { layer, version: told.number },
+            codes::FILTERS_HASHES => ProbeError::Hashes { layer, hashes: told.number },
+            codes::FILTERS_NO_BITS => ProbeError::NoBits { layer },
+            codes::FILTERS_FALLS => ProbeError::Falls { pos },
+            codes::FILTERS_PAST_END => ProbeError::PastEnd { pos },
+            codes::FILTERS_LEFT_OVER => ProbeError::LeftOver { layer },
+            codes::FILTERS_SETTINGS => ProbeError::Settings { layer },
+            codes::NO_SUCH_POSITION => ProbeError::NoSuchPosition { index: told.answered as usize },
             _ => ProbeError::OutOfMemory,
         }
     }
@@ -270,17 +527,45 @@ impl ProbeError {
 impl fmt::Display for ProbeError {
     fn fmt(&self, f: &mut fmt::Formatter<'_>) -> fmt::Result {
         match self {
-            ProbeError::NoSuchPosition => write!(f, "no such position"),
-            ProbeError::OutOfMemory => write!(f, "out of memory"),
-            error => write!(f, "{error:?}"),
+            ProbeError::IndexSize { layer } => write!(f, "layer {layer}: `BIDX` has not four bytes for each commit"),
+            ProbeError::DataSize { layer } => write!(f, "layer {layer}: `BDAT` has fewer than twelve bytes"),
+            ProbeError::Version { layer, version } => {
+                write!(f, "layer {layer}: the version of the hash is {version}, and neither 1 nor 2")
+            }
+            ProbeError::Hashes { layer, .. } => {
+                write!(f, "layer {layer}: the number of hashes is 0, or more than 65,535")
+            }
+            ProbeError::NoBits { layer } => write!(f, "layer {layer}: the number of bits per entry is 0"),
+            ProbeError::Falls { pos } => {
+                write!(f, "the commit at position {pos}: the commit's filter ends before it begins")
+            }
+            ProbeError::PastEnd { pos } => {
+                write!(f, "the commit at position {pos}: the commit's filter ends past the end of `BDAT`")
+            }
+            ProbeError::LeftOver { layer } => write!(f, "layer {layer}: there are bytes after the last filter"),
+            ProbeError::Settings { layer } => write!(
+                f,
+                "layer {layer}: the version or number of hashes is not that of the lowest layer with filters"
+            ),
+            ProbeError::NoSuchPosition { index } => {
+                write!(f, "the graph has no such position as that of number {index}")
+            }
+            ProbeError::OutOfMemory => f.write_str(OUT_OF_MEMORY),
         }
     }
 }
 
 impl std::error::Error for ProbeError {}
 
+impl From<TryReserveError> for ProbeError {
+    fn from(_: TryReserveError) -> ProbeError {
+        ProbeError::OutOfMemory
+    }
+}
+
 /// Why the parents of a commit, or the rest of them, cannot be decoded.
 #[derive(Clone, Copy, Debug, PartialEq, Eq)]
+#[non_exhaustive]
 pub enum ParentError {
     /// There is a second parent, and no first one.
     SecondWithoutFirst,
@@ -296,10 +581,10 @@ impl ParentError {
     #[inline]
     pub(crate) fn of(code: u32) -> Option<ParentError> {
         match code {
-            1 => Some(ParentError::SecondWithoutFirst),
-            2 => Some(ParentError::FirstIsEdgeIndex),
-            3 => Some(ParentError::NoEdgeList),
-            4 => Some(ParentError::EdgeOverflow),
+            codes::PARENT_SECOND_WITHOUT_FIRST => Some(ParentError::SecondWithoutFirst),
+            codes::PARENT_FIRST_IS_EDGE_INDEX => Some(ParentError::FirstIsEdgeIndex),
+            codes::PARENT_NO_EDGE_LIST => Some(ParentError::NoEdgeList),
+            codes::PARENT_EDGE_OVERFLOW => Some(ParentError::EdgeOverflow),
             _ => None,
         }
     }
@@ -308,10 +593,10 @@ impl ParentError {
 impl fmt::Display for ParentError {
     fn fmt(&self, f: &mut fmt::Formatter<'_>) -> fmt::Result {
         f.write_str(match self {
-            ParentError::SecondWithoutFirst => "a second parent without a first one",
-            ParentError::FirstIsEdgeIndex => "the first parent is an index into the extra edge list",
-            ParentError::NoEdgeList => "there is no extra edge list",
-            ParentError::EdgeOverflow => "the extra edge list ends before the last parent",
+            ParentError::SecondWithoutFirst => "its record in `CDAT` has a second parent and no first",
+            ParentError::FirstIsEdgeIndex => "its first parent field points into `EDGE`",
+            ParentError::NoEdgeList => "its second parent field points into `EDGE`, which is not there",
+            ParentError::EdgeOverflow => "its list in `EDGE` runs past the end",
         })
     }
 }

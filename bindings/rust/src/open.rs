@@ -1,7 +1,8 @@
 //! What stands at a path: the bytes of its layers, and the paths of their files.
 
 use crate::{sys, OpenError};
-use std::path::{Path, PathBuf};
+use std::io::ErrorKind;
+use std::path::Path;
 
 /// The bytes of each layer, and the path of its file, the lowest first.
 type Layers = Vec<(Vec<u8>, String)>;
@@ -12,9 +13,9 @@ pub(crate) fn open_at<T>(
     open: impl Fn(&[(&[u8], &str)]) -> Result<T, OpenError>,
 ) -> Result<T, OpenError> {
     if path.is_file() {
-        open(&lent(&file_at(path)?))
+        open_file(path, open)
     } else if path.join("commit-graph-chain").is_file() {
-        open(&lent(&chain_at(path)?))
+        open_chain(path, open)
     } else {
         open_info(path, open)
     }
@@ -25,39 +26,48 @@ pub(crate) fn open_info<T>(
     path: &Path,
     open: impl Fn(&[(&[u8], &str)]) -> Result<T, OpenError>,
 ) -> Result<T, OpenError> {
-    match file_at(&path.join("commit-graph")).and_then(|files| open(&lent(&files))) {
-        Err(error) if !error.is_settled() => open(&lent(&chain_at(&path.join("commit-graphs"))?)),
+    match open_file(&path.join("commit-graph"), &open) {
+        Err(error) if !error.is_settled() => open_chain(&path.join("commit-graphs"), &open)
+            .map_err(|refusal| OpenError::of_both(error, refusal)),
         answer => answer,
     }
 }
 
-pub(crate) fn lent(files: &[(Vec<u8>, String)]) -> Vec<(&[u8], &str)> {
-    files.iter().map(|(bytes, path)| (&bytes[..], &path[..])).collect()
+/// Opens a file, as the only layer.
+pub(crate) fn open_file<T>(
+    path: &Path,
+    open: impl Fn(&[(&[u8], &str)]) -> Result<T, OpenError>,
+) -> Result<T, OpenError> {
+    open(&[(&read(path)?, &path.to_string_lossy())])
 }
 
-/// The layer of a file.
-pub(crate) fn file_at(path: &Path) -> Result<Layers, OpenError> {
-    Ok(vec![(read(path)?, text_of(path.to_owned())?)])
+/// Opens the layers that the chain file of a folder names.
+pub(crate) fn open_chain<T>(
+    path: &Path,
+    open: impl Fn(&[(&[u8], &str)]) -> Result<T, OpenError>,
+) -> Result<T, OpenError> {
+    let layers = layers_of(path)?;
+    let lent: Vec<_> = layers.iter().map(|(bytes, path)| (&bytes[..], &path[..])).collect();
+    open(&lent)
 }
 
-/// The layers that the chain file of a folder names.
-pub(crate) fn chain_at(path: &Path) -> Result<Layers, OpenError> {
+fn layers_of(path: &Path) -> Result<Layers, OpenError> {
     let chain = path.join("commit-graph-chain");
     let text = read(&chain)?;
-    let layer = |line| {
-        let name = std::str::from_utf8(line).map_err(|_| OpenError::Text { path: chain.clone() })?;
+    let layer = |(line, name)| {
+        let name = std::str::from_utf8(name).map_err(|_| OpenError::ChainLine { path: chain.clone(), line })?;
         let layer = path.join(format!("graph-{name}.graph"));
-        Ok((read(&layer)?, text_of(layer)?))
+        Ok((read(&layer)?, layer.to_string_lossy().into_owned()))
     };
-    lines(&text).map(layer).collect()
+    lines(&text).enumerate().map(layer).collect()
 }
 
+/// Reads a file. That there is no memory for it says nothing of the file.
 fn read(path: &Path) -> Result<Vec<u8>, OpenError> {
-    std::fs::read(path).map_err(|error| OpenError::Io { path: path.to_owned(), error })
-}
-
-fn text_of(path: PathBuf) -> Result<String, OpenError> {
-    path.into_os_string().into_string().map_err(|path| OpenError::Text { path: path.into() })
+    std::fs::read(path).map_err(|error| match error.kind() {
+        ErrorKind::OutOfMemory => OpenError::OutOfMemory,
+        _ => OpenError::Io { path: path.to_owned(), error },
+    })
 }
 
 /// The lines of a chain file.

@@ -23,8 +23,6 @@ pub struct File {
 #[derive(Clone, Copy)]
 pub struct Error {
     pub code: u32,
-    pub detail: u32,
-    pub chunk: u32,
     pub layer: u64,
 }
 
@@ -41,10 +39,9 @@ pub struct Verdict {
     pub code: u32,
     pub num_commits: u32,
     pub longest: u32,
-    pub has_longest: bool,
+    pub has_longest: u32,
     pub position: u32,
     pub other: u32,
-    pub fault: u32,
     pub called: u32,
     pub layer: u64,
     pub index: u64,
@@ -108,8 +105,8 @@ pub struct Bases {
 #[repr(C)]
 #[derive(Clone, Copy)]
 pub struct Pair {
-    pub from: u32,
-    pub to: u32,
+    pub ancestor: u32,
+    pub descendant: u32,
 }
 
 #[repr(C)]
@@ -140,6 +137,7 @@ pub struct Probed {
 }
 
 extern "C" {
+    pub fn cg_version() -> u32;
     pub fn cg_open(files: *const File, count: usize, out: *mut Graph) -> Error;
     pub fn cg_open_checked(
         files: *const File,
@@ -176,7 +174,7 @@ extern "C" {
         counts_len: usize,
     ) -> u32;
     pub fn cg_ancestor_walk(graph: Graph, from: u32, to: u32, out: *mut u32, len: usize) -> Reached;
-    pub fn cg_is_ancestor(graph: Graph, from: u32, to: u32) -> Leads;
+    pub fn cg_is_ancestor(graph: Graph, ancestor: u32, descendant: u32) -> Leads;
     pub fn cg_are_ancestors(graph: Graph, pairs: *const Pair, count: usize, out: *mut u8, len: usize) -> Answered;
     pub fn cg_corrected_dates(graph: Graph, out: *mut u64, len: usize) -> Dates;
     pub fn cg_probe_path(
@@ -212,17 +210,17 @@ mod layout {
 
     laid_out!(Graph, 16, address 0, opened 8);
     laid_out!(File, 32, bytes 0, len 8, path 16, path_len 24);
-    laid_out!(Error, 24, code 0, detail 4, chunk 8, layer 16);
+    laid_out!(Error, 16, code 0, layer 8);
     laid_out!(Commit, 16, time 0, generation 8);
     laid_out!(ParentCount, 16, code 0, count 8);
     laid_out!(Block, 16, commits 0, length 8);
-    laid_out!(Verdict, 56, code 0, num_commits 4, longest 8, has_longest 12, position 16, other 20, fault 24, called 28);
+    laid_out!(Verdict, 56, code 0, num_commits 4, longest 8, has_longest 12, position 16, other 20, called 24);
     laid_out!(Verdict, 56, layer 32, index 40, kinds 48);
     laid_out!(Count, 8, parents 0, commits 4);
     laid_out!(Reached, 16, code 0, visits 4, length 8);
     laid_out!(Leads, 8, code 0, found 4);
     laid_out!(Bases, 32, code 0, ahead 4, behind 8, visits 16, length 24);
-    laid_out!(Pair, 8, from 0, to 4);
+    laid_out!(Pair, 8, ancestor 0, descendant 4);
     laid_out!(Answered, 16, code 0, answered 8);
     laid_out!(Dates, 32, code 0, position 4, layer 8, expected 16, length 24);
     laid_out!(Probed, 32, code 0, position 4, number 8, layer 16, answered 24);

@@ -1,8 +1,12 @@
 //! The check of a graph.
 
 use crate::error::fault_of;
-use crate::{sys, Commit, Graph, Position, VerifyError};
-use std::collections::BTreeMap;
+use crate::room::room_for;
+use crate::{codes, sys, Commit, Graph, Position, VerifyError};
+use std::collections::{BTreeMap, TryReserveError};
+
+/// For so many different numbers of parents there is room at first.
+pub(crate) const ROOM: usize = 64;
 
 /// What a check looks for besides what every right graph keeps.
 #[derive(Clone, Copy, Debug, Default, PartialEq, Eq)]
@@ -13,6 +17,7 @@ pub struct VerifyOptions {
 
 /// The statistics of a graph.
 #[derive(Clone, Debug, PartialEq, Eq)]
+#[non_exhaustive]
 pub struct Outcome {
     /// The number of edges of the longest walk along parents, or `None` where some generation number is the greatest.
     pub longest_path_length: Option<u32>,
@@ -46,33 +51,44 @@ impl Graph {
         options: VerifyOptions,
         mut processor: impl FnMut(&Commit<'_>) -> Result<(), E>,
     ) -> Result<Outcome, VerifyError<E>> {
-        let (verdict, counts) = self.verdict(options);
+        let (verdict, counts) = self.verdict(options).map_err(|_| VerifyError::OutOfMemory)?;
         for pos in (0..verdict.called).map(Position) {
             processor(&self.commit_at(pos)).map_err(|error| VerifyError::Processor { pos, error })?;
         }
         match verdict.code {
-            0 => Ok(Outcome {
-                longest_path_length: verdict.has_longest.then_some(verdict.longest),
-                num_commits: verdict.num_commits,
-                parent_counts: counts.iter().map(|c| (c.parents, c.commits)).collect(),
-            }),
-            10 => Err(VerifyError::OutOfMemory),
+            codes::OK => Ok(outcome_of(&verdict, &counts)),
+            codes::OUT_OF_MEMORY => Err(VerifyError::OutOfMemory),
             _ => Err(VerifyError::Fault(fault_of(&verdict))),
         }
     }
 
-    /// The verdict, and its counts.
-    fn verdict(&self, options: VerifyOptions) -> (sys::Verdict, Vec<sys::Count>) {
+    /// The statistics of a graph that is right.
+    pub(crate) fn outcome(&self, options: VerifyOptions) -> Result<Outcome, VerifyError<std::convert::Infallible>> {
+        self.verify_integrity_with(options, |_| Ok(()))
+    }
+
+    /// The verdict, and its counts; or that there is no memory for them.
+    fn verdict(&self, options: VerifyOptions) -> Result<(sys::Verdict, Vec<sys::Count>), TryReserveError> {
         let mut verdict = sys::Verdict::default();
-        let mut counts = vec![sys::Count::default(); 64];
+        let mut counts = room_for(sys::Count::default(), ROOM)?;
         loop {
-            let room = counts.len();
+            let (out, room) = (counts.as_mut_ptr(), counts.len());
             // SAFETY: `raw` is open, and each pointer is that of a value or of a slice with the length beside it.
-            unsafe { sys::cg_verify(self.raw, options.distinct_ids, &mut verdict, counts.as_mut_ptr(), room) };
-            counts.resize(verdict.kinds as usize, sys::Count::default());
-            if counts.len() <= room {
-                return (verdict, counts);
+            unsafe { sys::cg_verify(self.raw, options.distinct_ids, &mut verdict, out, room) };
+            if verdict.kinds as usize <= room {
+                counts.truncate(verdict.kinds as usize);
+                return Ok((verdict, counts));
             }
+            counts = room_for(sys::Count::default(), verdict.kinds as usize)?;
         }
+    }
+}
+
+/// The statistics that a verdict on a right graph and its counts tell of.
+pub(crate) fn outcome_of(verdict: &sys::Verdict, counts: &[sys::Count]) -> Outcome {
+    Outcome {
+        longest_path_length: (verdict.has_longest == 1).then_some(verdict.longest),
+        num_commits: verdict.num_commits,
+        parent_counts: counts.iter().map(|count| (count.parents, count.commits)).collect(),
     }
 }

@@ -1,14 +1,15 @@
-//! Over the graph of the file that `COMMIT_GRAPH` names, the `commit-graph` of an info folder; the one that
-//! `FAULTY_COMMIT_GRAPH` names, which has a wrong generation number above position 0; and the chain of the folder that
-//! `COMMIT_GRAPHS_FOLDER` names.
+//! Over graphs that Git writes: `made` says which.
 
-use commitgraph::{Checked, Commit, Fault, Graph, ObjectId, OpenError, Position, QueryError, VerifyError};
+mod made;
+
+use commitgraph::{Checked, Commit, Fault, FileError, Graph, GraphError, IdError, ObjectId, OpenError, PairError, Position, ProbeError};
+use commitgraph::{DatesError, LayerFault, QueryError, VerifyError, VerifyOptions};
+use made::made;
 use std::error::Error;
-use std::path::PathBuf;
-
-fn named(variable: &str) -> PathBuf {
-    std::env::var_os(variable).unwrap_or_else(|| panic!("{variable} has to name a commit-graph file")).into()
-}
+use std::ffi::OsStr;
+use std::fs;
+use std::os::unix::ffi::OsStrExt;
+use std::path::{Path, PathBuf};
 
 /// The positions that a check calls its processor on, which refuses the one at `refused`, and what the check answers.
 fn called(graph: &Graph, refused: Option<Position>) -> (Vec<Position>, Result<u32, VerifyError<&'static str>>) {
@@ -26,14 +27,14 @@ fn first(count: u32) -> Vec<Position> {
 
 #[test]
 fn a_processor_is_called_on_each_commit_of_a_right_graph() {
-    let graph = Graph::at(named("COMMIT_GRAPH")).unwrap();
+    let graph = Graph::at(&made().file).unwrap();
     let commits = graph.num_commits();
     assert_eq!(called(&graph, None), (first(commits), Ok(commits)));
 }
 
 #[test]
 fn the_first_refusal_of_a_processor_ends_the_calls() {
-    let graph = Graph::at(named("COMMIT_GRAPH")).unwrap();
+    let graph = Graph::at(&made().file).unwrap();
     for pos in first(graph.num_commits()) {
         let error = VerifyError::Processor { pos, error: "refused" };
         assert_eq!(called(&graph, Some(pos)), (first(pos.0 + 1), Err(error)));
@@ -42,7 +43,7 @@ fn the_first_refusal_of_a_processor_ends_the_calls() {
 
 #[test]
 fn a_processor_is_called_before_the_first_fault_alone() {
-    let graph = Graph::at(named("FAULTY_COMMIT_GRAPH")).unwrap();
+    let graph = Graph::at(&made().faulty).unwrap();
     let (before, answer) = called(&graph, None);
     let Err(VerifyError::Fault(fault @ Fault::Generation { pos, .. })) = answer else {
         panic!("{answer:?}");
@@ -51,7 +52,7 @@ fn a_processor_is_called_before_the_first_fault_alone() {
     let last = Position(pos.0 - 1);
     assert_eq!(called(&graph, Some(last)).1, Err(VerifyError::Processor { pos: last, error: "refused" }));
     assert_eq!(called(&graph, Some(pos)).1, Err(VerifyError::Fault(fault)));
-    assert!(Checked::at(named("FAULTY_COMMIT_GRAPH")).is_err());
+    assert!(Checked::at(&made().faulty).is_err());
 }
 
 fn ids(graph: Graph) -> Vec<ObjectId> {
@@ -60,23 +61,23 @@ fn ids(graph: Graph) -> Vec<ObjectId> {
 
 #[test]
 fn each_opener_opens_what_stands_at_its_path() {
-    let (file, folder) = (named("COMMIT_GRAPH"), named("COMMIT_GRAPHS_FOLDER"));
+    let (file, folder) = (&made().file, &made().chain);
     let info = file.parent().unwrap();
-    let wanted = ids(Graph::from_file(&file).unwrap());
-    assert_eq!(ids(Graph::at(&file).unwrap()), wanted);
+    let wanted = ids(Graph::from_file(file).unwrap());
+    assert_eq!(ids(Graph::at(file).unwrap()), wanted);
     assert_eq!(ids(Graph::from_info_dir(info).unwrap()), wanted);
     assert_eq!(ids(commitgraph::at(info).unwrap()), wanted);
-    let bytes = std::fs::read(&file).unwrap();
+    let bytes = fs::read(file).unwrap();
     assert_eq!(ids(Graph::of_bytes(&[(&bytes, "")]).unwrap()), wanted);
-    assert_eq!(Checked::of_bytes(&[(&bytes, "")]).unwrap().num_commits() as usize, wanted.len());
-    let chain = ids(Graph::from_commit_graphs_dir(&folder).unwrap());
-    assert_eq!(ids(Graph::at(&folder).unwrap()), chain);
+    assert_eq!(Checked::of_bytes(&[(&bytes, "")]).unwrap().outcome().num_commits as usize, wanted.len());
+    let chain = ids(Graph::from_commit_graphs_dir(folder).unwrap());
+    assert_eq!(ids(Graph::at(folder).unwrap()), chain);
     assert_eq!(ids(Graph::from_info_dir(folder.parent().unwrap()).unwrap()), chain);
 }
 
 #[test]
 fn blocks_tell_of_each_commit_once() {
-    let graph = Graph::at(named("COMMIT_GRAPHS_FOLDER")).unwrap();
+    let graph = Graph::at(&made().chain).unwrap();
     let mut next = Position(0);
     for block in graph.parent_blocks() {
         assert_eq!((block.first(), block.len()), (next, block.iter().count()));
@@ -90,20 +91,39 @@ fn blocks_tell_of_each_commit_once() {
 
 #[test]
 fn each_pair_is_answered_as_alone() {
-    let graph = Checked::at(named("COMMIT_GRAPHS_FOLDER")).unwrap();
-    let all = first(graph.num_commits());
+    let graph = Checked::at(&made().chain).unwrap();
+    let all = first(graph.graph().num_commits());
     let pairs: Vec<_> = all.iter().flat_map(|&from| all.iter().map(move |&to| (from, to))).collect();
     let alone: Vec<_> = pairs.iter().map(|&(from, to)| graph.is_ancestor(from, to).unwrap()).collect();
     assert_eq!(graph.are_ancestors(&pairs), Ok(alone));
     assert_eq!(graph.are_ancestors(&[]), Ok(vec![]));
-    let none = Position(graph.num_commits());
-    assert_eq!(graph.are_ancestors(&[pairs[0], (none, all[0])]), Err(QueryError::NoSuchPosition));
-    assert_eq!(graph.are_ancestors(&[(all[0], none)]), Err(QueryError::NoSuchPosition));
+    let none = Position(graph.graph().num_commits());
+    for (index, pairs) in [(1, vec![pairs[0], (none, all[0])]), (0, vec![(all[0], none)])] {
+        let PairError { index: told, error, .. } = graph.are_ancestors(&pairs).unwrap_err();
+        assert_eq!((told, error), (index, QueryError::NoSuchPosition));
+    }
+    let past = graph.graph().probe_path(b"a", &[all[0], none]);
+    assert_eq!(past, Err(ProbeError::NoSuchPosition { index: 1 }));
+}
+
+#[test]
+fn a_check_has_statistics_and_keeps_its_options() {
+    let (file, folder) = (&made().file, &made().chain);
+    let options = VerifyOptions { distinct_ids: true };
+    let wanted = Graph::at(file).unwrap().verify_integrity(|_| Ok::<_, QueryError>(())).unwrap();
+    for checked in [Checked::from_file(file, options), Checked::from_info_dir(file.parent().unwrap(), options)] {
+        let checked = checked.unwrap();
+        assert_eq!((checked.outcome(), checked.options()), (&wanted, options));
+        assert_eq!(checked.as_ref().num_commits(), checked.into_graph().num_commits());
+    }
+    let chain = Checked::from_commit_graphs_dir(folder, options).unwrap();
+    assert_eq!(chain.outcome(), Checked::at(folder).unwrap().outcome());
+    assert_eq!(chain.outcome(), Checked::at_with(folder, options).unwrap().outcome());
 }
 
 #[test]
 fn each_date_follows_from_the_time_and_the_dates_of_the_parents() {
-    let graph = Graph::at(named("COMMIT_GRAPHS_FOLDER")).unwrap();
+    let graph = Graph::at(&made().chain).unwrap();
     let dates = graph.corrected_dates().unwrap().expect("Git writes dates");
     assert_eq!(dates.len(), graph.num_commits() as usize);
     for (commit, date) in graph.iter_commits().zip(&dates) {
@@ -115,10 +135,89 @@ fn each_date_follows_from_the_time_and_the_dates_of_the_parents() {
 
 #[test]
 fn what_is_refused_is_told() {
-    let bytes = std::fs::read(named("COMMIT_GRAPH")).unwrap();
+    let bytes = fs::read(&made().file).unwrap();
     let refused = |layers: &[(&[u8], &str)]| Graph::of_bytes(layers).unwrap_err();
-    assert!(matches!(refused(&[]), OpenError::Graph { number: 1, layer: 0 }));
-    assert!(matches!(refused(&[(&bytes, ""), (b"CGPH", ""), (b"", "")]), OpenError::Layer { layer: 1, number: 1, chunk: 0 }));
-    assert!(matches!(Graph::from_file("no/such/file").unwrap_err(), OpenError::Io { .. }));
-    assert!(refused(&[]).source().is_none() && !refused(&[]).to_string().is_empty());
+    assert!(matches!(refused(&[]), OpenError::Graph(GraphError::NoFiles)));
+    let short = refused(&[(&bytes, ""), (b"CGPH", ""), (b"", "")]);
+    assert!(matches!(short, OpenError::Layer { layer: 1, error: FileError::TooShort, .. }));
+    assert_eq!(short.to_string(), "layer 1: the file has fewer than 1100 bytes: often it is truncated");
+    let named = refused(&[(b"CGPH", "a/graph-b.graph")]);
+    assert_eq!(named.to_string(), "a/graph-b.graph: the file has fewer than 1100 bytes: often it is truncated");
+    assert_eq!(refused(&[]).to_string(), "the chain file names no layer");
+    let missing = Graph::from_file("no/such/file").unwrap_err();
+    assert_eq!(missing.to_string(), "cannot read no/such/file");
+    assert!(missing.source().is_some_and(|source| source.is::<std::io::Error>()) && refused(&[]).source().is_none());
+}
+
+#[test]
+fn each_error_is_a_sentence() {
+    let pos = Position(7);
+    let sentences: [(&dyn Error, &str); 8] = [
+        (&Fault::Generation { pos, expected: 3 }, "position 7: its generation number is not 3, one more than"),
+        (&Fault::Layer { layer: 2, fault: LayerFault::Checksum }, "layer 2: the checksum is not the digest of its bytes"),
+        (&Fault::BaseId { layer: 2, index: 1 }, "base id 1 of layer 2 is not the checksum of layer 1"),
+        (&DatesError::TooLarge { pos }, "position 7: the date of the commit is 2^63 or more"),
+        (&ProbeError::Version { layer: 1, version: 3 }, "layer 1: the version of the hash is 3, and neither 1 nor 2"),
+        (&QueryError::OutOfMemory, "memory ran out"),
+        (&VerifyError::Processor { pos, error: QueryError::OutOfMemory }, "the processor refused the commit at position 7"),
+        (&"0".parse::<ObjectId>().unwrap_err(), "an id has 20 or 32 bytes, or 40 or 64 hexadecimal digits"),
+    ];
+    for (error, words) in sentences {
+        assert!(error.to_string().contains(words), "{error}");
+        assert!(error.source().map_or(true, |source| !error.to_string().contains(&source.to_string())), "{error}");
+    }
+}
+
+#[test]
+fn ids_are_read_from_bytes_and_from_digits() {
+    let graph = Graph::at(&made().file).unwrap();
+    for id in graph.iter_ids() {
+        assert_eq!(id.to_string().parse(), Ok(id));
+        assert_eq!(id.to_string().to_uppercase().parse(), Ok(id));
+        assert_eq!(ObjectId::try_from(id.as_bytes()), Ok(id));
+    }
+    assert_eq!(ObjectId::try_from(&[0; 21][..]), Err(IdError::Length));
+    assert_eq!("g".repeat(40).parse::<ObjectId>(), Err(IdError::Digit));
+    assert_eq!("\u{e9}".repeat(20).parse::<ObjectId>(), Err(IdError::Digit));
+}
+
+/// A folder of the build with this name, made anew.
+fn folder(name: impl AsRef<Path>) -> PathBuf {
+    let folder = Path::new(env!("CARGO_TARGET_TMPDIR")).join(name);
+    let _ = fs::remove_dir_all(&folder);
+    fs::create_dir_all(folder.join("commit-graphs")).unwrap();
+    folder
+}
+
+#[test]
+fn a_path_need_not_be_utf_8() {
+    let folder = folder(OsStr::from_bytes(b"info\xff"));
+    fs::copy(&made().file, folder.join("commit-graph")).unwrap();
+    assert_eq!(ids(Graph::at(&folder).unwrap()), ids(Graph::at(&made().file).unwrap()));
+    fs::write(folder.join("commit-graphs/commit-graph-chain"), b"a\n\xff\n").unwrap();
+    fs::copy(&made().file, folder.join("commit-graphs/graph-a.graph")).unwrap();
+    let error = Graph::from_commit_graphs_dir(folder.join("commit-graphs")).unwrap_err();
+    assert!(matches!(error, OpenError::ChainLine { line: 1, .. }), "{error}");
+}
+
+#[test]
+fn neither_refusal_of_an_info_folder_hides_the_other() {
+    let folder = folder("refused");
+    let opened = || Graph::from_info_dir(&folder).unwrap_err();
+    assert!(matches!(opened(), OpenError::Io { path, .. } if path.ends_with("commit-graph-chain")));
+    fs::write(folder.join("commit-graph"), b"CGPH").unwrap();
+    assert!(matches!(opened(), OpenError::Layer { path, error: FileError::TooShort, .. } if path == folder.join("commit-graph")));
+    fs::write(folder.join("commit-graphs/commit-graph-chain"), b"").unwrap();
+    let error = opened();
+    let OpenError::Neither { file, chain, .. } = &error else {
+        panic!("{error}");
+    };
+    assert!(error.to_string().contains(&file.to_string()) && error.to_string().contains(&chain.to_string()));
+    fs::remove_file(folder.join("commit-graph")).unwrap();
+    assert!(matches!(opened(), OpenError::Graph(GraphError::NoFiles)));
+}
+
+#[test]
+fn the_library_is_that_of_the_header() {
+    assert_eq!(commitgraph::version(), 100);
 }

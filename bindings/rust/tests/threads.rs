@@ -1,5 +1,7 @@
-//! Over the graph of the file that `COMMIT_GRAPH` names: four threads read it at a time, and a thread is given it. It has no
+//! Over a graph that Git writes: four threads read it at a time, and a thread is given it. It has no
 //! harness, whose own threads a ThreadSanitizer would complain of where the standard library is not built with it.
+
+mod made;
 
 use commitgraph::{Checked, Graph, Position, VerifyOptions};
 use std::convert::Infallible;
@@ -7,7 +9,8 @@ use std::convert::Infallible;
 const THREADS: usize = 4;
 
 /// All that a graph answers.
-fn answers(graph: &Checked) -> String {
+fn answers(checked: &Checked) -> String {
+    let graph = checked.graph();
     let (commits, last) = (graph.num_commits(), Position(graph.num_commits() - 1));
     let mut all = String::new();
     for commit in graph.iter_commits() {
@@ -16,8 +19,8 @@ fn answers(graph: &Checked) -> String {
         assert_eq!(graph.commit_by_id(commit.id()).map(|found| found.position()), Some(pos));
         all += &format!("{pos:?} {} {} {:?}", graph.id_at(pos), commit.root_tree_id(), commit.parents());
         all += &format!(" {:?} {}", commit.parent1(), commit.committer_timestamp() + u64::from(commit.generation()));
-        all += &format!(" {:?} {:?}", graph.ancestor_walk(last, pos), graph.is_ancestor(pos, last));
-        all += &format!(" {:?} {:?}\n", graph.compare(pos, &[last]), graph.are_ancestors(&[(last, pos), (pos, last)]));
+        all += &format!(" {:?} {:?}", checked.ancestor_walk(last, pos), checked.is_ancestor(pos, last));
+        all += &format!(" {:?} {:?}\n", checked.compare(pos, &[last]), checked.are_ancestors(&[(last, pos), (pos, last)]));
     }
     let options = VerifyOptions { distinct_ids: true };
     let outcome = graph.verify_integrity_with(options, |_| Ok::<_, Infallible>(()));
@@ -32,8 +35,7 @@ fn is_shared<T: Send + Sync>() {}
 fn main() {
     is_shared::<Graph>();
     is_shared::<Checked>();
-    let path = std::env::var_os("COMMIT_GRAPH").expect("COMMIT_GRAPH has to name a commit-graph file");
-    let graph = Checked::at(path).unwrap();
+    let graph = Checked::at(&made::made().file).unwrap();
     let alone = answers(&graph);
     std::thread::scope(|scope| {
         let asked: Vec<_> = (0..THREADS).map(|_| scope.spawn(|| answers(&graph))).collect();

@@ -22,6 +22,10 @@ use Rattle.gix_commitgraph.specs.declared.verify.VerifyError.{VerifyError}
 use Rattle.gix_commitgraph.specs.declared.verify.VerifyError.TheVariants as error
 use Rattle.gix_commitgraph.specs.declared.verify.VerifyOptions.{VerifyOptions}
 use Rattle.gix_commitgraph.proofs.layers.LayerListLemmas.{size, start-none, start-cons, start-all}
+use Rattle.graph_format.specs.declared.fault.CommitFault.TheVariants as commit
+use Rattle.graph_format.specs.declared.fault.LayerFault.TheVariants as layer
+use Rattle.graph_format.specs.declared.parents.ParentError.TheVariants as parent
+use Rattle.commitgraph_c.specs.Codes.{out_of_memory}
 use Rattle.commitgraph_c.specs.Verdict.{TellsCalls, commits_before, refusal_of, with_calls}
 use Rattle.commitgraph_c.specs.declared.check.CgVerdict.{CgVerdict}
 
@@ -168,13 +172,14 @@ module _ (layers : List Layer) where
         → commits_before layers x ≡ length (calls_before_fault (points_with {E = NoFault} options layers))
     calls-before x h = placed-first 0 (points_with options layers) x graph-placed h ∙ omega arith
 
-    -- a fault of a code that is neither 0 nor 10
+    -- a fault of a code that is neither 0 nor that for memory
     told-fault : (x : Fault) (v : CgVerdict) (code : ℕ) → first_fault (points_with options layers) ≡ Some x
-        → v.called ≡ commits_before layers x → v.code ≡ code → ¬ (code ≡ 0) → ¬ (code ≡ 10) → TellsCalls options layers v
+        → v.called ≡ commits_before layers x → v.code ≡ code → ¬ (code ≡ 0) → ¬ (code ≡ out_of_memory)
+        → TellsCalls options layers v
     told-fault x v code first called is fault memory = record {
       all = λ zero. absurd (fault (sym is ∙ zero));
       before = λ _ _. called ∙ calls-before x first;
-      none = λ ten. absurd (memory (sym is ∙ ten));
+      none = λ one. absurd (memory (sym is ∙ one));
     }
 
     -- a refusal tells on how many commits the processor is called
@@ -184,16 +189,38 @@ module _ (layers : List Layer) where
       where
         by : (x : Fault) → MayRefuseWith options layers x → v.called ≡ commits_before layers x → v.code ≡ (refusal_of x).code
             → TellsCalls options layers v
-        by error.TooManyFiles may called is = told-fault error.TooManyFiles v 1 may.0 called is (λ e. cc) (λ e. cc)
-        by (error.BaseCount l) may called is = told-fault (error.BaseCount l) v 2 may.0 called is (λ e. cc) (λ e. cc)
-        by (error.BaseId l j) may called is = told-fault (error.BaseId l j) v 3 may.0 called is (λ e. cc) (λ e. cc)
-        by (error.Layer l f) may called is = told-fault (error.Layer l f) v 4 may.0 called is (λ e. cc) (λ e. cc)
-        by (error.Commit p f) may called is = told-fault (error.Commit p f) v 5 may.0 called is (λ e. cc) (λ e. cc)
-        by (error.Parent p f) may called is = told-fault (error.Parent p f) v 6 may.0 called is (λ e. cc) (λ e. cc)
+        by error.TooManyFiles may called is =
+            told-fault error.TooManyFiles v 301 may.0 called is (λ e. cc) (λ e. cc)
+        by (error.BaseCount l) may called is =
+            told-fault (error.BaseCount l) v 302 may.0 called is (λ e. cc) (λ e. cc)
+        by (error.BaseId l j) may called is =
+            told-fault (error.BaseId l j) v 303 may.0 called is (λ e. cc) (λ e. cc)
+        by (error.Layer l layer.Checksum) may called is =
+            told-fault (error.Layer l layer.Checksum) v 341 may.0 called is (λ e. cc) (λ e. cc)
+        by (error.Layer l layer.FileName) may called is =
+            told-fault (error.Layer l layer.FileName) v 342 may.0 called is (λ e. cc) (λ e. cc)
+        by (error.Layer l (layer.Fan byte)) may called is =
+            told-fault (error.Layer l (layer.Fan byte)) v 343 may.0 called is (λ e. cc) (λ e. cc)
+        by (error.Commit p commit.NullId) may called is =
+            told-fault (error.Commit p commit.NullId) v 351 may.0 called is (λ e. cc) (λ e. cc)
+        by (error.Commit p commit.Order) may called is =
+            told-fault (error.Commit p commit.Order) v 352 may.0 called is (λ e. cc) (λ e. cc)
+        by (error.Commit p commit.NullTree) may called is =
+            told-fault (error.Commit p commit.NullTree) v 353 may.0 called is (λ e. cc) (λ e. cc)
+        by (error.Parent p parent.SecondWithoutFirst) may called is =
+            told-fault (error.Parent p parent.SecondWithoutFirst) v 361 may.0 called is (λ e. cc) (λ e. cc)
+        by (error.Parent p parent.FirstIsEdgeIndex) may called is =
+            told-fault (error.Parent p parent.FirstIsEdgeIndex) v 362 may.0 called is (λ e. cc) (λ e. cc)
+        by (error.Parent p parent.NoEdgeList) may called is =
+            told-fault (error.Parent p parent.NoEdgeList) v 363 may.0 called is (λ e. cc) (λ e. cc)
+        by (error.Parent p parent.EdgeOverflow) may called is =
+            told-fault (error.Parent p parent.EdgeOverflow) v 364 may.0 called is (λ e. cc) (λ e. cc)
         by (error.ParentOutOfRange p q) may called is =
-            told-fault (error.ParentOutOfRange p q) v 7 may.0 called is (λ e. cc) (λ e. cc)
-        by (error.Generation p g) may called is = told-fault (error.Generation p g) v 8 may.0 called is (λ e. cc) (λ e. cc)
+            told-fault (error.ParentOutOfRange p q) v 307 may.0 called is (λ e. cc) (λ e. cc)
+        by (error.Generation p g) may called is =
+            told-fault (error.Generation p g) v 308 may.0 called is (λ e. cc) (λ e. cc)
         by (error.Processor p f) may called is = absurd may
         by error.OutOfMemory may called is =
-            record { all = λ e. absurd (cc); before = λ _ ten. absurd (ten is); none = λ _. called }
-        by (error.DuplicateId p q) may called is = told-fault (error.DuplicateId p q) v 11 may.0 called is (λ e. cc) (λ e. cc)
+            record { all = λ e. absurd (cc); before = λ _ one. absurd (one is); none = λ _. called }
+        by (error.DuplicateId p q) may called is =
+            told-fault (error.DuplicateId p q) v 311 may.0 called is (λ e. cc) (λ e. cc)

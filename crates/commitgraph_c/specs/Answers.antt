@@ -10,7 +10,7 @@ use Rattle.graph_history.specs.Comparison.{IsComparisonOf}
 use Rattle.graph_ancestors.specs.declared.Reached.{Reached}
 use Rattle.graph_history.specs.declared.bases.Comparison.{Comparison}
 use Rattle.gix_commitgraph.specs.Graph.{graph_ids, graph_commits}
-use Rattle.graph_format.specs.ErrorNumbers.{parent_number}
+use Rattle.commitgraph_c.specs.Codes.{parent_code}
 use Rattle.commitgraph_c.specs.declared.bases.CgBases.{CgBases}
 use Rattle.commitgraph_c.specs.declared.parents.CgParents.{CgParents}
 use Rattle.commitgraph_c.specs.declared.query.CgReached.{CgReached}
@@ -73,7 +73,7 @@ parents_in commit = parents_of (record_at commit.0 commit.1) commit.0.edges
 -- and the number of the fault after them, 0 where there is none; and their positions are written.
 pub record TellsParents (parents : DecodedParents) (told : CgParents) (old new : List ℕ) : Type 0 where
   pub count_of : told.count ≡ min (length parents.positions) (2 ^ 64 - 1)
-  pub code_of : told.code ≡ unwrap_or (option_map parent_number parents.fault) 0
+  pub code_of : told.code ≡ unwrap_or (option_map parent_code parents.fault) 0
   pub room : new ≡ written (numbers_of parents.positions) old
 
 -- What is told of a comparison: all that it says; and the positions of the merge bases are written.

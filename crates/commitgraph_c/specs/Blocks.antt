@@ -7,7 +7,7 @@ use Rattle.graph_format.specs.Layer.{Layer}
 use Rattle.graph_ancestors.specs.WalkAnswer.{numbers_of}
 use Rattle.gix_commitgraph.specs.Graph.{graph_commits}
 use Rattle.commitgraph_c.specs.Answers.{parents_in, written}
-use Rattle.graph_format.specs.ErrorNumbers.{parent_number}
+use Rattle.commitgraph_c.specs.Codes.{parent_code}
 use Rattle.commitgraph_c.specs.declared.blocks.CgBlock.{CgBlock}
 use Rattle.commitgraph_c.specs.declared.parents.CgParents.{CgParents}
 
@@ -19,7 +19,7 @@ commits_from layers first = drop first (option_map_or graph_commits layers [])
 abbrev pub told_parents : Layer × ℕ → CgParents
 told_parents commit =
     record {
-      code = unwrap_or (option_map parent_number (parents_in commit).fault) 0;
+      code = unwrap_or (option_map parent_code (parents_in commit).fault) 0;
       count = min (length (parents_in commit).positions) (2 ^ 64 - 1);
     }
 

@@ -7,8 +7,7 @@ use Rattle.graph_format.specs.declared.error.FileError.{FileError}
 use Rattle.graph_format.specs.declared.error.GraphError.{GraphError}
 use Rattle.graph_format.specs.declared.error.GraphError.TheVariants as graph
 use Rattle.gix_commitgraph.specs.GraphRefusal.{graph_refusal}
-use Rattle.commitgraph_c.specs.FaultNumbers.{chunk_fault}
-use Rattle.graph_format.specs.ErrorNumbers.{file_number, graph_number}
+use Rattle.commitgraph_c.specs.Codes.{file_code, graph_code, path_not_utf8}
 use Rattle.commitgraph_c.specs.declared.open.CgError.{CgError}
 use Rattle.commitgraph_c.specs.declared.open.CgFile.{CgFile}
 
@@ -25,18 +24,18 @@ IsOpenedFrom files layers = AreLayersOf files layers × (graph_refusal layers �
 
 -- how it is told that there is no error
 abbrev pub no_error : CgError
-no_error = record { code = 0; detail = 0; chunk = 0; layer = 0 }
+no_error = record { code = 0; layer = 0 }
 
 -- how it is told that the path of a layer is not UTF-8, why its bytes are refused, and why layers make no graph
 abbrev pub told_path : ℕ → CgError
-told_path layer = record { code = 5; detail = 0; chunk = 0; layer = layer }
+told_path layer = record { code = path_not_utf8; layer = layer }
 
 abbrev pub told_file : ℕ → FileError → CgError
-told_file layer error = record { code = 2; detail = file_number error; chunk = chunk_fault error; layer = layer }
+told_file layer error = record { code = file_code error; layer = layer }
 
 abbrev pub told_graph : GraphError → CgError
-told_graph (graph.HashMismatch layer) = record { code = 3; detail = 3; chunk = 0; layer = layer }
-told_graph x = record { code = 3; detail = graph_number x; chunk = 0; layer = 0 }
+told_graph (graph.HashMismatch layer) = record { code = graph_code (graph.HashMismatch layer); layer = layer }
+told_graph x = record { code = graph_code x; layer = 0 }
 
 -- The file that is to be this layer, by a path that is UTF-8, is refused by its bytes; or an allocation failed, and its bytes are
 -- not refused.

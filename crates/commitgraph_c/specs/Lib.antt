@@ -1,6 +1,6 @@
 pub mod Answers
 pub mod Blocks
-pub mod FaultNumbers
+pub mod Codes
 pub mod Files
 pub mod FirstLine
 pub mod Held

@@ -14,15 +14,15 @@ pub record AnswersFirst {X : Type 0} (Answers : X → ℕ → Type 0) (asked : L
 
 -- both positions of a pair are those of commits of a graph
 abbrev pub IsPair : List Layer → CgPair → Type 0
-IsPair layers pair = (pair.from < total layers) × (pair.to < total layers)
+IsPair layers pair = (pair.ancestor < total layers) × (pair.descendant < total layers)
 
 -- a position of a pair is that of none
 abbrev pub IsNoPair : List Layer → CgPair → Type 0
-IsNoPair layers pair = (total layers ≤ pair.from) ⊎ (total layers ≤ pair.to)
+IsNoPair layers pair = (total layers ≤ pair.ancestor) ⊎ (total layers ≤ pair.descendant)
 
--- Both are commits of a graph, and the answer is 1 where the first leads to the second, and else 0.
+-- Both are commits of a graph, and the answer is 1 where the first is an ancestor of the second, and else 0.
 pub record AnswersPair (layers : List Layer) (pair : CgPair) (answer : ℕ) : Type 0 where
-  pub from : pair.from < total layers
-  pub to : pair.to < total layers
-  pub leads : (answer ≡ 1) ↔ Reaches (history_of layers) pair.from pair.to
+  pub ancestor : pair.ancestor < total layers
+  pub descendant : pair.descendant < total layers
+  pub leads : (answer ≡ 1) ↔ Reaches (history_of layers) pair.descendant pair.ancestor
   pub bit : answer ≤ 1

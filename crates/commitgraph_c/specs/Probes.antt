@@ -5,6 +5,7 @@ use Rattle.graph_chunks.specs.GraphFilters.{FiltersOfGraph, IsPossibleBy, IsAbse
 use Rattle.graph_chunks.specs.GraphFilters.{settings_of, graph_filters, MayRefuseGraphFilters}
 use Rattle.graph_chunks.specs.declared.filters.FiltersError.{FiltersError}
 use Rattle.graph_chunks.specs.declared.filters.FiltersError.TheVariants as fault
+use Rattle.commitgraph_c.specs.Codes.{out_of_memory}
 use Rattle.commitgraph_c.specs.declared.probes.CgProbed.{CgProbed}
 
 -- the filters of a graph's commits, with the settings to ask them by
@@ -30,18 +31,18 @@ without_probes code position layer number =
 abbrev pub with_probes : ℕ → ℕ → CgProbed
 with_probes code answered = record { code = code; position = 0; number = 0; layer = 0; answered = answered }
 
--- how it is told that filters are refused: the number that historytool prints, and the place
+-- how it is told that filters are refused: the number of the cause, and the place
 abbrev pub told_filter_fault : FiltersError → CgProbed
-told_filter_fault (fault.IndexSize layer) = without_probes 1 0 layer 0
-told_filter_fault (fault.DataSize layer) = without_probes 2 0 layer 0
-told_filter_fault (fault.Version layer version) = without_probes 3 0 layer version
-told_filter_fault (fault.Hashes layer hashes) = without_probes 4 0 layer hashes
-told_filter_fault (fault.NoBits layer) = without_probes 5 0 layer 0
-told_filter_fault (fault.Falls pos) = without_probes 6 pos.0 0 0
-told_filter_fault (fault.PastEnd pos) = without_probes 7 pos.0 0 0
-told_filter_fault (fault.LeftOver layer) = without_probes 8 0 layer 0
-told_filter_fault (fault.Settings layer) = without_probes 9 0 layer 0
-told_filter_fault fault.OutOfMemory = without_probes 10 0 0 0
+told_filter_fault (fault.IndexSize layer) = without_probes 501 0 layer 0
+told_filter_fault (fault.DataSize layer) = without_probes 502 0 layer 0
+told_filter_fault (fault.Version layer version) = without_probes 503 0 layer version
+told_filter_fault (fault.Hashes layer hashes) = without_probes 504 0 layer hashes
+told_filter_fault (fault.NoBits layer) = without_probes 505 0 layer 0
+told_filter_fault (fault.Falls pos) = without_probes 506 pos.0 0 0
+told_filter_fault (fault.PastEnd pos) = without_probes 507 pos.0 0 0
+told_filter_fault (fault.LeftOver layer) = without_probes 508 0 layer 0
+told_filter_fault (fault.Settings layer) = without_probes 509 0 layer 0
+told_filter_fault fault.OutOfMemory = without_probes out_of_memory 0 0 0
 
 -- The first condition that refuses the filters of a graph is told; or, where none does, that memory ran out.
 pub record RefusesFilters (layers : List Layer) (told : CgProbed) : Type 0 where

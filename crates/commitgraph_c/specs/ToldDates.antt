@@ -9,6 +9,7 @@ use Rattle.graph_chunks.specs.GraphDates.{graph_dates_refusal, MayRefuseGraphDat
 use Rattle.graph_chunks.specs.declared.dates.DatesError.{DatesError}
 use Rattle.graph_chunks.specs.declared.dates.DatesError.TheVariants as fault
 use Rattle.commitgraph_c.specs.Answers.{written}
+use Rattle.commitgraph_c.specs.Codes.{out_of_memory}
 use Rattle.commitgraph_c.specs.declared.dates.CgDates.{CgDates}
 
 -- no dates are told, but why: a code, the commit or the layer that it is about, and the date that is expected of the commit
@@ -16,14 +17,14 @@ abbrev pub without_dates : ℕ → ℕ → ℕ → ℕ → CgDates
 without_dates code position layer expected =
     record { code = code; position = position; layer = layer; expected = expected; length = 0 }
 
--- how it is told that dates are refused: the number that historytool prints, and the place
+-- how it is told that dates are refused: the number of the cause, and the place
 abbrev pub told_date_fault : DatesError → CgDates
-told_date_fault (fault.DataSize layer) = without_dates 1 0 layer 0
-told_date_fault (fault.OverflowSize layer) = without_dates 2 0 layer 0
-told_date_fault (fault.OverflowIndex pos) = without_dates 3 pos.0 0 0
-told_date_fault (fault.TooLarge pos) = without_dates 4 pos.0 0 0
-told_date_fault (fault.Date pos expected) = without_dates 5 pos.0 0 expected
-told_date_fault fault.OutOfMemory = without_dates 6 0 0 0
+told_date_fault (fault.DataSize layer) = without_dates 401 0 layer 0
+told_date_fault (fault.OverflowSize layer) = without_dates 402 0 layer 0
+told_date_fault (fault.OverflowIndex pos) = without_dates 403 pos.0 0 0
+told_date_fault (fault.TooLarge pos) = without_dates 404 pos.0 0 0
+told_date_fault (fault.Date pos expected) = without_dates 405 pos.0 0 expected
+told_date_fault fault.OutOfMemory = without_dates out_of_memory 0 0 0
 
 -- Each layer of a graph has dates, and they are right. It is told how many commits there are, and the dates are written.
 pub record TellsDates (layers : List Layer) (told : CgDates) (old new : List ℕ) : Type 0 where

@@ -1,5 +1,5 @@
 -- what a check tells C of a graph
-use Rattle.std.specs.Prelude.{◌≡◌, ℕ, List, Bool, length, map, false, if◌then◌else◌, Option, Some, None}
+use Rattle.std.specs.Prelude.{◌≡◌, ◌==◌, ◌≤◌, ℕ, List, Bool, length, map, if◌then◌else◌, Option, Some, None}
 use Rattle.std.specs.BTreeMap.{IsOrdered}
 use Rattle.std.specs.Ordering.{nat_cmp}
 use Rattle.graph_format.specs.Layer.{Layer}
@@ -19,8 +19,7 @@ use Rattle.graph_history.specs.Checked.{MayRefuseWith}
 use Rattle.graph_ancestors.specs.declared.checking.NoFault.{NoFault}
 use Rattle.commitgraph_c.specs.Answers.{written}
 use Rattle.commitgraph_c.specs.Files.{IsOpenedFrom}
-use Rattle.commitgraph_c.specs.FaultNumbers.{fan_byte, whole_number}
-use Rattle.graph_format.specs.ErrorNumbers.{commit_number, parent_number}
+use Rattle.commitgraph_c.specs.Codes.{closed_graph, commit_code, fan_byte, layer_code, out_of_memory, parent_code}
 use Rattle.commitgraph_c.specs.declared.check.CgCount.{CgCount}
 use Rattle.commitgraph_c.specs.declared.check.CgVerdict.{CgVerdict}
 use Rattle.commitgraph_c.specs.declared.open.CgError.{CgError}
@@ -30,17 +29,16 @@ use Rattle.commitgraph_c.specs.declared.open.CgFile.{CgFile}
 abbrev pub options_of : Bool → VerifyOptions
 options_of distinct = record { distinct_ids = distinct }
 
--- a verdict that is no statistics: its code, the number of the fault of that kind, and where it is
-abbrev pub refusal_at : ℕ → ℕ → ℕ → ℕ → ℕ → ℕ → CgVerdict
-refusal_at code fault position other layer index =
+-- a verdict that is no statistics: its code, and where the fault is
+abbrev pub refusal_at : ℕ → ℕ → ℕ → ℕ → ℕ → CgVerdict
+refusal_at code position other layer index =
     record {
       code = code;
       num_commits = 0;
       longest = 0;
-      has_longest = false;
+      has_longest = 0;
       position = position;
       other = other;
-      fault = fault;
       called = 0;
       layer = layer;
       index = index;
@@ -48,25 +46,25 @@ refusal_at code fault position other layer index =
     }
 
 -- a fault of a layer, and of the commit at a position
-abbrev pub refusal_in_layer : ℕ → ℕ → ℕ → ℕ → ℕ → CgVerdict
-refusal_in_layer code layer fault other index = refusal_at code fault 0 other layer index
+abbrev pub refusal_in_layer : ℕ → ℕ → ℕ → ℕ → CgVerdict
+refusal_in_layer code layer other index = refusal_at code 0 other layer index
 
-abbrev pub refusal_in_commit : ℕ → Position → ℕ → ℕ → CgVerdict
-refusal_in_commit code pos fault other = refusal_at code fault pos.0 other 0 0
+abbrev pub refusal_in_commit : ℕ → Position → ℕ → CgVerdict
+refusal_in_commit code pos other = refusal_at code pos.0 other 0 0
 
--- how a fault is told: the number that graphtool prints, and its place
+-- how a fault is told: its number, and its place
 abbrev pub refusal_of : VerifyError NoFault → CgVerdict
-refusal_of error.TooManyFiles = refusal_in_layer 1 0 0 0 0
-refusal_of (error.BaseCount layer) = refusal_in_layer 2 layer 0 0 0
-refusal_of (error.BaseId layer index) = refusal_in_layer 3 layer 0 0 index
-refusal_of (error.Layer layer fault) = refusal_in_layer 4 layer (whole_number fault) (fan_byte fault) 0
-refusal_of (error.Commit pos fault) = refusal_in_commit 5 pos (commit_number fault) 0
-refusal_of (error.Parent pos fault) = refusal_in_commit 6 pos (parent_number fault) 0
-refusal_of (error.ParentOutOfRange pos parent) = refusal_in_commit 7 pos 0 parent.0
-refusal_of (error.Generation pos expected) = refusal_in_commit 8 pos 0 expected
-refusal_of (error.Processor pos fault) = refusal_in_commit 9 pos 0 0
-refusal_of error.OutOfMemory = refusal_in_layer 10 0 0 0 0
-refusal_of (error.DuplicateId pos earlier) = refusal_in_commit 11 pos 0 earlier.0
+refusal_of error.TooManyFiles = refusal_in_layer 301 0 0 0
+refusal_of (error.BaseCount layer) = refusal_in_layer 302 layer 0 0
+refusal_of (error.BaseId layer index) = refusal_in_layer 303 layer 0 index
+refusal_of (error.Layer layer fault) = refusal_in_layer (layer_code fault) layer (fan_byte fault) 0
+refusal_of (error.Commit pos fault) = refusal_in_commit (commit_code fault) pos 0
+refusal_of (error.Parent pos fault) = refusal_in_commit (parent_code fault) pos 0
+refusal_of (error.ParentOutOfRange pos parent) = refusal_in_commit 307 pos parent.0
+refusal_of (error.Generation pos expected) = refusal_in_commit 308 pos expected
+refusal_of (error.Processor pos fault) = refusal_in_commit 309 pos 0
+refusal_of error.OutOfMemory = refusal_in_layer out_of_memory 0 0 0
+refusal_of (error.DuplicateId pos earlier) = refusal_in_commit 311 pos earlier.0
 
 -- the same verdict, with the number of commits that the processor was called on
 abbrev pub with_calls : ℕ → CgVerdict → CgVerdict
@@ -78,7 +76,6 @@ with_calls called v =
       has_longest = v.has_longest;
       position = v.position;
       other = v.other;
-      fault = v.fault;
       called = called;
       layer = v.layer;
       index = v.index;
@@ -103,17 +100,21 @@ commits_before layers (error.DuplicateId pos earlier) = pos.0
 -- ran out, none is told of.
 pub record TellsCalls (options : VerifyOptions) (layers : List Layer) (v : CgVerdict) : Type 0 where
   pub all : v.code ≡ 0 → v.called ≡ total layers
-  pub before : ¬ (v.code ≡ 0) → ¬ (v.code ≡ 10)
+  pub before : ¬ (v.code ≡ 0) → ¬ (v.code ≡ out_of_memory)
       → v.called ≡ length (calls_before_fault (points_with {E = NoFault} options layers))
-  pub none : v.code ≡ 10 → v.called ≡ 0
+  pub none : v.code ≡ out_of_memory → v.called ≡ 0
 
 -- the verdict where no graph is open
 abbrev pub closed_verdict : CgVerdict
-closed_verdict = refusal_in_layer 12 0 0 0 0
+closed_verdict = refusal_in_layer closed_graph 0 0 0
+
+-- the verdict where no graph was opened: its code and its layer are those of the error
+abbrev pub told_unopened : CgError → CgVerdict
+told_unopened e = refusal_in_layer e.code e.layer 0 0
 
 -- the longest walk that a verdict tells of, if it is known
 abbrev pub told_longest : CgVerdict → Option ℕ
-told_longest v = if v.has_longest then Some v.longest else None
+told_longest v = if v.has_longest == 1 then Some v.longest else None
 
 -- The statistics of a graph as a verdict tells them.
 pub record TellsStats (layers : List Layer) (v : CgVerdict) : Type 0 where
@@ -121,9 +122,9 @@ pub record TellsStats (layers : List Layer) (v : CgVerdict) : Type 0 where
   pub num_commits : v.num_commits ≡ total layers
   pub called : v.called ≡ total layers
   pub longest : MatchesLongestWalk (history_of layers) (told_longest v)
-  pub unknown : v.has_longest ≡ false → v.longest ≡ 0
-  pub no_place : (v.position ≡ 0) × ((v.other ≡ 0) × (v.layer ≡ 0))
-  pub no_fault : (v.fault ≡ 0) × (v.index ≡ 0)
+  pub known : v.has_longest ≤ 1
+  pub unknown : v.has_longest ≡ 0 → v.longest ≡ 0
+  pub no_place : (v.position ≡ 0) × ((v.other ≡ 0) × ((v.layer ≡ 0) × (v.index ≡ 0)))
 
 -- The verdict on a graph whose check answers an error: its first fault, or that an allocation failed.
 pub record IsRefused (options : VerifyOptions) (layers : List Layer) (v : CgVerdict) : Type 0 where
@@ -158,9 +159,9 @@ pub record TellsOutcome (outcome : Outcome) (v : CgVerdict) : Type 0 where
   pub num_commits : v.num_commits ≡ outcome.num_commits
   pub called : v.called ≡ outcome.num_commits
   pub longest : told_longest v ≡ outcome.longest_path_length
-  pub unknown : v.has_longest ≡ false → v.longest ≡ 0
-  pub no_place : (v.position ≡ 0) × ((v.other ≡ 0) × (v.layer ≡ 0))
-  pub no_fault : (v.fault ≡ 0) × (v.index ≡ 0)
+  pub known : v.has_longest ≤ 1
+  pub unknown : v.has_longest ≡ 0 → v.longest ≡ 0
+  pub no_place : (v.position ≡ 0) × ((v.other ≡ 0) × ((v.layer ≡ 0) × (v.index ≡ 0)))
 
 -- The layers of files make a graph, and the check refuses it, as the verdict and the error say.
 pub record FailsCheck (options : VerifyOptions) (files : List CgFile) (v : CgVerdict) (e : CgError) : Type 0 where
@@ -168,4 +169,4 @@ pub record FailsCheck (options : VerifyOptions) (files : List CgFile) (v : CgVer
   pub opened : IsOpenedFrom files layers
   pub refused : IsRefused options layers v
   pub called : v.called ≡ 0
-  pub told : e ≡ record { code = 4; detail = v.code; chunk = 0; layer = 0 }
+  pub told : e ≡ record { code = v.code; layer = 0 }

@@ -6,7 +6,9 @@ ghost use Rattle.gix_commitgraph.specs.Graph.{total};
 ghost use Rattle.graph_ancestors.specs.WalkAnswer.{numbers_of};
 ghost use Rattle.commitgraph_c.specs.Answers.{IsChecked, TellsBases, TellsComparison};
 ghost use Rattle.commitgraph_c.specs.Answers.{TellsNoBases};
+ghost use Rattle.commitgraph_c.specs.Codes.{closed_graph, no_such_position, not_checked};
 
+use crate::codes::{CLOSED_GRAPH, NO_SUCH_POSITION, NOT_CHECKED, OUT_OF_MEMORY};
 use crate::handle::CgGraph;
 use crate::query::write_positions;
 use gix_commitgraph::Position;
@@ -38,32 +40,33 @@ pub extern "C" fn cg_merge_bases(
 ) -> CgBases
     ensures answer { result.code ≡ 0 → IsSomeAnd graph.address.held (λ held.
         TellsBases held.0 first others.now result out.old out.new) }
-    ensures nowhere { result.code ≡ 1 ↔ IsChecked graph.address.held (λ layers.
+    ensures nowhere { result.code ≡ no_such_position ↔ IsChecked graph.address.held (λ layers.
         (total layers ≤ first) ⊎ Any (λ other. total layers ≤ other) others.now) }
     ensures within { result.code ≡ 0 → IsChecked graph.address.held (λ layers.
         (first < total layers) × All (λ other. other < total layers) others.now) }
-    ensures unchecked { result.code ≡ 2 ↔ IsSomeAnd graph.address.held (λ held. held.1 ≡ false) }
-    ensures closed { result.code ≡ 4 ↔ graph.address.held ≡ None }
+    ensures unchecked { result.code ≡ not_checked ↔ IsSomeAnd graph.address.held (λ held.
+        held.1 ≡ false) }
+    ensures closed { result.code ≡ closed_graph ↔ graph.address.held ≡ None }
     ensures codes { result.code ≤ 4 }
     ensures kept { result.code ≢ 0 → out.new ≡ out.old }
     ensures nothing { result.code ≢ 0 → TellsNoBases result }
 {
     let Some(opened) = graph.opened() else {
-        return refused(4);
+        return refused(CLOSED_GRAPH);
     };
     let Some(checked) = opened.as_checked() else {
-        return refused(2);
+        return refused(NOT_CHECKED);
     };
     let commits = checked.graph().num_commits();
     if first >= commits || !are_below(others, commits) {
-        return refused(1);
+        return refused(NO_SUCH_POSITION);
     }
     let Ok(others) = positions_of(alloc, others) else {
-        return refused(3);
+        return refused(OUT_OF_MEMORY);
     };
     match checked.compare(alloc, Position(first), &others) {
         Ok(comparison) => tell(&comparison, out),
-        Err(_) => refused(3),
+        Err(_) => refused(OUT_OF_MEMORY),
     }
 }
 

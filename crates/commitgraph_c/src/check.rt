@@ -10,26 +10,25 @@ ghost use Rattle.commitgraph_c.specs.Verdict.{TellsCalls, closed_verdict, refusa
 ghost use Rattle.commitgraph_c.specs.Verdict.{commits_before, refusal_in_layer};
 ghost use Rattle.commitgraph_c.specs.Verdict.{options_of, refusal_at, refusal_of, told_count};
 
-use crate::fault_numbers::{fan_byte, whole_number};
+use crate::codes::{CLOSED_GRAPH, OUT_OF_MEMORY, commit_code, fan_byte, layer_code, parent_code};
 use crate::handle::CgGraph;
 use gix_commitgraph::verify::{Outcome, VerifyError, VerifyOptions};
 use gix_commitgraph::{Graph, Position};
-use graph_format::error_numbers::{commit_number, parent_number};
 use graph_history::{Checked, NoFault};
 use std::alloc::Global;
 use std::collections::BTreeMap;
 
-/// What a check found: `code` is 0 where the graph is right, else the number of the refusal.
+/// What a check found: `code` is 0 where the graph is right, else the number of the cause.
 #[repr(C)]
 #[derive(Clone, Copy)]
 pub struct CgVerdict {
     pub code: u32,
     pub num_commits: u32,
     pub longest: u32,
-    pub has_longest: bool,
+    /// 1 where `longest` is known, else 0.
+    pub has_longest: u32,
     pub position: u32,
     pub other: u32,
-    pub fault: u32,
     /// How many commits a processor would be called on before the first fault.
     pub called: u32,
     pub layer: u64,
@@ -68,7 +67,7 @@ pub extern "C" fn cg_verify(
 {
     let verdict = match graph.graph() {
         Some(graph) => verdict_on(alloc, graph, distinct_ids, counts),
-        None => refused(12),
+        None => refused(CLOSED_GRAPH),
     };
     *out = verdict;
     verdict.code
@@ -121,17 +120,16 @@ fn commits_below(graph: &Graph, layer: usize) -> u32
 }
 
 /// Tells that no graph is right, and neither where nor why.
-fn refused(code: u32) -> CgVerdict
-    ensures { result ≡ refusal_at code 0 0 0 0 0 }
+pub(crate) fn refused(code: u32) -> CgVerdict
+    ensures { result ≡ refusal_at code 0 0 0 0 }
 {
     CgVerdict {
         code,
         num_commits: 0,
         longest: 0,
-        has_longest: false,
+        has_longest: 0,
         position: 0,
         other: 0,
-        fault: 0,
         called: 0,
         layer: 0,
         index: 0,
@@ -141,7 +139,7 @@ fn refused(code: u32) -> CgVerdict
 
 /// Tells of a fault of a layer.
 fn in_layer(code: u32, layer: usize) -> CgVerdict
-    ensures { result ≡ refusal_in_layer code layer 0 0 0 }
+    ensures { result ≡ refusal_in_layer code layer 0 0 }
 {
     CgVerdict {
         layer: layer as u64,
@@ -150,13 +148,12 @@ fn in_layer(code: u32, layer: usize) -> CgVerdict
 }
 
 /// Tells of a fault of the commit at a position.
-fn in_commit(code: u32, pos: Position, fault: u8, other: u32) -> CgVerdict
-    ensures { result ≡ refusal_in_commit code pos fault other }
+fn in_commit(code: u32, pos: Position, other: u32) -> CgVerdict
+    ensures { result ≡ refusal_in_commit code pos other }
 {
     CgVerdict {
         position: pos.0,
         other,
-        fault: fault as u32,
         ..refused(code)
     }
 }
@@ -171,10 +168,9 @@ pub(crate) fn right(outcome: &Outcome, counts: &mut [CgCount]) -> CgVerdict
         code: 0,
         num_commits: outcome.num_commits,
         longest: outcome.longest_path_length.unwrap_or(0),
-        has_longest: outcome.longest_path_length.is_some(),
+        has_longest: outcome.longest_path_length.is_some() as u32,
         position: 0,
         other: 0,
-        fault: 0,
         called: outcome.num_commits,
         layer: 0,
         index: 0,
@@ -185,27 +181,27 @@ pub(crate) fn right(outcome: &Outcome, counts: &mut [CgCount]) -> CgVerdict
 /// Tells why a graph is refused.
 pub(crate) fn wrong(error: VerifyError<NoFault>) -> CgVerdict
     ensures told { result ≡ refusal_of error }
+    ensures code { result.code ≢ 0 }
     ensures called { result.called ≡ 0 }
 {
     match error {
-        VerifyError::TooManyFiles => refused(1),
-        VerifyError::BaseCount { layer } => in_layer(2, layer),
+        VerifyError::TooManyFiles => refused(301),
+        VerifyError::BaseCount { layer } => in_layer(302, layer),
         VerifyError::BaseId { layer, index } => CgVerdict {
             index: index as u64,
-            ..in_layer(3, layer)
+            ..in_layer(303, layer)
         },
         VerifyError::Layer { layer, fault } => CgVerdict {
             other: fan_byte(fault) as u32,
-            fault: whole_number(fault) as u32,
-            ..in_layer(4, layer)
+            ..in_layer(layer_code(fault), layer)
         },
-        VerifyError::Commit { pos, fault } => in_commit(5, pos, commit_number(fault), 0),
-        VerifyError::Parent { pos, error } => in_commit(6, pos, parent_number(error), 0),
-        VerifyError::ParentOutOfRange { pos, parent } => in_commit(7, pos, 0, parent.0),
-        VerifyError::Generation { pos, expected } => in_commit(8, pos, 0, expected),
-        VerifyError::Processor { pos, .. } => in_commit(9, pos, 0, 0),
-        VerifyError::OutOfMemory => refused(10),
-        VerifyError::DuplicateId { pos, earlier } => in_commit(11, pos, 0, earlier.0),
+        VerifyError::Commit { pos, fault } => in_commit(commit_code(fault), pos, 0),
+        VerifyError::Parent { pos, error } => in_commit(parent_code(error), pos, 0),
+        VerifyError::ParentOutOfRange { pos, parent } => in_commit(307, pos, parent.0),
+        VerifyError::Generation { pos, expected } => in_commit(308, pos, expected),
+        VerifyError::Processor { pos, .. } => in_commit(309, pos, 0),
+        VerifyError::OutOfMemory => refused(OUT_OF_MEMORY),
+        VerifyError::DuplicateId { pos, earlier } => in_commit(311, pos, earlier.0),
     }
 }
 

@@ -1,11 +1,13 @@
 //! The corrected commit dates of a graph.
 
-ghost use Rattle.std.specs.Prelude.{◌≡◌, ◌≢◌, ◌↔◌, ◌<◌, ◌≤◌, All, IsSomeAnd, None, length};
+ghost use Rattle.std.specs.Prelude.{◌≡◌, ◌≢◌, ◌↔◌, ◌⊎◌, All, IsSomeAnd, None, length};
 ghost use Rattle.graph_chunks.specs.GraphStoredDates.{HasDates};
 ghost use Rattle.commitgraph_c.specs.Answers.{layers_of, written};
+ghost use Rattle.commitgraph_c.specs.Codes.{closed_graph, no_dates};
 ghost use Rattle.commitgraph_c.specs.ToldDates.{RefusesDates, TellsDates, told_date_fault};
 ghost use Rattle.commitgraph_c.specs.ToldDates.{without_dates};
 
+use crate::codes::{CLOSED_GRAPH, NO_DATES, OUT_OF_MEMORY};
 use crate::handle::CgGraph;
 use gix_commitgraph::Position;
 use graph_chunks::dates::{CorrectedDates, DatesError};
@@ -15,8 +17,7 @@ use std::alloc::Global;
 #[repr(C)]
 #[derive(Clone, Copy)]
 pub struct CgDates {
-    /// 0 where there are dates, 1 to 6 where they are refused, 7 where a layer has none, and 8
-    /// where no graph is open.
+    /// 0 where there are dates, else the number of why there are none.
     pub code: u32,
     /// The commit whose date is refused.
     pub position: u32,
@@ -33,21 +34,21 @@ pub struct CgDates {
 pub extern "C" fn cg_corrected_dates(alloc: Global, graph: CgGraph, out: &mut [u64]) -> CgDates
     ensures found { result.code ≡ 0 → IsSomeAnd (layers_of graph.address.held) (λ layers.
         TellsDates layers result out.old out.new) }
-    ensures refused { 0 < result.code → result.code ≤ 6
+    ensures refused { result.code ≢ 0 → result.code ≢ no_dates → result.code ≢ closed_graph
         → IsSomeAnd (layers_of graph.address.held) (λ layers. RefusesDates layers result) }
-    ensures none { result.code ≡ 7 ↔ IsSomeAnd (layers_of graph.address.held) (λ layers.
+    ensures none { result.code ≡ no_dates ↔ IsSomeAnd (layers_of graph.address.held) (λ layers.
         ¬ All HasDates layers) }
-    ensures closed { result.code ≡ 8 ↔ layers_of graph.address.held ≡ None }
-    ensures codes { result.code ≤ 8 }
-    ensures nothing { 6 < result.code → result ≡ without_dates result.code 0 0 0 }
+    ensures closed { result.code ≡ closed_graph ↔ layers_of graph.address.held ≡ None }
+    ensures nothing { (result.code ≡ no_dates) ⊎ (result.code ≡ closed_graph)
+        → result ≡ without_dates result.code 0 0 0 }
     ensures kept { result.code ≢ 0 → out.new ≡ out.old }
 {
     let Some(graph) = graph.graph() else {
-        return without_dates(8);
+        return without_dates(CLOSED_GRAPH);
     };
     match CorrectedDates::of_graph(alloc, graph) {
         Ok(Some(dates)) => tell(&dates, graph.num_commits(), out),
-        Ok(None) => without_dates(7),
+        Ok(None) => without_dates(NO_DATES),
         Err(error) => refused(error),
     }
 }
@@ -108,11 +109,11 @@ fn refused(error: DatesError) -> CgDates
     ensures { result ≡ told_date_fault error }
 {
     match error {
-        DatesError::DataSize { layer } => in_layer(1, layer),
-        DatesError::OverflowSize { layer } => in_layer(2, layer),
-        DatesError::OverflowIndex { pos } => in_commit(3, pos, 0),
-        DatesError::TooLarge { pos } => in_commit(4, pos, 0),
-        DatesError::Date { pos, expected } => in_commit(5, pos, expected),
-        DatesError::OutOfMemory => without_dates(6),
+        DatesError::DataSize { layer } => in_layer(401, layer),
+        DatesError::OverflowSize { layer } => in_layer(402, layer),
+        DatesError::OverflowIndex { pos } => in_commit(403, pos, 0),
+        DatesError::TooLarge { pos } => in_commit(404, pos, 0),
+        DatesError::Date { pos, expected } => in_commit(405, pos, expected),
+        DatesError::OutOfMemory => without_dates(OUT_OF_MEMORY),
     }
 }

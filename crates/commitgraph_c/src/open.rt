@@ -1,24 +1,23 @@
 //! Opening a graph from the bytes of its layers, and giving it back.
 
-ghost use Rattle.std.specs.Prelude.{◌≡◌, ◌≢◌, ◌++◌, ◌∷◌, [], IfErr, IfOk, IsSomeAnd, OnOk, Some};
-ghost use Rattle.std.specs.Prelude.{None, false, string_bytes, true};
+ghost use Rattle.std.specs.Prelude.{◌≡◌, ◌≢◌, ◌⊎◌, ◌++◌, ◌∷◌, [], IfErr, IfOk, IsSomeAnd, OnOk};
+ghost use Rattle.std.specs.Prelude.{None, Some, false, string_bytes, true};
 ghost use Rattle.std.specs.Str.{IsUtf8};
 ghost use Rattle.graph_format.specs.Layer.{IsLayer};
-ghost use Rattle.graph_format.specs.Opened.{MayRefuse};
 ghost use Rattle.graph_format.specs.Refusal.{refusal};
 ghost use Rattle.gix_commitgraph.specs.GraphRefusal.{graph_refusal};
 ghost use Rattle.gix_commitgraph.specs.Distinct.{IsSoundWith};
 ghost use Rattle.commitgraph_c.specs.Files.{IsOpenedFrom, RefusesFile, RefusesFiles};
 ghost use Rattle.commitgraph_c.specs.Files.{no_error, told_file, told_graph};
 ghost use Rattle.commitgraph_c.specs.Verdict.{FailsCheck, TellsCounts, TellsStats, options_of};
+ghost use Rattle.commitgraph_c.specs.Verdict.{told_unopened};
 
-use crate::check::{CgCount, CgVerdict, right, wrong};
-use crate::fault_numbers::chunk_fault;
+use crate::check::{CgCount, CgVerdict, refused, right, wrong};
+use crate::codes::{PATH_NOT_UTF8, file_code, graph_code};
 use crate::handle::CgOwner;
 use crate::opened::Opened;
 use gix_commitgraph::verify::VerifyOptions;
 use gix_commitgraph::{File, FileError, Graph, GraphError};
-use graph_format::error_numbers::{file_number, graph_number};
 use graph_format::layout::layout_of;
 use graph_history::CheckedGraph;
 use std::alloc::{AllocError, Global};
@@ -35,28 +34,17 @@ pub struct CgFile<'a> {
 #[repr(C)]
 #[derive(Clone, Copy)]
 pub struct CgError {
-    /// 0 where there is no error, 2 for a layer, 3 for the graph, 4 for the check, 5 for a path.
+    /// 0 where there is no error, else the number of the cause.
     pub code: u32,
-    /// The number of the refusal.
-    pub detail: u32,
-    /// Where the table of chunks of a layer is refused, the number of what is wrong with it.
-    pub chunk: u32,
     /// The layer that is refused.
     pub layer: u64,
 }
 
-fn error(code: u32, detail: u32, layer: u64) -> CgError
+fn error(code: u32, layer: u64) -> CgError
     ensures code { result.code ≡ code }
-    ensures detail { result.detail ≡ detail }
-    ensures chunk { result.chunk ≡ 0 }
     ensures layer { result.layer ≡ layer }
 {
-    CgError {
-        code,
-        detail,
-        chunk: 0,
-        layer,
-    }
+    CgError { code, layer }
 }
 
 /// Opens the graph of these layers, the lowest first. Where it is refused, nothing is written.
@@ -75,14 +63,14 @@ pub extern "C" fn cg_open(alloc: Global, files: &[CgFile<'_>], out: &mut CgOwner
     match opened {
         Ok(opened) => {
             out.write(opened);
-            error(0, 0, 0)
+            error(0, 0)
         }
         Err(error) => error,
     }
 }
 
 /// Opens and checks the graph of these layers, the lowest first. Where it is refused, no graph is
-/// written, and where the check refuses it, the verdict says why.
+/// written, and the verdict has the same code.
 #[unsafe(no_mangle)]
 pub extern "C" fn cg_open_checked(
     alloc: Global,
@@ -100,23 +88,34 @@ pub extern "C" fn cg_open_checked(
         TellsStats held.0 verdict.new × TellsCounts held.0 verdict.new counts.old counts.new) }
     ensures told { result.code ≡ 0 → result ≡ no_error }
     ensures kept { result.code ≢ 0 → (out.new ≡ out.old) × (counts.new ≡ counts.old) }
-    ensures refused { result.code ≢ 0 → result.code ≢ 4 → RefusesFiles files.now result }
-    ensures unwritten { result.code ≢ 0 → result.code ≢ 4 → verdict.new ≡ verdict.old }
-    ensures fails { result.code ≡ 4 → FailsCheck (options_of distinct_ids) files.now verdict.new
-        result }
+    ensures refused { result.code ≢ 0
+        → (RefusesFiles files.now result × (verdict.new ≡ told_unopened result))
+        ⊎ FailsCheck (options_of distinct_ids) files.now verdict.new result }
 {
     let graph = match open(alloc, files) {
         Ok(graph) => graph,
-        Err(error) => return error,
+        Err(error) => return unopened(error, verdict),
     };
     match CheckedGraph::new_with(alloc, VerifyOptions { distinct_ids }, graph) {
         Ok(graph) => hand_out(alloc, graph, verdict, counts, out),
         Err(refusal) => {
             let found = wrong(refusal);
             *verdict = found;
-            error(4, found.code, 0)
+            error(found.code, 0)
         }
     }
+}
+
+/// Tells in the verdict too that no graph was opened.
+fn unopened(error: CgError, verdict: &mut CgVerdict) -> CgError
+    ensures same { result ≡ error }
+    ensures verdict { verdict.new ≡ told_unopened error }
+{
+    *verdict = CgVerdict {
+        layer: error.layer,
+        ..refused(error.code)
+    };
+    error
 }
 
 /// Writes a graph that was checked, and its statistics, unless there is no memory for its block.
@@ -132,16 +131,16 @@ fn hand_out(
     ensures counts { result.code ≡ 0 → TellsCounts graph.layers verdict.new counts.old counts.new }
     ensures told { result.code ≡ 0 → result ≡ no_error }
     ensures refused { result.code ≢ 0 → result ≡ told_graph GraphError.OutOfMemory }
-    ensures kept { result.code ≢ 0 → (out.new ≡ out.old) × ((verdict.new ≡ verdict.old)
-        × (counts.new ≡ counts.old)) }
+    ensures untold { result.code ≢ 0 → verdict.new ≡ told_unopened result }
+    ensures kept { result.code ≢ 0 → (out.new ≡ out.old) × (counts.new ≡ counts.old) }
 {
     let opened = match boxed(alloc, Opened::checked(graph)) {
         Ok(opened) => opened,
-        Err(error) => return error,
+        Err(error) => return unopened(error, verdict),
     };
     write_stats(&opened, verdict, counts);
     out.write(opened);
-    error(0, 0, 0)
+    error(0, 0)
 }
 
 /// Writes the statistics of a graph that was checked.
@@ -176,7 +175,7 @@ pub extern "C" fn cg_close(graph: CgOwner) {
 fn open(alloc: Global, files: &[CgFile<'_>]) -> Result<Graph, CgError>
     ensures opened { IfOk result (IsOpenedFrom files.now) }
     ensures refused { IfErr result (RefusesFiles files.now) }
-    ensures code { IfErr result (λ e. (e.code ≢ 0) × (e.code ≢ 4)) }
+    ensures code { IfErr result (λ e. e.code ≢ 0) }
 {
     let mut layers = Vec::new(alloc);
     for file in files {
@@ -192,31 +191,29 @@ fn open(alloc: Global, files: &[CgFile<'_>]) -> Result<Graph, CgError>
 
 /// Tells why the bytes of a layer are refused.
 fn file_error(refusal: &FileError, layer: u64) -> CgError
-    ensures { result ≡ told_file layer refusal.now }
+    ensures told { result ≡ told_file layer refusal.now }
+    ensures code { result.code ≢ 0 }
 {
-    CgError {
-        code: 2,
-        detail: file_number(refusal) as u32,
-        chunk: chunk_fault(refusal) as u32,
-        layer,
-    }
+    error(file_code(refusal), layer)
 }
 
 /// Tells why layers make no graph.
 fn graph_error(refusal: &GraphError) -> CgError
-    ensures { result ≡ told_graph refusal.now }
+    ensures told { result ≡ told_graph refusal.now }
+    ensures code { result.code ≢ 0 }
 {
     let layer = match refusal {
         GraphError::HashMismatch { layer } => *layer as u64,
         _ => 0,
     };
-    error(3, graph_number(refusal) as u32, layer)
+    error(graph_code(refusal), layer)
 }
 
 /// Adds a layer, if there is memory.
 fn add(layers: &mut Vec<File>, layer: File, place: u64) -> Result<(), CgError>
     ensures items { OnOk result (layers.new.items ≡ layers.old.items ++ layer ∷ []) }
     ensures error { IfErr result (λ e. e ≡ told_file place FileError.OutOfMemory) }
+    ensures code { IfErr result (λ e. e.code ≢ 0) }
 {
     match layers.push(layer) {
         Ok(()) => Ok(()),
@@ -231,26 +228,21 @@ fn open_layer(alloc: Global, file: CgFile<'_>, place: u64) -> Result<File, CgErr
     ensures text { IfOk result (λ _. IsUtf8 file.entry.path.now) }
     ensures accepted { IfOk result (λ _. refusal file.entry.bytes.now ≡ None) }
     ensures refused { IfErr result (RefusesFile place file.entry) }
+    ensures code { IfErr result (λ e. e.code ≢ 0) }
 {
     let Ok(path) = str::from_utf8(file.path) else {
-        return Err(error(5, 0, place));
+        return Err(error(PATH_NOT_UTF8, place));
     };
+    // Nothing is copied of what is no layer.
+    if let Err(refusal) = layout_of(file.bytes) {
+        return Err(file_error(&refusal, place));
+    }
     let Ok((bytes, path)) = copies(alloc, file.bytes, path) else {
-        return Err(file_error(&uncopied(file.bytes), place));
+        return Err(file_error(&FileError::OutOfMemory, place));
     };
     match File::new(alloc, bytes, path) {
         Ok(file) => Ok(file),
         Err(refusal) => Err(file_error(&refusal, place)),
-    }
-}
-
-/// Why bytes are refused that were not copied: what is wrong with them, or that memory ran out.
-fn uncopied(bytes: &[u8]) -> FileError
-    ensures { MayRefuse bytes.now result }
-{
-    match layout_of(bytes) {
-        Ok(_) => FileError::OutOfMemory,
-        Err(refusal) => refusal,
     }
 }
 

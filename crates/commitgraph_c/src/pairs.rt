@@ -5,33 +5,35 @@ ghost use Rattle.std.specs.Prelude.{IfErr, IfOk, IfSome, IsSomeAnd, slice_get};
 ghost use Rattle.gix_commitgraph.specs.Graph.{total};
 ghost use Rattle.commitgraph_c.specs.Answers.{IsChecked};
 ghost use Rattle.commitgraph_c.specs.Many.{AnswersFirst, AnswersPair, IsNoPair, IsPair};
+ghost use Rattle.commitgraph_c.specs.Codes.{closed_graph, no_such_position, not_checked};
+ghost use Rattle.commitgraph_c.specs.Codes.{out_of_memory};
 
+use crate::codes::{CLOSED_GRAPH, NO_SUCH_POSITION, NOT_CHECKED, OUT_OF_MEMORY};
 use crate::handle::CgGraph;
 use gix_commitgraph::Position;
 use graph_history::{Checked, Searcher};
 use std::alloc::Global;
 
-/// Two commits of a graph, by their positions.
+/// Two commits of a graph, by their positions: it is asked whether the first is an ancestor of the
+/// second.
 #[repr(C)]
 #[derive(Clone, Copy)]
 pub struct CgPair {
-    pub from: u32,
-    pub to: u32,
+    pub ancestor: u32,
+    pub descendant: u32,
 }
 
 /// How many pairs were answered.
 #[repr(C)]
 #[derive(Clone, Copy)]
 pub struct CgAnswered {
-    /// 4 where no graph is open, else 2 where it was not checked, else 0 where all pairs were
-    /// answered for which there is room; else 1 where a position of the next pair is none of the
-    /// graph's, and 3 where memory ran out on it.
+    /// 0 where all pairs were answered for which there is room; else why not the next one, or any.
     pub code: u32,
     pub answered: u64,
 }
 
-/// Looks for each of these pairs whether the first commit leads along parents to the second, as
-/// each leads to itself, and writes 1 or 0, in the order of the pairs, as long as there is room.
+/// Looks for each of these pairs whether the first commit is an ancestor of the second, as each is
+/// of itself, and writes 1 or 0, in the order of the pairs, as long as there is room.
 /// The graph has to be one that `cg_open_checked` opened.
 #[unsafe(no_mangle)]
 pub extern "C" fn cg_are_ancestors(
@@ -44,28 +46,29 @@ pub extern "C" fn cg_are_ancestors(
         → AnswersFirst (AnswersPair held.0) pairs.now result.answered out.old out.new) }
     ensures all { result.code ≡ 0
         → result.answered ≡ min (length pairs.now) (length out.old) }
-    ensures left { (result.code ≡ 1) ⊎ (result.code ≡ 3)
+    ensures left { (result.code ≡ no_such_position) ⊎ (result.code ≡ out_of_memory)
         → result.answered < min (length pairs.now) (length out.old) }
-    ensures nowhere { result.code ≡ 1 → IsChecked graph.address.held (λ layers.
+    ensures nowhere { result.code ≡ no_such_position → IsChecked graph.address.held (λ layers.
         IsSomeAnd (slice_get pairs.now result.answered) (IsNoPair layers)) }
-    ensures memory { result.code ≡ 3 → IsChecked graph.address.held (λ layers.
+    ensures memory { result.code ≡ out_of_memory → IsChecked graph.address.held (λ layers.
         IsSomeAnd (slice_get pairs.now result.answered) (IsPair layers)) }
-    ensures unchecked { result.code ≡ 2 ↔ IsSomeAnd graph.address.held (λ held. held.1 ≡ false) }
-    ensures closed { result.code ≡ 4 ↔ graph.address.held ≡ None }
+    ensures unchecked { result.code ≡ not_checked ↔ IsSomeAnd graph.address.held (λ held.
+        held.1 ≡ false) }
+    ensures closed { result.code ≡ closed_graph ↔ graph.address.held ≡ None }
     ensures codes { result.code ≤ 4 }
-    ensures kept { (result.code ≡ 2) ⊎ (result.code ≡ 4)
+    ensures kept { (result.code ≡ not_checked) ⊎ (result.code ≡ closed_graph)
         → (result.answered ≡ 0) × (out.new ≡ out.old) }
 {
     let Some(opened) = graph.opened() else {
         return CgAnswered {
-            code: 4,
+            code: CLOSED_GRAPH,
             answered: 0,
         };
     };
     match opened.as_checked() {
         Some(checked) => answer_pairs(alloc, &checked, pairs, out),
         None => CgAnswered {
-            code: 2,
+            code: NOT_CHECKED,
             answered: 0,
         },
     }
@@ -78,13 +81,14 @@ fn answer_pairs(alloc: Global, graph: &Checked<'_>, pairs: &[CgPair], out: &mut 
         out.new }
     ensures all { result.code ≡ 0
         → result.answered ≡ min (length pairs.now) (length out.old) }
-    ensures left { (result.code ≡ 1) ⊎ (result.code ≡ 3)
+    ensures left { (result.code ≡ no_such_position) ⊎ (result.code ≡ out_of_memory)
         → result.answered < min (length pairs.now) (length out.old) }
-    ensures nowhere { result.code ≡ 1
+    ensures nowhere { result.code ≡ no_such_position
         → IsSomeAnd (slice_get pairs.now result.answered) (IsNoPair graph.now.layers) }
-    ensures memory { result.code ≡ 3
+    ensures memory { result.code ≡ out_of_memory
         → IsSomeAnd (slice_get pairs.now result.answered) (IsPair graph.now.layers) }
-    ensures codes { (result.code ≡ 0) ⊎ ((result.code ≡ 1) ⊎ (result.code ≡ 3)) }
+    ensures codes { (result.code ≡ 0) ⊎ ((result.code ≡ no_such_position)
+        ⊎ (result.code ≡ out_of_memory)) }
 {
     let places = pairs.len().min(out.len());
     let mut searcher = graph.searcher(alloc);
@@ -105,21 +109,21 @@ fn answer_pairs(alloc: Global, graph: &Checked<'_>, pairs: &[CgPair], out: &mut 
     }
 }
 
-/// Answers a pair with 1 or 0; or with the code 1 where a position is none of the graph's, and 3
-/// where memory ran out.
+/// Answers a pair with 1 or 0; or why not, where a position is none of the graph's, or memory ran
+/// out.
 fn answer_pair(searcher: &mut Searcher<'_>, pair: CgPair) -> Result<u8, u32>
     ensures graph { searcher.new ≡ searcher.old }
     ensures answer { IfOk result (AnswersPair searcher.old pair) }
-    ensures refused { IfErr result (λ code. ((code ≡ 1) × IsNoPair searcher.old pair)
-        ⊎ ((code ≡ 3) × IsPair searcher.old pair)) }
+    ensures refused { IfErr result (λ code. ((code ≡ no_such_position) × IsNoPair searcher.old pair)
+        ⊎ ((code ≡ out_of_memory) × IsPair searcher.old pair)) }
 {
     let commits = searcher.graph().num_commits();
-    if pair.from >= commits || pair.to >= commits {
-        return Err(1);
+    if pair.ancestor >= commits || pair.descendant >= commits {
+        return Err(NO_SUCH_POSITION);
     }
-    match searcher.is_ancestor(Position(pair.from), Position(pair.to)) {
+    match searcher.is_ancestor(Position(pair.descendant), Position(pair.ancestor)) {
         Ok(true) => Ok(1),
         Ok(false) => Ok(0),
-        Err(_) => Err(3),
+        Err(_) => Err(OUT_OF_MEMORY),
     }
 }

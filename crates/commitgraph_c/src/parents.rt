@@ -1,15 +1,17 @@
 //! The parents of a commit.
 
-ghost use Rattle.std.specs.Prelude.{◌≡◌, ◌↔◌, ◌<◌, ◌≤◌, None, IfSome, IsSomeAnd, set, true};
+ghost use Rattle.std.specs.Prelude.{◌≡◌, ◌≢◌, ◌↔◌, ◌<◌, ◌≤◌, ◌⊎◌, None, IfSome, IsSomeAnd, set};
+ghost use Rattle.std.specs.Prelude.{true};
 ghost use Rattle.graph_layer.specs.Commit.{commit_parents};
 ghost use Rattle.gix_commitgraph.specs.Graph.{total};
 ghost use Rattle.commitgraph_c.specs.Answers.{HasCommit, TellsParents, layers_of, parents_in};
+ghost use Rattle.commitgraph_c.specs.Codes.{closed_graph, no_such_position};
 
+use crate::codes::{CLOSED_GRAPH, NO_SUCH_POSITION, parent_code};
 use crate::handle::CgGraph;
 use gix_commitgraph::Position;
 use gix_commitgraph::file::Commit;
 use gix_commitgraph::law::sound::the_parents_of_a_right_graph_are_there;
-use graph_format::error_numbers::parent_number;
 use graph_format::parents::ParentEdge;
 use graph_layer::fields::parent_edges;
 
@@ -17,8 +19,8 @@ use graph_layer::fields::parent_edges;
 #[repr(C)]
 #[derive(Clone, Copy)]
 pub struct CgParents {
-    /// 0 where there are no more; 1 to 4, the number of the fault that comes after them; 5 where
-    /// the position is none of the graph's, 6 where none is open.
+    /// 0 where there are no more, else the number of the fault that comes after them, or of why
+    /// none were looked for.
     pub code: u32,
     pub count: u64,
 }
@@ -27,25 +29,33 @@ pub struct CgParents {
 /// there is room for.
 #[unsafe(no_mangle)]
 pub extern "C" fn cg_parents(graph: CgGraph, pos: u32, out: &mut [u32]) -> CgParents
-    ensures parents { result.code ≤ 4 → HasCommit (layers_of graph.address.held) pos (λ commit.
+    ensures parents { result.code ≢ no_such_position → result.code ≢ closed_graph
+        → HasCommit (layers_of graph.address.held) pos (λ commit.
         TellsParents (parents_in commit) result out.old out.new) }
-    ensures nowhere { result.code ≡ 5 ↔ IsSomeAnd (layers_of graph.address.held) (λ layers.
+    ensures nowhere { result.code ≡ no_such_position
+        ↔ IsSomeAnd (layers_of graph.address.held) (λ layers.
         total layers ≤ pos) }
-    ensures closed { result.code ≡ 6 ↔ layers_of graph.address.held ≡ None }
+    ensures closed { result.code ≡ closed_graph ↔ layers_of graph.address.held ≡ None }
 
     // In a graph that was found right each position has all its parents.
     ensures right { IfSome graph.address.held (λ held.
         held.1 ≡ true → pos < total held.0 → result.code ≡ 0) }
-    ensures codes { result.code ≤ 6 }
-    ensures kept { 4 < result.code → (out.new ≡ out.old) × (result.count ≡ 0) }
+    ensures kept { (result.code ≡ no_such_position) ⊎ (result.code ≡ closed_graph)
+        → (out.new ≡ out.old) × (result.count ≡ 0) }
 {
     the_parents_of_a_right_graph_are_there();
     let Some(opened) = graph.opened() else {
-        return CgParents { code: 6, count: 0 };
+        return CgParents {
+            code: CLOSED_GRAPH,
+            count: 0,
+        };
     };
     let graph = opened.graph();
     if pos >= graph.num_commits() {
-        return CgParents { code: 5, count: 0 };
+        return CgParents {
+            code: NO_SUCH_POSITION,
+            count: 0,
+        };
     }
     write_parents(graph.commit_at(Position(pos)), out)
 }
@@ -96,7 +106,7 @@ fn write_items(commit: Commit<'_>, out: &mut [u32]) -> CgParents
                 count = count.saturating_add(1);
             }
             Err(error) => {
-                let code = parent_number(error) as u32;
+                let code = parent_code(error);
                 return CgParents { code, count };
             }
         }

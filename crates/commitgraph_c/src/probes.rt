@@ -5,10 +5,12 @@ ghost use Rattle.std.specs.Prelude.{slice_get};
 ghost use Rattle.gix_commitgraph.specs.Graph.{total};
 ghost use Rattle.graph_chunks.specs.GraphFilters.{graph_filters_refusal};
 ghost use Rattle.commitgraph_c.specs.Answers.{layers_of};
+ghost use Rattle.commitgraph_c.specs.Codes.{closed_graph, no_such_position};
 ghost use Rattle.commitgraph_c.specs.Many.{AnswersFirst};
 ghost use Rattle.commitgraph_c.specs.Probes.{AnswersProbe, RefusesFilters, filters_told};
 ghost use Rattle.commitgraph_c.specs.Probes.{told_filter_fault, with_probes, without_probes};
 
+use crate::codes::{CLOSED_GRAPH, NO_SUCH_POSITION, OUT_OF_MEMORY};
 use crate::handle::CgGraph;
 use changed_paths::filters::Answer;
 use changed_paths::key::PathKey;
@@ -20,8 +22,7 @@ use std::alloc::Global;
 #[repr(C)]
 #[derive(Clone, Copy)]
 pub struct CgProbed {
-    /// 0 where all commits were answered for which there is room, 1 to 10 where the filters are
-    /// refused, 11 where the next position is none of the graph's, and 12 where no graph is open.
+    /// 0 where all commits were answered for which there is room, else the number of why not.
     pub code: u32,
     /// The commit whose filter is refused.
     pub position: u32,
@@ -43,30 +44,31 @@ pub extern "C" fn cg_probe_path(
     positions: &[u32],
     out: &mut [u8],
 ) -> CgProbed
-    ensures answers { (result.code ≡ 0) ⊎ (result.code ≡ 11)
+    ensures answers { (result.code ≡ 0) ⊎ (result.code ≡ no_such_position)
         → IsSomeAnd (layers_of graph.address.held) (λ layers.
         AnswersFirst (AnswersProbe (filters_told layers) path.now) positions.now result.answered
         out.old out.new) }
-    ensures accepted { (result.code ≡ 0) ⊎ (result.code ≡ 11)
+    ensures accepted { (result.code ≡ 0) ⊎ (result.code ≡ no_such_position)
         → IsSomeAnd (layers_of graph.address.held) (λ layers.
         graph_filters_refusal layers ≡ None) }
     ensures all { result.code ≡ 0
         → result.answered ≡ min (length positions.now) (length out.old) }
-    ensures left { result.code ≡ 11
+    ensures left { result.code ≡ no_such_position
         → result.answered < min (length positions.now) (length out.old) }
-    ensures nowhere { result.code ≡ 11 → IsSomeAnd (layers_of graph.address.held) (λ layers.
+    ensures nowhere { result.code ≡ no_such_position
+        → IsSomeAnd (layers_of graph.address.held) (λ layers.
         IsSomeAnd (slice_get positions.now result.answered) (λ pos. total layers ≤ pos)) }
-    ensures told { (result.code ≡ 0) ⊎ (result.code ≡ 11)
+    ensures told { (result.code ≡ 0) ⊎ (result.code ≡ no_such_position)
         → result ≡ with_probes result.code result.answered }
-    ensures refused { 0 < result.code → result.code ≤ 10
-        → IsSomeAnd (layers_of graph.address.held) (λ layers. RefusesFilters layers result) }
-    ensures closed { result.code ≡ 12 ↔ layers_of graph.address.held ≡ None }
-    ensures codes { result.code ≤ 12 }
-    ensures nothing { 11 < result.code → result ≡ without_probes result.code 0 0 0 }
-    ensures kept { result.code ≢ 0 → result.code ≢ 11 → out.new ≡ out.old }
+    ensures refused { result.code ≢ 0 → result.code ≢ no_such_position
+        → result.code ≢ closed_graph → IsSomeAnd (layers_of graph.address.held) (λ layers.
+        RefusesFilters layers result) }
+    ensures closed { result.code ≡ closed_graph ↔ layers_of graph.address.held ≡ None }
+    ensures nothing { result.code ≡ closed_graph → result ≡ without_probes result.code 0 0 0 }
+    ensures kept { result.code ≢ 0 → result.code ≢ no_such_position → out.new ≡ out.old }
 {
     let Some(graph) = graph.graph() else {
-        return unanswered(12);
+        return unanswered(CLOSED_GRAPH);
     };
     match GraphFilters::of_graph(alloc, graph) {
         Ok(filters) => {
@@ -91,12 +93,12 @@ fn probe_all(
         result.answered out.old out.new }
     ensures all { result.code ≡ 0
         → result.answered ≡ min (length positions.now) (length out.old) }
-    ensures left { result.code ≡ 11
+    ensures left { result.code ≡ no_such_position
         → result.answered < min (length positions.now) (length out.old) }
-    ensures nowhere { result.code ≡ 11
+    ensures nowhere { result.code ≡ no_such_position
         → IsSomeAnd (slice_get positions.now result.answered) (λ pos. commits ≤ pos) }
     ensures told { result ≡ with_probes result.code result.answered }
-    ensures codes { (result.code ≡ 0) ⊎ (result.code ≡ 11) }
+    ensures codes { (result.code ≡ 0) ⊎ (result.code ≡ no_such_position) }
 {
     let places = positions.len().min(out.len());
     for place in 0..places {
@@ -104,7 +106,7 @@ fn probe_all(
         if pos >= commits {
             return CgProbed {
                 answered: place as u64,
-                ..unanswered(11)
+                ..unanswered(NO_SUCH_POSITION)
             };
         }
         out[place] = probe(filters, Position(pos), path);
@@ -166,15 +168,15 @@ fn refused(error: FiltersError) -> CgProbed
     ensures { result ≡ told_filter_fault error }
 {
     match error {
-        FiltersError::IndexSize { layer } => in_layer(1, layer, 0),
-        FiltersError::DataSize { layer } => in_layer(2, layer, 0),
-        FiltersError::Version { layer, version } => in_layer(3, layer, version),
-        FiltersError::Hashes { layer, hashes } => in_layer(4, layer, hashes),
-        FiltersError::NoBits { layer } => in_layer(5, layer, 0),
-        FiltersError::Falls { pos } => in_commit(6, pos),
-        FiltersError::PastEnd { pos } => in_commit(7, pos),
-        FiltersError::LeftOver { layer } => in_layer(8, layer, 0),
-        FiltersError::Settings { layer } => in_layer(9, layer, 0),
-        FiltersError::OutOfMemory => unanswered(10),
+        FiltersError::IndexSize { layer } => in_layer(501, layer, 0),
+        FiltersError::DataSize { layer } => in_layer(502, layer, 0),
+        FiltersError::Version { layer, version } => in_layer(503, layer, version),
+        FiltersError::Hashes { layer, hashes } => in_layer(504, layer, hashes),
+        FiltersError::NoBits { layer } => in_layer(505, layer, 0),
+        FiltersError::Falls { pos } => in_commit(506, pos),
+        FiltersError::PastEnd { pos } => in_commit(507, pos),
+        FiltersError::LeftOver { layer } => in_layer(508, layer, 0),
+        FiltersError::Settings { layer } => in_layer(509, layer, 0),
+        FiltersError::OutOfMemory => unanswered(OUT_OF_MEMORY),
     }
 }

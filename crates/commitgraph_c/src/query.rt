@@ -6,7 +6,9 @@ ghost use Rattle.graph_format.specs.StoredHistory.{history_of};
 ghost use Rattle.gix_commitgraph.specs.Graph.{total};
 ghost use Rattle.graph_ancestors.specs.WalkAnswer.{numbers_of};
 ghost use Rattle.commitgraph_c.specs.Answers.{IsChecked, TellsAnswer, TellsWalk, written};
+ghost use Rattle.commitgraph_c.specs.Codes.{closed_graph, no_such_position, not_checked};
 
+use crate::codes::{CLOSED_GRAPH, NO_SUCH_POSITION, NOT_CHECKED, OUT_OF_MEMORY};
 use crate::handle::CgGraph;
 use gix_commitgraph::Position;
 use graph_history::Reached;
@@ -16,8 +18,8 @@ use std::alloc::Global;
 #[repr(C)]
 #[derive(Clone, Copy)]
 pub struct CgReached {
-    /// 4 where no graph is open, else 2 where it was not checked, else 1 where a position is none
-    /// of its, else 3 where memory ran out, and 0 where the question was answered.
+    /// 0 where the question was answered, else why not: that no graph is open comes first, then
+    /// that it was not checked, then that a position is none of its, and then want of memory.
     pub code: u32,
     pub visits: u32,
     pub length: u64,
@@ -35,31 +37,32 @@ pub extern "C" fn cg_ancestor_walk(
 ) -> CgReached
     ensures answer { result.code ≡ 0 → IsSomeAnd graph.address.held (λ held.
         TellsAnswer held.0 from to result out.old out.new) }
-    ensures nowhere { result.code ≡ 1 ↔ IsChecked graph.address.held (λ layers.
+    ensures nowhere { result.code ≡ no_such_position ↔ IsChecked graph.address.held (λ layers.
         (total layers ≤ from) ⊎ (total layers ≤ to)) }
-    ensures unchecked { result.code ≡ 2 ↔ IsSomeAnd graph.address.held (λ held. held.1 ≡ false) }
-    ensures closed { result.code ≡ 4 ↔ graph.address.held ≡ None }
+    ensures unchecked { result.code ≡ not_checked ↔ IsSomeAnd graph.address.held (λ held.
+        held.1 ≡ false) }
+    ensures closed { result.code ≡ closed_graph ↔ graph.address.held ≡ None }
     ensures codes { result.code ≤ 4 }
     ensures kept { result.code ≢ 0 → out.new ≡ out.old }
     ensures nothing { result.code ≢ 0 → (result.visits ≡ 0) × (result.length ≡ 0) }
 {
     let Some(opened) = graph.opened() else {
-        return refused(4);
+        return refused(CLOSED_GRAPH);
     };
     let Some(checked) = opened.as_checked() else {
-        return refused(2);
+        return refused(NOT_CHECKED);
     };
     let commits = checked.graph().num_commits();
     if from >= commits || to >= commits {
-        return refused(1);
+        return refused(NO_SUCH_POSITION);
     }
     match checked.ancestor_walk(alloc, Position(from), Position(to)) {
         Ok(reached) => tell(&reached, out),
-        Err(_) => refused(3),
+        Err(_) => refused(OUT_OF_MEMORY),
     }
 }
 
-/// Whether a commit leads to another: `found` says so where the code is 0.
+/// Whether a commit is an ancestor of another: `found` says so where the code is 0.
 #[repr(C)]
 #[derive(Clone, Copy)]
 pub struct CgLeads {
@@ -68,32 +71,39 @@ pub struct CgLeads {
     pub found: bool,
 }
 
-/// Looks whether the commit at `from` leads along parents to the one at `to`, as each leads to
-/// itself. The graph has to be one that `cg_open_checked` opened.
+/// Looks whether the commit at `ancestor` is an ancestor of the one at `descendant`, which then
+/// leads to it along parents, as each commit leads to itself. The graph has to be one that
+/// `cg_open_checked` opened.
 #[unsafe(no_mangle)]
-pub extern "C" fn cg_is_ancestor(alloc: Global, graph: CgGraph, from: u32, to: u32) -> CgLeads
+pub extern "C" fn cg_is_ancestor(
+    alloc: Global,
+    graph: CgGraph,
+    ancestor: u32,
+    descendant: u32,
+) -> CgLeads
     ensures answer { result.code ≡ 0 → IsSomeAnd graph.address.held (λ held.
-        IsTrue result.found ↔ Reaches (history_of held.0) from to) }
-    ensures nowhere { result.code ≡ 1 ↔ IsChecked graph.address.held (λ layers.
-        (total layers ≤ from) ⊎ (total layers ≤ to)) }
-    ensures unchecked { result.code ≡ 2 ↔ IsSomeAnd graph.address.held (λ held. held.1 ≡ false) }
-    ensures closed { result.code ≡ 4 ↔ graph.address.held ≡ None }
+        IsTrue result.found ↔ Reaches (history_of held.0) descendant ancestor) }
+    ensures nowhere { result.code ≡ no_such_position ↔ IsChecked graph.address.held (λ layers.
+        (total layers ≤ ancestor) ⊎ (total layers ≤ descendant)) }
+    ensures unchecked { result.code ≡ not_checked ↔ IsSomeAnd graph.address.held (λ held.
+        held.1 ≡ false) }
+    ensures closed { result.code ≡ closed_graph ↔ graph.address.held ≡ None }
     ensures codes { result.code ≤ 4 }
     ensures nothing { result.code ≢ 0 → result.found ≡ false }
 {
     let Some(opened) = graph.opened() else {
-        return untold(4);
+        return untold(CLOSED_GRAPH);
     };
     let Some(checked) = opened.as_checked() else {
-        return untold(2);
+        return untold(NOT_CHECKED);
     };
     let commits = checked.graph().num_commits();
-    if from >= commits || to >= commits {
-        return untold(1);
+    if ancestor >= commits || descendant >= commits {
+        return untold(NO_SUCH_POSITION);
     }
-    match checked.is_ancestor(alloc, Position(from), Position(to)) {
+    match checked.is_ancestor(alloc, Position(descendant), Position(ancestor)) {
         Ok(found) => CgLeads { code: 0, found },
-        Err(_) => untold(3),
+        Err(_) => untold(OUT_OF_MEMORY),
     }
 }
 

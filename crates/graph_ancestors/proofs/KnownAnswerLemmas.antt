@@ -1,9 +1,12 @@
 -- The answers that are known without a search.
-use Rattle.std.proofs.Common.{ℕ, zero, suc, ◌<◌, ◌≤◌, List, [], ◌∷◌, length, get_or, refl, arith}
+use Rattle.std.proofs.Common.{ℕ, zero, suc, ◌<◌, ◌≤◌, List, [], ◌∷◌, length, get_or, refl, arith, inl, inr}
+use Rattle.std.proofs.Common.{Result, Ok, Err, OnErr}
+use Rattle.std.proofs.lemmas.Bool.{cases_lt}
 use Rattle.std.proofs.lemmas.Option.{none-some}
+use Rattle.graph_walks.specs.declared.TheConstants.{GENERATION_NUMBER_MAX}
 use Rattle.graph_walks.specs.History.{Node, generation_at}
 use Rattle.graph_walks.specs.Walks.{IsWalkBetween, Reaches}
-use Rattle.graph_ancestors.specs.WalkAnswer.{IsShortestWalk, IsAtOrAbove, IsAbove}
+use Rattle.graph_ancestors.specs.WalkAnswer.{IsShortestWalk, IsAtOrAbove, IsAbove, MayLead}
 use Rattle.graph_ancestors.specs.Cardinality.{AtLeast, AtMost}
 
 module _ (h : List Node) (p : ℕ) (within : p < length h) where
@@ -38,3 +41,13 @@ none_is_above h from to never_rises below [] apart all = omega arith
 none_is_above h from to never_rises below (p ∷ ps) apart all =
     let above = all 0 p (omega arith) in
     absurd (omega (arith, never_rises from p above.0, above.1))
+
+pub always_err : {T E Q : Type 0} (r : Result T E) → Q → OnErr r Q
+always_err (Ok x) q = tt
+always_err (Err e) q = q
+
+-- numbers that stay or rise from one commit to another, and allow a walk all the same, are at the cap
+pub may_lead : (h : List Node) (from to : ℕ)
+    → (generation_at h from ≤ generation_at h to → GENERATION_NUMBER_MAX ≤ generation_at h from) → MayLead h from to
+may_lead h from to allowed =
+    elim (cases_lt (generation_at h to) (generation_at h from)) [ inl falls ↦ inl falls | inr stays ↦ inr (allowed stays) ]

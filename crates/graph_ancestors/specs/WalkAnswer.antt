@@ -1,5 +1,5 @@
 -- what a query for a walk along parents, from one commit of a history to another, answers
-use Rattle.std.specs.Prelude.{◌≡◌, ◌≢◌, ℕ, ◌<◌, ◌≤◌, List, map, length, IfSome, IfNone}
+use Rattle.std.specs.Prelude.{◌≡◌, ◌≢◌, ◌⊎◌, ℕ, ◌<◌, ◌≤◌, List, map, length, IfSome, IfNone}
 use Rattle.graph_walks.specs.declared.TheConstants.{GENERATION_NUMBER_MAX}
 use Rattle.graph_walks.specs.History.{Node, generation_at}
 use Rattle.graph_walks.specs.Walks.{IsWalkBetween, Reaches}
@@ -23,6 +23,11 @@ IsAtOrAbove history from to p = Reaches history from p × (generation_at history
 -- p is a commit that from reaches, and its generation number is greater than that of to
 abbrev pub IsAbove : List Node → ℕ → ℕ → ℕ → Type 0
 IsAbove history from to p = Reaches history from p × (generation_at history to < generation_at history p)
+
+-- The generation numbers allow a walk from one commit to another: they fall along walks, but stay where they are at the cap.
+abbrev pub MayLead : List Node → ℕ → ℕ → Type 0
+MayLead history from to =
+    (generation_at history to < generation_at history from) ⊎ (GENERATION_NUMBER_MAX ≤ generation_at history from)
 
 -- The answer to a query for a walk.
 pub record IsAnswer (history : List Node) (from to : ℕ) (reached : Reached) : Type 0 where

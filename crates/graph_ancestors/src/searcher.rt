@@ -1,12 +1,13 @@
 //! A searcher, which answers queries one after another.
 
-ghost use Rattle.std.specs.Prelude.{◌≡◌, ◌≢◌, ◌↔◌, ◌<◌, ◌≤◌, IfOk, IfSome, IfNone, IsTrue};
+ghost use Rattle.std.specs.Prelude.{◌≡◌, ◌≢◌, ◌⊎◌, ◌↔◌, ◌<◌, ◌≤◌, IfOk, IfSome, IfNone, IsTrue};
+ghost use Rattle.std.specs.Prelude.{OnErr};
 ghost use Rattle.graph_walks.specs.History.{generation_at};
 ghost use Rattle.graph_walks.specs.Walks.{Reaches};
 ghost use Rattle.graph_format.specs.StoredHistory.{history_of};
 ghost use Rattle.gix_commitgraph.specs.Graph.{total};
 ghost use Rattle.gix_commitgraph.specs.Sound.{Sound};
-ghost use Rattle.graph_ancestors.specs.WalkAnswer.{IsAnswer};
+ghost use Rattle.graph_ancestors.specs.WalkAnswer.{IsAnswer, MayLead};
 ghost use Rattle.graph_ancestors.specs.Search.{IsIdle};
 
 use crate::Reached;
@@ -71,12 +72,15 @@ impl<'g> Searcher<'g> {
     ///
     /// # Errors
     ///
-    /// An allocation failed. The searcher can be asked again.
+    /// An allocation failed: only where the two commits are one, or their generation numbers allow
+    /// a walk. The searcher can be asked again.
     pub fn ancestor_walk(&mut self, from: Position, to: Position) -> Result<Reached, AllocError>
         requires from { from.0 < total self.old }
         requires to { to.0 < total self.old }
         ensures graph { self.new ≡ self.old }
         ensures answer { IfOk result (IsAnswer (history_of self.old) from.0 to.0) }
+        ensures refused { OnErr result
+            ((from.0 ≡ to.0) ⊎ MayLead (history_of self.old) from.0 to.0) }
     {
         let answer = walk_between(&mut self.search, from, to);
         self.search.clear();
@@ -91,13 +95,16 @@ impl<'g> Searcher<'g> {
     ///
     /// # Errors
     ///
-    /// An allocation failed. The searcher can be asked again.
+    /// An allocation failed: only where the commits are two, and their generation numbers allow a
+    /// walk. The searcher can be asked again.
     pub fn is_ancestor(&mut self, from: Position, to: Position) -> Result<bool, AllocError>
         requires from { from.0 < total self.old }
         requires to { to.0 < total self.old }
         ensures graph { self.new ≡ self.old }
         ensures found { IfOk result (λ found.
             IsTrue found ↔ Reaches (history_of self.old) from.0 to.0) }
+        ensures refused { OnErr result
+            ((from.0 ≢ to.0) × MayLead (history_of self.old) from.0 to.0) }
     {
         let answer = leads_to(&mut self.search, from, to);
         self.search.clear();
@@ -116,6 +123,8 @@ fn walk_between(
     requires to { to.0 < total search.old.graph.now }
     ensures graph { search.new.graph.now ≡ search.old.graph.now }
     ensures answer { IfOk result (IsAnswer (history_of search.old.graph.now) from.0 to.0) }
+    ensures refused { OnErr result
+        ((from.0 ≡ to.0) ⊎ MayLead (history_of search.old.graph.now) from.0 to.0) }
 {
     the_history_of_a_graph_is_that_of_its_layers();
     generations_never_rise_along_walks();
@@ -145,6 +154,8 @@ fn leads_to(search: &mut Search<'_>, from: Position, to: Position) -> Result<boo
     ensures graph { search.new.graph.now ≡ search.old.graph.now }
     ensures found { IfOk result (λ found.
         IsTrue found ↔ Reaches (history_of search.old.graph.now) from.0 to.0) }
+    ensures refused { OnErr result
+        ((from.0 ≢ to.0) × MayLead (history_of search.old.graph.now) from.0 to.0) }
 {
     the_history_of_a_graph_is_that_of_its_layers();
     // The contract of `num_commits` says that the layers make a graph.

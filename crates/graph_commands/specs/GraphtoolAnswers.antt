@@ -12,15 +12,15 @@ use Rattle.graph_commands.specs.WrittenAnswer.{WritesAnswer}
 
 -- an answer that the command may give is written, with its status: `list` answers of the input, where that is known, and leaves
 -- the folder alone; each other command answers of what the opener may answer at its path
-abbrev pub GraphtoolMayWrite : Command → Option (List ℕ) → Type 0 → (List ℕ → Result (List Layer) OpenError → Type 0)
-    → Option (List ℕ) → Option (List ℕ) → ℕ → Type 0
-GraphtoolMayWrite command.List known IsLeftAlone MayOpenAt old new status =
+abbrev pub GraphtoolMayWrite : Command → Option (List ℕ) → Option (List ℕ) → Type 0
+    → (List ℕ → Result (List Layer) OpenError → Type 0) → Option (List ℕ) → Option (List ℕ) → ℕ → Type 0
+GraphtoolMayWrite command.List known unread IsLeftAlone MayOpenAt old new status =
     IsLeftAlone × IfSome known (λ input. WritesAnswer list_text list_status (MayList input) old new status)
-GraphtoolMayWrite (command.Verify path) known IsLeftAlone MayOpenAt old new status =
+GraphtoolMayWrite (command.Verify path) known unread IsLeftAlone MayOpenAt old new status =
     WritesAnswer verify_text verify_status (MayVerify (MayOpenAt path.now)) old new status
-GraphtoolMayWrite (command.Find path hex) known IsLeftAlone MayOpenAt old new status =
+GraphtoolMayWrite (command.Find path hex) known unread IsLeftAlone MayOpenAt old new status =
     WritesAnswer find_text find_status (MayFind hex.now IsLeftAlone (MayOpenAt path.now)) old new status
-GraphtoolMayWrite (command.Ancestor path first second) known IsLeftAlone MayOpenAt old new status =
+GraphtoolMayWrite (command.Ancestor path first second) known unread IsLeftAlone MayOpenAt old new status =
     WritesAnswer ancestor_text ancestor_status (MayRelate first.now second.now IsLeftAlone (MayOpenAt path.now)) old new status
-GraphtoolMayWrite (command.Distinct path) known IsLeftAlone MayOpenAt old new status =
+GraphtoolMayWrite (command.Distinct path) known unread IsLeftAlone MayOpenAt old new status =
     WritesAnswer verify_text verify_status (MayVerifyDistinct (MayOpenAt path.now)) old new status

@@ -122,7 +122,7 @@ fn found_at(commit: FoundCommit) -> Found
 }
 
 /// The commit with an id in the graph.
-fn found_in(graph: &Graph, id: oid<'_>) -> Option<Found>
+pub fn found_in(graph: &Graph, id: oid<'_>) -> Option<Found>
     ensures { MayBeFound graph.now (oid_bytes id.entry) result }
 {
     let pos = graph.lookup(id)?;

@@ -10,7 +10,7 @@ mod ancestor;
 pub mod block;
 mod bytes;
 pub mod command;
-mod find;
+pub mod find;
 pub mod line;
 mod listing;
 mod numbers;

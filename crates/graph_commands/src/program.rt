@@ -15,10 +15,10 @@ use std::io::{Read, Write};
 
 /// A command that a program can run.
 pub trait Run {
-    /// What the command may write, and with which status: given the bytes that the input has left,
-    /// where they are known; that the folder is as it was before; what the opener may answer at a
-    /// path; and what the output holds before and after, where that is known.
-    ghost MayWrite: { Self → Option (List ℕ) → Type 0
+    /// What the command may write, and with which status: given the bytes that the input has left
+    /// before and after, where they are known; that the folder is as it was before; what the opener
+    /// may answer at a path; and what the output holds before and after, where that is known.
+    ghost MayWrite: { Self → Option (List ℕ) → Option (List ℕ) → Type 0
         → (List ℕ → Result (List Layer) OpenError → Type 0)
         → Option (List ℕ) → Option (List ℕ) → ℕ → Type 0 };
 
@@ -31,7 +31,7 @@ pub trait Run {
         output: &mut W,
     ) -> Result<u8, WriteFailed>
         ensures written { IfOk result (MayWrite self
-            (R.remaining input.old) (folder.new ≡ folder.old)
+            (R.remaining input.old) (R.remaining input.new) (folder.new ≡ folder.old)
             (λ path. MayOpen (T.tree folder.old) path (T.failure_count folder.old)
             (T.failure_count folder.new))
             (W.contents output.old) (W.contents output.new)) }
@@ -67,7 +67,8 @@ pub fn respond<C: Run, R: Read, T: Folder, W: Write, E: Write>(
     ensures untouched { IsNone command → (input.new ≡ input.old) × (folder.new ≡ folder.old)
         × (output.new ≡ output.old) }
     ensures answered { IfSome command (λ command. IfOk result (λ status.
-        (C.MayWrite command (R.remaining input.old) (folder.new ≡ folder.old)
+        (C.MayWrite command (R.remaining input.old) (R.remaining input.new)
+        (folder.new ≡ folder.old)
         (λ path. MayOpen (T.tree folder.old) path (T.failure_count folder.old)
         (T.failure_count folder.new))
         (W.contents output.old) (W.contents output.new) status × (errors.new ≡ errors.old))

@@ -1,13 +1,13 @@
 //! A graph that was checked and is right.
 
-ghost use Rattle.std.specs.Prelude.{◌≡◌, ◌↔◌, ◌<◌, IfErr, IfOk, IsTrue};
+ghost use Rattle.std.specs.Prelude.{◌≡◌, ◌≢◌, ◌⊎◌, ◌↔◌, ◌<◌, IfErr, IfOk, IsTrue, OnErr};
 ghost use Rattle.graph_walks.specs.Walks.{Reaches};
 ghost use Rattle.graph_format.specs.StoredHistory.{history_of};
 ghost use Rattle.gix_commitgraph.specs.Distinct.{IsSoundWith};
 ghost use Rattle.gix_commitgraph.specs.Graph.{total};
 ghost use Rattle.gix_commitgraph.specs.Headline.{Stats};
 ghost use Rattle.gix_commitgraph.specs.Sound.{Sound};
-ghost use Rattle.graph_ancestors.specs.WalkAnswer.{IsAnswer};
+ghost use Rattle.graph_ancestors.specs.WalkAnswer.{IsAnswer, MayLead};
 ghost use Rattle.graph_ancestors.specs.RefusedGraph.{MayRefuseGraph};
 ghost use Rattle.graph_history.specs.Checked.{MayRefuseWith};
 ghost use Rattle.graph_history.specs.RightGraph.{plain_options};
@@ -134,7 +134,8 @@ impl<'g> Checked<'g> {
     ///
     /// # Errors
     ///
-    /// An allocation failed.
+    /// An allocation failed: only where the commits are two, and their generation numbers allow a
+    /// walk.
     pub fn is_ancestor(
         &self,
         alloc: Global,
@@ -143,8 +144,10 @@ impl<'g> Checked<'g> {
     ) -> Result<bool, AllocError>
         requires from { from.0 < total self.now.layers }
         requires to { to.0 < total self.now.layers }
-        ensures { IfOk result (λ found.
+        ensures found { IfOk result (λ found.
             IsTrue found ↔ Reaches (history_of self.now.layers) from.0 to.0) }
+        ensures refused { OnErr result
+            ((from.0 ≢ to.0) × MayLead (history_of self.now.layers) from.0 to.0) }
     {
         self.searcher(alloc).is_ancestor(from, to)
     }
@@ -157,7 +160,8 @@ impl<'g> Checked<'g> {
     ///
     /// # Errors
     ///
-    /// An allocation failed.
+    /// An allocation failed: only where the two commits are one, or their generation numbers allow
+    /// a walk.
     pub fn ancestor_walk(
         &self,
         alloc: Global,
@@ -166,7 +170,9 @@ impl<'g> Checked<'g> {
     ) -> Result<Reached, AllocError>
         requires from { from.0 < total self.now.layers }
         requires to { to.0 < total self.now.layers }
-        ensures { IfOk result (IsAnswer (history_of self.now.layers) from.0 to.0) }
+        ensures answer { IfOk result (IsAnswer (history_of self.now.layers) from.0 to.0) }
+        ensures refused { OnErr result
+            ((from.0 ≡ to.0) ⊎ MayLead (history_of self.now.layers) from.0 to.0) }
     {
         self.searcher(alloc).ancestor_walk(from, to)
     }

@@ -1,5 +1,5 @@
 -- The elements of a list that have a property, as the list grows by one; and what is told of ids that are looked up.
-use Rattle.std.proofs.Common.{◌≡◌, ◌↔◌, ℕ, Option, Some, None, IsSome, IsTrue, is_some, Result, Ok, Err, OnErr, true, false}
+use Rattle.std.proofs.Common.{◌≡◌, ◌↔◌, ℕ, Option, Some, None, IsSome, IsTrue, is_some, true, false}
 use Rattle.std.proofs.Common.{List, [], ◌∷◌, ◌++◌, refl, sym, ap, ◌∙◌, subst, inl, inr, unwrap_or}
 use Rattle.std.proofs.lemmas.Bool.{false≢true}
 use Rattle.gix_commitgraph.specs.Layer.{Layer}
@@ -21,10 +21,6 @@ pub those_without : {A : Type 0} (P : A → Type 0) (xs those : List A) (x : A) 
 those_without P [] those x is not = inr (not, is)
 those_without P (y ∷ ys) those x (inl is) not = inl (is.0, is.1, is.2, those_without P ys is.0 x is.3 not)
 those_without P (y ∷ ys) those x (inr is) not = inr (is.0, those_without P ys those x is.1 not)
-
-pub always_err : {T E Q : Type 0} (r : Result T E) → Q → OnErr r Q
-always_err (Ok x) q = tt
-always_err (Err e) q = q
 
 none_is_some : (o : Option ℕ) (p : ℕ) → o ≡ None → o ≡ Some p → ⊥
 none_is_some o p none some =

@@ -14,17 +14,22 @@ use graph_history::Checked;
 use std::alloc::{AllocError, Global};
 
 /// The positions of the parents of the commit at a position, in their order. The error is that an
-/// allocation failed.
+/// allocation failed; it comes only where there are parents.
 pub fn parents_of(
     alloc: Global,
     graph: &Checked<'_>,
     pos: Position,
 ) -> Result<Vec<Position>, AllocError>
     requires { pos.0 < total graph.now.layers }
-    ensures { IfOk result (λ parents.
+    ensures answer { IfOk result (λ parents.
         map (λ parent. parent.0) parents.items ≡ parents_at (history_of graph.now.layers) pos.0) }
+    ensures refused { OnErr result (parents_at (history_of graph.now.layers) pos.0 ≢ []) }
 {
-    graph.parents(pos).collect(alloc)
+    let mut parents = Vec::new(alloc);
+    for parent in graph.parents(pos) {
+        parents.push(parent)?;
+    }
+    Ok(parents)
 }
 
 /// The ids of the parents of the commit with an id, none where the graph has no such commit. The

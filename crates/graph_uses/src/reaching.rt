@@ -1,10 +1,11 @@
 //! Asking which commits are ancestors of another.
 
-ghost use Rattle.std.specs.Prelude.{◌↔◌, ◌<◌, IfOk, IsTrue, OnErr};
+ghost use Rattle.std.specs.Prelude.{◌≡◌, ◌⊎◌, ◌↔◌, ◌<◌, IfOk, IsTrue, OnErr};
 ghost use Rattle.gix_hash_core.specs.Oid.{oid_bytes};
 ghost use Rattle.gix_commitgraph.specs.Graph.{total};
 ghost use Rattle.gix_commitgraph.specs.StoredHistory.{history_of};
 ghost use Rattle.gix_commitgraph.specs.Walks.{Reaches};
+ghost use Rattle.graph_ancestors.specs.WalkAnswer.{MayLead};
 ghost use Rattle.graph_uses.specs.IdAnswers.{AreThose, HasCommitWithId, IsMergedInto};
 
 use gix_commitgraph::Position;
@@ -13,7 +14,8 @@ use graph_history::Checked;
 use std::alloc::{AllocError, Global};
 
 /// Whether a walk along parents leads from one commit of a graph to another. The error is that an
-/// allocation failed.
+/// allocation failed; it comes only where the two are one commit, or their generation numbers allow
+/// a walk.
 pub fn reaches(
     alloc: Global,
     graph: &Checked<'_>,
@@ -22,8 +24,10 @@ pub fn reaches(
 ) -> Result<bool, AllocError>
     requires from { from.0 < total graph.now.layers }
     requires to { to.0 < total graph.now.layers }
-    ensures { IfOk result (λ found.
+    ensures answer { IfOk result (λ found.
         IsTrue found ↔ Reaches (history_of graph.now.layers) from.0 to.0) }
+    ensures refused { OnErr result
+        ((from.0 ≡ to.0) ⊎ MayLead (history_of graph.now.layers) from.0 to.0) }
 {
     let reached = graph.ancestor_walk(alloc, from, to)?;
     Ok(reached.walk.is_some())

@@ -1,4 +1,3 @@
 pub mod AskLemmas
 pub mod BasesLemmas
 pub mod WalkLemmas
-pub mod WordsLemmas

@@ -3,5 +3,3 @@ pub mod IsAncestor
 pub mod MergeBases
 pub mod Walk
 pub mod Check
-pub mod HistorytoolWords
-pub mod HistorytoolAnswers

@@ -209,7 +209,7 @@ fn compare_in(
 
 /// The place of the first id that is not in a graph that was checked, if there is one. The first
 /// place is 0.
-fn find_unknown(graph: &Checked<'_>, ids: &[ObjectId]) -> Option<usize>
+pub fn find_unknown(graph: &Checked<'_>, ids: &[ObjectId]) -> Option<usize>
     ensures unknown { IfSome result (λ place. (place < length ids.now)
         × IsFirstUnknown graph.now.layers ids.now place) }
     ensures there { IsNone result → All (IsThere graph.now.layers) ids.now }
@@ -223,7 +223,7 @@ fn find_unknown(graph: &Checked<'_>, ids: &[ObjectId]) -> Option<usize>
 }
 
 /// The positions of the commits with these ids, in a graph that was checked and has them all.
-fn find_all(
+pub fn find_all(
     alloc: Global,
     graph: &Checked<'_>,
     ids: &[ObjectId],
@@ -342,7 +342,7 @@ fn write_bases<W: Write>(
 }
 
 /// Adds the line of a base.
-fn push_base<W: Write>(
+pub fn push_base<W: Write>(
     block: &mut Block,
     writer: &mut W,
     graph: &Checked<'_>,

@@ -5,9 +5,8 @@
 //! status. A refusal of a question is one that `graphtool ancestor` may give, in the same line.
 #![tactic(auto)]
 
-mod bases;
+pub mod bases;
 mod check;
-pub mod command;
 mod question;
 pub mod run;
 mod walk;

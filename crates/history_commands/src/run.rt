@@ -100,7 +100,7 @@ fn told_in(
 
 impl Answer<bool> {
     /// The text of the line.
-    fn word(&self) -> &'static str
+    pub fn word(&self) -> &'static str
         ensures { result.now ≡ told_word self.now }
     {
         match self {

@@ -1,8 +1,9 @@
 //! `historytool`: answers questions about the histories of Git's commit-graphs, by the ids of two
-//! commits or more, and checks what such graphs say of dates and of changed paths.
+//! commits or more, checks what such graphs say of dates and of changed paths, and compares them
+//! with their commits.
 //!
-//! The exit status is 0 where the answer is yes, a walk, merge bases or a right graph, 1 where it
-//! is no or none, where an id is not there or where something was refused, and 2 for other words
+//! The exit status is 0 where the answer is yes, a walk, merge bases, ids or a right graph, 1 where
+//! it is no or none, where an id is not there or where something was refused, and 2 for other words
 //! than a command, for a text that is no id and for a failed write. Wrong words and a failed write
 //! are reported on standard error.
 #![tactic(auto)]
@@ -10,17 +11,17 @@
 use graph_commands::program::{Complaints, respond};
 use graph_commands::status::Status;
 use graph_folder::folder::Disk;
-use history_commands::command::{Command, Texts};
+use history_program::command::{Command, Texts};
 use std::process::ExitCode;
 use std::{env, io};
 
 const USAGE: &str = "usage: historytool is-ancestor PATH HEX HEX | walk PATH HEX HEX \
     | merge-base PATH HEX HEX.. | merge-base-ids PATH HEX HEX.. | check PATH \
-    | --help | --version";
+    | show PATH | ids PATH [FROM TO] | objects PATH [FROM TO] | --help | --version";
 
 const HELP: &str = "usage: historytool is-ancestor PATH HEX HEX | walk PATH HEX HEX \
     | merge-base PATH HEX HEX.. | merge-base-ids PATH HEX HEX.. | check PATH \
-    | --help | --version\n\
+    | show PATH | ids PATH [FROM TO] | objects PATH [FROM TO] | --help | --version\n\
     \n\
     PATH is a commit-graph file, a folder with a chain of them, or an info folder.\n\
     HEX is the id of a commit in hexadecimal.\n\
@@ -37,10 +38,16 @@ const HELP: &str = "usage: historytool is-ancestor PATH HEX HEX | walk PATH HEX 
     \x20               have a corrected commit date, and how many a changed-path\n\
     \x20               filter, once both were found right; or the first thing that is\n\
     \x20               wrong\n\
+    show            what each layer says of itself, and whether the whole is right\n\
+    ids             the ids of the commits, a line for each, or of those at the\n\
+    \x20               positions from FROM up to and without TO, which count from 0\n\
+    objects         how many of these commits are those on standard input, which\n\
+    \x20               git cat-file --batch writes for their ids; or the first\n\
+    \x20               thing that is wrong\n\
     \n\
-    The exit status is 0 for yes, a walk, merge bases or a graph that is right,\n\
-    1 for any other answer, and 2 for wrong words, a text that is no id or a\n\
-    failed write.";
+    The exit status is 0 for yes, a walk, merge bases, ids or a graph that is\n\
+    right, 1 for any other answer, and 2 for wrong words, a text that is no id or\n\
+    a failed write.";
 
 const VERSION: &str = "historytool 0.1.0, proved with rattle-kit-13f logic dac8208d650f15bf";
 
@@ -59,12 +66,13 @@ const TEXTS: Texts<'static> = Texts {
 fn main(rt: HostRuntime) -> ExitCode {
     let words = words(&rt).unwrap_or_else(|| Vec::new(rt.alloc()));
     let command = Command::from_words(&words, TEXTS);
-    let (mut disk, mut output, mut errors) = (Disk::new(&rt), io::writer(&rt), rt.stderr());
+    let (mut input, mut disk) = (rt.reader(), Disk::new(&rt));
+    let (mut output, mut errors) = (io::writer(&rt), rt.stderr());
     let status = respond(
         rt.alloc(),
         command,
         COMPLAINTS,
-        &mut io::empty(),
+        &mut input,
         &mut disk,
         &mut output,
         &mut errors,

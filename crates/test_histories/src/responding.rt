@@ -5,10 +5,12 @@ use crate::fixtures::graphs;
 use graph_commands::line::WriteFailed;
 use graph_commands::program::{Complaints, respond};
 use graph_vectors::Sink;
-use history_commands::command::{Command, Texts};
+use history_program::command::{Command, Texts};
 use std::alloc::Global;
 use std::io;
 use std::process::Abort;
+
+const ONES_LINE: &str = "1111111111111111111111111111111111111111\n";
 
 /// The words after the program's own name, with the status and with what is written to the output
 /// and to standard error.
@@ -27,14 +29,22 @@ const ROWS: &[(&[&str], u8, &str, &str)] = &[
     (
         &["merge-base-ids", "file", CS, ONES],
         0,
-        "1111111111111111111111111111111111111111\n",
+        ONES_LINE,
         "",
     ),
     (&["check", "nowhere"], 1, "refused open 1\n", ""),
+    (&["show", "nowhere"], 1, "refused open 1\n", ""),
+    (&["ids", "nowhere"], 1, "refused open 1\n", ""),
+    (&["ids", "file", "0", "1"], 0, ONES_LINE, ""),
+    (&["ids", "file", "0", "6"], 1, "refused range commits 5\n", ""),
+    (&["objects", "file"], 1, "refused objects 1 position 0\n", ""),
+    (&["objects", "file", "2", "2"], 0, "ok commits 0\n", ""),
     (&[], 2, "", "usage\n"),
     (&["walk", "file", CS], 2, "", "usage\n"),
     (&["merge-base", "file", CS], 2, "", "usage\n"),
     (&["merge-base-ids", "file", CS], 2, "", "usage\n"),
+    (&["ids", "file", "0"], 2, "", "usage\n"),
+    (&["objects", "file", "00", "1"], 2, "", "usage\n"),
 ];
 
 /// The answer to these words.

@@ -10,7 +10,7 @@ import shutil
 import subprocess
 
 import refusals
-from checks import disk_checks, verify_checks
+from checks import disk_checks, show_checks, verify_checks
 from damage import trees, wrong_commits, wrong_layout, wrong_trees
 from damage.layer import sealed
 from expected import reading
@@ -18,7 +18,7 @@ from expected.facts import found, verified
 from expected.listing import listing
 from expected.walks import Walks
 from histories import shapes
-from histories.repository import read_bytes, write_bytes
+from histories.repository import Repository, read_bytes, write_bytes
 from wrappers.clone import TOP, Clone, run
 from wrappers.tools import read
 
@@ -46,12 +46,13 @@ class Installed:
         for program, name in zip(programs, ("graphtool", "historytool")):
             self.clone.put_program(name, "")
             shutil.copy(program.path, os.path.join(self.clone.folder, "crates", name, "out", name))
-        self.clone.put("crates/commitgraph_c/out/libcommitgraph.a", "the library\n")
+        self.clone.put_library()
         self.prefix = os.path.join(folder, "a prefix")
         self.installation = self.clone.run(["scripts/install", self.prefix])
         tools = os.path.join(self.clone.folder, "bin")
         self.variables = self.clone.surroundings(PATH=os.path.join(self.prefix, "bin") + ":" + tools)
-        self.knows_check = b"check PATH" in programs[1].run(stdin=subprocess.DEVNULL).err
+        usage = programs[1].run(stdin=subprocess.DEVNULL).err
+        self.knows_check, self.knows_objects = b"check PATH" in usage, b"objects PATH" in usage
 
     def ask(self, way, *words):
         """The answer of `git cgraph` to some words."""
@@ -72,12 +73,15 @@ def check_all(programs, results, folder, new):
     for kind in ("sha1", "sha256"):
         check_kinds(installed, results, new(kind, "asked"))
         check_split(installed, results, new(kind, "asked, split"))
+        show_checks.check_told(installed, results, os.path.join(folder, "shown, " + kind), new(kind, "asked, shown.git"), Way)
     check_empty(installed, results, new("sha1", "asked, empty"))
     check_abbreviation(installed, results, new("sha1", "asked, abbreviations"))
     check_session(installed, results, os.path.join(folder, "repository"))
     check_recipes(installed, results, os.path.join(folder, "recipes"), new("sha1", "asked, recipes.git"))
     check_damage(installed, results, new("sha1", "asked, damaged"))
     check_damaged_trees(installed, results, new("sha1", "asked, damaged folders"))
+    for flags in (("--split",), ("--split", "--changed-paths")):
+        check_pool(installed, results, new("sha1", "asked, a pool %s" % " ".join(flags)), flags)
     results.check("git cgraph, nothing is left over", installed.clone.left_over())
     answer = installed.clone.run(["scripts/install", "--remove", installed.prefix])
     gone = answer.status == 0 and not os.path.lexists(installed.prefix)
@@ -111,7 +115,9 @@ def check_recipes(installed, results, folder, repository):
     os.mkdir(folder)
     os.symlink(repository.folder, os.path.join(folder, "project.git"))
     for damaged in (False, True):
-        for line in re.findall(r"^    (?:0 3 \* \* \* )?(.*)$", recipes, re.MULTILINE):
+        for line in re.findall(r"^    (?:0 \d \* \* [*0] )?(.*)$", recipes, re.MULTILINE):
+            if "--objects" in line and not installed.knows_objects:
+                continue
             if damaged and " write " not in line:
                 content = read_bytes(repository.graph_path())
                 write_bytes(repository.graph_path(), content[:-1] + bytes([content[-1] ^ 1]))
@@ -194,6 +200,8 @@ def check_words(installed, results, title, way, graph, sums=(None,)):
         **{("find", name): found(words, layers)[ids[at]] for name, at in
            (("HEAD", -1), (ODD_TAG, 2), ("annotated", 1), (ids[4][:12], 4), ("HEAD^2", -2), (":/commit 0", 0))},
     }
+    if installed.knows_objects:
+        wanted["verify", "--objects", "-j2"] = verified(words) + "objects commits %d\n" % len(ids)
     for question, out in wanted.items():
         answer = installed.ask(way, *question)
         complaint = None if answer == (0, out, "") else "it is %r, expected %r" % (answer, out)
@@ -319,6 +327,41 @@ def check_damaged_trees(installed, results, repository):
         names = ["%s/graph-%s.graph" % (trees.GRAPHS, name.decode("latin-1")) for name in case.tree.get(trees.CHAIN, b"").split()]
         layers = [case.tree.get(name, b"") for name in names] if file is None else [file]
         check_refusal(installed, results, repository, (case.name, line, layers))
+
+
+def check_pool(installed, results, pool, flags):
+    """A layer that is damaged in the object folder of another repository, over which a fork has a layer of its own: by the
+    commands of the cure both commit-graphs become right, and filters and split are kept.
+    """
+    history = shapes.diamonds(4)
+    ids = pool.add(history[:9])
+    pool.git("symbolic-ref", "HEAD", "refs/heads/tip-8")
+    pool.write_graph(*flags)
+    fork = Repository(pool.folder + ", its fork", pool.object_format)
+    write_bytes(os.path.join(fork.info_path(), "alternates"), os.path.join(pool.folder, "objects").encode() + b"\n")
+    shutil.copy(os.path.join(pool.folder, "marks"), os.path.join(fork.folder, "marks"))
+    fork.git("update-ref", "refs/heads/pool", ids[-1])
+    fork.add(history, len(ids))
+    fork.write_graph(*flags)
+    right = len(read_bytes(os.path.join(fork.chain_path(), "commit-graph-chain")).split())
+    layer = os.path.join(pool.chain_path(), "graph-%s.graph" % pool.chain()[0][0])
+    content = read_bytes(layer)
+    write_bytes(layer, content[:-1] + bytes([content[-1] ^ 1]))
+    start = refusals.written("git cgraph", refusals.sentences(refusals.read_rows(), "refused verify 4 layer 0 fault 1", "verify")[:1])
+    start += "git cgraph: layer 0 is '%s', by line 1 of '" % os.path.realpath(layer)
+    title = "a damaged layer of a pool, %s" % " ".join(flags)
+    results.check(title + ", a fork's chain over it", None if right == 2 else "it has %d layers" % right)
+    check_cure(installed, results, fork, (title, "refused verify 4 layer 0 fault 1\n", 1, start))
+    verdicts = installed.ask(Way(pool.folder), "verify").status, pool.git_verdict().status
+    results.check("the cure of %s, in the pool" % title, None if verdicts == (0, 0) else "then %r" % (verdicts,))
+    if installed.knows_objects:
+        answer = installed.ask(Way(fork.folder), "verify", "--objects", "-j2")
+        right = answer.status == 0 and answer.out.endswith("\nobjects commits %d\n" % len(history)) and not answer.err
+        results.check("git cgraph verify --objects, layers and commits in a pool", None if right else "it is %r" % (answer,))
+    files = [os.path.join(it.chain_path(), name) for it in (pool, fork) for name in os.listdir(it.chain_path())]
+    kept = {b"BDAT" in read_bytes(file) for file in files if file.endswith(".graph")}
+    complaint = None if kept == {"--changed-paths" in flags} else "it is %s" % kept
+    results.check("the cure of %s keeps split and filters" % title, complaint)
 
 
 def check_refusal(installed, results, repository, case):

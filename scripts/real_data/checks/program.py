@@ -100,6 +100,18 @@ class HistoryProgram(AnyProgram):
         """The answer to `check` of a path."""
         return self.run("check", path, stdin=subprocess.DEVNULL, **streams)
 
+    def show(self, path, **streams):
+        """The answer to `show` of a path."""
+        return self.run("show", path, stdin=subprocess.DEVNULL, **streams)
+
+    def ids(self, path, *part, **streams):
+        """The answer to `ids` of a path, or of a part of its positions."""
+        return self.run("ids", path, *map(str, part), stdin=subprocess.DEVNULL, **streams)
+
+    def objects(self, path, stream, *part):
+        """The answer to `objects` of a path, or of a part of its positions, to the bytes of a stream."""
+        return self.run("objects", path, *map(str, part), input=stream)
+
 
 class FilterProgram(AnyProgram):
     """The program of the crate `test_filters`."""

@@ -1,16 +1,17 @@
 """Checks the words of `historytool`, its help and its version, and output that cannot be written."""
 
 import os
+import subprocess
 from functools import partial
 
 from expected import judge
 from histories.repository import read_bytes
 
-USAGE = (
-    "usage: historytool is-ancestor PATH HEX HEX | walk PATH HEX HEX | merge-base PATH HEX HEX.."
-    " | merge-base-ids PATH HEX HEX.. | check PATH | --help | --version\n"
-)
-"""What the program writes on standard error where its words are no command, and the first line of its help."""
+TOP = os.path.abspath(os.path.join(os.path.dirname(os.path.abspath(__file__)), *[os.pardir] * 3))
+BY_TABLE = ["sh", "-c", 'top=$1 name=$2; . "$top/scripts/usage.sh"; usage', "sh", TOP, "historytool"]
+USAGE = subprocess.check_output(BY_TABLE, text=True)
+"""What the program writes on standard error where its words are no command, and the first line of its help: as the table of
+commands has it."""
 
 FAILED_WRITE = "historytool: the answer could not be written\n"
 ID = "0" * 40
@@ -21,10 +22,12 @@ OTHER_WORDS = [
     *(["merge-base"], ["merge-base", "."], ["merge-base", ".", ID], ["merge-base", ".", ID, b"\xff"]),
     *(["merge-base-ids"], ["merge-base-ids", ".", ID], ["merge-bases", ".", ID, ID]),
     *(["check"], ["check", ".", "."], ["check", b"\xff"]),
+    *(["ids"], ["ids", ".", "0"], ["ids", ".", "0", "01"], ["ids", ".", "+0", "1"], ["ids", ".", "0", "1", "2"]),
+    *(["objects"], ["objects", ".", "0"], ["objects", ".", "-1", "1"], ["objects", ".", "0", "4294967296"]),
 ]
 """Words that are no command: too few, too many, others, or no text."""
 
-VERSION = os.path.join(os.path.dirname(os.path.abspath(__file__)), *[os.pardir] * 3, "VERSION")
+VERSION = os.path.join(TOP, "VERSION")
 
 
 def check_all(histories, results):

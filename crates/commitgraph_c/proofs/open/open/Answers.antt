@@ -41,5 +41,5 @@ returns-in-Err-clause-refused c =
           all_of c.args.files.now c.loop-file.layers.items c.loop-file.file-index c.loop-file-test.false c.loop-file.invariant;
       error = _;
       may = c.in-Err.ensures.refusal;
-      told = c.graph_error.ensures;
+      told = c.graph_error.ensures.told;
     })

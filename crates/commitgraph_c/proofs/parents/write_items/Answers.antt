@@ -31,7 +31,7 @@ returns-in-Err c =
     let seen = rw (c.in-Some.ensures.steps.steps, c.in-Err.is) at c.loop-parent.invariant in
     let told = fault_told (commit_parents c.args.commit) c.loop-parent.count c.args.out.now c.loop-parent.out c.in-Err.error
     (parents_left c.next.new.self) seen in
-    record { count_of = told.count_is; code_of = rw told.fault_is c.parent_number-code.ensures; room = told.room_is }
+    record { count_of = told.count_is; code_of = rw told.fault_is c.parent_code-code.ensures; room = told.room_is }
 
 pub returns : goal.returns
 returns c =

@@ -1,8 +1,9 @@
-use Rattle.std.proofs.Common.{◌≡◌, ◌<◌, ℕ, List, ◌∷◌, [], length, refl, sym, ap, subst, eqb-true, arith}
+use Rattle.std.proofs.Common.{◌≡◌, ◌<◌, ℕ, List, ◌∷◌, [], length, refl, sym, ap, subst, inl, inr, eqb-true, arith}
 use Rattle.graph_format.specs.StoredHistory.{history_of}
 use Rattle.graph_ancestors.specs.WalkAnswer.{IsShortestWalk, IsAtOrAbove, numbers_of}
 use Rattle.graph_ancestors.specs.Cardinality.{AtLeast}
 use Rattle.graph_ancestors.proofs.KnownAnswerLemmas.{one_is_shortest, one_is_visited, none_is_visited, none_is_above}
+use Rattle.graph_ancestors.proofs.KnownAnswerLemmas.{always_err, may_lead}
 use Rattle.graph_ancestors.proofs.searcher.walk_between.Goals as goal
 
 pub returns-then-eq-clause-answer : goal.returns-then-eq-clause-answer
@@ -37,3 +38,12 @@ returns-in_default-clause-answer c =
       none_visits = none_is_above h c.args.from.0 c.args.to.0 never_rises c.in_default.ensures.below;
       no_visits = λ apart low below. refl;
     }
+
+pub returns-in_err-walk-clause-refused : goal.returns-in_err-walk-clause-refused
+returns-in_err-walk-clause-refused c =
+    always_err c.from_residual.result (inl (eqb-true c.args.from.0 c.args.to.0 (sym c.if-eq.ensures)))
+
+pub returns-clause-refused : goal.returns-clause-refused
+returns-clause-refused c =
+    always_err c.shortest_walk.result
+    (inr (may_lead (history_of c.args.search.now.graph.now) c.args.from.0 c.args.to.0 c.in-Some.ensures.allowed))

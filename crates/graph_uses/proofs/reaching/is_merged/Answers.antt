@@ -31,4 +31,4 @@ returns-clause-answer c =
     (sym c.find-2.ensures.scanned ∙ ap position_number c.in-Some-Some.is-1) in
     IfOk-weaker c.reaches.result (λ (found : Bool). IsTrue found ↔ Reaches (history_of layers) from to)
     (λ (found : Bool). IsTrue found ↔ IsMergedInto layers into commit)
-    (λ found reached. (λ yes. is.0 (reached.0 yes), λ merged. reached.1 (is.1 merged))) c.reaches.ensures
+    (λ found reached. (λ yes. is.0 (reached.0 yes), λ merged. reached.1 (is.1 merged))) c.reaches.ensures.answer

@@ -1,0 +1,88 @@
+#!/usr/bin/env python3
+"""Measures the check of a graph against its commits, over a million commits.
+
+usage: python3 bench/objects.py FOLDER
+
+FOLDER keeps the repository, of bench/topics.py, as Git packs it with `git repack -adfk`, and the stream of its commits; making
+them takes some minutes. Seconds of processor time: `historytool objects` beside the digest of the stream by the kit's sha1,
+beside the check of the graph alone, and beside `git cat-file`; and of elapsed time: `git cgraph verify --objects` with one
+job and with four, beside `git commit-graph verify`. Each is the least of all runs.
+"""
+
+import os
+import subprocess
+import sys
+
+import common
+import processes
+import topics
+
+RUNS = 5
+LONG_RUNS = 2
+JOBS = [1, 4]
+
+
+def main(folder):
+    """Prints the figures."""
+    folder = os.path.abspath(folder)
+    os.makedirs(folder, exist_ok=True)
+    made = topics.Made(folder)
+    layer, stream, ids = made.layer()[0], os.path.join(folder, "stream"), os.path.join(folder, "stream-ids")
+    if not os.path.exists(stream):
+        pack(made.folder)
+        write(ids, [common.program("historytool"), "ids", layer])
+        write(stream, cat_file(made.folder), ids)
+    common.print_load()
+    digest = digest_of(folder, stream)
+    figures = {
+        "objects": best([common.program("historytool"), "objects", layer], stream),
+        "verify": best([common.program("graphtool"), "verify", layer], None),
+        "ids": best([common.program("historytool"), "ids", layer], None),
+        "git cat-file": best(cat_file(made.folder), ids),
+    }
+    for name, run in figures.items():
+        print("%-14s %7.3f s of processor time, %7.3f elapsed, %6.1f MB" % (name, run.processor, run.elapsed, run.memory / 1e6))
+    print("%-14s %7.3f s" % ("digest", digest))
+    print("objects beside the digest      %.2f" % (figures["objects"].processor / digest))
+    print("objects beside git cat-file    %.2f" % (figures["objects"].processor / figures["git cat-file"].processor))
+    by_git = best(["git", "-C", made.folder, "commit-graph", "verify", "--no-progress"], None, LONG_RUNS)
+    print("git commit-graph verify        %.3f s of processor time, %.3f elapsed" % (by_git.processor, by_git.elapsed))
+    for jobs in JOBS:
+        words = [os.path.join(common.TOP, "git-cgraph"), "-C", made.folder, "verify", "--objects", "--jobs", str(jobs)]
+        run = best(words, None, LONG_RUNS)
+        row = (jobs, run.processor, run.elapsed, run.elapsed / by_git.elapsed)
+        print("verify --objects --jobs %-6d %.3f s of processor time, %.3f elapsed, %.3f of Git's" % row)
+
+
+def pack(repository):
+    """Packs a repository as Git does by itself; no branch leads to all commits, and those stay too."""
+    subprocess.check_call(["git", "-C", repository, "repack", "-adfkq"])
+
+
+def cat_file(repository):
+    """The command that writes the objects of the ids that it reads."""
+    return ["git", "-C", repository, "--no-replace-objects", "cat-file", "--batch", "--buffer"]
+
+
+def write(path, command, source=os.devnull):
+    """Writes what a command prints to a file."""
+    with open(source, "rb") as stdin, open(path + ".part", "wb") as stdout:
+        subprocess.check_call(command, stdin=stdin, stdout=stdout)
+    os.rename(path + ".part", path)
+
+
+def best(command, source, runs=RUNS):
+    """The least of all runs of a command, which has to end well."""
+    return processes.best_of([processes.measured(command, source) for _ in range(runs)])
+
+
+def digest_of(folder, path):
+    """The seconds that the digest of a file takes."""
+    program = common.our_program(folder, "objects", ["sha1", "anyhow"])
+    return min(dict(common.lines(program, [path]))["digest"][0] for _ in range(RUNS)) / 1e9
+
+
+if __name__ == "__main__":
+    if len(sys.argv) != 2:
+        sys.exit(__doc__)
+    main(*sys.argv[1:])

@@ -1,0 +1,393 @@
+"""Git's commit-graph files, read and checked by proved code.
+
+    with commitgraph.open(".git/objects/info") as graph:
+        for position in range(len(graph)):
+            print(graph.id(position).hex(), graph.parents(position))
+
+It calls libcommitgraph.so.0, which is looked for in the folder that COMMITGRAPH_LIB names, in this clone, where
+`scripts/library` makes it, and then where the system looks. The calls are proved, this module is not.
+"""
+
+import ctypes
+import enum
+import os
+import pathlib
+from collections.abc import Iterator, Sequence
+from ctypes import POINTER, c_bool, c_size_t, c_uint8, c_uint32, c_uint64, c_void_p
+from typing import NamedTuple
+
+VERSION = 100
+"""The version of the library that this module is for."""
+
+
+class Code(enum.IntEnum):
+    """The numbers of causes, as commitgraph.h has them."""
+
+    OK = 0
+    OUT_OF_MEMORY = 1
+    CLOSED_GRAPH = 2
+    NOT_CHECKED = 3
+    NO_SUCH_POSITION = 4
+    PATH_NOT_UTF8 = 5
+    NO_DATES = 6
+    FILE_TOO_SHORT = 101
+    FILE_SIGNATURE = 102
+    FILE_VERSION = 103
+    FILE_HASH = 104
+    FILE_BASE_SIZE = 106
+    FILE_BASE_COUNT = 107
+    FILE_NO_COMMIT_DATA = 108
+    FILE_COMMIT_DATA_SIZE = 109
+    FILE_NO_FAN = 110
+    FILE_FAN_SIZE = 111
+    FILE_NO_IDS = 112
+    FILE_IDS_SIZE = 113
+    FILE_TOO_MANY_EDGES = 114
+    FILE_TRAILER = 115
+    FILE_BASE_MISSING = 116
+    FILE_FAN_FALLS = 117
+    FILE_ID_COUNT = 118
+    FILE_RECORD_COUNT = 119
+    CHUNK_NONE = 151
+    CHUNK_TABLE_TOO_SMALL = 152
+    CHUNK_EARLY_END = 153
+    CHUNK_DUPLICATE = 154
+    CHUNK_OUT_OF_FILE = 155
+    CHUNK_FALLING = 156
+    CHUNK_NO_END = 157
+    GRAPH_NO_FILES = 201
+    GRAPH_TOO_MANY_COMMITS = 202
+    GRAPH_HASH_MISMATCH = 203
+    CHECK_TOO_MANY_FILES = 301
+    CHECK_BASE_COUNT = 302
+    CHECK_BASE_ID = 303
+    CHECK_PARENT_OUT_OF_RANGE = 307
+    CHECK_GENERATION = 308
+    CHECK_DUPLICATE_ID = 311
+    CHECK_CHECKSUM = 341
+    CHECK_FILE_NAME = 342
+    CHECK_FAN = 343
+    CHECK_NULL_ID = 351
+    CHECK_ORDER = 352
+    CHECK_NULL_TREE = 353
+    PARENT_SECOND_WITHOUT_FIRST = 361
+    PARENT_FIRST_IS_EDGE_INDEX = 362
+    PARENT_NO_EDGE_LIST = 363
+    PARENT_EDGE_OVERFLOW = 364
+    DATES_DATA_SIZE = 401
+    DATES_OVERFLOW_SIZE = 402
+    DATES_OVERFLOW_INDEX = 403
+    DATES_TOO_LARGE = 404
+    DATES_WRONG = 405
+    FILTERS_INDEX_SIZE = 501
+    FILTERS_DATA_SIZE = 502
+    FILTERS_VERSION = 503
+    FILTERS_HASHES = 504
+    FILTERS_NO_BITS = 505
+    FILTERS_FALLS = 506
+    FILTERS_PAST_END = 507
+    FILTERS_LEFT_OVER = 508
+    FILTERS_SETTINGS = 509
+
+
+SENTENCES = {
+    Code.OK: "no error",
+    Code.OUT_OF_MEMORY: "memory ran out",
+    Code.CLOSED_GRAPH: "no graph is open",
+    Code.NOT_CHECKED: "the graph was not opened by cg_open_checked",
+    Code.NO_SUCH_POSITION: "the graph has no such position",
+    Code.PATH_NOT_UTF8: "the path of a layer is not UTF-8",
+    Code.NO_DATES: "a layer has no corrected dates",
+    Code.FILE_TOO_SHORT: "the file has fewer than 1100 bytes: often it is truncated",
+    Code.FILE_SIGNATURE: "the bytes do not begin with `CGPH`",
+    Code.FILE_VERSION: "another version than 1",
+    Code.FILE_HASH: "another kind of hash than SHA-1 (1) and SHA-256 (2)",
+    Code.FILE_BASE_SIZE: "`BASE` ends within an id",
+    Code.FILE_BASE_COUNT: "`BASE` has another number of ids than the header says",
+    Code.FILE_NO_COMMIT_DATA: "there is no `CDAT`",
+    Code.FILE_COMMIT_DATA_SIZE: "`CDAT` ends within a record",
+    Code.FILE_NO_FAN: "there is no `OIDF`",
+    Code.FILE_FAN_SIZE: "`OIDF` does not have 256 numbers, 1024 bytes",
+    Code.FILE_NO_IDS: "there is no `OIDL`",
+    Code.FILE_IDS_SIZE: "`OIDL` ends within an id",
+    Code.FILE_TOO_MANY_EDGES: "`EDGE` has more than 4,294,967,294 words",
+    Code.FILE_TRAILER: "what follows the chunks is not as long as a checksum: often a truncated file",
+    Code.FILE_BASE_MISSING: "the header counts base ids, and there is no `BASE`",
+    Code.FILE_FAN_FALLS: "a number of `OIDF` is less than the one before it",
+    Code.FILE_ID_COUNT: "`OIDL` has another number of ids than `OIDF` says",
+    Code.FILE_RECORD_COUNT: "`CDAT` has another number of records than `OIDF` says",
+    Code.CHUNK_NONE: "the number of chunks is 0",
+    Code.CHUNK_TABLE_TOO_SMALL: "the table of chunks passes the end of the file",
+    Code.CHUNK_EARLY_END: "an entry before the last has the id 0",
+    Code.CHUNK_DUPLICATE: "two chunks have one id",
+    Code.CHUNK_OUT_OF_FILE: "a chunk begins past the end of the file: often a truncated file",
+    Code.CHUNK_FALLING: "a chunk ends before it begins",
+    Code.CHUNK_NO_END: "the table does not end with the id 0",
+    Code.GRAPH_NO_FILES: "the chain file names no layer",
+    Code.GRAPH_TOO_MANY_COMMITS: "there are more than 1,879,048,191 commits",
+    Code.GRAPH_HASH_MISMATCH: "layers have different kinds of hash",
+    Code.CHECK_TOO_MANY_FILES: "there are more than 256 layers",
+    Code.CHECK_BASE_COUNT: "a layer has another number of base layers than there are layers before it",
+    Code.CHECK_BASE_ID: "a base id of a layer is not the checksum of the layer that it stands for",
+    Code.CHECK_PARENT_OUT_OF_RANGE: "a parent of a commit lies past the end of the commit's own layer",
+    Code.CHECK_GENERATION: "the generation number of a commit is not one more than the greatest of its parents'",
+    Code.CHECK_DUPLICATE_ID: "the id of a commit stands at an earlier position too, in an earlier layer",
+    Code.CHECK_CHECKSUM: "the checksum of a layer is not the digest of its bytes: they were changed or lost",
+    Code.CHECK_FILE_NAME: "a file is named `graph-X.graph`, and X is not its checksum",
+    Code.CHECK_FAN: "the fan (chunk `OIDF`) does not count the ids whose first byte is at most some byte",
+    Code.CHECK_NULL_ID: "the id of a commit is null, all zeros",
+    Code.CHECK_ORDER: "the id of a commit is not above the one before it in its layer",
+    Code.CHECK_NULL_TREE: "the id of the root tree of a commit is null",
+    Code.PARENT_SECOND_WITHOUT_FIRST: "the record of a commit in `CDAT` has a second parent and no first",
+    Code.PARENT_FIRST_IS_EDGE_INDEX: "the first parent field of a commit points into `EDGE`",
+    Code.PARENT_NO_EDGE_LIST: "the second parent field of a commit points into `EDGE`, which is not there",
+    Code.PARENT_EDGE_OVERFLOW: "the list of a commit in `EDGE` runs past the end",
+    Code.DATES_DATA_SIZE: "`GDA2` has not four bytes for each commit",
+    Code.DATES_OVERFLOW_SIZE: "the length of `GDO2` is no multiple of eight",
+    Code.DATES_OVERFLOW_INDEX: "the word of a commit is past the end of `GDO2`",
+    Code.DATES_TOO_LARGE: "the date of a commit is 2^63 or more",
+    Code.DATES_WRONG: "the date of a commit is not its time or, if later, one second after the latest date of its parents",
+    Code.FILTERS_INDEX_SIZE: "`BIDX` has not four bytes for each commit",
+    Code.FILTERS_DATA_SIZE: "`BDAT` has fewer than twelve bytes",
+    Code.FILTERS_VERSION: "the version of the hash of the filters is neither 1 nor 2",
+    Code.FILTERS_HASHES: "the number of hashes is 0, or more than 65,535",
+    Code.FILTERS_NO_BITS: "the number of bits per entry is 0",
+    Code.FILTERS_FALLS: "a commit's filter ends before it begins",
+    Code.FILTERS_PAST_END: "a commit's filter ends past the end of `BDAT`",
+    Code.FILTERS_LEFT_OVER: "there are bytes after the last filter",
+    Code.FILTERS_SETTINGS: "the version or number of hashes is not that of the lowest layer with filters",
+}
+"""What happened, for each number."""
+
+
+class Error(Exception):
+    """Why a graph was not opened, or a question has no answer; with the layer or the position that it is about."""
+
+    def __init__(self, code: int, layer: int = 0, position: int = 0, path: str = "") -> None:
+        self.code, self.layer, self.position, self.path = Code(code), layer, position, path
+        super().__init__((path + ": " if path else "") + SENTENCES[self.code])
+
+
+class _Graph(ctypes.Structure):
+    _fields_ = (("address", c_void_p), ("opened", c_bool))
+
+
+class _File(ctypes.Structure):
+    _fields_ = (("bytes", c_void_p), ("len", c_size_t), ("path", c_void_p), ("path_len", c_size_t))
+
+
+class _Error(ctypes.Structure):
+    _fields_ = (("code", c_uint32), ("layer", c_uint64))
+
+
+class _Verdict(ctypes.Structure):
+    _fields_ = (
+        *((name, c_uint32) for name in ("code", "num_commits", "longest", "has_longest", "position", "other", "called")),
+        *((name, c_uint64) for name in ("layer", "index", "kinds")),
+    )
+
+
+class _Commit(ctypes.Structure):
+    _fields_ = (("time", c_uint64), ("generation", c_uint32))
+
+
+class _ParentCount(ctypes.Structure):
+    _fields_ = (("code", c_uint32), ("count", c_uint64))
+
+
+class _Leads(ctypes.Structure):
+    _fields_ = (("code", c_uint32), ("found", c_bool))
+
+
+class _Bases(ctypes.Structure):
+    _fields_ = (("code", c_uint32), ("ahead", c_uint32), ("behind", c_uint32), ("visits", c_uint64), ("length", c_uint64))
+
+
+class _Line(ctypes.Structure):
+    _fields_ = (("found", c_bool), ("end", c_size_t), ("next", c_size_t))
+
+
+CALLS = {
+    "cg_version": (c_uint32, ()),
+    "cg_open_checked": (_Error, (POINTER(_File), c_size_t, c_bool, POINTER(_Verdict), c_void_p, c_size_t, POINTER(_Graph))),
+    "cg_close": (None, (_Graph,)),
+    "cg_num_commits": (c_uint32, (_Graph,)),
+    "cg_id_len": (c_size_t, (_Graph,)),
+    "cg_lookup": (c_uint32, (_Graph, c_void_p, c_size_t)),
+    "cg_id_at": (c_size_t, (_Graph, c_uint32, c_void_p, c_size_t)),
+    "cg_tree_at": (c_size_t, (_Graph, c_uint32, c_void_p, c_size_t)),
+    "cg_commit_at": (c_bool, (_Graph, c_uint32, POINTER(_Commit))),
+    "cg_parents": (_ParentCount, (_Graph, c_uint32, c_void_p, c_size_t)),
+    "cg_is_ancestor": (_Leads, (_Graph, c_uint32, c_uint32)),
+    "cg_merge_bases": (_Bases, (_Graph, c_uint32, c_void_p, c_size_t, c_void_p, c_size_t)),
+    "cg_chain_line": (_Line, (c_void_p, c_size_t, c_size_t)),
+}
+"""What each call that is used here answers and takes."""
+
+
+def _load() -> ctypes.CDLL:
+    named = os.environ.get("COMMITGRAPH_LIB")
+    built = pathlib.Path(__file__).resolve().parents[2] / "crates/commitgraph_c/out/libcommitgraph.so"
+    path = os.path.join(named, "libcommitgraph.so") if named else str(built) if built.exists() else "libcommitgraph.so.0"
+    library = ctypes.CDLL(path)
+    for name, (answer, taken) in CALLS.items():
+        call = getattr(library, name)
+        call.restype, call.argtypes = answer, taken
+    if library.cg_version() != VERSION:
+        raise ImportError("%s is of version %d, and not %d" % (path, library.cg_version(), VERSION))
+    return library
+
+
+_library = _load()
+
+
+class Record(NamedTuple):
+    """What the record of a commit says, but for its ids and its parents."""
+
+    time: int
+    """Seconds since 1970-01-01 00:00:00 UTC."""
+    generation: int
+
+
+class Comparison(NamedTuple):
+    """What a commit and some others have in common, and how far they have come apart."""
+
+    bases: list[int]
+    """The positions of the merge bases, the least first."""
+    ahead: int
+    """How many commits the first leads to, and none of the others does."""
+    behind: int
+    """How many commits some of the others leads to, and the first does not."""
+
+
+class Graph:
+    """A commit-graph that its check has found right. Positions count from 0 over all layers."""
+
+    def __init__(self, layers: Sequence[tuple[bytes, str]], distinct_ids: bool = False) -> None:
+        """The graph of layers, each given by its bytes and the path of its file, the lowest first; with `distinct_ids` only
+        where no id stands in two layers."""
+        self._graph = _Graph(None, False)
+        kept = [(data, path.encode("utf-8", "replace")) for data, path in layers]
+        files = (_File * len(kept))(*(_File(_at(data), len(data), _at(path), len(path)) for data, path in kept))
+        verdict, counts = _Verdict(), (c_uint32 * 2)()
+        error = _library.cg_open_checked(files, len(kept), distinct_ids, verdict, counts, 0, self._graph)
+        if error.code:
+            layer = verdict.layer
+            named = layers[layer][1] if error.code < Code.GRAPH_NO_FILES and layer < len(layers) else ""
+            raise Error(error.code, layer, verdict.position, named)
+
+    def close(self) -> None:
+        """Frees the graph, which answers nothing after that."""
+        graph, self._graph = self._graph, _Graph(None, False)
+        _library.cg_close(graph)
+
+    def __enter__(self) -> "Graph":
+        return self
+
+    def __exit__(self, *_: object) -> None:
+        self.close()
+
+    def __del__(self) -> None:
+        self.close()
+
+    def __len__(self) -> int:
+        return int(_library.cg_num_commits(self._graph))
+
+    def lookup(self, commit: bytes | str) -> int | None:
+        """The position of the commit with an id, which is given as bytes or in hexadecimal."""
+        name = bytes.fromhex(commit) if isinstance(commit, str) else commit
+        position = _library.cg_lookup(self._graph, _at(name), len(name))
+        return None if position == 0xFFFFFFFF else int(position)
+
+    def id(self, position: int) -> bytes:
+        """The id of the commit at a position."""
+        return self._written(_library.cg_id_at, position)
+
+    def tree(self, position: int) -> bytes:
+        """The id of its root tree."""
+        return self._written(_library.cg_tree_at, position)
+
+    def record(self, position: int) -> Record:
+        """What its record says."""
+        commit = _Commit()
+        if not _library.cg_commit_at(self._graph, position, commit):
+            raise Error(Code.NO_SUCH_POSITION, position=position)
+        return Record(commit.time, commit.generation)
+
+    def parents(self, position: int) -> list[int]:
+        """The positions of its parents, the first parent first."""
+        room = 2
+        while True:
+            out = (c_uint32 * room)()
+            told = _library.cg_parents(self._graph, position, out, room)
+            if told.code:
+                raise Error(told.code, position=position)
+            if told.count <= room:
+                return out[: told.count]
+            room = told.count
+
+    def is_ancestor(self, ancestor: int, descendant: int) -> bool:
+        """Whether a commit is an ancestor of another, in the order of `git merge-base --is-ancestor`."""
+        told = _library.cg_is_ancestor(self._graph, ancestor, descendant)
+        if told.code:
+            raise Error(told.code)
+        return bool(told.found)
+
+    def compare(self, first: int, others: Sequence[int]) -> Comparison:
+        """The merge bases that `git merge-base --all FIRST OTHERS..` names, and how far the commits have come apart."""
+        asked, room = (c_uint32 * (len(others) + 1))(*others), 64
+        while True:
+            out = (c_uint32 * room)()
+            told = _library.cg_merge_bases(self._graph, first, asked, len(others), out, room)
+            if told.code:
+                raise Error(told.code)
+            if told.length <= room:
+                return Comparison(out[: told.length], told.ahead, told.behind)
+            room = told.length
+
+    def _written(self, call: "ctypes._FuncPointer", position: int) -> bytes:
+        size = _library.cg_id_len(self._graph)
+        out = (c_uint8 * (size + 1))()
+        if call(self._graph, position, out, size) == 0:
+            raise Error(Code.NO_SUCH_POSITION, position=position)
+        return bytes(out[:size])
+
+
+def _at(data: bytes) -> int:
+    """The address of bytes, which is not null, also where there are none."""
+    return ctypes.cast(ctypes.c_char_p(data), c_void_p).value or 1
+
+
+def chain_lines(text: bytes) -> Iterator[bytes]:
+    """The lines of a chain file, commit-graph-chain, each of which names a layer."""
+    start = 0
+    while (line := _library.cg_chain_line(_at(text), len(text), start)).found:
+        yield text[start : line.end]
+        start = line.next
+
+
+def open(path: str | os.PathLike[str], distinct_ids: bool = False) -> Graph:
+    """Opens the graph at a path, of a file, of a folder with a chain or of an info folder, and checks it.
+
+    OSError is raised where a file cannot be read, and Error where the graph is refused."""
+    at = pathlib.Path(path)
+    if at.is_file():
+        return Graph([(at.read_bytes(), str(at))], distinct_ids)
+    if (at / "commit-graph-chain").is_file():
+        return _open_chain(at, distinct_ids)
+    file, chain = at / "commit-graph", at / "commit-graphs"
+    if not file.is_file():
+        return _open_chain(chain, distinct_ids)
+    try:
+        return open(file, distinct_ids)
+    except Error as error:
+        settled = error.code >= Code.CHECK_TOO_MANY_FILES or error.code == Code.OUT_OF_MEMORY
+        if settled or not (chain / "commit-graph-chain").is_file():
+            raise
+    return _open_chain(chain, distinct_ids)
+
+
+def _open_chain(folder: pathlib.Path, distinct_ids: bool) -> Graph:
+    names = [line.decode() for line in chain_lines((folder / "commit-graph-chain").read_bytes())]
+    paths = [folder / f"graph-{name}.graph" for name in names]
+    return Graph([(path.read_bytes(), str(path)) for path in paths], distinct_ids)

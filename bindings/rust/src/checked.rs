@@ -1,0 +1,184 @@
+//! Graphs that a check has found right, and what they alone answer.
+
+use crate::open::{open_at, open_chain, open_file, open_info};
+use crate::room::{collected, positions_of, room_for};
+use crate::verify::{outcome_of, ROOM};
+use crate::{codes, sys, Graph, OpenError, Outcome, PairError, Position, QueryError, VerifyOptions};
+use std::path::Path;
+
+/// A graph that its check has found right.
+#[derive(Debug)]
+pub struct Checked {
+    graph: Graph,
+    options: VerifyOptions,
+    outcome: Outcome,
+}
+
+impl Checked {
+    /// Opens the graph at a path, as [`Graph::at`] does, and checks it.
+    pub fn at(path: impl AsRef<Path>) -> Result<Checked, OpenError> {
+        Checked::at_with(path, VerifyOptions::default())
+    }
+
+    /// Opens the graph at a path, as [`Graph::at`] does, and checks it for what the options ask.
+    pub fn at_with(path: impl AsRef<Path>, options: VerifyOptions) -> Result<Checked, OpenError> {
+        open_at(path.as_ref(), |layers| Checked::of_bytes_with(layers, options))
+    }
+
+    /// Opens the graph of one file, and checks it for what the options ask.
+    pub fn from_file(path: impl AsRef<Path>, options: VerifyOptions) -> Result<Checked, OpenError> {
+        open_file(path.as_ref(), |layers| Checked::of_bytes_with(layers, options))
+    }
+
+    /// Opens the graph of an info folder, as [`Graph::from_info_dir`] does, and checks it for what the options ask. Where the
+    /// file opens and the check refuses it, the chain is not tried.
+    pub fn from_info_dir(path: impl AsRef<Path>, options: VerifyOptions) -> Result<Checked, OpenError> {
+        open_info(path.as_ref(), |layers| Checked::of_bytes_with(layers, options))
+    }
+
+    /// Opens the graph of a folder with a file `commit-graph-chain`, and checks it for what the options ask.
+    pub fn from_commit_graphs_dir(path: impl AsRef<Path>, options: VerifyOptions) -> Result<Checked, OpenError> {
+        open_chain(path.as_ref(), |layers| Checked::of_bytes_with(layers, options))
+    }
+
+    /// The right graph of layers whose bytes are at hand, each with the path of its file, the lowest first. They are copied.
+    pub fn of_bytes(layers: &[(&[u8], &str)]) -> Result<Checked, OpenError> {
+        Checked::of_bytes_with(layers, VerifyOptions::default())
+    }
+
+    /// The right graph of layers whose bytes are at hand, as by [`Checked::of_bytes`], which keeps what the options ask.
+    pub fn of_bytes_with(layers: &[(&[u8], &str)], options: VerifyOptions) -> Result<Checked, OpenError> {
+        let mut counts = [sys::Count::default(); ROOM];
+        let (graph, verdict) = Graph::opened(layers, |files, raw, verdict| {
+            let distinct = options.distinct_ids;
+            // SAFETY: as in `Graph::of_bytes`; the other pointers are those of a value, and of an array with its length.
+            unsafe {
+                sys::cg_open_checked(files.as_ptr(), files.len(), distinct, verdict, counts.as_mut_ptr(), ROOM, raw)
+            }
+        })?;
+        let outcome = match counts.get(..verdict.kinds as usize) {
+            Some(counts) => outcome_of(&verdict, counts),
+            None => graph.outcome(options).map_err(|_| OpenError::OutOfMemory)?,
+        };
+        Ok(Checked { graph, options, outcome })
+    }
+
+    /// The graph.
+    #[inline]
+    pub fn graph(&self) -> &Graph {
+        &self.graph
+    }
+
+    /// The graph alone.
+    pub fn into_graph(self) -> Graph {
+        self.graph
+    }
+
+    /// What the check was asked for.
+    pub fn options(&self) -> VerifyOptions {
+        self.options
+    }
+
+    /// The graph's statistics.
+    pub fn outcome(&self) -> &Outcome {
+        &self.outcome
+    }
+
+    /// Looks for a shortest walk along parents from one commit to another, both included.
+    pub fn ancestor_walk(&self, from: Position, to: Position) -> Result<Reached, QueryError> {
+        let mut visits = 0;
+        let walk = positions_of(self.longest_walk(from, to), |out| {
+            // SAFETY: `raw` is open, the pointer and the length are those of a slice, and a position is one number.
+            let reached =
+                unsafe { sys::cg_ancestor_walk(self.graph.raw, from.0, to.0, out.as_mut_ptr().cast(), out.len()) };
+            refusal_of(reached.code)?;
+            visits = reached.visits;
+            Ok::<_, QueryError>(reached.length)
+        })?;
+        Ok(Reached { walk: (!walk.is_empty()).then_some(walk), visits })
+    }
+
+    /// Room for a walk from one commit to another, which has no more commits where their generation numbers are below the
+    /// greatest, since these fall along walks. Where there is more, the walk is sought twice.
+    fn longest_walk(&self, from: Position, to: Position) -> usize {
+        let commits = self.graph.num_commits();
+        let number = |pos: Position| if pos.0 < commits { self.graph.commit_at(pos).generation() } else { 0 };
+        (number(from).saturating_sub(number(to)) as usize + 1).clamp(64, 64.max(commits as usize))
+    }
+
+    /// Whether a commit is an ancestor of another, which then leads to it along parents. A commit is its own ancestor. The order
+    /// is that of `git merge-base --is-ancestor`.
+    #[inline]
+    pub fn is_ancestor(&self, ancestor: Position, descendant: Position) -> Result<bool, QueryError> {
+        // SAFETY: `raw` is open.
+        let leads = unsafe { sys::cg_is_ancestor(self.graph.raw, ancestor.0, descendant.0) };
+        refusal_of(leads.code)?;
+        Ok(leads.found)
+    }
+
+    /// Whether the first commit of each pair is an ancestor of the second, as [`Checked::is_ancestor`] answers for one pair. The
+    /// memory of the search is filled once for all pairs.
+    pub fn are_ancestors(&self, pairs: &[(Position, Position)]) -> Result<Vec<bool>, PairError> {
+        let no_memory = |_| PairError { index: 0, error: QueryError::OutOfMemory };
+        let pair = |&(ancestor, descendant): &(Position, Position)| sys::Pair { ancestor: ancestor.0, descendant: descendant.0 };
+        let asked = collected(pairs.iter().map(pair)).map_err(no_memory)?;
+        let mut out = room_for(0, asked.len()).map_err(no_memory)?;
+        // SAFETY: `raw` is open, and each pointer and length are those of a slice.
+        let told =
+            unsafe { sys::cg_are_ancestors(self.graph.raw, asked.as_ptr(), asked.len(), out.as_mut_ptr(), out.len()) };
+        refusal_of(told.code).map_err(|error| PairError { index: told.answered as usize, error })?;
+        collected(out.into_iter().map(|answer| answer == 1)).map_err(no_memory)
+    }
+
+    /// The merge bases of a commit and some others, which `git merge-base --all FIRST OTHERS..` names, the least position
+    /// first; and how far the commits have come apart.
+    pub fn compare(&self, first: Position, others: &[Position]) -> Result<Comparison, QueryError> {
+        let (mut ahead, mut behind) = (0, 0);
+        let bases = positions_of(64, |out| {
+            let (places, count, room) = (others.as_ptr().cast(), others.len(), out.as_mut_ptr().cast());
+            // SAFETY: `raw` is open, each pointer and length are those of a slice, and a position is one number.
+            let bases = unsafe { sys::cg_merge_bases(self.graph.raw, first.0, places, count, room, out.len()) };
+            refusal_of(bases.code)?;
+            (ahead, behind) = (bases.ahead, bases.behind);
+            Ok::<_, QueryError>(bases.length)
+        })?;
+        Ok(Comparison { bases, ahead, behind })
+    }
+}
+
+impl AsRef<Graph> for Checked {
+    fn as_ref(&self) -> &Graph {
+        &self.graph
+    }
+}
+
+/// What a search for a walk found.
+#[derive(Clone, Debug, PartialEq, Eq)]
+#[non_exhaustive]
+pub struct Reached {
+    /// The positions of the walk, or `None` where there is none.
+    pub walk: Option<Vec<Position>>,
+    /// How many commits were visited.
+    pub visits: u32,
+}
+
+/// What a commit and some others have in common, and how far they have come apart.
+#[derive(Clone, Debug, PartialEq, Eq)]
+#[non_exhaustive]
+pub struct Comparison {
+    /// The merge bases, the least position first.
+    pub bases: Vec<Position>,
+    /// How many commits the first leads to, and none of the others does.
+    pub ahead: u32,
+    /// How many commits some of the others leads to, and the first does not.
+    pub behind: u32,
+}
+
+/// The error that the code of a query stands for.
+fn refusal_of(code: u32) -> Result<(), QueryError> {
+    match code {
+        codes::OK => Ok(()),
+        codes::NO_SUCH_POSITION => Err(QueryError::NoSuchPosition),
+        _ => Err(QueryError::OutOfMemory),
+    }
+}

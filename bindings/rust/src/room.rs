@@ -1,0 +1,36 @@
+//! Room that calls write to.
+
+use crate::Position;
+use std::collections::TryReserveError;
+
+/// So many of an item, if there is memory for them.
+pub(crate) fn room_for<T: Clone>(item: T, len: usize) -> Result<Vec<T>, TryReserveError> {
+    let mut room = Vec::new();
+    room.try_reserve_exact(len)?;
+    room.resize(len, item);
+    Ok(room)
+}
+
+/// The items of an iterator that knows how many they are, if there is memory for them.
+pub(crate) fn collected<T>(items: impl ExactSizeIterator<Item = T>) -> Result<Vec<T>, TryReserveError> {
+    let mut room = Vec::new();
+    room.try_reserve_exact(items.len())?;
+    room.extend(items);
+    Ok(room)
+}
+
+/// The positions that a call writes, which answers how many there are: it is made again where there was too little room.
+pub(crate) fn positions_of<E: From<TryReserveError>>(
+    room: usize,
+    mut write: impl FnMut(&mut [Position]) -> Result<u64, E>,
+) -> Result<Vec<Position>, E> {
+    let mut out = room_for(Position(0), room)?;
+    loop {
+        let length = write(&mut out)? as usize;
+        if length <= out.len() {
+            out.truncate(length);
+            return Ok(out);
+        }
+        out = room_for(Position(0), length)?;
+    }
+}

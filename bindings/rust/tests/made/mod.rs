@@ -1,0 +1,112 @@
+//! Commit-graphs that Git writes for the tests, in a folder of the build.
+#![allow(dead_code)]
+
+use std::fs;
+use std::io::Write;
+use std::path::{Path, PathBuf};
+use std::process::{Command, Stdio};
+use std::sync::OnceLock;
+
+/// The commit-graphs of one build.
+pub struct Made {
+    /// The file of an info folder.
+    pub file: PathBuf,
+    /// The same with another generation number of the merge, which stands above position 0.
+    pub faulty: PathBuf,
+    /// A folder with a chain of four layers.
+    pub chain: PathBuf,
+}
+
+/// The commit-graphs, made once.
+pub fn made() -> &'static Made {
+    static MADE: OnceLock<Made> = OnceLock::new();
+    MADE.get_or_init(|| {
+        let name = std::env::current_exe().unwrap().file_stem().unwrap().to_owned();
+        let folder = Path::new(env!("CARGO_TARGET_TMPDIR")).join(name);
+        let _ = fs::remove_dir_all(&folder);
+        let file = in_one_file(&folder.join("file"));
+        let faulty = folder.join("faulty");
+        fs::write(&faulty, with_another_generation(&fs::read(&file).unwrap())).unwrap();
+        Made { file, faulty, chain: in_layers(&folder.join("chain")) }
+    })
+}
+
+/// What Git answers in a repository.
+fn git(at: &Path, words: &[&str]) -> String {
+    let mut command = Command::new("git");
+    command.arg("-C").arg(at).args(words).env("GIT_CONFIG_GLOBAL", "/dev/null").env("GIT_CONFIG_NOSYSTEM", "1");
+    for who in ["AUTHOR", "COMMITTER"] {
+        command.env(format!("GIT_{who}_NAME"), "a").env(format!("GIT_{who}_EMAIL"), "a@b");
+        command.env(format!("GIT_{who}_DATE"), "1000000000 +0000");
+    }
+    let done = command.output().expect("the tests need git");
+    assert!(done.status.success(), "{words:?}: {}", String::from_utf8_lossy(&done.stderr));
+    String::from_utf8(done.stdout).unwrap().trim().to_owned()
+}
+
+/// A new commit with these parents, at which the branch is then.
+fn commit(at: &Path, message: &str, parents: &[String]) -> String {
+    let tree = git(at, &["write-tree"]);
+    let mut words = vec!["commit-tree", &tree, "-m", message];
+    for parent in parents {
+        words.extend(["-p", parent]);
+    }
+    let id = git(at, &words);
+    git(at, &["update-ref", "refs/heads/main", &id]);
+    id
+}
+
+fn repository(at: &Path) {
+    fs::create_dir_all(at).unwrap();
+    git(at, &["init", "-q"]);
+}
+
+/// Seven commits, and a merge of three of them.
+fn in_one_file(at: &Path) -> PathBuf {
+    repository(at);
+    let mut ids: Vec<String> = Vec::new();
+    for number in 0..7usize {
+        let parents: Vec<_> = ids.get(number.wrapping_sub(1) / 2).into_iter().cloned().collect();
+        ids.push(commit(at, &number.to_string(), &parents));
+    }
+    commit(at, "a merge of three", &ids[4..]);
+    git(at, &["commit-graph", "write", "--reachable"]);
+    at.join(".git/objects/info/commit-graph")
+}
+
+/// Four layers of two commits each; the second of each has both before it as parents.
+fn in_layers(at: &Path) -> PathBuf {
+    repository(at);
+    let mut last: Vec<String> = Vec::new();
+    for layer in 0..4 {
+        last = vec![commit(at, &format!("first of {layer}"), &last)];
+        let second = commit(at, &format!("second of {layer}"), &last);
+        last.push(second);
+        git(at, &["commit-graph", "write", "--reachable", "--split=no-merge"]);
+        last.reverse();
+    }
+    at.join(".git/objects/info/commit-graphs")
+}
+
+/// A file with another generation number of the first merge, and the checksum of its bytes.
+fn with_another_generation(file: &[u8]) -> Vec<u8> {
+    let mut bytes = file[..file.len() - 20].to_vec();
+    let entry = (0..bytes[6] as usize).map(|number| &file[8 + 12 * number..][..12]).find(|entry| entry.starts_with(b"CDAT"));
+    let records = u64::from_be_bytes(entry.unwrap()[4..].try_into().unwrap()) as usize;
+    let second_parent = |record: &[u8]| u32::from_be_bytes(record[24..28].try_into().unwrap());
+    let merge = file[records..].chunks(36).position(|record| second_parent(record) != 0x7000_0000).unwrap();
+    assert!(merge > 0, "the merge stands above position 0");
+    bytes[records + 36 * merge + 31] ^= 0x40;
+    let checksum = checksum_of(&bytes);
+    bytes.extend(checksum);
+    bytes
+}
+
+/// The digest of bytes, by a tool.
+fn checksum_of(bytes: &[u8]) -> Vec<u8> {
+    let mut tool = Command::new("sha1sum").stdin(Stdio::piped()).stdout(Stdio::piped()).spawn().expect("the tests need sha1sum");
+    tool.stdin.take().unwrap().write_all(bytes).unwrap();
+    let told = tool.wait_with_output().unwrap().stdout;
+    let digits = std::str::from_utf8(&told[..40]).unwrap();
+    (0..20).map(|at| u8::from_str_radix(&digits[2 * at..][..2], 16).unwrap()).collect()
+}

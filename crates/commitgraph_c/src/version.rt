@@ -1,0 +1,11 @@
+//! The version of the library.
+
+ghost use Rattle.std.specs.Prelude.{◌≡◌};
+
+/// The version, as `CG_VERSION` of its header has it.
+#[unsafe(no_mangle)]
+pub extern "C" fn cg_version() -> u32
+    ensures { result ≡ 100 }
+{
+    100
+}

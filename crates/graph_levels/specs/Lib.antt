@@ -1,0 +1,5 @@
+pub mod ListEnds
+pub mod ParentLists
+pub mod SearchStates
+pub mod OnTop
+pub mod Searching

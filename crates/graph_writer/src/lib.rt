@@ -1,0 +1,14 @@
+//! What a new layer of a commit-graph is to say, from the commits that it is to have: alone, or on
+//! top of a graph.
+#![tactic(auto)]
+
+mod below;
+mod check;
+mod commit;
+mod new_layer;
+mod numbers;
+mod order;
+mod resolve;
+
+pub use commit::{NewCommit, WriteError};
+pub use new_layer::NewLayer;

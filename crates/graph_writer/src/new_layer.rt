@@ -1,0 +1,136 @@
+//! What a new layer is to say of its commits.
+
+ghost use Rattle.std.specs.Prelude.{◌≡◌, ◌<◌, ◌+◌, ◌≤◌, ℕ, IfOk, IfErr, Some, None, length, map};
+ghost use Rattle.std.specs.Prelude.{slice_get};
+ghost use Rattle.gix_chunk_core.specs.FirstFault.{first_below};
+ghost use Rattle.gix_commitgraph.specs.Graph.{graph_ids, total};
+ghost use Rattle.graph_format.specs.Reports.{Reports};
+ghost use Rattle.graph_format.specs.declared.TheConstants as limits;
+ghost use Rattle.graph_levels.specs.ParentLists.{commit_count, parent_list};
+ghost use Rattle.graph_writer.specs.NewCommits.{layers_of_below};
+ghost use Rattle.graph_writer.specs.WriteRefusal.{kind_to_write, below_at, new_layer_refusal};
+ghost use Rattle.graph_writer.specs.WriteRefusal.{MayRefuseNewLayer};
+ghost use Rattle.graph_writer.specs.declared.order.Place.{Place};
+
+use crate::below::check_new;
+use crate::check::check_each;
+use crate::commit::{NewCommit, WriteError};
+use crate::numbers::numbers_of;
+use crate::order::{Place, places_of, ranks_of};
+use crate::resolve::Known;
+use gix_commitgraph::MAX_COMMITS;
+use gix_hash_core::Kind;
+use graph_history::Checked;
+use graph_levels::ParentLists;
+use std::alloc::{AllocError, Global};
+
+/// What a new layer is to say of its commits: their order, and the positions of their parents.
+#[derive(Debug, Drop)]
+pub struct NewLayer {
+    /// The numbers of the commits among those handed in, in the order of their ids.
+    pub order: Vec<usize>,
+    /// The positions of the parents of each, in that order. They count the commits below first.
+    pub parents: ParentLists,
+}
+
+impl NewLayer {
+    ghost use Rattle.graph_writer.specs.NewLayers.{IsNewLayer};
+
+    /// The layer of these commits on top of a graph, or on none.
+    ///
+    /// # Errors
+    ///
+    /// The first of [`WriteError`] that holds, in their order; `OutOfMemory` where an allocation
+    /// failed.
+    pub fn of(
+        alloc: Global,
+        below: Option<&Checked<'_>>,
+        commits: &[NewCommit],
+    ) -> Result<NewLayer, WriteError>
+        ensures layer { IfOk result (IsNewLayer (layers_of_below below.entry) commits.now) }
+        ensures accepted { IfOk result (λ _.
+            new_layer_refusal (layers_of_below below.entry) commits.now ≡ None) }
+        ensures refusal { IfErr result
+            (MayRefuseNewLayer (layers_of_below below.entry) commits.now) }
+    {
+        check_each(kind_to_write(below, commits), commits)?;
+        let numbers = numbers_of(alloc, commits)?;
+        check_all_new(below, commits)?;
+        let start = number_below(below);
+        if commits.len() > MAX_COMMITS as usize - start as usize {
+            return Err(WriteError::TooManyCommits);
+        }
+        let places = places_of(alloc, commits)?;
+        let ranks = ranks_of(alloc, &places)?;
+        let known = Known {
+            below,
+            start,
+            commits,
+            numbers: &numbers,
+            ranks: &ranks,
+        };
+        let parents = known.resolve(alloc)?;
+        if commits.is_empty() {
+            return Err(WriteError::Nothing);
+        }
+        Ok(in_order(alloc, &places, &parents)?)
+    }
+}
+
+/// The kind of hash of the layer.
+fn kind_to_write(below: Option<&Checked<'_>>, commits: &[NewCommit]) -> Kind
+    ensures { result ≡ kind_to_write (layers_of_below below.entry) commits.now }
+{
+    match below {
+        Some(graph) => graph.graph().object_hash(),
+        None => match commits.first() {
+            Some(first) => first.id.as_oid().kind(),
+            None => Kind::shortest(),
+        },
+    }
+}
+
+/// Refuses the first commit whose id the graph below has, if there is a graph.
+#[tactic(auto, using(crate::proofs::RefusalSteps::none_below))]
+fn check_all_new(below: Option<&Checked<'_>>, commits: &[NewCommit]) -> Result<(), WriteError>
+    ensures { Reports result
+        (first_below (below_at (graph_ids (layers_of_below below.entry)) commits.now)
+        (length commits.now)) }
+{
+    match below {
+        Some(graph) => check_new(graph, commits),
+        None => Ok(()),
+    }
+}
+
+/// The number of commits below.
+fn number_below(below: Option<&Checked<'_>>) -> u32
+    ensures commits { result ≡ total (layers_of_below below.entry) }
+    ensures few { result ≤ limits.MAX_COMMITS }
+{
+    match below {
+        Some(graph) => graph.num_commits(),
+        None => 0,
+    }
+}
+
+/// The layer with commits at these places, whose parents are listed in the order in which they
+/// came.
+fn in_order(alloc: Global, places: &[Place], lists: &ParentLists) -> Result<NewLayer, AllocError>
+    requires { (p : ℕ) (place : Place) → slice_get places.now p ≡ Some place
+        → place.commit < commit_count lists.now }
+    ensures listed { IfOk result (λ new. commit_count new.parents ≡ length places.now) }
+    ensures order { IfOk result (λ new.
+        new.order.items ≡ map (λ place. place.commit) places.now) }
+    ensures parents { IfOk result (λ new. (p : ℕ) (place : Place)
+        → slice_get places.now p ≡ Some place
+        → parent_list new.parents p ≡ parent_list lists.now place.commit) }
+{
+    let mut order = Vec::with_capacity(alloc, places.len())?;
+    let mut parents = ParentLists::new(alloc);
+    for place in places {
+        order.push(place.commit)?;
+        parents.push(lists.of(place.commit))?;
+    }
+    Ok(NewLayer { order, parents })
+}

@@ -1,0 +1,130 @@
+-- Which names ask for commands, by the number of words after them.
+use Rattle.std.proofs.Common.{◌≡◌, ◌⊎◌, ℕ, ◌-◌, ◌<◌, ◌≤◌, List, [], ◌∷◌, length, map, get_or, take, drop}
+use Rattle.std.proofs.Common.{inl, inr, refl, sym, ap, subst, string_bytes, ◌∙◌, arith}
+use Rattle.std.proofs.lemmas.List.{length-map, take_all}
+use Rattle.std.specs.Prelude.{String, Option, Some, None, IfSome, codes}
+use Rattle.std.specs.Global.{Global}
+use Rattle.object_commands.specs.AskedRange.{SpellsRange}
+use Rattle.object_commands.specs.declared.range.PositionRange.{PositionRange}
+use Rattle.history_program.specs.HistorytoolWords.{AskAfterName, AskHistorytool}
+use Rattle.history_program.specs.declared.command.Command.{Command}
+use Rattle.history_program.specs.declared.command.Command.TheVariants as command
+
+-- a name that asks alone
+pub named_alone : (help version name : List ℕ) (asked : Command) → AskAfterName help version (name ∷ []) asked
+    → (name ≡ codes "--help") ⊎ (name ≡ codes "-h") ⊎ (name ≡ codes "--version")
+named_alone help version name (command.Help text) is = elim is.0 [ inl e ↦ inl cc | inr e ↦ inr (inl cc) ]
+named_alone help version name (command.Version text) is = let e = is.0 in inr (inr cc)
+named_alone help version name (command.IsAncestor path first second) is = let e = is in cc
+named_alone help version name (command.Walk path first second) is = let e = is in cc
+named_alone help version name (command.MergeBase path first others) is = let e = is.0 in cc
+named_alone help version name (command.MergeBaseIds path first others) is = let e = is.0 in cc
+named_alone help version name (command.Check path) is = let e = is in cc
+named_alone help version name (command.Show path) is = let e = is in cc
+named_alone help version name (command.Ids path None) is = let e = is in cc
+named_alone help version name (command.Ids path (Some range)) is = let e = is.2 in cc
+named_alone help version name (command.Objects path None) is = let e = is in cc
+named_alone help version name (command.Objects path (Some range)) is = let e = is.2 in cc
+
+-- a name that asks with a path
+pub named_with_path : (help version name path : List ℕ) (asked : Command) → AskAfterName help version (name ∷ path ∷ []) asked
+    → (name ≡ codes "check") ⊎ (name ≡ codes "show") ⊎ (name ≡ codes "ids") ⊎ (name ≡ codes "objects")
+named_with_path help version name path (command.Help text) is = elim is.0 [ inl e ↦ cc | inr e ↦ cc ]
+named_with_path help version name path (command.Version text) is = let e = is.0 in cc
+named_with_path help version name path (command.IsAncestor at first second) is = let e = is in cc
+named_with_path help version name path (command.Walk at first second) is = let e = is in cc
+named_with_path help version name path (command.MergeBase at first others) is = let e = is.0 in cc
+named_with_path help version name path (command.MergeBaseIds at first others) is = let e = is.0 in cc
+named_with_path help version name path (command.Check at) is = let e = is in inl cc
+named_with_path help version name path (command.Show at) is = let e = is in inr (inl cc)
+named_with_path help version name path (command.Ids at None) is = let e = is in inr (inr (inl cc))
+named_with_path help version name path (command.Ids at (Some range)) is = let e = is.2 in cc
+named_with_path help version name path (command.Objects at None) is = let e = is in inr (inr (inr cc))
+named_with_path help version name path (command.Objects at (Some range)) is = let e = is.2 in cc
+
+some_of : {A : Type 0} (xs : List A) → (xs ≡ [] → ⊥) → 1 ≤ length xs
+some_of [] some = absurd (some refl)
+some_of (x ∷ xs) some = omega arith
+
+just_one : (others : List (String Global)) (other : List ℕ) → map string_bytes others ≡ other ∷ [] → length others ≡ 1
+just_one others other are = sym (length-map others string_bytes) ∙ ap length are
+
+as_many : (others more : List (String Global)) → map string_bytes others ≡ map string_bytes more → (more ≡ [] → ⊥)
+    → 1 ≤ length others
+as_many others more same some =
+    let least = some_of more some in
+    let equal : length (map string_bytes others) ≡ length (map string_bytes more) = ap length same in
+    omega (arith, length-map others string_bytes, length-map more string_bytes)
+
+-- a name that asks with a path and ids, and how many ids there are after the first
+pub named_with_ids : (help version name path first : List ℕ) (others : List (String Global)) (asked : Command)
+    → AskAfterName help version (name ∷ path ∷ first ∷ map string_bytes others) asked
+    → (((name ≡ codes "is-ancestor") ⊎ (name ≡ codes "walk")) × (length others ≡ 1))
+    ⊎ (((name ≡ codes "ids") ⊎ (name ≡ codes "objects")) × (length others ≡ 1)
+    × ((to : List ℕ) × (range : PositionRange) × (map string_bytes others ≡ to ∷ []) × SpellsRange first to range))
+    ⊎ (((name ≡ codes "merge-base") ⊎ (name ≡ codes "merge-base-ids")) × (1 ≤ length others))
+named_with_ids help version name path first others (command.Help text) is = elim is.0 [ inl e ↦ cc | inr e ↦ cc ]
+named_with_ids help version name path first others (command.Version text) is = let e = is.0 in cc
+named_with_ids help version name path first others (command.IsAncestor at one other) is =
+    let e = is in let rest : map string_bytes others ≡ other.now ∷ [] = cc in inl (inl cc, just_one others other.now rest)
+named_with_ids help version name path first others (command.Walk at one other) is =
+    let e = is in let rest : map string_bytes others ≡ other.now ∷ [] = cc in inl (inr cc, just_one others other.now rest)
+named_with_ids help version name path first others (command.MergeBase at one more) is =
+    let e = is.0 in let rest : map string_bytes others ≡ map string_bytes more.now = cc in
+    inr (inr (inl cc, as_many others more.now rest is.1))
+named_with_ids help version name path first others (command.MergeBaseIds at one more) is =
+    let e = is.0 in let rest : map string_bytes others ≡ map string_bytes more.now = cc in
+    inr (inr (inr cc, as_many others more.now rest is.1))
+named_with_ids help version name path first others (command.Check at) is = let e = is in cc
+named_with_ids help version name path first others (command.Show at) is = let e = is in cc
+named_with_ids help version name path first others (command.Ids at None) is = let e = is in cc
+named_with_ids help version name path first others (command.Ids at (Some range)) is =
+    let e = is.2 in let rest : map string_bytes others ≡ is.1 ∷ [] = cc in
+    let from : is.0 ≡ first = cc in
+    inr (inl (inl cc, just_one others is.1 rest, (is.1, range, rest, subst (λ (t : List ℕ). SpellsRange t is.1 range) from is.3)))
+named_with_ids help version name path first others (command.Objects at None) is = let e = is in cc
+named_with_ids help version name path first others (command.Objects at (Some range)) is =
+    let e = is.2 in let rest : map string_bytes others ≡ is.1 ∷ [] = cc in
+    let from : is.0 ≡ first = cc in
+    inr (inl (inr cc, just_one others is.1 rest, (is.1, range, rest, subst (λ (t : List ℕ). SpellsRange t is.1 range) from is.3)))
+
+-- no words after the program's name ask for nothing
+pub none_asked : (help version : List ℕ) (asked : Command) → AskAfterName help version [] asked → ⊥
+none_asked help version (command.Help text) is = elim is.0 [ inl e ↦ cc | inr e ↦ cc ]
+none_asked help version (command.Version text) is = let e = is.0 in cc
+none_asked help version (command.IsAncestor path first second) is = let e = is in cc
+none_asked help version (command.Walk path first second) is = let e = is in cc
+none_asked help version (command.MergeBase path first others) is = let e = is.0 in cc
+none_asked help version (command.MergeBaseIds path first others) is = let e = is.0 in cc
+none_asked help version (command.Check path) is = let e = is in cc
+none_asked help version (command.Show path) is = let e = is in cc
+none_asked help version (command.Ids path None) is = let e = is in cc
+none_asked help version (command.Ids path (Some range)) is = let e = is.2 in cc
+none_asked help version (command.Objects path None) is = let e = is in cc
+none_asked help version (command.Objects path (Some range)) is = let e = is.2 in cc
+
+-- four words and more, of which the last three are known
+pub four_words : (words : List (String Global)) (b c d : String Global)
+    → 4 ≤ length words → b ≡ get_or words 1 b → c ≡ get_or words 2 c → d ≡ get_or words 3 d
+    → map string_bytes words ≡ string_bytes (get_or words 0 b) ∷ string_bytes b ∷ string_bytes c ∷ string_bytes d
+    ∷ map string_bytes (take (length words - 4) (drop 4 words))
+four_words [] b c d least second third fourth = absurd (omega arith)
+four_words (w ∷ []) b c d least second third fourth = absurd (omega arith)
+four_words (w ∷ x ∷ []) b c d least second third fourth = absurd (omega arith)
+four_words (w ∷ x ∷ y ∷ []) b c d least second third fourth = absurd (omega arith)
+four_words (w ∷ x ∷ y ∷ z ∷ words) b c d least second third fourth =
+    let all = take_all (length (w ∷ x ∷ y ∷ z ∷ words) - 4) words (omega arith) in cc
+
+-- just one word
+pub one_word : (words : List (String Global)) (b : String Global) → 1 ≤ length words → length words < 2 → b ≡ get_or words 0 b
+    → map string_bytes words ≡ string_bytes b ∷ []
+one_word [] b least below first = absurd (omega arith)
+one_word (w ∷ []) b least below first = cc
+one_word (w ∷ x ∷ more) b least below first = absurd (omega arith)
+
+-- what the words after the program's name ask for is asked by all words
+pub asked_by_all : (help version name : List ℕ) (words others : List (List ℕ)) (result : Option Command)
+    → words ≡ name ∷ others → IfSome result (AskAfterName help version others)
+    → IfSome result (AskHistorytool help version words)
+asked_by_all help version name words others None are is = tt
+asked_by_all help version name words others (Some asked) are is = (name, others, are, is)

@@ -1,0 +1,51 @@
+-- what each command of `historytool` may write
+use Rattle.std.specs.Prelude.{◌≡◌, ℕ, List, ◌∷◌, Result, Option, map, string_bytes}
+use Rattle.std.specs.Io.KnownBytes.{Appends}
+use Rattle.graph_format.specs.Layer.{Layer}
+use Rattle.graph_layer.specs.declared.opening.error.OpenError.{OpenError}
+use Rattle.graph_commands.specs.Text.{◌⧺◌, newline}
+use Rattle.graph_commands.specs.WrittenAnswer.{WritesAnswer}
+use Rattle.show_commands.specs.Show.{MayShow, show_text, show_status}
+use Rattle.object_commands.specs.CommitIds.{MayListIds, ids_text, ids_status}
+use Rattle.object_commands.specs.ComparedObjects.{MayCompareObjects, objects_text, objects_status}
+use Rattle.history_program.specs.declared.command.Command.{Command}
+use Rattle.history_program.specs.declared.command.Command.TheVariants as command
+use Rattle.history_commands.specs.Check.{MayFindInAll, check_text, check_status}
+use Rattle.history_commands.specs.IsAncestor.{IsTold, is_ancestor_text, is_ancestor_status}
+use Rattle.history_commands.specs.MergeBases.{MayCompare, merge_base_text, merge_base_ids_text, merge_base_status}
+use Rattle.history_commands.specs.Question.{MayAnswer}
+use Rattle.history_commands.specs.Walk.{IsWalkOfIds, walk_text, walk_status}
+
+-- a text is written, and the status is 0
+abbrev pub TellsOfItself : List ℕ → Option (List ℕ) → Option (List ℕ) → ℕ → Type 0
+TellsOfItself text old new status = Appends old new (text ⧺ newline) × (status ≡ 0)
+
+-- an answer that the command may give is written, with its status: help and version leave the folder alone; each other command
+-- answers of what the opener may answer at its path. `objects` answers of what the input has left before and after, where that is
+-- known; none of the others asks for it
+abbrev pub HistorytoolMayWrite : Command → Option (List ℕ) → Option (List ℕ) → Type 0
+    → (List ℕ → Result (List Layer) OpenError → Type 0) → Option (List ℕ) → Option (List ℕ) → ℕ → Type 0
+HistorytoolMayWrite (command.Help text) input unread IsLeftAlone MayOpenAt old new status =
+    IsLeftAlone × TellsOfItself text.now old new status
+HistorytoolMayWrite (command.Version text) input unread IsLeftAlone MayOpenAt old new status =
+    IsLeftAlone × TellsOfItself text.now old new status
+HistorytoolMayWrite (command.IsAncestor path first second) input unread IsLeftAlone MayOpenAt old new status =
+    WritesAnswer is_ancestor_text is_ancestor_status
+    (MayAnswer IsTold first.now second.now IsLeftAlone (MayOpenAt path.now)) old new status
+HistorytoolMayWrite (command.Walk path first second) input unread IsLeftAlone MayOpenAt old new status =
+    WritesAnswer walk_text walk_status
+    (MayAnswer IsWalkOfIds first.now second.now IsLeftAlone (MayOpenAt path.now)) old new status
+HistorytoolMayWrite (command.MergeBase path first others) input unread IsLeftAlone MayOpenAt old new status =
+    WritesAnswer merge_base_text merge_base_status
+    (MayCompare (first.now ∷ map string_bytes others.now) IsLeftAlone (MayOpenAt path.now)) old new status
+HistorytoolMayWrite (command.MergeBaseIds path first others) input unread IsLeftAlone MayOpenAt old new status =
+    WritesAnswer merge_base_ids_text merge_base_status
+    (MayCompare (first.now ∷ map string_bytes others.now) IsLeftAlone (MayOpenAt path.now)) old new status
+HistorytoolMayWrite (command.Check path) input unread IsLeftAlone MayOpenAt old new status =
+    WritesAnswer check_text check_status (MayFindInAll (MayOpenAt path.now)) old new status
+HistorytoolMayWrite (command.Show path) input unread IsLeftAlone MayOpenAt old new status =
+    WritesAnswer show_text show_status (MayShow (MayOpenAt path.now)) old new status
+HistorytoolMayWrite (command.Ids path range) input unread IsLeftAlone MayOpenAt old new status =
+    WritesAnswer ids_text ids_status (MayListIds range (MayOpenAt path.now)) old new status
+HistorytoolMayWrite (command.Objects path range) input unread IsLeftAlone MayOpenAt old new status =
+    WritesAnswer objects_text objects_status (MayCompareObjects range input unread (MayOpenAt path.now)) old new status

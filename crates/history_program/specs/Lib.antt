@@ -1,0 +1,2 @@
+pub mod HistorytoolWords
+pub mod HistorytoolAnswers

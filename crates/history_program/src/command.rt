@@ -1,0 +1,324 @@
+//! The commands of `historytool`, by the words of a command line.
+
+ghost use Rattle.std.specs.Prelude.{◌≡◌, ◌∷◌, [], ℕ, List, IfOk, IfSome, IsNone};
+ghost use Rattle.std.specs.Prelude.{codes, map, string_bytes};
+ghost use Rattle.history_program.specs.HistorytoolWords.{AskAfterName, AskHistorytool};
+ghost use Rattle.history_program.specs.HistorytoolAnswers.{TellsOfItself};
+ghost use Rattle.object_commands.specs.AskedRange.{SpellsRange};
+ghost use Rattle.object_commands.specs.declared.range.PositionRange as declared;
+ghost use Rattle.history_program.specs.declared.command.Command.{Command};
+
+use graph_commands::line::{WriteFailed, write_line};
+use graph_commands::program::Run;
+use graph_commands::status::Status;
+use graph_folder::folder::Folder;
+use history_commands::run::{
+    run_check, run_is_ancestor, run_merge_base, run_merge_base_ids, run_walk,
+};
+use object_commands::{PositionRange, run_ids, run_objects};
+use show_commands::run::run_show;
+use std::alloc::Global;
+use std::io::{Read, Write};
+
+/// What `historytool` is asked to do.
+#[derive(Clone, Copy, Debug)]
+pub enum Command<'a> {
+    /// The help is to be written.
+    Help {
+        /// Its text, without the end of the last line.
+        text: &'a str,
+    },
+    /// The version is to be written.
+    Version {
+        /// Its text, without the end of the line.
+        text: &'a str,
+    },
+    /// It is to be told whether the first commit is an ancestor of the second.
+    IsAncestor {
+        /// The path of the graph.
+        path: &'a str,
+        /// The first id, in hexadecimal digits.
+        first: &'a str,
+        /// The second id.
+        second: &'a str,
+    },
+    /// A walk along parents from the first commit to the second is to be found.
+    Walk {
+        /// The path of the graph.
+        path: &'a str,
+        /// The first id, in hexadecimal digits.
+        first: &'a str,
+        /// The second id.
+        second: &'a str,
+    },
+    /// What the first commit and the others have in common is to be told.
+    MergeBase {
+        /// The path of the graph.
+        path: &'a str,
+        /// The first id, in hexadecimal digits.
+        first: &'a str,
+        /// The other ids, of which there is one at least.
+        others: &'a [String],
+    },
+    /// The ids of the merge bases of the first commit and the others are to be told.
+    MergeBaseIds {
+        /// The path of the graph.
+        path: &'a str,
+        /// The first id, in hexadecimal digits.
+        first: &'a str,
+        /// The other ids, of which there is one at least.
+        others: &'a [String],
+    },
+    /// The graph is to be checked, with its dates and its filters.
+    Check {
+        /// The path of the graph.
+        path: &'a str,
+    },
+    /// The layers of the graph are to be shown, and whether the whole is right.
+    Show {
+        /// The path of the graph.
+        path: &'a str,
+    },
+    /// The ids of the graph are to be listed.
+    Ids {
+        /// The path of the graph.
+        path: &'a str,
+        /// The positions whose ids are meant; all of them, where it is none.
+        range: Option<PositionRange>,
+    },
+    /// The graph is to be compared with its commits, which the input has.
+    Objects {
+        /// The path of the graph.
+        path: &'a str,
+        /// The positions of the commits that are meant; all of them, where it is none.
+        range: Option<PositionRange>,
+    },
+}
+
+/// What `historytool` tells of itself.
+#[derive(Clone, Copy, Debug)]
+pub struct Texts<'a> {
+    /// What it can be asked.
+    pub help: &'a str,
+    /// Which version it is.
+    pub version: &'a str,
+}
+
+impl<'a> Command<'a> {
+    /// The command that the words of a command line ask for, and none where they ask for none. The
+    /// first word is the program's own name.
+    pub fn from_words(words: &'a [String], texts: Texts<'a>) -> Option<Command<'a>>
+        ensures asked { IfSome result (AskHistorytool texts.entry.help.now texts.entry.version.now
+            (map string_bytes words.now)) }
+        ensures other { IsNone result → (command : Command)
+            → ¬ AskHistorytool texts.entry.help.now texts.entry.version.now
+            (map string_bytes words.now) command }
+    {
+        match words {
+            [_, name] => Command::of_name(name, texts),
+            [_, name, path] => Command::of_path(name, path),
+            [_, name, path, first, others @ ..] => Command::of_ids(name, path, first, others),
+            _ => None,
+        }
+    }
+
+    /// The command with this name that takes no other word, if it is one.
+    #[tactic(auto, using(crate::proofs::WordsLemmas::named_alone))]
+    fn of_name(name: &str, texts: Texts<'a>) -> Option<Command<'a>>
+        ensures asked { IfSome result (AskAfterName texts.entry.help.now texts.entry.version.now
+            (name.now ∷ [])) }
+        ensures other { IsNone result → (command : Command)
+            → ¬ AskAfterName texts.entry.help.now texts.entry.version.now (name.now ∷ []) command }
+    {
+        match name {
+            "--help" | "-h" => Some(Command::Help { text: texts.help }),
+            "--version" => Some(Command::Version {
+                text: texts.version,
+            }),
+            _ => None,
+        }
+    }
+
+    /// The command with this name that takes a path alone, if it is one.
+    #[tactic(auto, using(crate::proofs::WordsLemmas::named_with_path))]
+    fn of_path(name: &str, path: &'a str) -> Option<Command<'a>>
+        ensures asked { (help version : List ℕ)
+            → IfSome result (AskAfterName help version (name.now ∷ path.now ∷ [])) }
+        ensures other { IsNone result → (help version : List ℕ) (command : Command)
+            → ¬ AskAfterName help version (name.now ∷ path.now ∷ []) command }
+    {
+        match name {
+            "check" => Some(Command::Check { path }),
+            "show" => Some(Command::Show { path }),
+            "ids" => Some(Command::Ids { path, range: None }),
+            "objects" => Some(Command::Objects { path, range: None }),
+            _ => None,
+        }
+    }
+
+    /// The command with this name about the ids of two commits or more, or about the positions in
+    /// a range, if it is one.
+    #[tactic(auto, using(crate::proofs::WordsLemmas::named_with_ids))]
+    fn of_ids(
+        name: &str,
+        path: &'a str,
+        first: &'a str,
+        others: &'a [String],
+    ) -> Option<Command<'a>>
+        ensures asked { (help version : List ℕ) → IfSome result (AskAfterName help version
+            (name.now ∷ path.now ∷ first.now ∷ map string_bytes others.now)) }
+        ensures other { IsNone result → (help version : List ℕ) (command : Command)
+            → ¬ AskAfterName help version
+            (name.now ∷ path.now ∷ first.now ∷ map string_bytes others.now) command }
+    {
+        match name {
+            "is-ancestor" => match others {
+                [] => None,
+                [second] => Some(Command::IsAncestor {
+                    path,
+                    first,
+                    second,
+                }),
+                _ => None,
+            },
+            "walk" => match others {
+                [] => None,
+                [second] => Some(Command::Walk {
+                    path,
+                    first,
+                    second,
+                }),
+                _ => None,
+            },
+            "ids" => match others {
+                [] => None,
+                [to] => Command::ids_in(path, first, to),
+                _ => None,
+            },
+            "objects" => match others {
+                [] => None,
+                [to] => Command::objects_in(path, first, to),
+                _ => None,
+            },
+            "merge-base" => Command::merge_base(path, first, others),
+            "merge-base-ids" => Command::merge_base_ids(path, first, others),
+            _ => None,
+        }
+    }
+}
+
+impl<'a> Command<'a> {
+    /// `merge-base`, if there are others.
+    fn merge_base(path: &'a str, first: &'a str, others: &'a [String]) -> Option<Command<'a>>
+        ensures asked { (help version : List ℕ) → IfSome result (AskAfterName help version
+            (codes "merge-base" ∷ path.now ∷ first.now ∷ map string_bytes others.now)) }
+        ensures other { IsNone result → others.now ≡ [] }
+    {
+        match others {
+            [] => None,
+            _ => Some(Command::MergeBase {
+                path,
+                first,
+                others,
+            }),
+        }
+    }
+
+    /// `merge-base-ids`, if there are others.
+    fn merge_base_ids(path: &'a str, first: &'a str, others: &'a [String]) -> Option<Command<'a>>
+        ensures asked { (help version : List ℕ) → IfSome result (AskAfterName help version
+            (codes "merge-base-ids" ∷ path.now ∷ first.now ∷ map string_bytes others.now)) }
+        ensures other { IsNone result → others.now ≡ [] }
+    {
+        match others {
+            [] => None,
+            _ => Some(Command::MergeBaseIds {
+                path,
+                first,
+                others,
+            }),
+        }
+    }
+
+    /// `ids` for the positions that two texts spell, if they spell a range.
+    fn ids_in(path: &'a str, from: &str, to: &str) -> Option<Command<'a>>
+        ensures asked { (help version : List ℕ) → IfSome result (AskAfterName help version
+            (codes "ids" ∷ path.now ∷ from.now ∷ to.now ∷ [])) }
+        ensures other { IsNone result → (range : declared.PositionRange)
+            → ¬ SpellsRange from.now to.now range }
+    {
+        let range = PositionRange::from_texts(from, to)?;
+        Some(Command::Ids {
+            path,
+            range: Some(range),
+        })
+    }
+
+    /// `objects` for the positions that two texts spell, if they spell a range.
+    fn objects_in(path: &'a str, from: &str, to: &str) -> Option<Command<'a>>
+        ensures asked { (help version : List ℕ) → IfSome result (AskAfterName help version
+            (codes "objects" ∷ path.now ∷ from.now ∷ to.now ∷ [])) }
+        ensures other { IsNone result → (range : declared.PositionRange)
+            → ¬ SpellsRange from.now to.now range }
+    {
+        let compared = PositionRange::from_texts(from, to)?;
+        Some(Command::Objects {
+            path,
+            range: Some(compared),
+        })
+    }
+}
+
+impl Run for Command<'_> {
+    ghost use Rattle.history_program.specs.HistorytoolAnswers.{HistorytoolMayWrite};
+
+    ghost MayWrite = { HistorytoolMayWrite };
+
+    fn run<R: Read, T: Folder, W: Write>(
+        self,
+        alloc: Global,
+        input: &mut R,
+        folder: &mut T,
+        output: &mut W,
+    ) -> Result<u8, WriteFailed> {
+        match self {
+            Command::Help { text } => tell(output, text),
+            Command::Version { text } => tell(output, text),
+            Command::IsAncestor {
+                path,
+                first,
+                second,
+            } => run_is_ancestor(alloc, folder, path, first, second, output),
+            Command::Walk {
+                path,
+                first,
+                second,
+            } => run_walk(alloc, folder, path, first, second, output),
+            Command::MergeBase {
+                path,
+                first,
+                others,
+            } => run_merge_base(alloc, folder, path, first, others, output),
+            Command::MergeBaseIds {
+                path,
+                first,
+                others,
+            } => run_merge_base_ids(alloc, folder, path, first, others, output),
+            Command::Check { path } => run_check(alloc, folder, path, output),
+            Command::Show { path } => run_show(alloc, folder, path, output),
+            Command::Ids { path, range } => run_ids(alloc, folder, path, range, output),
+            Command::Objects { path, range } => {
+                run_objects(alloc, input, folder, path, range, output)
+            }
+        }
+    }
+}
+
+/// Writes a text that was asked for, and answers the exit status. `WriteFailed` comes where the
+/// writer fails.
+fn tell<W: Write>(output: &mut W, text: &str) -> Result<u8, WriteFailed>
+    ensures { IfOk result (TellsOfItself text.now (W.contents output.old) (W.contents output.new)) }
+{
+    write_line(output, text)?;
+    Ok(Status::Yes as u8)
+}

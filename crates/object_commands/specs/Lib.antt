@@ -1,0 +1,4 @@
+pub mod AskedRange
+pub mod ObjectsRefusalLines
+pub mod CommitIds
+pub mod ComparedObjects

@@ -1,0 +1,10 @@
+//! Questions about one graph that was checked, one a line.
+//!
+//! [`lines`] reads lines with room for the longest of them alone, and [`question`] has which line
+//! asks which question.
+#![tactic(auto)]
+
+pub mod lines;
+mod place;
+pub mod question;
+mod words;

@@ -1,0 +1,3 @@
+pub mod GenerationLemmas
+pub mod LinesLemmas
+pub mod ShownAnswers

@@ -1,0 +1,2 @@
+pub mod LayerLines
+pub mod Show

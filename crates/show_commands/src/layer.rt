@@ -1,0 +1,185 @@
+//! The lines of a layer. Writing them allocates nothing.
+
+ghost use Rattle.std.specs.Prelude.{◌≡◌, Some, OnOk, length, option_map};
+ghost use Rattle.std.specs.Io.KnownBytes.{Appends};
+ghost use Rattle.graph_format.specs.Format.{chunk_of};
+ghost use Rattle.graph_format.specs.Layer.{bytes_of};
+ghost use Rattle.graph_commands.specs.Listing.{kind_text};
+ghost use Rattle.show_commands.specs.LayerLines.{counts_line, dates_word, filter_header_in};
+ghost use Rattle.show_commands.specs.LayerLines.{header_of, layer_lines};
+
+use gix_commitgraph::File;
+use gix_hash_core::Kind;
+use graph_commands::line::{WriteFailed, write_line};
+use graph_format::integers::word_at;
+use std::fmt;
+use std::io::Write;
+
+/// Writes the lines of a layer, which has this number. `WriteFailed` comes where the writer fails.
+pub(crate) fn write_layer<W: Write>(
+    writer: &mut W,
+    number: usize,
+    file: &File,
+) -> Result<(), WriteFailed>
+    ensures { OnOk result (Appends (W.contents writer.old) (W.contents writer.new)
+        (layer_lines number file.now)) }
+{
+    write_counts(writer, number, file)?;
+    write_line(writer, format_args!("checksum {}", file.checksum()))?;
+    write_line(writer, ChunksText(file))
+}
+
+/// Writes the first line of the layer with this number. `WriteFailed` comes where the writer fails.
+fn write_counts<W: Write>(writer: &mut W, layer: usize, file: &File) -> Result<(), WriteFailed>
+    ensures { OnOk result (Appends (W.contents writer.old) (W.contents writer.new)
+        (counts_line layer file.now)) }
+{
+    let commits = file.num_commits();
+    let hash = hash_name(file.object_hash());
+    let bases = file.base_graph_count();
+    let dates = has_dates(file);
+    let made = HeaderText(filter_header(file));
+    write_line(
+        writer,
+        format_args!(
+            "layer {layer} commits {commits} hash {hash} bases {bases} dates {dates} filters {made}"
+        ),
+    )
+}
+
+/// The name of a kind of hash.
+fn hash_name(kind: Kind) -> &'static str
+    ensures { result.now ≡ kind_text kind }
+{
+    match kind {
+        Kind::Sha1 => "sha1",
+        Kind::Sha256 => "sha256",
+    }
+}
+
+/// Whether a layer has corrected dates: `yes` or `no`.
+fn has_dates(file: &File) -> &'static str
+    ensures { result.now ≡ dates_word file.now }
+{
+    match chunk_size(file, *b"GDA2") {
+        Some(_size) => "yes",
+        None => "no",
+    }
+}
+
+/// How many bytes the chunk with an id has, `None` where the file has no such chunk.
+fn chunk_size(file: &File, id: [u8; 4]) -> Option<usize>
+    ensures { result ≡ option_map length (chunk_of (bytes_of file.now) id) }
+{
+    match file.chunk(id) {
+        Some(chunk) => Some(chunk.len()),
+        None => None,
+    }
+}
+
+/// The numbers that stand before the filters of a layer ("Bloom Filter Data").
+#[derive(Clone, Copy)]
+struct FilterHeader {
+    /// The version of the hash.
+    version: u32,
+    /// How often a path is hashed.
+    hashes: u32,
+    /// The least number of bits of a path.
+    bits: u32,
+}
+
+/// How many bytes these numbers have.
+const HEADER_LEN: usize = 12;
+
+/// The numbers before the filters of a layer, `None` where it has no filters, or their data is too
+/// short.
+fn filter_header(file: &File) -> Option<FilterHeader>
+    ensures { result ≡ filter_header_in file.now }
+{
+    match (file.chunk(*b"BIDX"), file.chunk(*b"BDAT")) {
+        (Some(_index), Some(body)) => header_of(body),
+        _ => None,
+    }
+}
+
+/// The numbers at the head of these bytes, if there are enough.
+fn header_of(body: &[u8]) -> Option<FilterHeader>
+    ensures { result ≡ header_of body.now }
+{
+    if body.len() < HEADER_LEN {
+        return None;
+    }
+    Some(FilterHeader {
+        version: word_at(body, 0),
+        hashes: word_at(body, 4),
+        bits: word_at(body, 8),
+    })
+}
+
+/// How the filters of a layer are made, or `none`.
+#[derive(Clone, Copy)]
+struct HeaderText(Option<FilterHeader>);
+
+impl fmt::Display for HeaderText {
+    ghost use Rattle.show_commands.specs.LayerLines.{header_text};
+
+    ghost output = { λ text. Some (header_text text.0) };
+
+    fn fmt<W: fmt::Write>(&self, f: &mut fmt::Formatter<W>) -> fmt::Result {
+        match self.0 {
+            Some(header) => {
+                let FilterHeader {
+                    version,
+                    hashes,
+                    bits,
+                } = header;
+                write!(f, "version {version} hashes {hashes} bits {bits}")
+            }
+            None => f.write_str("none"),
+        }
+    }
+}
+
+/// The chunks of the format that a file has.
+#[derive(Clone, Copy)]
+struct ChunksText<'a>(&'a File);
+
+impl fmt::Display for ChunksText<'_> {
+    ghost use Rattle.show_commands.specs.LayerLines.{chunks_text};
+
+    ghost output = { λ text. Some (chunks_text text.0.now) };
+
+    fn fmt<W: fmt::Write>(&self, f: &mut fmt::Formatter<W>) -> fmt::Result {
+        let file = self.0;
+        write!(
+            f,
+            "chunks{}{}{}{}{}{}{}{}{}",
+            ChunkText("OIDF", chunk_size(file, *b"OIDF")),
+            ChunkText("OIDL", chunk_size(file, *b"OIDL")),
+            ChunkText("CDAT", chunk_size(file, *b"CDAT")),
+            ChunkText("GDA2", chunk_size(file, *b"GDA2")),
+            ChunkText("GDO2", chunk_size(file, *b"GDO2")),
+            ChunkText("EDGE", chunk_size(file, *b"EDGE")),
+            ChunkText("BIDX", chunk_size(file, *b"BIDX")),
+            ChunkText("BDAT", chunk_size(file, *b"BDAT")),
+            ChunkText("BASE", chunk_size(file, *b"BASE"))
+        )
+    }
+}
+
+/// A chunk, by its name, and how many bytes it has, if it is there.
+#[derive(Clone, Copy)]
+struct ChunkText<'a>(&'a str, Option<usize>);
+
+impl fmt::Display for ChunkText<'_> {
+    ghost use Rattle.show_commands.specs.LayerLines.{chunk_text};
+
+    ghost output = { λ text. Some (chunk_text text.0.now text.1) };
+
+    fn fmt<W: fmt::Write>(&self, f: &mut fmt::Formatter<W>) -> fmt::Result {
+        match self.1 {
+            Some(size) => write!(f, " {} {size}", self.0),
+            None => Ok(()),
+        }
+    }
+}

@@ -1,0 +1,123 @@
+# What `git cgraph show` adds to the lines of the program: the files of the layers, and how much of the repository the
+# commit-graph covers. It reads this file with `.`, after answers.sh, repository.sh and cures.sh. This defines functions, and
+# runs nothing.
+
+# Shows the commit-graph that is there, also where it is refused: `line` is the refusal then.
+show_graph() {
+    filter=keep
+    ask_program
+    case $quiet,$held,$status in
+    ,?*,[01]) write_text "$(with_files)" ;;
+    *) return 0 ;;
+    esac
+    [ "$status" -ne 0 ] || tell_coverage
+}
+
+# Holds back what a program writes. A refusal in it becomes the line that is told of the program.
+keep() {
+    sed 's/^/held /; s/^held refused /line refused /' >&4
+}
+
+# The lines that were held back, with the size and the path of each layer's file, and all sizes together.
+with_files() {
+    number=0 whole=0
+    printf %s "$held" | while IFS= read -r row; do
+        printf '%s\n' "$row"
+        case $row in
+        'chunks '*)
+            file=$(layer_file $number)
+            size=$(wc -c <"$file")
+            printf 'size %d file %s\n' "$size" "$file"
+            number=$((number + 1)) whole=$((whole + size))
+            ;;
+        'graph '*) printf 'size %d\n' "$whole" ;;
+        esac
+    done
+}
+
+# Tells how many reachable commits the commit-graph lacks, how many of its commits are gone, and how many are unreachable;
+# and what to do, where that is something.
+tell_coverage() {
+    make_scratch
+    if ! list_reachable >"$scratch/reachable"; then
+        line='the commits of this repository could not be listed' status=128
+        said="$said$name: $line$newline"
+        return
+    fi
+    list_stored >"$scratch/stored" && [ "$before" = "$(find_graph && identity)" ] || { tell_written && return; }
+    if ! compare_ids; then
+        line='the ids could not be compared' status=128
+        said="$said$name: $line$newline"
+        return
+    fi
+    write_text "missing $missing${newline}gone $gone${newline}unreachable $unreachable"
+    [ "$status" -eq 0 ] || return 0
+    say_unused
+    say_uncovered
+}
+
+# The ids of all commits that a reference or the HEAD of a worktree leads to, by the commits themselves. Git says meanwhile how
+# many they are, where that takes long.
+list_reachable() {
+    set -- --all
+    ! shows_progress || set -- --progress='Listing commits' --all
+    GIT_PROGRESS_DELAY=${delay-} git --no-replace-objects -c core.commitGraph=false rev-list "$@"
+}
+
+# The ids that stand in the commit-graph.
+list_stored() {
+    in_place "$program" ids "$graph"
+}
+
+# Sets `missing`, `gone` and `unreachable`, from both lists of ids. A commit that is gone is not one of the unreachable ones.
+compare_ids() {
+    for list in reachable stored; do
+        LC_ALL=C sort -u -o "$scratch/$list" "$scratch/$list" || return
+    done
+    LC_ALL=C comm -23 "$scratch/reachable" "$scratch/stored" >"$scratch/missing" || return
+    LC_ALL=C comm -13 "$scratch/reachable" "$scratch/stored" >"$scratch/others" || return
+    git_alone cat-file --batch-check='%(objecttype)' --buffer <"$scratch/others" >"$scratch/types" || return
+    missing=$(($(wc -l <"$scratch/missing")))
+    unreachable=$(grep -c '^commit$' "$scratch/types")
+    gone=$(($(wc -l <"$scratch/types") - unreachable))
+}
+
+# Says why Git uses no commit-graph here, where that is so.
+say_unused() {
+    [ "$(git config --type=bool core.commitGraph 2>/dev/null)" != false ] ||
+        say 'Git uses no commit-graph here, since core.commitGraph is false'
+    ! has_replacements ||
+        say 'Git uses no commit-graph here, since some commits are replaced (git replace), unless it is called as git --no-replace-objects'
+    ! has_grafts || say "Git uses no commit-graph here, since '$common/info/grafts' gives commits other parents"
+    [ "$is_shallow" = false ] || say 'Git uses no commit-graph here, since this repository is shallow'
+}
+
+# Says what the commit-graph lacks, or has that is gone, and how it is written so that this is not so.
+say_uncovered() {
+    case $missing in
+    0) ;;
+    1) say '1 reachable commit is not in the commit-graph: Git reads it without' ;;
+    *) say "$missing reachable commits are not in the commit-graph: Git reads them without" ;;
+    esac
+    case $gone in
+    0) ;;
+    1) say "1 commit of the commit-graph is gone, for which 'git commit-graph verify' refuses it" ;;
+    *) say "$gone commits of the commit-graph are gone, for which 'git commit-graph verify' refuses it" ;;
+    esac
+    [ "$missing,$gone" != 0,0 ] || return 0
+    is_hindered || { advice='write it again' && cure=$(covers); }
+    say "what to do: $advice:"
+    printf '%s\n' "$cure" >&2
+}
+
+# The commands that write a commit-graph of all reachable commits, and of no others. With --reachable Git takes what references
+# lead to; where more is reachable, from the HEAD of a worktree, it has to be named.
+covers() {
+    [ "$home" = "$objects" ] || [ -n "$named" ] || { home=$objects folder=$objects/info kind=file; }
+    [ "$gone" -eq 0 ] || [ "$kind" = file ] || removes
+    if [ -n "$(git --no-replace-objects rev-list -n 1 --all --not --glob='refs/*' 2>/dev/null)" ]; then
+        writes | sed 's/^    \(.*\) commit-graph write --reachable/    \1 rev-list --no-walk --all | \1 commit-graph write --stdin-commits/'
+    else
+        writes
+    fi
+}
