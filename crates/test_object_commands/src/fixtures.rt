@@ -118,6 +118,7 @@ fn built(
         kind,
         bases: Vec::from_slice(alloc, bases).expect(rt, "memory"),
         commits: Vec::new(alloc),
+        date_offsets: None,
     };
     for (id, parents, generation, time) in records {
         let commit = PlanCommit {
@@ -178,6 +179,7 @@ pub(crate) fn line(rt: &impl Abort, alloc: Global, count: u32) -> Memory {
         kind: Kind::Sha1,
         bases: Vec::new(alloc),
         commits: Vec::new(alloc),
+        date_offsets: None,
     };
     for number in 1..=count {
         let mut id = [0; 20];

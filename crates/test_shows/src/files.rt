@@ -66,6 +66,7 @@ fn sha256(rt: &impl Abort, alloc: Global) -> Vec<u8> {
         kind: Kind::Sha256,
         bases: Vec::new(alloc),
         commits,
+        date_offsets: None,
     };
     file_of_plan(alloc, &plan).expect(rt, "a file")
 }
