@@ -96,8 +96,8 @@ say_unused() {
 say_uncovered() {
     case $missing in
     0) ;;
-    1) say '1 reachable commit is not in the commit-graph: Git reads it without' ;;
-    *) say "$missing reachable commits are not in the commit-graph: Git reads them without" ;;
+    1) say '1 reachable commit is not in the commit-graph: Git has to read the commit itself' ;;
+    *) say "$missing reachable commits are not in the commit-graph: Git has to read the commits themselves" ;;
     esac
     case $gone in
     0) ;;

@@ -14,8 +14,8 @@ LAYER = "layer %d commits 2 hash sha1 bases %d dates yes filters none\nchecksum 
 WHOLE = "graph layers %d commits 2 generation 2\n"
 GONE = "0" * 39 + "1"
 LACKED = {
-    1: "1 reachable commit is not in the commit-graph: Git reads it without",
-    2: "2 reachable commits are not in the commit-graph: Git reads them without",
+    1: "1 reachable commit is not in the commit-graph: Git has to read the commit itself",
+    2: "2 reachable commits are not in the commit-graph: Git has to read the commits themselves",
 }
 WRITES = "git commit-graph write --reachable"
 NAMES_TIPS = "git rev-list --no-walk --all | git commit-graph write --stdin-commits"
