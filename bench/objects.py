@@ -3,7 +3,7 @@
 
 usage: python3 bench/objects.py FOLDER
 
-FOLDER keeps the repository, of bench/topics.py, as Git packs it with `git repack -adf`, and the stream of its commits; making
+FOLDER keeps the repository, of bench/topics.py, as Git packs it with `git repack -adfk`, and the stream of its commits; making
 them takes some minutes. Seconds of processor time: `historytool objects` beside the digest of the stream by the kit's sha1,
 beside the check of the graph alone, and beside `git cat-file`; and of elapsed time: `git cgraph verify --objects` with one
 job and with four, beside `git commit-graph verify`. Each is the least of all runs.
@@ -55,8 +55,8 @@ def main(folder):
 
 
 def pack(repository):
-    """Packs a repository as Git does by itself."""
-    subprocess.check_call(["git", "-C", repository, "repack", "-adfq"])
+    """Packs a repository as Git does by itself; no branch leads to all commits, and those stay too."""
+    subprocess.check_call(["git", "-C", repository, "repack", "-adfkq"])
 
 
 def cat_file(repository):

@@ -3,7 +3,11 @@
 import re
 
 DEFINED = re.compile(r"^(\w+)_number \(?(?:\w+\.)?(\w+)[^=]*= (\d+)$", re.MULTILINE)
-TABLES = ("crates/graph_format/specs/ErrorNumbers.antt", "crates/graph_commands/specs/InputErrorNumbers.antt")
+TABLES = (
+    "crates/graph_format/specs/ErrorNumbers.antt",
+    "crates/graph_commands/specs/InputErrorNumbers.antt",
+    "crates/object_commands/specs/ObjectsRefusalLines.antt",
+)
 REFUSALS, READING = "docs/REFUSALS.md", "scripts/real_data/expected/reading.py"
 
 ROWS = {
@@ -14,6 +18,8 @@ ROWS = {
     "parent": re.compile(r"^\| `!(\d+)` ", re.MULTILINE),
     "id": re.compile(r"^\| `refused id (\d+)` ", re.MULTILINE),
     "read": re.compile(r"^\| `refused read (\d+)` ", re.MULTILINE),
+    "entry": re.compile(r"^\| `refused objects ([1-5]) position P` ", re.MULTILINE),
+    "mismatch": re.compile(r"^\| `refused objects ([6-9]|10) position P(?: index J)?` ", re.MULTILINE),
 }
 """The rows of the document that tell the errors of each kind."""
 

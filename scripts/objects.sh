@@ -14,17 +14,35 @@ verify_objects() {
     find_program graphtool || exit 128
     graphtool=$program written=$filter
     for _ in 1 2; do
+        find_graph
+        stamp=$(graph_stamp)
         program=$graphtool word=verify asked=verify filter=hold_back held=''
         if [ -n "$all_checks" ]; then ask_all; else ask_program; fi
         filter=$written
         [ "$status" -eq 0 ] && [ "$passed" -eq 0 ] || return 0
         compare_commits
+        is_as_before || is_other=yes
         if [ -z "$is_other" ]; then
             [ "$status" -ne 0 ] || write_all
             return 0
         fi
     done
     tell_written
+}
+
+# Where the commit-graph is, and which file it is, or of which layers.
+graph_stamp() {
+    echo "$kind $home"
+    case $kind in
+    file) stat -c '%i %z' "$folder/commit-graph" 2>/dev/null ;;
+    chain) chain_lines ;;
+    esac
+}
+
+# Whether the commit-graph has the same commits at the positions that were compared: further layers may have come on top.
+is_as_before() {
+    find_graph
+    case $(graph_stamp)$newline in "$stamp$newline"*) ;; *) return 1 ;; esac
 }
 
 # Passes on nothing, and leaves what it reads in `held`.
@@ -183,7 +201,8 @@ diagnose_object() {
     case $number in
     1 | 4) diagnose_missing ;;
     2) is_absent=yes ;;
-    6 | 7) diagnose_damaged ;;
+    6) diagnose_damaged ;;
+    7) ;;
     *)
         name_file
         is_hindered || cure=$(anew)

@@ -8,7 +8,7 @@
 shows_progress() {
     case $quiet,$progress in
     yes,* | ,no) return 1 ;;
-    ,yes) ;;
+    ,yes) (: >&2) ;;
     *) [ -t 2 ] ;;
     esac
 }

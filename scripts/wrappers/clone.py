@@ -20,6 +20,7 @@ COPIED = (
     *("bindings/c/commitgraph.pc", "bindings/c/commitgraph.3", "bindings/c/commitgraph-config.cmake"),
     "bindings/c/commitgraph-config-version.cmake",
     *("crates/graphtool/src/main.rt", "crates/historytool/src/main.rt", "LICENSE-MIT", "LICENSE-APACHE"),
+    "docs/DIFFERENCES.md",
 )
 
 

@@ -4,11 +4,12 @@ is. Git is the real one, and `historytool` a shell script that counts the commit
 
 import os
 import pty
+import re
 import shutil
 import tempfile
 
 import refusals
-from wrappers.clone import Clone, exactly, run
+from wrappers.clone import Clone, exactly
 from wrappers.questions import anew, ask, git, make_repository, said
 
 COUNT = 7
@@ -53,6 +54,7 @@ GONE = (
     "from another copy of the repository"
 )
 PARTIAL = "this is a partial clone, in which the commit is not here, and nothing was fetched: let Git fetch it, and ask again"
+SHALLOW = "this repository is shallow, and the commit lies past its end: fetch the whole history, and ask again"
 WRITTEN = "the commit-graph was written anew meanwhile"
 
 
@@ -110,13 +112,17 @@ def check_all(results):
         for shell in (("sh",), ("dash",), ("bash", "--posix"), ("busybox", "sh")):
             if shutil.which(shell[0]):
                 check_right(results, compared, shell)
+        check_written_to(results, compared)
         check_refused(results, compared)
         check_parts(results, compared)
         check_failures(results, compared)
         check_objects(results, compared)
         check_partial(results, compared)
         check_written(results, compared)
+        check_replaced(results, compared)
         check_progress(results, compared)
+        if os.access("/proc/self/io", os.R_OK):
+            check_reading(results, compared)
         results.check("git cgraph verify --objects, nothing is left over", compared.clone.left_over())
 
 
@@ -137,19 +143,25 @@ def check_right(results, compared, shell):
     results.check("%s git-cgraph verify --objects -q" % " ".join(shell), exactly(compared.ask("-q", shell=shell), 0, ""))
 
 
+def check_written_to(results, compared):
+    """An answer that cannot be written."""
+    rows, unwritten = refusals.read_rows(), "the answer could not be written"
+    err = said([unwritten, *refusals.sentences(rows, unwritten)])
+    with open("/dev/full", "wb") as full:
+        results.check("git cgraph verify --objects, to a full device", exactly(compared.ask(stdout=full), 128, "", err))
+    answer = compared.ask(shell=("sh",), preexec_fn=lambda: os.close(1))
+    results.check("git cgraph verify --objects, output that is closed", exactly(answer, 128, "", err))
+
+
 def check_refused(results, compared):
     """Each refusal is the only line, in sentences, with the commit and what to do."""
     rows = refusals.read_rows()
     for line, status in REFUSED.items():
         compared.put(objects="echo '%s'; exit 1" % line)
-        commit = compared.ids[3]
-        cure, advice, where = anew(compared.info, "commit-graph"), "", ""
-        if line.startswith(("refused objects 5", "refused objects 8", "refused objects 9", "refused objects 10")):
-            where = ""
-        if line.startswith(("refused objects 6", "refused objects 7")):
-            where = "the object is '%s'" % loose(compared, commit)
-            advice, cure = DAMAGED, ["git fsck"]
-        sentences = refusals.sentences(rows, line, "verify", refusals.Known(where, advice, cure))
+        commit, known = compared.ids[3], refusals.Known("", "", anew(compared.info, "commit-graph"))
+        if line.startswith("refused objects 6"):
+            known = refusals.Known("the object is '%s'" % loose(compared, commit), DAMAGED, ["git fsck"])
+        sentences = refusals.sentences(rows, line, "verify", known)
         if " position " in line:
             sentences.insert(0, "the commit at position 3 is " + commit)
         answer = compared.ask("-j3")
@@ -188,10 +200,11 @@ def check_failures(results, compared):
     short = "refused objects 1 position 2"
     answered = "[ \"$commits\" -eq $(($4 - $3)) ] || { echo 'refused objects 1 position 2'; exit 1; }"
     by_ids = "historytool ids ended with status 2"
+    told_of_ids = [by_ids, *refusals.sentences(rows, by_ids)]
     for title, ids, objects, script, expected in (
         ("objects is killed", "", "kill -9 $$", None, (137, "", signal)),
         ("ids is killed", 'head -n 2 "%s"; kill -9 $$;' % compared.list, answered, None, (137, "", signal)),
-        ("ids cannot write", 'head -n 2 "%s"; exit 2;' % compared.list, answered, None, (128, "", [by_ids, *refusals.sentences(rows, by_ids)])),
+        ("ids cannot write", 'head -n 2 "%s"; exit 2;' % compared.list, answered, None, (128, "", told_of_ids)),
         ("Git is killed", "", answered, first + "; kill -9 $$", (137, "", signal)),
         ("Git fails at its end", "", "", 'GIT "$@"; exit 128', (128, "", [odd, *refusals.sentences(rows, odd)])),
         ("ids runs out of memory", "echo refused open 7; exit 1;", answered, None,
@@ -227,7 +240,7 @@ def check_objects(results, compared):
 
 
 def check_partial(results, compared):
-    """In a partial clone nothing is fetched, and a commit that is not there is no damage."""
+    """In a partial clone nothing is fetched, and a commit that is not there is no damage; nor is it in a shallow one."""
     rows, commit = refusals.read_rows(), compared.ids[4]
     path, line = loose(compared, commit), "refused objects 4 position 4"
     compared.put(objects="[ \"$commits\" -eq $(($4 - $3)) ] || { echo '%s'; exit 1; }" % line)
@@ -243,6 +256,15 @@ def check_partial(results, compared):
     fetched = [name for name in os.listdir(packs) if name.endswith(".pack")]
     right = answer[:2] == (128, line + "\n") and answer.err.endswith(said(sentences)) and not fetched
     results.check("git cgraph verify --objects, in a partial clone", None if right else "it is %r, with %s" % (answer, fetched))
+    shallow = os.path.join(compared.folder, ".git/shallow")
+    with open(shallow, "w", encoding="ascii") as file:
+        file.write(git(compared.clone, compared.folder, "rev-parse", "HEAD") + "\n")
+    answer = compared.ask()
+    known = refusals.Known("", SHALLOW, ["git fetch --unshallow"])
+    sentences = ["the commit at position 4 is " + commit, *refusals.sentences(rows, line, "verify", known)]
+    right = answer[:2] == (128, line + "\n") and answer.err.endswith(said(sentences))
+    results.check("git cgraph verify --objects, in a shallow clone", None if right else "it is %r" % (answer,))
+    os.remove(shallow)
     git(compared.clone, compared.folder, "cat-file", "-e", commit)
     results.check("git cgraph verify --objects, after the commit was fetched", exactly(compared.ask(), 0, RIGHT))
     for name in os.listdir(packs):
@@ -265,24 +287,66 @@ def check_written(results, compared):
         os.remove(once)
 
 
+def check_replaced(results, compared):
+    """A file that takes the place of the one that was checked is noticed also where its commits are right. A layer that comes on
+    top changes nothing.
+    """
+    rows, path = refusals.read_rows(), os.path.join(compared.info, "commit-graph")
+    err = said([WRITTEN, *refusals.sentences(rows, WRITTEN)])
+    compared.put(objects="cp '%s' '%s.new'; mv '%s.new' '%s'" % ((path,) * 4))
+    results.check("git cgraph verify --objects, a file that is replaced twice", exactly(compared.ask(), 128, "", err))
+    os.rename(path, path + " aside")
+    os.mkdir(path + "s")
+    chain = os.path.join(path + "s", "commit-graph-chain")
+    for title, script, expected in (
+        ("on which a layer is put", "echo cc >>'%s'" % chain, (0, RIGHT, "")),
+        ("which is replaced", "echo c$$ >'%s'" % chain, (128, "", err)),
+    ):
+        with open(chain, "w", encoding="ascii") as file:
+            file.write("aa\nbb\n")
+        compared.put(objects=script)
+        results.check("git cgraph verify --objects, a chain %s meanwhile" % title, exactly(compared.ask(), *expected))
+    shutil.rmtree(path + "s")
+    os.rename(path + " aside", path)
+
+
 def check_progress(results, compared):
     """The line on how far it is: where it is asked for or on a terminal, and else not."""
     compared.put()
     last = "Checking commits: 100%% (%d/%d), done.\n" % (COUNT, COUNT)
+    first = "Checking commits:   0%% (0/%d)\r" % COUNT
     for words, asked in ((["--progress"], True), (["--progress", "-j2"], True), (["--no-progress"], False), (["-q", "--progress"], False)):
         answer = compared.ask(*words)
-        right = answer.err.endswith("\r" + last) and "Checking commits:   0%% (0/%d)\r" % COUNT in answer.err if asked else not answer.err
-        right = right and answer[:2] == (0, "" if "-q" in words else RIGHT)
+        shown = first in answer.err and answer.err.endswith("\r" + last) if asked else not answer.err
+        right = shown and answer[:2] == (0, "" if "-q" in words else RIGHT)
         results.check("git cgraph verify --objects %s" % " ".join(words), None if right else "it is %r" % (answer,))
+    answer = compared.ask("--progress", shell=("sh",), stderr=None, preexec_fn=lambda: os.close(2))
+    results.check("git cgraph verify --objects --progress, with no standard error", exactly(answer, 0, RIGHT))
+    compared.put(objects="sleep 1")
     for words, delay, asked in ((["-j2"], "0", True), ([], "30", False), (["--no-progress"], "0", False), (["-q"], "0", False)):
         shown = on_terminal(compared, words, delay)
         right = shown.replace("\r\n", "\n").endswith(last) if asked else shown == ""
-        results.check("git cgraph verify --objects %s, on a terminal, after %s s" % (" ".join(words), delay), None if right else repr(shown))
+        title = "git cgraph verify --objects %s, on a terminal, after %s s" % (" ".join(words), delay)
+        results.check(title, None if right else "it shows %r" % shown)
     compared.clone.put_program("graphtool", "sleep 2.2\nprintf '%s'\n" % VERIFIED.replace("\n", "\\n"))
     answer = ask(compared.clone, ["verify", "--progress"], compared.folder)
     lines = answer.err.split("\r")
-    right = answer[:2] == (0, VERIFIED) and "Checking commit-graph: 1 s" in lines and lines[-1] == "Checking commit-graph: 2 s, done.\n"
+    right = answer[:2] == (0, VERIFIED) and "Checking commit-graph: 1 s" in lines
+    right = right and re.fullmatch(r"Checking commit-graph: [1-9]\d* s, done\.\n", lines[-1])
     results.check("git cgraph verify --progress", None if right else "it is %r" % (answer,))
+
+
+def check_reading(results, compared):
+    """While a large file is read, how much of it that is: Linux tells what a process has read."""
+    path = os.path.join(compared.info, "commit-graph")
+    os.rename(path, path + " aside")
+    with open(path, "wb") as file:
+        file.truncate(10**9)
+    compared.clone.put_program("graphtool", "sleep 1.2\nprintf '%s'\n" % VERIFIED.replace("\n", "\\n"))
+    answer = ask(compared.clone, ["verify", "--progress"], compared.folder)
+    right = answer[:2] == (0, VERIFIED) and "Reading commit-graph:   0%" in answer.err.split("\r")
+    results.check("git cgraph verify --progress, of a large file", None if right else "it is %r" % (answer,))
+    os.rename(path + " aside", path)
 
 
 def on_terminal(compared, words, delay):

@@ -54,10 +54,11 @@ def check_all(results):
         clone = Clone(folder)
         for name in PROGRAMS:
             clone.put_program(name, "exit 1\n")
-        clone.put("crates/commitgraph_c/out/libcommitgraph.a", "the library\n")
+        clone.put_library()
         repository = os.fsdecode(make_repository(clone, os.path.join(folder, "repository").encode()))
         prefix = os.path.join(folder, "prefix")
-        clone.run(["scripts/install", prefix])
+        answer = clone.run(["scripts/install", prefix])
+        results.check("scripts/install, for completion", None if answer.status == 0 else "it is %r" % (answer,))
         variables = clone.surroundings(PATH=os.path.join(prefix, "bin") + ":" + os.environ["PATH"])
         for shell, check in (("zsh", check_zsh), ("fish", check_fish)):
             if shutil.which(shell):

@@ -27,7 +27,7 @@ INSTALLED = {
     *("include/commitgraph.h", "lib/libcommitgraph.a", "lib/libcommitgraph.so", "lib/libcommitgraph.so.0"),
     *("lib/libcommitgraph.so." + version.number(), "lib/pkgconfig/commitgraph.pc", "share/man/man3/commitgraph.3"),
     *("lib/cmake/commitgraph/commitgraph-config.cmake", "lib/cmake/commitgraph/commitgraph-config-version.cmake"),
-    *("share/doc/git-cgraph/LICENSE-MIT", "share/doc/git-cgraph/LICENSE-APACHE"),
+    *("share/doc/git-cgraph/LICENSE-MIT", "share/doc/git-cgraph/LICENSE-APACHE", "share/doc/git-cgraph/DIFFERENCES.md"),
 }
 COMPLETIONS = ("/usr/share/bash-completion/completions/git", "/etc/bash_completion.d/git", "/usr/share/git/completion/git-completion.bash")
 """Where Git's own completion mostly is."""
@@ -163,6 +163,7 @@ def check_completion(results, clone, repository):
         ("-C", "su"): {"sub"},
         ("verify", ""): set(),
         ("verify", "--a"): {"--all-checks"},
+        ("verify", "--ob"): {"--objects", "--object-dir"},
         ("merge-base", "--a"): {"--all"},
         ("find", "-q", "anno"): {"annotated"},
         ("--object-dir", "su"): {"sub"},

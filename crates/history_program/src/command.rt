@@ -1,6 +1,7 @@
 //! The commands of `historytool`, by the words of a command line.
 
-ghost use Rattle.std.specs.Prelude.{◌≡◌, ◌∷◌, [], ℕ, List, IfOk, IfSome, IsNone, codes, map, string_bytes};
+ghost use Rattle.std.specs.Prelude.{◌≡◌, ◌∷◌, [], ℕ, List, IfOk, IfSome, IsNone};
+ghost use Rattle.std.specs.Prelude.{codes, map, string_bytes};
 ghost use Rattle.history_program.specs.HistorytoolWords.{AskAfterName, AskHistorytool};
 ghost use Rattle.history_program.specs.HistorytoolAnswers.{TellsOfItself};
 ghost use Rattle.object_commands.specs.AskedRange.{SpellsRange};
@@ -199,28 +200,46 @@ impl<'a> Command<'a> {
                 [to] => Command::objects_in(path, first, to),
                 _ => None,
             },
-            "merge-base" => match others {
-                [] => None,
-                _ => Some(Command::MergeBase {
-                    path,
-                    first,
-                    others,
-                }),
-            },
-            "merge-base-ids" => match others {
-                [] => None,
-                _ => Some(Command::MergeBaseIds {
-                    path,
-                    first,
-                    others,
-                }),
-            },
+            "merge-base" => Command::merge_base(path, first, others),
+            "merge-base-ids" => Command::merge_base_ids(path, first, others),
             _ => None,
         }
     }
 }
 
 impl<'a> Command<'a> {
+    /// `merge-base`, if there are others.
+    fn merge_base(path: &'a str, first: &'a str, others: &'a [String]) -> Option<Command<'a>>
+        ensures asked { (help version : List ℕ) → IfSome result (AskAfterName help version
+            (codes "merge-base" ∷ path.now ∷ first.now ∷ map string_bytes others.now)) }
+        ensures other { IsNone result → others.now ≡ [] }
+    {
+        match others {
+            [] => None,
+            _ => Some(Command::MergeBase {
+                path,
+                first,
+                others,
+            }),
+        }
+    }
+
+    /// `merge-base-ids`, if there are others.
+    fn merge_base_ids(path: &'a str, first: &'a str, others: &'a [String]) -> Option<Command<'a>>
+        ensures asked { (help version : List ℕ) → IfSome result (AskAfterName help version
+            (codes "merge-base-ids" ∷ path.now ∷ first.now ∷ map string_bytes others.now)) }
+        ensures other { IsNone result → others.now ≡ [] }
+    {
+        match others {
+            [] => None,
+            _ => Some(Command::MergeBaseIds {
+                path,
+                first,
+                others,
+            }),
+        }
+    }
+
     /// `ids` for the positions that two texts spell, if they spell a range.
     fn ids_in(path: &'a str, from: &str, to: &str) -> Option<Command<'a>>
         ensures asked { (help version : List ℕ) → IfSome result (AskAfterName help version

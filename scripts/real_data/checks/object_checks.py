@@ -4,23 +4,33 @@ Where `git commit-graph verify` refuses a graph for the sake of a commit, `objec
 """
 
 import os
+import shutil
 import subprocess
+import zlib
 from functools import partial
 
 from checks.cgraph_checks import Installed, Way
+from checks.disk_checks import right_chain
 from checks.runs import check_runs
 from checks.verify_checks import original
-from damage import trees, wrong_commits, wrong_layout
+from damage import trees, wrong_commits, wrong_layout, wrong_trees
 from damage.built import Commit, file_of
-from damage.layer import sealed
-from damage.odd_commits import LARGE, ODD, unreadable
+from damage.layer import big_endian, sealed
+from damage.odd_commits import ODD, unreadable
+from damage.original import Original
 from expected import judge
-from expected.objects import DIGITS, Graph, compared, listed
+from expected.differences import HIDDEN, LISTED, MISSES
+from expected.listing import listing
+from expected.objects import DIGITS, Graph, compared, has_two_times, listed
 from histories import shapes
 from histories.repository import read_bytes, write_bytes
+from wrappers.clone import run
 
 STRANGE = (0, 0x09, 0x0A, 0x20, 0x30, 0x39, 0x41, 0x67, 0xFF)
 """Bytes that may mean something else in the line of an entry."""
+
+FIXTURES = "/usr/share/doc/libgit2-fixtures/examples"
+"""Where Debian has the repositories by which libgit2 is tested."""
 
 PERSON = ("-c", "user.name=A", "-c", "user.email=a@example.com")
 PLAIN = ("-c", "core.commitGraph=false", "--no-replace-objects")
@@ -40,6 +50,7 @@ def check_all(histories, results, new):
         check_history(histories, results, new("compared, " + name), name, history)
     check_chain(histories, results, new("compared, a chain"))
     check_wrong(histories, results, new("compared, wrong"))
+    check_trees(histories, results, new("compared, wrong folders"))
     check_streams(histories, results, new("compared, streams"))
     check_odd(histories, results, new("compared, odd commits"))
 
@@ -66,11 +77,11 @@ def check_history(histories, results, repository, name, history):
     answer = histories.objects(path, stream)
     results.check(title + ", objects", judge.verdict(right or compared(Graph([layer]), stream), answer))
     if right is None:
-        results.check(title + ", objects refuses it as Git does", None if answer.status == 1 and repository.git_verdict().status else "it does not")
+        agrees = answer.status == 1 and repository.git_verdict().status
+        results.check(title + ", objects refuses it as Git does", None if agrees else "it does not")
         return
-    half = count // 2
-    runs = []
-    for part in ((0, half), (half, count), (0, 0), (count, count), (0, count), (0, count + 1), (half + 1, half), (count + 1, count + 1)):
+    half, runs, after = count // 2, [], count + 1
+    for part in ((0, half), (half, count), (0, 0), (count, count), (0, count), (0, after), (half + 1, half), (after, after)):
         text = listed([layer], part)
         runs.append((partial(histories.ids, path, *part), partial(judge.exactly, int(text.startswith("refused")), text, "")))
         some = batch(repository, ids[part[0] : part[1]])
@@ -89,8 +100,14 @@ def check_chain(histories, results, repository):
     twice, kind = Graph(layers[:1]), repository.object_format
     # The second layer has the commits of the first one once more, with the parents in it.
     again = file_of(kind, commits_of(repository, twice, len(twice.ids)), [layers[0][-DIGITS[kind] // 2 :]])
-    trees.lay_out(repository.info_path(), trees.chain([trees.Layer(layer[-DIGITS[kind] // 2 :].hex(), layer) for layer in (layers[0], again)]))
+    lay_chain(repository, [layers[0], again])
     check_layers(histories, results, repository, "ids in two layers", [layers[0], again])
+
+
+def lay_chain(repository, layers):
+    """Makes a chain of some layers."""
+    size = DIGITS[repository.object_format] // 2
+    trees.lay_out(repository.info_path(), trees.chain([trees.Layer(layer[-size:].hex(), layer) for layer in layers]))
 
 
 def commits_of(repository, graph, more):
@@ -103,11 +120,12 @@ def commits_of(repository, graph, more):
         return generations[commit]
 
     place = {commit: more + at for at, commit in enumerate(graph.ids)}
-    return [
-        Commit(bytes.fromhex(commit), tuple(place[parent] for parent in words[commit].parents), generation(commit), words[commit].time,
-               bytes.fromhex(words[commit].tree))
-        for commit in graph.ids
-    ]
+    def of_file(commit):
+        tree, parents, time = words[commit].tree, words[commit].parents, words[commit].time
+        places = tuple(place[parent] for parent in parents)
+        return Commit(bytes.fromhex(commit), places, generation(commit), time, bytes.fromhex(tree))
+
+    return [of_file(commit) for commit in graph.ids]
 
 
 def check_layers(histories, results, repository, name, layers):
@@ -138,6 +156,21 @@ def check_wrong(histories, results, repository):
         results.check(title, complaint or (None if agrees else "status %s, and Git says %s" % (answer.status, verdict)))
 
 
+def check_trees(histories, results, repository):
+    """Folders with something wrong that `verify` passes, beside Git's verdict. But for a file beside the chain that does not
+    open, both refuse the same.
+    """
+    path = repository.info_path()
+    for case in wrong_trees.all_wrong(right_chain(repository)):
+        if not case.answer.startswith("ok"):
+            continue
+        trees.lay_out(path, case.tree)
+        answer = histories.objects(path, batch(repository, histories.ids(path).out.decode().split()))
+        agrees = (answer.status == 0) == (repository.git_verdict().status == 0) or LISTED.get(case.name) == (MISSES, HIDDEN)
+        title = "%s, %s, compared" % (repository.object_format, case.name)
+        results.check(title, None if agrees and not answer.err else "status %s and %r" % (answer.status, answer.out))
+
+
 def check_streams(histories, results, repository):
     """A stream that is cut at each byte of its first entries, that has a byte more, and in which each byte is another."""
     repository.add(shapes.diamonds(1))
@@ -149,7 +182,8 @@ def check_streams(histories, results, repository):
     blob = repository.git("hash-object", "-w", "--stdin", stdin=b"content").decode().strip()
     missing = ids[0].encode() + b" missing\n"
     streams += [missing, missing + stream[len(batch(repository, ids[:1])) :], batch(repository, [blob]) + stream]
-    streams += [stream.replace(b" commit ", b" %s " % other, 1) for other in (b"tree", b"blob", b"tag", b"commits", b"COMMIT", b"")]
+    types = (b"tree", b"blob", b"tag", b"commits", b"COMMIT", b"")
+    streams += [stream.replace(b" commit ", b" %s " % other, 1) for other in types]
     streams += [stream.replace(ids[0].encode(), ids[0].upper().encode(), 1), stream.replace(b" commit ", b" commit 0", 1)]
     streams += [stream.replace(b"\n", end, 1) for end in (b"\r\n", b"", b" \n")]
     heads = {at for start in (0, len(batch(repository, ids[:1]))) for at in range(start, stream.index(b"\n", start) + 1)}
@@ -166,87 +200,152 @@ def put_object(repository, contents, kind="commit"):
     return repository.git("hash-object", "-t", kind, "-w", "--stdin", "--literally", stdin=contents).decode().strip()
 
 
+class Roots:
+    """Commits without parents, of one tree, and the graphs that say a time of each."""
+
+    def __init__(self, repository):
+        self.repository, self.kind = repository, repository.object_format
+        self.tree = repository.git("hash-object", "-t", "tree", "-w", "--stdin").decode().strip()
+
+    def put(self, rest):
+        """The id of a commit of the tree, with these bytes after its line."""
+        return put_object(self.repository, b"tree %s\n" % self.tree.encode() + rest)
+
+    def commit(self, commit, time, parents=(), generation=1):
+        """A commit as a file has it."""
+        return Commit(bytes.fromhex(commit), parents, generation, time, bytes.fromhex(self.tree))
+
+    def graph(self, name, times):
+        """The path of a graph of some commits, given with the time of each."""
+        path = os.path.join(self.repository.folder, "graph of " + name)
+        write_bytes(path, file_of(self.kind, [self.commit(commit, times[commit]) for commit in sorted(times)]))
+        return path
+
+
 def check_odd(histories, results, repository):
     """Commits that Git's own commands do not make: their times, by both readings, and bytes that are those of no commit."""
-    kind = repository.object_format
-    tree = repository.git("hash-object", "-t", "tree", "-w", "--stdin").decode().strip()
-    start = b"tree " + tree.encode() + b"\n"
-    odd = {put_object(repository, start + it.rest): it for it in ODD}
-    by_name = {it.name: commit for commit, it in odd.items()}
-    path, ids = repository.graph_path(), sorted(odd)
-    stream = batch(repository, ids)
-
-    def graph_of(times):
-        commits = [Commit(bytes.fromhex(commit), (), 1, times[commit], bytes.fromhex(tree)) for commit in ids]
-        write_bytes(path, file_of(kind, commits))
-
-    held = [commit for commit in ids if odd[commit].times[0] < 2**34]
-    for name, which in (("newer", 0), ("older", -1)):
-        graph_of({commit: odd[commit].times[which] % 2**34 for commit in ids})
-        answer = histories.objects(path, stream)
-        late = ids.index(by_name["a time past 34 bits"])
-        wanted = "refused objects 10 position %d\n" % late
-        results.check("%s, odd commits, as a %s Git reads their times" % (kind, name), judge.verdict(wanted, answer))
-    runs = []
-    for commit in held:
-        for time in {0, 1, 5, 7, 2**34 - 5, *odd[commit].times, odd[commit].times[0] + 1}:
-            content = file_of(kind, [Commit(bytes.fromhex(commit), (), 1, time, bytes.fromhex(tree))])
-            own = os.path.join(repository.folder, "graph of %s at %d" % (odd[commit].name, time))
-            write_bytes(own, content)
-            text = "ok commits 1\n" if time in odd[commit].times else "refused objects 10 position 0\n"
-            runs.append((partial(histories.objects, own, batch(repository, [commit])), partial(judge.verdict, text)))
-    check_runs(results, "%s, odd commits, with right times and others" % kind, runs)
+    roots = Roots(repository)
+    odd = {roots.put(it.rest): it for it in ODD}
+    check_readings(histories, results, roots, odd)
+    held = [commit for commit in sorted(odd) if odd[commit].times[0] < 2**34]
+    check_times(histories, results, roots, {commit: odd[commit] for commit in held})
     check_by_git(histories, results, repository, [commit for commit in held if odd[commit].name != "a time below zero"])
-    check_parents(histories, results, repository, tree, ids)
+    check_parents(histories, results, roots)
     runs = []
-    for name, contents in unreadable(tree.encode()).items():
+    for name, contents in unreadable(roots.tree.encode()).items():
         commit = put_object(repository, contents)
-        own = os.path.join(repository.folder, "graph of " + name)
-        write_bytes(own, file_of(kind, [Commit(bytes.fromhex(commit), (), 1, 0, bytes.fromhex(tree))]))
-        runs.append((partial(histories.objects, own, batch(repository, [commit])), partial(judge.verdict, "refused objects 7 position 0\n")))
-    check_runs(results, "%s, bytes that are no commit" % kind, runs)
+        run_of = partial(histories.objects, roots.graph(name, {commit: 0}), batch(repository, [commit]))
+        runs.append((run_of, partial(judge.verdict, "refused objects 7 position 0\n")))
+    check_runs(results, "%s, bytes that are no commit" % roots.kind, runs)
+
+
+def check_readings(histories, results, roots, odd):
+    """All odd commits with the times that a newer Git reads, and with those of an older one: but for one, which no record holds,
+    they are right.
+    """
+    ids = sorted(odd)
+    late = next(at for at, commit in enumerate(ids) if odd[commit].name == "a time past 34 bits")
+    for name, which in (("newer", 0), ("older", -1)):
+        path = roots.graph(name, {commit: it.times[which] % 2**34 for commit, it in odd.items()})
+        answer = histories.objects(path, batch(roots.repository, ids))
+        title = "%s, odd commits, as a %s Git reads their times" % (roots.kind, name)
+        results.check(title, judge.verdict("refused objects 10 position %d\n" % late, answer))
+
+
+def check_times(histories, results, roots, odd):
+    """Each odd commit with its times, and with others."""
+    runs = []
+    for commit, it in odd.items():
+        stream = batch(roots.repository, [commit])
+        for time in {0, 1, 5, 7, 2**34 - 5, *it.times, it.times[0] + 1}:
+            path = roots.graph("%s at %d" % (it.name, time), {commit: time})
+            text = "ok commits 1\n" if time in it.times else "refused objects 10 position 0\n"
+            runs.append((partial(histories.objects, path, stream), partial(judge.verdict, text)))
+    check_runs(results, "%s, odd commits, with right times and others" % roots.kind, runs)
 
 
 def check_by_git(histories, results, repository, ids):
     """The graph that the installed Git writes of odd commits."""
-    os.remove(repository.graph_path())
     repository.write_graph(tips=ids)
     answer = histories.objects(repository.graph_path(), batch(repository, ids))
     title = "%s, odd commits, in the graph that Git writes" % repository.object_format
     results.check(title, judge.same("ok commits %d\n" % len(ids), answer))
 
 
-def check_parents(histories, results, repository, tree, ids):
+def check_parents(histories, results, roots):
     """A merge of 40 commits or fewer, with ids in capitals, with a parent twice, and with one that Git does not read."""
-    kind, rest = repository.object_format, b"author A <a@x> 1 +0000\ncommitter C <c@x> 9 +0000\n"
-    forty = [put_object(repository, b"tree %s\n%sroot %d\n" % (tree.encode(), rest + b"\n", number)) for number in range(40)]
-    lines = lambda parents: b"".join(b"parent %s\n" % parent.encode() for parent in parents)
-    for name, parents, text, more in (
-        ("a merge of 40 commits", forty, lines(forty), b""),
-        ("ids in capitals", forty[:2], lines(parent.upper() for parent in forty[:2]), b""),
-        ("a parent twice", forty[:1] * 2, lines(forty[:1] * 2), b""),
-        ("a parent below the committer", forty[:1], lines(forty[:1]), lines(forty[1:2])),
+    rest = b"author A <a@x> 1 +0000\ncommitter C <c@x> 9 +0000\n"
+    forty = [roots.put(rest + b"\nroot %d\n" % number) for number in range(40)]
+    for name, parents, lines, more in (
+        ("a merge of 40 commits", forty, parent_lines(forty), b""),
+        ("ids in capitals", forty[:2], parent_lines(parent.upper() for parent in forty[:2]), b""),
+        ("a parent twice", forty[:1] * 2, parent_lines(forty[:1] * 2), b""),
+        ("a parent below the committer", forty[:1], parent_lines(forty[:1]), parent_lines(forty[1:2])),
     ):
-        merge = put_object(repository, b"tree " + tree.encode() + b"\n" + text + rest + more + b"\nmessage\n")
-        order = sorted([*forty, merge])
+        merge = roots.put(lines + rest + more + b"\nmessage\n")
         for title, known in (
             (name, parents),
             (name + ", the last one left out", parents[:-1]),
             (name + ", one more", [*parents, forty[5]]),
             (name + ", in the other order", parents[::-1]),
         ):
-            own = os.path.join(repository.folder, "graph of " + title)
-            places = tuple(order.index(parent) for parent in known)
-            commits = [
-                Commit(bytes.fromhex(commit), places if commit == merge else (), 1 + (commit == merge and bool(places)), 9, bytes.fromhex(tree))
-                for commit in order
-            ]
-            write_bytes(own, file_of(kind, commits))
-            differing = next((at for at in range(len(parents) + 1) if known[at : at + 1] != parents[at : at + 1]), None)
-            wanted = "refused objects 9 position %d index %s\n" % (order.index(merge), differing)
-            answer = histories.objects(own, batch(repository, order))
-            complaint = judge.verdict(wanted if known != parents else "ok commits %d\n" % len(order), answer)
-            results.check("%s, %s" % (kind, title), complaint)
+            complaint = judge_merge(histories, roots, (merge, parents, known), forty)
+            results.check("%s, %s" % (roots.kind, title), complaint)
+
+
+def parent_lines(parents):
+    """The lines of some parents."""
+    return b"".join(b"parent %s\n" % parent.encode() for parent in parents)
+
+
+def judge_merge(histories, roots, case, others):
+    """A complaint about the answer to a graph of a merge and of others. A case is the merge, its parents and those that it has in
+    the graph.
+    """
+    merge, parents, known = case
+    order = sorted([*others, merge])
+    places = tuple(order.index(parent) for parent in known)
+    commits = [roots.commit(it, 9, places, 1 + bool(places)) if it == merge else roots.commit(it, 9) for it in order]
+    path = os.path.join(roots.repository.folder, "graph of a merge")
+    write_bytes(path, file_of(roots.kind, commits))
+    differing = next((at for at in range(len(parents) + 1) if known[at : at + 1] != parents[at : at + 1]), None)
+    text = "ok commits %d\n" % len(order)
+    if differing is not None:
+        text = "refused objects 9 position %d index %d\n" % (order.index(merge), differing)
+    return judge.verdict(text, histories.objects(path, batch(roots.repository, order)))
+
+
+def check_fixtures(histories, results, folder):
+    """The repositories by which libgit2 is tested, if they are here: their commit-graphs, and those that Git writes of them.
+
+    In one of them libgit2 wrote a time that Git reads only from 2.41 on.
+    """
+    if not os.path.isdir(FIXTURES):
+        print("left out, since there are no %s: ids and objects of them" % FIXTURES)
+        return
+    complaints, count = [], 0
+    for number, place in enumerate(sorted(path for path, folders, _ in os.walk(FIXTURES) if {"objects", "refs"} <= set(folders))):
+        copy = os.path.join(folder, str(number))
+        shutil.copytree(place, copy, ignore_dangling_symlinks=True)
+        path = os.path.join(copy, "objects/info/commit-graph")
+        for is_new in (False, True):
+            if is_new and git_there(copy, "commit-graph", "write", "--reachable").returncode != 0 or not os.path.exists(path):
+                continue
+            stream = git_there(copy, *PLAIN, "cat-file", "--batch", "--buffer", stdin=histories.ids(path).out).stdout
+            answer, verdict = histories.objects(path, stream), git_there(copy, "commit-graph", "verify").returncode
+            graph = Graph([read_bytes(path)])
+            agrees = bool(answer.status) == bool(verdict) or answer.status == 0 and has_two_times(graph.kind, stream)
+            complaint = judge.verdict(compared(graph, stream), answer) or (None if agrees else "Git says %d" % verdict)
+            complaints += ["%s: %s" % (place, complaint)] if complaint else []
+            count += 1
+    complaints += [] if count else ["there are none"]
+    results.check("%d commit-graphs of the repositories of libgit2" % count, complaints[0] if complaints else None)
+
+
+def git_there(folder, *words, stdin=b""):
+    """A run of Git in a repository that others made."""
+    surroundings = {"PATH": os.environ["PATH"], "HOME": folder, "GIT_DIR": folder, "GIT_CONFIG_NOSYSTEM": "1", "LC_ALL": "C"}
+    return subprocess.run(["git", *words], env=surroundings, input=stdin, capture_output=True, check=False)
 
 
 def check_told(programs, results, folder, new):
@@ -254,6 +353,7 @@ def check_told(programs, results, folder, new):
     if not knows_objects(programs[1]):
         return
     os.mkdir(folder)
+    check_fixtures(programs[1], results, os.path.join(folder, "fixtures"))
     installed = Installed(os.path.join(folder, "installed"), programs)
     for kind in DIGITS:
         repository = new(kind, "told of commits")
@@ -264,32 +364,47 @@ def check_told(programs, results, folder, new):
         verified = installed.ask(Way(repository.folder), "verify").out
         right = (0, verified + "objects commits %d\n" % len(ids), "")
         for words in ([], ["--jobs", "3"], ["-j", "99"]):
-            answer = ask(*words)
-            results.check("git cgraph verify --objects %s, %s" % (" ".join(words), kind), None if answer == right else "it is %r" % (answer,))
+            title = " ".join(["git cgraph verify --objects,", *words, kind])
+            results.check(title, differs_from(right, ask(*words)))
         other = repository.git(*PERSON, "commit-tree", ids[1] + "^{tree}", "-m", "in its place").decode().strip()
         repository.git("replace", ids[1], other)
-        answer = ask()
-        results.check("git cgraph verify --objects, a replaced commit, %s" % kind, None if answer == right else "it is %r" % (answer,))
+        results.check("git cgraph verify --objects, a replaced commit, %s" % kind, differs_from(right, ask()))
         repository.git("replace", "-d", ids[1])
+        check_mended(installed, results, repository)
+        check_other_bytes(installed, results, new(kind, "told of commits, other bytes"))
         check_packed(installed, results, repository, ids)
         check_foreign(installed, results, repository, new(kind, "told of commits, of another repository"))
 
 
+def check_other_bytes(installed, results, repository):
+    """A commit with another message than the one of which its id is: Git's own check of the commit-graph passes it."""
+    tree = repository.git("hash-object", "-t", "tree", "-w", "--stdin").decode().strip()
+    contents = b"tree %s\nauthor A <a@x> 1 +0000\ncommitter A <a@x> 1 +0000\n\nmessage\n" % tree.encode()
+    commit = put_object(repository, contents)
+    repository.git("update-ref", "refs/heads/main", commit)
+    repository.write_graph()
+    path = os.path.join(repository.folder, "objects", commit[:2], commit[2:])
+    write_bytes(path, zlib.compress(b"commit %d\0" % len(contents) + contents.replace(b"message", b"another")))
+    answer, verdict = installed.ask(Way(repository.folder), "verify", "--objects"), repository.git_verdict()
+    right = answer[:2] == (1, "refused objects 6 position 0\n") and "'%s'" % os.path.realpath(path) in answer.err
+    complaint = None if right and verdict.status == 0 else "it is %r, and Git says %s" % (answer, verdict)
+    results.check("git cgraph verify --objects, other bytes than those of an id, %s" % repository.object_format, complaint)
+
+
 def check_packed(installed, results, repository, ids):
-    """A pack in which a commit is damaged, and the one before it was."""
+    """A pack in which a commit is damaged."""
     repository.git("repack", "-adfq")
-    pack = next(os.path.join(repository.folder, "objects/pack", name) for name in os.listdir(os.path.join(repository.folder, "objects/pack"))
-                if name.endswith(".pack"))
-    content, listing = read_bytes(pack), repository.git("verify-pack", "-v", pack[:-5] + ".idx").decode().split("\n")
-    rows = [line.split() for line in listing if " commit " in line]
-    commit, *_, at = next(row for row in rows if row[0] == ids[2])[:5]
-    size = int(next(row for row in rows if row[0] == ids[2])[3])
-    for name, place in (("at its end", int(at) + size - 3), ("in its middle", int(at) + size // 2)):
+    folder = os.path.join(repository.folder, "objects", "pack")
+    pack = next(os.path.join(folder, name) for name in os.listdir(folder) if name.endswith(".pack"))
+    content, told = read_bytes(pack), repository.git("verify-pack", "-v", pack[:-5] + ".idx").decode()
+    commit, position = ids[2], sorted(ids).index(ids[2])
+    size, at = next(map(int, row[3:5]) for row in map(str.split, told.split("\n")) if row[:2] == [commit, "commit"])
+    for name, place in (("at its end", at + size - 3), ("in its middle", at + size // 2)):
         write_bytes(pack, content[:place] + bytes([content[place] ^ 0x10]) + content[place + 1 :])
-        position = sorted(ids).index(commit)
         answer = installed.ask(Way(repository.folder), "verify", "--objects", "-j2")
-        right = answer.status == 1 and answer.out in ["refused objects %d position %d\n" % (number, position) for number in (1, 4, 6)]
-        right = right and commit in answer.err and answer.err.endswith("\n    git fsck\n")
+        lines = ["refused objects %d position %d\n" % (number, position) for number in (1, 4, 6)]
+        right = answer.status == 1 and answer.out in lines and commit in answer.err
+        right = right and answer.err.endswith("\n    git fsck\n")
         title = "git cgraph verify --objects, a commit damaged %s, %s" % (name, repository.object_format)
         results.check(title, None if right else "it is %r" % (answer,))
     write_bytes(pack, content)
@@ -302,4 +417,40 @@ def check_foreign(installed, results, repository, other):
     answers = [installed.ask(Way(repository.folder), "verify", *words).status for words in ([], ["--objects"])]
     git = repository.git_verdict().status
     right = answers == [0, 1] and git
-    results.check("git cgraph verify --objects, another repository's graph, %s" % repository.object_format, None if right else "%s, %s" % (answers, git))
+    title = "git cgraph verify --objects, another repository's graph, %s" % repository.object_format
+    results.check(title, None if right else "%s, %s" % (answers, git))
+    check_cure(installed, results, repository, title)
+
+
+def check_cure(installed, results, repository, title):
+    """By the commands that the sentences end with, the commit-graph becomes that of the commits."""
+    way = Way(repository.folder)
+    answer = installed.ask(way, "verify", "--objects")
+    cure = "".join(line + "\n" for line in answer.err.splitlines() if line.startswith("    "))
+    cured = run(["sh", "-e", "-c", cure], installed.variables, cwd=way.folder)
+    verdicts = installed.ask(way, "verify", "--objects").status, repository.git_verdict().status
+    right = answer.status == 1 and cure and cured.status == 0 and verdicts == (0, 0)
+    results.check("the cure of " + title, None if right else "%r gives %r, and then %s" % (answer, cured, verdicts))
+
+
+def differs_from(right, answer):
+    """A complaint where an answer is another one."""
+    return None if answer == right else "it is %r" % (answer,)
+
+
+def check_mended(installed, results, repository):
+    """Files and a chain that `verify` passes and that are not those of the commits, and their cures."""
+    kind, file = repository.object_format, original(repository, generation_version=2)
+    wrongs = [wrong for wrong in wrong_commits.all_wrong(file) + wrong_layout.all_wrong(file) if wrong.answer.startswith("ok")]
+    for name, edited, _ in wrongs:
+        write_bytes(repository.graph_path(), sealed(edited, kind))
+        if repository.git_verdict().status:
+            check_cure(installed, results, repository, "%s, %s" % (kind, name))
+    os.remove(repository.graph_path())
+    repository.write_graph("--split")
+    [(_, layer)] = repository.chain()
+    text = listing(kind, repository.words(), [sorted(repository.words())], [])
+    chained = Original(layer, kind, text)
+    other = sealed(chained.with_date(4, big_endian(chained.number_at(chained.fields(4) + 8, 8) ^ 1, 8)), kind)
+    lay_chain(repository, [other])
+    check_cure(installed, results, repository, "%s, a layer with another time" % kind)

@@ -83,6 +83,18 @@ def entry(graph, position, stream, at):
     return differs(graph, position, stream[start:stop]), stop + 1
 
 
+def has_two_times(kind, stream):
+    """Whether a stream of commits has one whose time the two readings differ in."""
+    at = 0
+    while at < len(stream):
+        end = stream.index(b"\n", at)
+        stop = end + 1 + int(stream[at:end].split()[2])
+        if len(times(read(kind, stream[end + 1 : stop])[2])) > 1:
+            return True
+        at = stop + 1
+    return False
+
+
 def differs(graph, position, contents):
     """In what a commit is not as the graph has it, or None."""
     head = b"commit %d\0" % len(contents)

@@ -1,5 +1,5 @@
 -- A single text after the first one is the end of the range.
-use Rattle.std.proofs.Common.{◌≡◌, ◌∷◌, [], ℕ, List, IfSome, codes, map, string_bytes, subst, arith}
+use Rattle.std.proofs.Common.{◌≡◌, ◌∷◌, [], ℕ, List, IfSome, codes, map, string_bytes, subst, sym, arith}
 use Rattle.history_program.specs.HistorytoolWords.{AskAfterName}
 use Rattle.history_program.proofs.WordsLemmas.{one_word}
 use Rattle.history_program.proofs.command.Command.of_ids.Goals as goal
@@ -22,3 +22,15 @@ returns-in-len1-others-3-clause-asked c help version =
     = cc (are, c.in-objects.is, c.deref-in-len1-others-3.ensures) in
     subst (λ (w : List (List ℕ)). IfSome c.objects_in.result (AskAfterName help version w)) words
     (c.objects_in.ensures.asked help version)
+
+pub returns-in-text-2-clause-asked : goal.returns-in-text-2-clause-asked
+returns-in-text-2-clause-asked c help version =
+    subst (λ (name : List ℕ). IfSome c.merge_base.result (AskAfterName help version
+    (name ∷ c.args.path.now ∷ c.args.first.now ∷ map string_bytes c.args.others.now)))
+    (sym c.in-text-2.is) (c.merge_base.ensures.asked help version)
+
+pub returns-in-text-3-clause-asked : goal.returns-in-text-3-clause-asked
+returns-in-text-3-clause-asked c help version =
+    subst (λ (name : List ℕ). IfSome c.merge_base_ids.result (AskAfterName help version
+    (name ∷ c.args.path.now ∷ c.args.first.now ∷ map string_bytes c.args.others.now)))
+    (sym c.in-text-3.is) (c.merge_base_ids.ensures.asked help version)
