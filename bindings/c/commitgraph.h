@@ -48,6 +48,7 @@ enum cg_code {
     CG_NO_SUCH_POSITION = 4,
     CG_PATH_NOT_UTF8 = 5,
     CG_NO_DATES = 6,
+    CG_MORE_PARENTS = 7,
 
     /* The bytes of a layer are refused: "file N" in docs/REFUSALS.md. */
     CG_FILE_TOO_SHORT = 101,
@@ -204,8 +205,15 @@ uint32_t cg_commits(cg_graph graph, uint32_t first, cg_commit *out, size_t len);
  *   CG_NO_SUCH_POSITION    where the position is none; and CG_CLOSED_GRAPH. */
 typedef struct cg_parent_count { uint32_t code; uint64_t count; } cg_parent_count;
 
-/* Writes the positions of a commit's parents, the first parent first, as many as there is room for. */
+/* Writes the positions of a commit's parents, the first parent first, as many as there is room for. It goes over all parents,
+ * also over those that find no room, to count them. */
 cg_parent_count cg_parents(cg_graph graph, uint32_t pos, uint32_t *out, size_t len);
+
+/* Writes the same, and stops where the room ends: `count` is the number of parents that were written, and `code` is
+ * CG_MORE_PARENTS where more come after them. Its cost is that of so many steps as there is room for: for the first parent
+ * alone, room for one. Commits may share one long list of parents, so that the parents of all are many times as many as the
+ * file has words. */
+cg_parent_count cg_first_parents(cg_graph graph, uint32_t pos, uint32_t *out, size_t len);
 
 /* Of how many commits a block tells, and how many parents they have. */
 typedef struct cg_block { uint32_t commits; uint64_t length; } cg_block;
@@ -340,6 +348,7 @@ static inline const char *cg_strerror(uint32_t code) {
     case CG_NO_SUCH_POSITION: return "the graph has no such position";
     case CG_PATH_NOT_UTF8: return "the path of a layer is not UTF-8";
     case CG_NO_DATES: return "a layer has no corrected dates";
+    case CG_MORE_PARENTS: return "the commit has more parents than there is room for";
     case CG_FILE_TOO_SHORT: return "the file has fewer than 1100 bytes: often it is truncated";
     case CG_FILE_SIGNATURE: return "the bytes do not begin with `CGPH`";
     case CG_FILE_VERSION: return "another version than 1";

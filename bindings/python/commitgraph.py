@@ -30,6 +30,7 @@ class Code(enum.IntEnum):
     NO_SUCH_POSITION = 4
     PATH_NOT_UTF8 = 5
     NO_DATES = 6
+    MORE_PARENTS = 7
     FILE_TOO_SHORT = 101
     FILE_SIGNATURE = 102
     FILE_VERSION = 103
@@ -98,6 +99,7 @@ SENTENCES = {
     Code.NO_SUCH_POSITION: "the graph has no such position",
     Code.PATH_NOT_UTF8: "the path of a layer is not UTF-8",
     Code.NO_DATES: "a layer has no corrected dates",
+    Code.MORE_PARENTS: "the commit has more parents than there is room for",
     Code.FILE_TOO_SHORT: "the file has fewer than 1100 bytes: often it is truncated",
     Code.FILE_SIGNATURE: "the bytes do not begin with `CGPH`",
     Code.FILE_VERSION: "another version than 1",

@@ -4,6 +4,7 @@ pub(crate) const OK: u32 = 0;
 pub(crate) const OUT_OF_MEMORY: u32 = 1;
 pub(crate) const NO_SUCH_POSITION: u32 = 4;
 pub(crate) const NO_DATES: u32 = 6;
+pub(crate) const MORE_PARENTS: u32 = 7;
 pub(crate) const FILE_TOO_SHORT: u32 = 101;
 pub(crate) const FILE_SIGNATURE: u32 = 102;
 pub(crate) const FILE_VERSION: u32 = 103;

@@ -157,6 +157,7 @@ extern "C" {
     pub fn cg_commit_at(graph: Graph, pos: u32, out: *mut Commit) -> bool;
     pub fn cg_commits(graph: Graph, first: u32, out: *mut Commit, len: usize) -> u32;
     pub fn cg_parents(graph: Graph, pos: u32, out: *mut u32, len: usize) -> ParentCount;
+    pub fn cg_first_parents(graph: Graph, pos: u32, out: *mut u32, len: usize) -> ParentCount;
     pub fn cg_parents_from(
         graph: Graph,
         first: u32,

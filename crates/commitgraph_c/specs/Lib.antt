@@ -3,6 +3,7 @@ pub mod Blocks
 pub mod Codes
 pub mod Files
 pub mod FirstLine
+pub mod FirstParents
 pub mod Held
 pub mod Many
 pub mod Probes

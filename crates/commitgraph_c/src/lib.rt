@@ -11,6 +11,7 @@ mod chain;
 mod check;
 mod codes;
 mod dates;
+mod first_parents;
 mod handle;
 mod open;
 mod opened;
