@@ -120,7 +120,14 @@ enum cg_code {
     CG_FILTERS_FALLS = 506,
     CG_FILTERS_PAST_END = 507,
     CG_FILTERS_LEFT_OVER = 508,
-    CG_FILTERS_SETTINGS = 509
+    CG_FILTERS_SETTINGS = 509,
+
+    /* A commit is not what the graph says of it: "objects N". */
+    CG_OBJECT_OTHER_CONTENTS = 606,
+    CG_OBJECT_UNREADABLE = 607,
+    CG_OBJECT_TREE = 608,
+    CG_OBJECT_PARENT = 609,
+    CG_OBJECT_TIME = 610
 };
 
 
@@ -330,6 +337,22 @@ typedef struct cg_probed { uint32_t code, position, number; uint64_t layer, answ
 cg_probed cg_probe_path(cg_graph graph, const uint8_t *path, size_t path_len, const uint32_t *positions, size_t count,
                         uint8_t *out, size_t len);
 
+/* What differs first between the record of a commit and the bytes of its object. `code` is
+ *   CG_OK                       where nothing does: the digest of `commit LEN`, a null byte and the bytes is the commit's id, and the
+ *                               record has the tree, the parents, in their order, and the time that the bytes say;
+ *   CG_OBJECT_OTHER_CONTENTS    where that is not the commit's id; else
+ *   CG_OBJECT_UNREADABLE        where the bytes are those of no commit; else
+ *   CG_OBJECT_TREE; else
+ *   CG_OBJECT_PARENT            from the parent of number `parent` on, which counts from 0, or where only one of both has it; else
+ *   CG_OBJECT_TIME;
+ *   CG_NO_SUCH_POSITION         where the position is none; and CG_CLOSED_GRAPH.
+ * `parent` is 0 elsewhere. */
+typedef struct cg_matched { uint32_t code; uint64_t parent; } cg_matched;
+
+/* Compares what the graph says of the commit at a position with the contents of a commit object, as `git cat-file commit ID` writes
+ * them. The graph need not be checked. Most of the time goes into the digest. */
+cg_matched cg_matches(cg_graph graph, uint32_t pos, const uint8_t *contents, size_t len);
+
 /* A line of a chain file, commit-graph-chain, each of which names a layer, from the lowest on: the line L is the layer of the
  * file graph-L.graph in the same folder. `found`: the line is the bytes from the start that was asked for up to `end`, without
  * its newline and one carriage return before that, and what follows it begins at `next`. Else no line is left. */
@@ -407,6 +430,11 @@ static inline const char *cg_strerror(uint32_t code) {
     case CG_FILTERS_PAST_END: return "a commit's filter ends past the end of `BDAT`";
     case CG_FILTERS_LEFT_OVER: return "there are bytes after the last filter";
     case CG_FILTERS_SETTINGS: return "the version or number of hashes is not that of the lowest layer with filters";
+    case CG_OBJECT_OTHER_CONTENTS: return "the bytes are not those of the commit's id";
+    case CG_OBJECT_UNREADABLE: return "the bytes are not those of a commit";
+    case CG_OBJECT_TREE: return "the root tree is another one in the commit-graph than in the commit";
+    case CG_OBJECT_PARENT: return "the parents are others in the commit-graph than in the commit";
+    case CG_OBJECT_TIME: return "the time is another one in the commit-graph than in the commit";
     default: return "a number that is not known";
     }
 }

@@ -89,6 +89,11 @@ class Code(enum.IntEnum):
     FILTERS_PAST_END = 507
     FILTERS_LEFT_OVER = 508
     FILTERS_SETTINGS = 509
+    OBJECT_OTHER_CONTENTS = 606
+    OBJECT_UNREADABLE = 607
+    OBJECT_TREE = 608
+    OBJECT_PARENT = 609
+    OBJECT_TIME = 610
 
 
 SENTENCES = {
@@ -158,6 +163,11 @@ SENTENCES = {
     Code.FILTERS_PAST_END: "a commit's filter ends past the end of `BDAT`",
     Code.FILTERS_LEFT_OVER: "there are bytes after the last filter",
     Code.FILTERS_SETTINGS: "the version or number of hashes is not that of the lowest layer with filters",
+    Code.OBJECT_OTHER_CONTENTS: "the bytes are not those of the commit's id",
+    Code.OBJECT_UNREADABLE: "the bytes are not those of a commit",
+    Code.OBJECT_TREE: "the root tree is another one in the commit-graph than in the commit",
+    Code.OBJECT_PARENT: "the parents are others in the commit-graph than in the commit",
+    Code.OBJECT_TIME: "the time is another one in the commit-graph than in the commit",
 }
 """What happened, for each number."""
 

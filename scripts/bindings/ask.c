@@ -27,6 +27,7 @@ static size_t bytes_of(const char *hex, uint8_t id[32]) {
 }
 
 enum { ROOM = 64, PLACES = 3, FEW = 4 };
+#define NULL_BYTES ((const uint8_t *)"")
 
 /* The line of a graph that was not opened. */
 static int not_opened(cg_error error, bool one_file) {
@@ -149,6 +150,7 @@ static int list(cg_graph graph) {
         first += block.commits;
     }
     if (cg_first_parents(graph, count, out, 1).code != CG_NO_SUCH_POSITION) return 9;
+    if (cg_matches(graph, count, NULL_BYTES, 0).code != CG_NO_SUCH_POSITION) return 9;
     return cg_commits(graph, count, commits, 1) || cg_parents_from(graph, count, answers, 1, out, ROOM).commits ? 9 : 0;
 }
 
@@ -269,7 +271,7 @@ static bool closed_answers(void) {
     bool good = cg_num_commits(CG_CLOSED) == 0 && cg_id_len(CG_CLOSED) == 0 && cg_lookup(CG_CLOSED, id, 20) == CG_NOWHERE
         && cg_id_at(CG_CLOSED, 0, id, 20) == 0 && cg_tree_at(CG_CLOSED, 0, id, 20) == 0 && !cg_commit_at(CG_CLOSED, 0, &commit)
         && cg_commits(CG_CLOSED, 0, &commit, 1) == 0 && cg_parents(CG_CLOSED, 0, out, 1).code == CG_CLOSED_GRAPH
-        && cg_first_parents(CG_CLOSED, 0, out, 1).code == CG_CLOSED_GRAPH
+        && cg_first_parents(CG_CLOSED, 0, out, 1).code == CG_CLOSED_GRAPH && cg_matches(CG_CLOSED, 0, id, 1).code == CG_CLOSED_GRAPH
         && cg_parents_from(CG_CLOSED, 0, &answer, 1, out, 1).commits == 0
         && cg_verify(CG_CLOSED, true, &verdict, &count, 1) == CG_CLOSED_GRAPH && verdict.code == CG_CLOSED_GRAPH && verdict.called == 0
         && cg_ancestor_walk(CG_CLOSED, 0, 0, out, 1).code == CG_CLOSED_GRAPH && cg_is_ancestor(CG_CLOSED, 0, 0).code == CG_CLOSED_GRAPH

@@ -1,6 +1,6 @@
 //! A commit of a graph, and its parents.
 
-use crate::{codes, sys, Graph, ObjectId, ParentError, Position, Record};
+use crate::{codes, sys, Graph, Mismatch, ObjectId, ParentError, Position, Record};
 use std::fmt;
 use std::iter::FusedIterator;
 
@@ -114,6 +114,17 @@ impl<'g> Commit<'g> {
             Some(few) => Parents { graph, pos, few, many: None, read: few.count as usize, code: codes::OK },
             None => read_parents(graph, pos),
         }
+    }
+
+    /// Whether the bytes of a commit object are those of this commit's id, and say what the graph says of it.
+    ///
+    /// # Errors
+    ///
+    /// What differs first.
+    pub fn matches(&self, contents: &[u8]) -> Result<(), Mismatch> {
+        // SAFETY: `raw` is open, and the pointer and the length are those of a slice.
+        let told = unsafe { sys::cg_matches(self.graph.raw, self.pos.0, contents.as_ptr(), contents.len()) };
+        Mismatch::of(&told).map_or(Ok(()), Err)
     }
 
     /// Its generation number.

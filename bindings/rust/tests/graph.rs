@@ -3,8 +3,8 @@
 mod made;
 
 use commitgraph::{Checked, Commit, Fault, FileError, Graph, GraphError, IdError, ObjectId, OpenError, PairError, Position, ProbeError};
-use commitgraph::{DatesError, LayerFault, QueryError, VerifyError, VerifyOptions};
-use made::{long_lists, made};
+use commitgraph::{DatesError, LayerFault, Mismatch, QueryError, VerifyError, VerifyOptions};
+use made::{git, long_lists, made};
 use std::error::Error;
 use std::ffi::OsStr;
 use std::fs;
@@ -220,6 +220,20 @@ fn neither_refusal_of_an_info_folder_hides_the_other() {
 #[test]
 fn the_library_is_that_of_the_header() {
     assert_eq!(commitgraph::version(), 100);
+}
+
+#[test]
+fn a_commit_matches_its_own_bytes_alone() {
+    let graph = Graph::at(&made().file).unwrap();
+    let contents = |commit: &Commit<'_>| git(&made().repository, &["cat-file", "commit", &commit.id().to_string()]) + "\n";
+    for commit in graph.iter_commits() {
+        let bytes = contents(&commit).into_bytes();
+        for other in graph.iter_commits() {
+            let wanted = if other.id() == commit.id() { Ok(()) } else { Err(Mismatch::OtherContents) };
+            assert_eq!(other.matches(&bytes), wanted);
+        }
+        assert_eq!(commit.matches(&bytes[1..]), Err(Mismatch::OtherContents));
+    }
 }
 
 #[test]

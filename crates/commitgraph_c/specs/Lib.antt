@@ -6,6 +6,7 @@ pub mod FirstLine
 pub mod FirstParents
 pub mod Held
 pub mod Many
+pub mod Matched
 pub mod Probes
 pub mod State
 pub mod ToldDates
