@@ -64,7 +64,7 @@ IN_RUST = re.compile(r"^pub\(crate\) const (\w+): u32 = (\d+);$", re.MULTILINE)
 IN_PYTHON = re.compile(r"^    ([A-Z]\w+) = (\d+)$", re.MULTILINE)
 IN_PYTHON_SAID = re.compile(r'^    Code\.(\w+): "(.+)",$', re.MULTILINE)
 IN_SPECS = re.compile(
-    r"^(?:\w+_code \S.* = |refusal_of \S.* = refusal_in_\w+ |told_\w+_fault \(.* = without_\w+ )(\d+)\b"
+    r"^(?:\w+_code \S.* = |refusal_of \S.* = refusal_in_\w+ |told_\w+_fault \(.* = without_\w+ |told_mismatch .* = (?:matched_code |record \{ code = ))(\d+)\b"
     r"|^(?:out_of_memory|closed_graph|not_checked|no_such_position|path_not_utf8|no_dates|more_parents) = (\d+)$",
     re.MULTILINE,
 )
@@ -81,6 +81,7 @@ GROUPS = {
     360: ROWS["parent"],
     400: re.compile(r"^\| `refused dates ([1-5])\b", re.MULTILINE),
     500: re.compile(r"^\| `refused filters ([1-9])\b(?!0)", re.MULTILINE),
+    600: re.compile(r"^\| `refused objects ([6-9]|10) ", re.MULTILINE),
 }
 """The rows of the document whose numbers, added to this one, are those by which the library tells the same causes."""
 
@@ -102,7 +103,7 @@ def wrong_codes(texts):
         if (name, int(number)) not in header:
             yield "%s: %s is not %s in the header" % (RUST, name, number)
     specs = "".join(text for path, text in texts.items() if path.startswith(LIBRARY))
-    defined_ = {int(one or other) for one, other in IN_SPECS.findall(specs)} - {NEVER}
+    defined_ = {int(one or other) for one, other in IN_SPECS.findall(specs)} - {NEVER, 0}
     if defined_ != numbers - {0}:
         yield "%s and %s differ in %s" % (HEADER, LIBRARY, sorted(defined_ ^ (numbers - {0})))
     told = {base + int(row) for base, rows in GROUPS.items() for row in rows.findall(texts[REFUSALS])} - MEMORY

@@ -48,6 +48,7 @@ enum cg_code {
     CG_NO_SUCH_POSITION = 4,
     CG_PATH_NOT_UTF8 = 5,
     CG_NO_DATES = 6,
+    CG_MORE_PARENTS = 7,
 
     /* The bytes of a layer are refused: "file N" in docs/REFUSALS.md. */
     CG_FILE_TOO_SHORT = 101,
@@ -119,7 +120,14 @@ enum cg_code {
     CG_FILTERS_FALLS = 506,
     CG_FILTERS_PAST_END = 507,
     CG_FILTERS_LEFT_OVER = 508,
-    CG_FILTERS_SETTINGS = 509
+    CG_FILTERS_SETTINGS = 509,
+
+    /* A commit is not what the graph says of it: "objects N". */
+    CG_OBJECT_OTHER_CONTENTS = 606,
+    CG_OBJECT_UNREADABLE = 607,
+    CG_OBJECT_TREE = 608,
+    CG_OBJECT_PARENT = 609,
+    CG_OBJECT_TIME = 610
 };
 
 
@@ -204,8 +212,15 @@ uint32_t cg_commits(cg_graph graph, uint32_t first, cg_commit *out, size_t len);
  *   CG_NO_SUCH_POSITION    where the position is none; and CG_CLOSED_GRAPH. */
 typedef struct cg_parent_count { uint32_t code; uint64_t count; } cg_parent_count;
 
-/* Writes the positions of a commit's parents, the first parent first, as many as there is room for. */
+/* Writes the positions of a commit's parents, the first parent first, as many as there is room for. It goes over all parents,
+ * also over those that find no room, to count them. */
 cg_parent_count cg_parents(cg_graph graph, uint32_t pos, uint32_t *out, size_t len);
+
+/* Writes the same, and stops where the room ends: `count` is the number of parents that were written, and `code` is
+ * CG_MORE_PARENTS where more come after them. Its cost is that of so many steps as there is room for: for the first parent
+ * alone, room for one. Commits may share one long list of parents, so that the parents of all are many times as many as the
+ * file has words. */
+cg_parent_count cg_first_parents(cg_graph graph, uint32_t pos, uint32_t *out, size_t len);
 
 /* Of how many commits a block tells, and how many parents they have. */
 typedef struct cg_block { uint32_t commits; uint64_t length; } cg_block;
@@ -322,6 +337,22 @@ typedef struct cg_probed { uint32_t code, position, number; uint64_t layer, answ
 cg_probed cg_probe_path(cg_graph graph, const uint8_t *path, size_t path_len, const uint32_t *positions, size_t count,
                         uint8_t *out, size_t len);
 
+/* What differs first between the record of a commit and the bytes of its object. `code` is
+ *   CG_OK                       where nothing does: the digest of `commit LEN`, a null byte and the bytes is the commit's id, and the
+ *                               record has the tree, the parents, in their order, and the time that the bytes say;
+ *   CG_OBJECT_OTHER_CONTENTS    where that is not the commit's id; else
+ *   CG_OBJECT_UNREADABLE        where the bytes are those of no commit; else
+ *   CG_OBJECT_TREE; else
+ *   CG_OBJECT_PARENT            from the parent of number `parent` on, which counts from 0, or where only one of both has it; else
+ *   CG_OBJECT_TIME;
+ *   CG_NO_SUCH_POSITION         where the position is none; and CG_CLOSED_GRAPH.
+ * `parent` is 0 elsewhere. */
+typedef struct cg_matched { uint32_t code; uint64_t parent; } cg_matched;
+
+/* Compares what the graph says of the commit at a position with the contents of a commit object, as `git cat-file commit ID` writes
+ * them. The graph need not be checked. Most of the time goes into the digest. */
+cg_matched cg_matches(cg_graph graph, uint32_t pos, const uint8_t *contents, size_t len);
+
 /* A line of a chain file, commit-graph-chain, each of which names a layer, from the lowest on: the line L is the layer of the
  * file graph-L.graph in the same folder. `found`: the line is the bytes from the start that was asked for up to `end`, without
  * its newline and one carriage return before that, and what follows it begins at `next`. Else no line is left. */
@@ -340,6 +371,7 @@ static inline const char *cg_strerror(uint32_t code) {
     case CG_NO_SUCH_POSITION: return "the graph has no such position";
     case CG_PATH_NOT_UTF8: return "the path of a layer is not UTF-8";
     case CG_NO_DATES: return "a layer has no corrected dates";
+    case CG_MORE_PARENTS: return "the commit has more parents than there is room for";
     case CG_FILE_TOO_SHORT: return "the file has fewer than 1100 bytes: often it is truncated";
     case CG_FILE_SIGNATURE: return "the bytes do not begin with `CGPH`";
     case CG_FILE_VERSION: return "another version than 1";
@@ -398,6 +430,11 @@ static inline const char *cg_strerror(uint32_t code) {
     case CG_FILTERS_PAST_END: return "a commit's filter ends past the end of `BDAT`";
     case CG_FILTERS_LEFT_OVER: return "there are bytes after the last filter";
     case CG_FILTERS_SETTINGS: return "the version or number of hashes is not that of the lowest layer with filters";
+    case CG_OBJECT_OTHER_CONTENTS: return "the bytes are not those of the commit's id";
+    case CG_OBJECT_UNREADABLE: return "the bytes are not those of a commit";
+    case CG_OBJECT_TREE: return "the root tree is another one in the commit-graph than in the commit";
+    case CG_OBJECT_PARENT: return "the parents are others in the commit-graph than in the commit";
+    case CG_OBJECT_TIME: return "the time is another one in the commit-graph than in the commit";
     default: return "a number that is not known";
     }
 }

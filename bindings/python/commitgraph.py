@@ -30,6 +30,7 @@ class Code(enum.IntEnum):
     NO_SUCH_POSITION = 4
     PATH_NOT_UTF8 = 5
     NO_DATES = 6
+    MORE_PARENTS = 7
     FILE_TOO_SHORT = 101
     FILE_SIGNATURE = 102
     FILE_VERSION = 103
@@ -88,6 +89,11 @@ class Code(enum.IntEnum):
     FILTERS_PAST_END = 507
     FILTERS_LEFT_OVER = 508
     FILTERS_SETTINGS = 509
+    OBJECT_OTHER_CONTENTS = 606
+    OBJECT_UNREADABLE = 607
+    OBJECT_TREE = 608
+    OBJECT_PARENT = 609
+    OBJECT_TIME = 610
 
 
 SENTENCES = {
@@ -98,6 +104,7 @@ SENTENCES = {
     Code.NO_SUCH_POSITION: "the graph has no such position",
     Code.PATH_NOT_UTF8: "the path of a layer is not UTF-8",
     Code.NO_DATES: "a layer has no corrected dates",
+    Code.MORE_PARENTS: "the commit has more parents than there is room for",
     Code.FILE_TOO_SHORT: "the file has fewer than 1100 bytes: often it is truncated",
     Code.FILE_SIGNATURE: "the bytes do not begin with `CGPH`",
     Code.FILE_VERSION: "another version than 1",
@@ -156,6 +163,11 @@ SENTENCES = {
     Code.FILTERS_PAST_END: "a commit's filter ends past the end of `BDAT`",
     Code.FILTERS_LEFT_OVER: "there are bytes after the last filter",
     Code.FILTERS_SETTINGS: "the version or number of hashes is not that of the lowest layer with filters",
+    Code.OBJECT_OTHER_CONTENTS: "the bytes are not those of the commit's id",
+    Code.OBJECT_UNREADABLE: "the bytes are not those of a commit",
+    Code.OBJECT_TREE: "the root tree is another one in the commit-graph than in the commit",
+    Code.OBJECT_PARENT: "the parents are others in the commit-graph than in the commit",
+    Code.OBJECT_TIME: "the time is another one in the commit-graph than in the commit",
 }
 """What happened, for each number."""
 

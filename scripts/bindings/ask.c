@@ -27,6 +27,7 @@ static size_t bytes_of(const char *hex, uint8_t id[32]) {
 }
 
 enum { ROOM = 64, PLACES = 3, FEW = 4 };
+#define NULL_BYTES ((const uint8_t *)"")
 
 /* The line of a graph that was not opened. */
 static int not_opened(cg_error error, bool one_file) {
@@ -116,6 +117,19 @@ static cg_block block_from(cg_graph graph, uint32_t first, cg_parent_count *answ
     return block;
 }
 
+/* Whether the call for the first parents of a commit answers the same in each room up to one too many. */
+static bool answers_first(cg_graph graph, uint32_t pos, cg_parent_count all, const uint32_t *parents) {
+    uint32_t out[ROOM + 2];
+    for (uint64_t room = 0; room <= all.count + 1; room++) {
+        out[room] = 7;
+        cg_parent_count first = cg_first_parents(graph, pos, out, room);
+        uint64_t wanted = room < all.count ? room : all.count;
+        if (first.count != wanted || first.code != (room < all.count ? CG_MORE_PARENTS : all.code)) return false;
+        if (out[room] != 7 || memcmp(out, parents, wanted * sizeof *out)) return false;
+    }
+    return true;
+}
+
 /* All commits, from blocks, each compared with what the calls for one commit say. */
 static int list(cg_graph graph) {
     uint32_t count = cg_num_commits(graph), out[ROOM + 1], one[ROOM];
@@ -129,12 +143,14 @@ static int list(cg_graph graph) {
         for (uint32_t i = 0; i < block.commits; i++) {
             cg_parent_count answer = cg_parents(graph, first + i, one, ROOM);
             if (answer.code != answers[i].code || answer.count != answers[i].count) return 9;
-            if (memcmp(one, parents, answer.count * sizeof *one)) return 9;
+            if (memcmp(one, parents, answer.count * sizeof *one) || !answers_first(graph, first + i, answer, one)) return 9;
             print_line(graph, first + i, commits[i], answer, parents);
             parents += answer.count;
         }
         first += block.commits;
     }
+    if (cg_first_parents(graph, count, out, 1).code != CG_NO_SUCH_POSITION) return 9;
+    if (cg_matches(graph, count, NULL_BYTES, 0).code != CG_NO_SUCH_POSITION) return 9;
     return cg_commits(graph, count, commits, 1) || cg_parents_from(graph, count, answers, 1, out, ROOM).commits ? 9 : 0;
 }
 
@@ -255,6 +271,7 @@ static bool closed_answers(void) {
     bool good = cg_num_commits(CG_CLOSED) == 0 && cg_id_len(CG_CLOSED) == 0 && cg_lookup(CG_CLOSED, id, 20) == CG_NOWHERE
         && cg_id_at(CG_CLOSED, 0, id, 20) == 0 && cg_tree_at(CG_CLOSED, 0, id, 20) == 0 && !cg_commit_at(CG_CLOSED, 0, &commit)
         && cg_commits(CG_CLOSED, 0, &commit, 1) == 0 && cg_parents(CG_CLOSED, 0, out, 1).code == CG_CLOSED_GRAPH
+        && cg_first_parents(CG_CLOSED, 0, out, 1).code == CG_CLOSED_GRAPH && cg_matches(CG_CLOSED, 0, id, 1).code == CG_CLOSED_GRAPH
         && cg_parents_from(CG_CLOSED, 0, &answer, 1, out, 1).commits == 0
         && cg_verify(CG_CLOSED, true, &verdict, &count, 1) == CG_CLOSED_GRAPH && verdict.code == CG_CLOSED_GRAPH && verdict.called == 0
         && cg_ancestor_walk(CG_CLOSED, 0, 0, out, 1).code == CG_CLOSED_GRAPH && cg_is_ancestor(CG_CLOSED, 0, 0).code == CG_CLOSED_GRAPH

@@ -88,6 +88,11 @@ static void tell_parents(cg_graph graph, FILE *file, uint32_t count) {
         counts[pos] = one.count;
         agree(!one.code && !answers[pos].code && one.count == answers[pos].count && one.count <= 2);
         agree(!memcmp(two, out + length, one.count * sizeof *two));
+        two[0] = 0;
+        agree(cg_matches(graph, pos, (const uint8_t *)"", 0).code == CG_OBJECT_OTHER_CONTENTS);
+        cg_parent_count first = cg_first_parents(graph, pos, two, 1);
+        agree(first.count == (one.count > 0) && first.code == (one.count > 1 ? CG_MORE_PARENTS : CG_OK));
+        agree(!memcmp(two, out + length, first.count * sizeof *two));
         length += one.count;
     }
     put(file, counts, block.commits, sizeof *counts);

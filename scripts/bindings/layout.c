@@ -27,6 +27,7 @@ SIZE(cg_dates, 32); AT(cg_dates, code, 0); AT(cg_dates, position, 4); AT(cg_date
 AT(cg_dates, length, 24);
 SIZE(cg_bases, 32); AT(cg_bases, code, 0); AT(cg_bases, ahead, 4); AT(cg_bases, behind, 8); AT(cg_bases, visits, 16);
 AT(cg_bases, length, 24);
+SIZE(cg_matched, 16); AT(cg_matched, code, 0); AT(cg_matched, parent, 8);
 SIZE(cg_line, 24); AT(cg_line, found, 0); AT(cg_line, end, 8); AT(cg_line, next, 16);
 
 enum { LAYERS = 8, BYTES = 1 << 16, ROOM = 64, OTHER = 0xaa };

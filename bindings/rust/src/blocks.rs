@@ -83,6 +83,19 @@ impl Graph {
         .fuse()
     }
 
+    /// The parents of some commits from a position on, in the room of a block; and whether they end since the parents of the next
+    /// commit do not fit.
+    pub(crate) fn parents_within(&self, first: Position) -> (ParentBlock, bool) {
+        let mut answers = vec![sys::ParentCount::default(); BLOCK];
+        let mut parents = vec![Position(0); 2 * BLOCK];
+        let (told, room) = (answers.as_mut_ptr(), parents.as_mut_ptr().cast());
+        // SAFETY: `raw` is open, each pointer and length are those of a vector, and a position is one number.
+        let block = unsafe { sys::cg_parents_from(self.raw, first.0, told, answers.len(), room, parents.len()) };
+        let ends_at_long = block.length > parents.len() as u64;
+        answers.truncate(block.commits as usize - usize::from(ends_at_long));
+        (ParentBlock { first, answers, parents }, ends_at_long)
+    }
+
     /// The parents of some commits from a position on, or `None` where no commit is left.
     pub(crate) fn parents_from(&self, first: Position) -> Option<ParentBlock> {
         let mut answers = vec![sys::ParentCount::default(); BLOCK];

@@ -1,6 +1,6 @@
 //! A commit of a graph, and its parents.
 
-use crate::{sys, Graph, ObjectId, ParentError, Position, Record};
+use crate::{codes, sys, Graph, Mismatch, ObjectId, ParentError, Position, Record};
 use std::fmt;
 use std::iter::FusedIterator;
 
@@ -76,21 +76,55 @@ impl<'g> Commit<'g> {
     ///
     /// They cannot be decoded, or not all of them. Of a [`crate::Checked`] graph they can.
     pub fn parents(&self) -> Result<Vec<Position>, ParentError> {
-        self.iter_parents().collect()
-    }
-
-    /// The position of its first parent, if it has one.
-    pub fn parent1(&self) -> Result<Option<Position>, ParentError> {
-        self.iter_parents().next().transpose()
-    }
-
-    /// The positions of its parents in order, and after them the error that ends their decoding, if there is one.
-    #[inline]
-    pub fn iter_parents(&self) -> Parents {
-        match self.known {
-            Some(few) => Parents { few, rest: None },
-            None => read_parents(self.graph, self.pos),
+        if let Some(few) = self.known {
+            return Ok(few.positions[..few.count as usize].to_vec());
         }
+        let mut positions = vec![Position(0); FEW];
+        loop {
+            let (room, len) = (positions.as_mut_ptr().cast(), positions.len());
+            // SAFETY: `raw` is open, the pointer and the length are those of a vector, and a position is one number.
+            let told = unsafe { sys::cg_parents(self.graph.raw, self.pos.0, room, len) };
+            if told.count <= len as u64 {
+                positions.truncate(told.count as usize);
+                return ParentError::of(told.code).map_or(Ok(positions), Err);
+            }
+            positions.resize(told.count as usize, Position(0));
+        }
+    }
+
+    /// The position of its first parent, if it has one. No other parent is read.
+    pub fn parent1(&self) -> Result<Option<Position>, ParentError> {
+        if let Some(few) = self.known {
+            return Ok((few.count > 0).then_some(few.positions[0]));
+        }
+        let mut first = [Position(0)];
+        let told = write_first_parents(self.graph, self.pos, &mut first);
+        match told.count {
+            0 => ParentError::of(told.code).map_or(Ok(None), Err),
+            _ => Ok(Some(first[0])),
+        }
+    }
+
+    /// The positions of its parents in order, and after them the error that ends their decoding, if there is one. No more are
+    /// read ahead than are already given, or a few.
+    #[inline]
+    pub fn iter_parents(&self) -> Parents<'g> {
+        let (graph, pos) = (self.graph, self.pos);
+        match self.known {
+            Some(few) => Parents { graph, pos, few, many: None, read: few.count as usize, code: codes::OK },
+            None => read_parents(graph, pos),
+        }
+    }
+
+    /// Whether the bytes of a commit object are those of this commit's id, and say what the graph says of it.
+    ///
+    /// # Errors
+    ///
+    /// What differs first.
+    pub fn matches(&self, contents: &[u8]) -> Result<(), Mismatch> {
+        // SAFETY: `raw` is open, and the pointer and the length are those of a slice.
+        let told = unsafe { sys::cg_matches(self.graph.raw, self.pos.0, contents.as_ptr(), contents.len()) };
+        Mismatch::of(&told).map_or(Ok(()), Err)
     }
 
     /// Its generation number.
@@ -106,54 +140,70 @@ impl<'g> Commit<'g> {
     }
 }
 
-/// Reads the parents of the commit at a position.
-fn read_parents(graph: &Graph, pos: Position) -> Parents {
+/// The parents of the commit at a position, of which a few are read.
+fn read_parents(graph: &Graph, pos: Position) -> Parents<'_> {
     let mut positions = [Position(0); FEW];
-    let told = write_parents(graph, pos, &mut positions);
-    let fault = ParentError::of(told.code);
-    if told.count > FEW as u64 {
-        let mut many = vec![Position(0); told.count as usize];
-        write_parents(graph, pos, &mut many);
-        let rest = Box::new(Rest { positions: many.into_iter(), fault });
-        return Parents { few: Few { positions, count: 0 }, rest: Some(rest) };
-    }
-    let rest = fault.map(|fault| Box::new(Rest { positions: Vec::new().into_iter(), fault: Some(fault) }));
-    Parents { few: Few { positions, count: told.count as u32 }, rest }
+    let told = write_first_parents(graph, pos, &mut positions);
+    let few = Few { positions, count: told.count as u32 };
+    Parents { graph, pos, few, many: None, read: told.count as usize, code: told.code }
 }
 
-/// Writes the positions of the parents of the commit at a position, as many as there is room for.
-fn write_parents(graph: &Graph, pos: Position, out: &mut [Position]) -> sys::ParentCount {
+/// Writes the positions of the first parents of the commit at a position, as many as there is room for.
+fn write_first_parents(graph: &Graph, pos: Position, out: &mut [Position]) -> sys::ParentCount {
     // SAFETY: `raw` is open, the pointer and the length are those of a slice, and a position is one number.
-    unsafe { sys::cg_parents(graph.raw, pos.0, out.as_mut_ptr().cast(), out.len()) }
+    unsafe { sys::cg_first_parents(graph.raw, pos.0, out.as_mut_ptr().cast(), out.len()) }
 }
 
 /// The positions of a commit's parents in order, and after them the error that ends their decoding, if there is one.
-#[derive(Clone, Debug)]
-pub struct Parents {
-    /// Those that are left, where the commit has few.
+#[derive(Clone)]
+pub struct Parents<'g> {
+    graph: &'g Graph,
+    pos: Position,
+    /// Those that were read first and are left.
     few: Few,
-    /// What comes after them, in the few commits where something does.
-    rest: Option<Box<Rest>>,
+    /// Those that were read later and are left, in the few commits that have so many.
+    many: Option<Box<std::vec::IntoIter<Position>>>,
+    /// How many were read.
+    read: usize,
+    /// What comes after them: more, an error, or nothing.
+    code: u32,
 }
 
-/// The positions that are left of a commit with more parents, and the error after them.
-#[derive(Clone, Debug)]
-struct Rest {
-    positions: std::vec::IntoIter<Position>,
-    fault: Option<ParentError>,
-}
-
-impl Rest {
-    fn next(&mut self) -> Option<Result<Position, ParentError>> {
-        self.positions.next().map(Ok).or_else(|| self.fault.take().map(Err))
+impl Parents<'_> {
+    /// The next of those that were read later, or else what comes after them.
+    #[cold]
+    fn next_of_many(&mut self) -> Option<Result<Position, ParentError>> {
+        if let Some(pos) = self.many.as_mut().and_then(|many| many.next()) {
+            return Some(Ok(pos));
+        }
+        if self.code == codes::MORE_PARENTS {
+            self.read_more();
+            return self.many.as_mut().and_then(|many| many.next()).map(Ok);
+        }
+        ParentError::of(std::mem::replace(&mut self.code, codes::OK)).map(Err)
     }
 
-    fn len(&self) -> usize {
-        self.positions.len() + usize::from(self.fault.is_some())
+    /// Reads as many again as were read. The first ones are read anew, so that all take twice the steps.
+    fn read_more(&mut self) {
+        let mut positions = vec![Position(0); 2 * self.read];
+        let told = write_first_parents(self.graph, self.pos, &mut positions);
+        positions.truncate(told.count as usize);
+        let mut many = positions.into_iter();
+        // Those were given.
+        many.by_ref().take(self.read).for_each(drop);
+        self.read = told.count as usize;
+        self.code = told.code;
+        self.many = Some(Box::new(many));
     }
 }
 
-impl Iterator for Parents {
+impl fmt::Debug for Parents<'_> {
+    fn fmt(&self, f: &mut fmt::Formatter<'_>) -> fmt::Result {
+        f.debug_list().entries(self.clone()).finish()
+    }
+}
+
+impl Iterator for Parents<'_> {
     type Item = Result<Position, ParentError>;
 
     #[inline]
@@ -163,16 +213,18 @@ impl Iterator for Parents {
             self.few = Few { positions: [second, second], count: self.few.count - 1 };
             return Some(Ok(first));
         }
-        self.rest.as_mut()?.next()
+        if self.many.is_none() && self.code == codes::OK {
+            return None;
+        }
+        self.next_of_many()
     }
 
     #[inline]
     fn size_hint(&self) -> (usize, Option<usize>) {
-        let left = self.few.count as usize + self.rest.as_ref().map_or(0, |rest| rest.len());
-        (left, Some(left))
+        let left = self.few.count as usize + self.many.as_ref().map_or(0, |many| many.len());
+        let more = usize::from(self.code != codes::OK);
+        (left + more, (self.code != codes::MORE_PARENTS).then_some(left + more))
     }
 }
 
-impl ExactSizeIterator for Parents {}
-
-impl FusedIterator for Parents {}
+impl FusedIterator for Parents<'_> {}

@@ -602,3 +602,52 @@ impl fmt::Display for ParentError {
 }
 
 impl std::error::Error for ParentError {}
+
+/// What differs first between the record of a commit and the bytes of its object.
+#[derive(Clone, Copy, Debug, PartialEq, Eq)]
+#[non_exhaustive]
+pub enum Mismatch {
+    /// The commit's id is not that of the bytes.
+    OtherContents,
+    /// The bytes are those of no commit.
+    Unreadable,
+    /// The root tree is another.
+    Tree,
+    /// A parent is another, or only one of both has it.
+    Parent {
+        /// The number of the first that differs, counted from 0.
+        index: u64,
+    },
+    /// The time is another.
+    Time,
+}
+
+impl Mismatch {
+    /// The mismatch that an answer tells of, if it tells of one.
+    pub(crate) fn of(told: &sys::Matched) -> Option<Mismatch> {
+        match told.code {
+            codes::OBJECT_OTHER_CONTENTS => Some(Mismatch::OtherContents),
+            codes::OBJECT_UNREADABLE => Some(Mismatch::Unreadable),
+            codes::OBJECT_TREE => Some(Mismatch::Tree),
+            codes::OBJECT_PARENT => Some(Mismatch::Parent { index: told.parent }),
+            codes::OBJECT_TIME => Some(Mismatch::Time),
+            _ => None,
+        }
+    }
+}
+
+impl fmt::Display for Mismatch {
+    fn fmt(&self, f: &mut fmt::Formatter<'_>) -> fmt::Result {
+        match self {
+            Mismatch::OtherContents => f.write_str("the bytes are not those of the commit's id"),
+            Mismatch::Unreadable => f.write_str("the bytes are not those of a commit"),
+            Mismatch::Tree => f.write_str("the root tree is another one in the commit-graph than in the commit"),
+            Mismatch::Parent { index } => {
+                write!(f, "the parents are others in the commit-graph than in the commit, from index {index} on")
+            }
+            Mismatch::Time => f.write_str("the time is another one in the commit-graph than in the commit"),
+        }
+    }
+}
+
+impl std::error::Error for Mismatch {}

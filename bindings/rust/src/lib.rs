@@ -34,7 +34,7 @@ pub use commit::{Commit, Parents};
 use commits::Commits;
 use error::fault_of;
 pub use error::{CommitFault, DatesError, Fault, LayerFault, OpenError, PairError, ParentError, ProbeError, QueryError};
-pub use error::VerifyError;
+pub use error::{Mismatch, VerifyError};
 pub use file_error::{FileError, GraphError};
 pub use id::{IdError, ObjectId};
 use open::{open_at, open_chain, open_file, open_info};

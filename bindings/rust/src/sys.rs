@@ -79,6 +79,13 @@ pub struct Block {
 
 #[repr(C)]
 #[derive(Clone, Copy)]
+pub struct Matched {
+    pub code: u32,
+    pub parent: u64,
+}
+
+#[repr(C)]
+#[derive(Clone, Copy)]
 pub struct Line {
     pub found: bool,
     pub end: usize,
@@ -157,6 +164,8 @@ extern "C" {
     pub fn cg_commit_at(graph: Graph, pos: u32, out: *mut Commit) -> bool;
     pub fn cg_commits(graph: Graph, first: u32, out: *mut Commit, len: usize) -> u32;
     pub fn cg_parents(graph: Graph, pos: u32, out: *mut u32, len: usize) -> ParentCount;
+    pub fn cg_first_parents(graph: Graph, pos: u32, out: *mut u32, len: usize) -> ParentCount;
+    pub fn cg_matches(graph: Graph, pos: u32, contents: *const u8, len: usize) -> Matched;
     pub fn cg_parents_from(
         graph: Graph,
         first: u32,
@@ -224,5 +233,6 @@ mod layout {
     laid_out!(Answered, 16, code 0, answered 8);
     laid_out!(Dates, 32, code 0, position 4, layer 8, expected 16, length 24);
     laid_out!(Probed, 32, code 0, position 4, number 8, layer 16, answered 24);
+    laid_out!(Matched, 16, code 0, parent 8);
     laid_out!(Line, 24, found 0, end 8, next 16);
 }

@@ -3,8 +3,8 @@
 mod made;
 
 use commitgraph::{Checked, Commit, Fault, FileError, Graph, GraphError, IdError, ObjectId, OpenError, PairError, Position, ProbeError};
-use commitgraph::{DatesError, LayerFault, QueryError, VerifyError, VerifyOptions};
-use made::made;
+use commitgraph::{DatesError, LayerFault, Mismatch, QueryError, VerifyError, VerifyOptions};
+use made::{git, long_lists, made};
 use std::error::Error;
 use std::ffi::OsStr;
 use std::fs;
@@ -220,4 +220,43 @@ fn neither_refusal_of_an_info_folder_hides_the_other() {
 #[test]
 fn the_library_is_that_of_the_header() {
     assert_eq!(commitgraph::version(), 100);
+}
+
+#[test]
+fn a_commit_matches_its_own_bytes_alone() {
+    let graph = Graph::at(&made().file).unwrap();
+    let contents = |commit: &Commit<'_>| git(&made().repository, &["cat-file", "commit", &commit.id().to_string()]) + "\n";
+    for commit in graph.iter_commits() {
+        let bytes = contents(&commit).into_bytes();
+        for other in graph.iter_commits() {
+            let wanted = if other.id() == commit.id() { Ok(()) } else { Err(Mismatch::OtherContents) };
+            assert_eq!(other.matches(&bytes), wanted);
+        }
+        assert_eq!(commit.matches(&bytes[1..]), Err(Mismatch::OtherContents));
+    }
+}
+
+#[test]
+fn parents_of_a_long_list_are_read_as_they_are_asked_for() {
+    const COMMITS: u32 = 3000;
+    let graph = Graph::of_bytes(&[(&long_lists(COMMITS), "")]).unwrap();
+    let parents = (0..=COMMITS).map(|number| Ok(Position(number % COMMITS)));
+    for commit in graph.iter_commits() {
+        assert_eq!(commit.parent1(), Ok(Some(Position(0))));
+        assert!(commit.iter_parents().take(5).eq(parents.clone().take(5)));
+        assert_eq!(graph.commit_at(commit.position()).parent1(), Ok(Some(Position(0))));
+    }
+    assert!(graph.commit_at(Position(1)).iter_parents().eq(parents.clone()));
+    assert_eq!(graph.commit_at(Position(2)).parents().unwrap().len(), COMMITS as usize + 1);
+}
+
+/// What takes steps for each parent of each commit takes some seconds here, and the rest some milliseconds.
+#[test]
+fn commits_that_share_one_long_list_are_gone_over_quickly() {
+    let graph = Graph::of_bytes(&[(&long_lists(20_000), "")]).unwrap();
+    let start = std::time::Instant::now();
+    let firsts = graph.iter_commits().filter(|commit| commit.parent1() == Ok(Some(Position(0)))).count();
+    let some: usize = graph.iter_commits().map(|commit| commit.iter_parents().take(3).count()).sum();
+    assert_eq!((firsts, some), (20_000, 60_000));
+    assert!(start.elapsed() < std::time::Duration::from_secs(2), "{:?}", start.elapsed());
 }

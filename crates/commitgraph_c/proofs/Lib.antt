@@ -4,6 +4,7 @@ mod Called
 mod DateRoom
 mod FieldParents
 mod Files
+mod FirstRoom
 mod ManyRoom
 mod ParentRoom
 mod Positions

@@ -19,13 +19,13 @@ pub record AreSeen (parents : DecodedParents) (count : ℕ) (room now : List ℕ
   pub room_of : now ≡ written (numbers_of seen) room
 
 -- The first item is a parent's position, and the others come after it.
-record IsNext (ahead : List Position) (fault : Option ParentError) (pos : Position)
+pub record IsNext (ahead : List Position) (fault : Option ParentError) (pos : Position)
     (left : List (Result Position ParentError)) : Type 0 where
   pub rest : List Position
   pub first : ahead ≡ pos ∷ rest
   pub others : left ≡ map (λ pos. Ok pos) rest ++ fault_items fault
 
-next_of : (ahead : List Position) (fault : Option ParentError) (pos : Position) (left : List (Result Position ParentError))
+pub next_of : (ahead : List Position) (fault : Option ParentError) (pos : Position) (left : List (Result Position ParentError))
     → Ok pos ∷ left ≡ map (λ pos. Ok pos) ahead ++ fault_items fault → IsNext ahead fault pos left
 next_of [] None pos left h = cc h
 next_of [] (Some error) pos left h = cc h

@@ -31,6 +31,9 @@ path_not_utf8 = 5
 abbrev pub no_dates : ℕ
 no_dates = 6
 
+abbrev pub more_parents : ℕ
+more_parents = 7
+
 abbrev pub chunk_code : ChunkError → ℕ
 chunk_code chunk.NoChunks = 151
 chunk_code chunk.TableTooSmall = 152

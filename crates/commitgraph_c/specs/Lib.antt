@@ -3,8 +3,10 @@ pub mod Blocks
 pub mod Codes
 pub mod Files
 pub mod FirstLine
+pub mod FirstParents
 pub mod Held
 pub mod Many
+pub mod Matched
 pub mod Probes
 pub mod State
 pub mod ToldDates

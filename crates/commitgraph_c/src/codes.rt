@@ -21,6 +21,8 @@ pub const PATH_NOT_UTF8: u32 = 5;
 
 pub const NO_DATES: u32 = 6;
 
+pub const MORE_PARENTS: u32 = 7;
+
 /// Why the table of chunks is refused.
 pub fn chunk_code(error: &ChunkError) -> u32
     ensures { result ≡ chunk_code error.now }

@@ -9,6 +9,8 @@ use std::sync::OnceLock;
 
 /// The commit-graphs of one build.
 pub struct Made {
+    /// The repository of the file, whose branch is `main`.
+    pub repository: PathBuf,
     /// The file of an info folder.
     pub file: PathBuf,
     /// The same with another generation number of the merge, which stands above position 0.
@@ -27,12 +29,12 @@ pub fn made() -> &'static Made {
         let file = in_one_file(&folder.join("file"));
         let faulty = folder.join("faulty");
         fs::write(&faulty, with_another_generation(&fs::read(&file).unwrap())).unwrap();
-        Made { file, faulty, chain: in_layers(&folder.join("chain")) }
+        Made { repository: folder.join("file"), file, faulty, chain: in_layers(&folder.join("chain")) }
     })
 }
 
-/// What Git answers in a repository.
-fn git(at: &Path, words: &[&str]) -> String {
+/// What Git answers in a repository, without a newline at its end.
+pub fn git(at: &Path, words: &[&str]) -> String {
     let mut command = Command::new("git");
     command.arg("-C").arg(at).args(words).env("GIT_CONFIG_GLOBAL", "/dev/null").env("GIT_CONFIG_NOSYSTEM", "1");
     for who in ["AUTHOR", "COMMITTER"] {
@@ -109,4 +111,29 @@ fn checksum_of(bytes: &[u8]) -> Vec<u8> {
     let told = tool.wait_with_output().unwrap().stdout;
     let digits = std::str::from_utf8(&told[..40]).unwrap();
     (0..20).map(|at| u8::from_str_radix(&digits[2 * at..][..2], 16).unwrap()).collect()
+}
+
+/// A file of so many commits that all have position 0 as their first parent, and share one list of as many others, from
+/// position 1 on and then position 0. Its generation numbers are wrong.
+pub fn long_lists(commits: u32) -> Vec<u8> {
+    let word = |number: u32| number.to_be_bytes();
+    let id = |number: u32| [&[0; 12][..], &word(number + 1), &[1; 4]].concat();
+    let record = |_| [&[1; 20][..], &word(0), &word(1 << 31), &word(1 << 2), &word(1_000_000_000)].concat();
+    let last = |number: u32| if number + 1 == commits { 1 << 31 } else { 0 };
+    let chunks: [(&[u8; 4], Vec<u8>); 4] = [
+        (b"OIDF", word(commits).repeat(256)),
+        (b"OIDL", (0..commits).flat_map(id).collect()),
+        (b"CDAT", (0..commits).flat_map(record).collect()),
+        (b"EDGE", (0..commits).flat_map(|number| word((number + 1) % commits | last(number))).collect()),
+    ];
+    let mut bytes = [&b"CGPH\x01\x01"[..], &[chunks.len() as u8, 0]].concat();
+    let mut start = 8 + 12 * (chunks.len() as u64 + 1);
+    for (name, body) in &chunks {
+        bytes.extend([&name[..], &start.to_be_bytes()].concat());
+        start += body.len() as u64;
+    }
+    bytes.extend([&[0; 4][..], &start.to_be_bytes()].concat());
+    bytes.extend(chunks.iter().flat_map(|(_, body)| body));
+    bytes.extend(checksum_of(&bytes));
+    bytes
 }

@@ -1,0 +1,66 @@
+//! The first parents of a commit, in the time of as many steps as there is room for.
+
+ghost use Rattle.std.specs.Prelude.{◌≡◌, ◌≢◌, ◌↔◌, ◌≤◌, ◌⊎◌, IsSomeAnd, None};
+ghost use Rattle.graph_layer.specs.Commit.{commit_parents};
+ghost use Rattle.gix_commitgraph.specs.Graph.{total};
+ghost use Rattle.commitgraph_c.specs.Answers.{HasCommit, layers_of, parents_in};
+ghost use Rattle.commitgraph_c.specs.Codes.{closed_graph, no_such_position};
+ghost use Rattle.commitgraph_c.specs.FirstParents.{TellsFirstParents};
+
+use crate::codes::{CLOSED_GRAPH, MORE_PARENTS, NO_SUCH_POSITION, parent_code};
+use crate::handle::CgGraph;
+use crate::parents::CgParents;
+use gix_commitgraph::Position;
+use gix_commitgraph::file::Commit;
+
+/// Writes the positions of the first parents of the commit at a position, as many as there is room
+/// for, and reads no more than the one after them.
+#[unsafe(no_mangle)]
+pub extern "C" fn cg_first_parents(graph: CgGraph, pos: u32, out: &mut [u32]) -> CgParents
+    ensures parents { result.code ≢ no_such_position → result.code ≢ closed_graph
+        → HasCommit (layers_of graph.address.held) pos (λ commit.
+        TellsFirstParents (parents_in commit) result out.old out.new) }
+    ensures nowhere { result.code ≡ no_such_position
+        ↔ IsSomeAnd (layers_of graph.address.held) (λ layers. total layers ≤ pos) }
+    ensures closed { result.code ≡ closed_graph ↔ layers_of graph.address.held ≡ None }
+    ensures kept { (result.code ≡ no_such_position) ⊎ (result.code ≡ closed_graph)
+        → (out.new ≡ out.old) × (result.count ≡ 0) }
+{
+    let Some(graph) = graph.graph() else {
+        return CgParents {
+            code: CLOSED_GRAPH,
+            count: 0,
+        };
+    };
+    if pos >= graph.num_commits() {
+        return CgParents {
+            code: NO_SUCH_POSITION,
+            count: 0,
+        };
+    }
+    write_first(graph.commit_at(Position(pos)), out)
+}
+
+/// Writes the positions of a commit's first parents, one by one.
+fn write_first(commit: Commit<'_>, out: &mut [u32]) -> CgParents
+    ensures { TellsFirstParents (commit_parents commit.entry) result out.old out.new }
+{
+    let mut count: u64 = 0;
+    for parent in commit.iter_parents() {
+        match parent {
+            Ok(pos) => {
+                if count >= out.len() as u64 {
+                    let code = MORE_PARENTS;
+                    return CgParents { code, count };
+                }
+                out[count as usize] = pos.0;
+                count = count.saturating_add(1);
+            }
+            Err(error) => {
+                let code = parent_code(error);
+                return CgParents { code, count };
+            }
+        }
+    }
+    CgParents { code: 0, count }
+}
