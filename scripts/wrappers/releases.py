@@ -9,7 +9,7 @@ import tempfile
 import version
 from wrappers.clone import TOP, run
 
-COPIED = ("scripts/release", "scripts/version.py", version.CHANGES, *(path for path, _ in version.PLACES))
+COPIED = ("scripts/release", "scripts/version.py", version.CHANGES, *(path for path, _ in version.PLACES + version.AS_ONE))
 NAME = {"GIT_%s_%s" % (who, what): "name@example.com" for who in ("AUTHOR", "COMMITTER") for what in ("NAME", "EMAIL")}
 CHANGES = "# Changes\n\n## Unreleased\n\n- one\n\n## %s, 2020-01-01\n\n- none\n"
 
