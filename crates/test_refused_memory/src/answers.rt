@@ -1,6 +1,7 @@
 //! Makes a call, and writes what it answered.
 
-use crate::calls::{Call, Command, HistoryCommand, Opener, Query};
+use crate::calls::{Call, Command, HistoryCommand, ObjectCommand, Opener, Query};
+use crate::long::Long;
 use crate::stage::Stage;
 use gix_commitgraph::file::Commit;
 use gix_commitgraph::opening::{open_chain_dir_in, open_file_in, open_in, open_info_dir_in};
@@ -11,10 +12,12 @@ use graph_chunks::filters::GraphFilters;
 use graph_commands::run::{run_ancestor, run_distinct, run_find, run_list, run_verify};
 use graph_folder::folder::{Folder, Memory};
 use graph_history::{Checked, Comparer, Comparison, Reached};
+use graph_objects::check_objects;
 use graph_vectors::build;
 use history_commands::run::{
     run_check, run_is_ancestor, run_merge_base, run_merge_base_ids, run_walk,
 };
+use object_commands::{run_ids, run_objects};
 use std::alloc::{AllocError, Global};
 use std::convert::Infallible;
 use std::io::Write;
@@ -37,8 +40,10 @@ pub fn make(rt: &HostRuntime, alloc: Global, call: Call, stage: &mut Stage) -> i
         Call::Query(query) => ask(rt, alloc, query, &stage.graphs.line),
         Call::Dates => dates(rt, alloc, &stage.graphs.dated),
         Call::Filters => filters(rt, alloc, &stage.graphs.dated),
+        Call::CheckObjects => compare(rt, alloc, &stage.long),
         Call::Run(command) => run(rt, alloc, command, stage),
         Call::RunHistory(command) => run_history(rt, alloc, command, stage),
+        Call::RunObjects(command) => run_of_objects(rt, alloc, command, stage),
         Call::Open(opener) => open(rt, alloc, opener, stage),
         Call::OpenLayer => open_layer(rt, alloc),
     }
@@ -173,6 +178,12 @@ fn filters(rt: &HostRuntime, alloc: Global, graph: &Graph) -> io::Result<()> {
     println!(rt; "{:?}", answer.map(|filters| filters.computed()))
 }
 
+fn compare(rt: &HostRuntime, alloc: Global, long: &Long) -> io::Result<()> {
+    let (mut stream, commits) = (long.stream.as_slice(), long.graph.num_commits());
+    let answer = check_objects(alloc, &long.graph, &mut stream, 0, commits);
+    println!(rt; "{answer:?}")
+}
+
 /// Puts the upper layer of the chain on top of the lower one, which was checked, and tells how many
 /// commits the graph has after that.
 fn push(rt: &HostRuntime, alloc: Global, stage: &mut Stage) -> io::Result<()> {
@@ -228,6 +239,22 @@ fn run_history(
             run_merge_base_ids(alloc, memory, "chain", FIRST, others, out)
         }
         HistoryCommand::Check => run_check(alloc, memory, "dated", out),
+    };
+    println!(rt; "{answer:?}")?;
+    io::writer(rt).write_all(out)
+}
+
+fn run_of_objects(
+    rt: &HostRuntime,
+    alloc: Global,
+    command: ObjectCommand,
+    stage: &mut Stage,
+) -> io::Result<()> {
+    let (memory, out) = (&mut stage.folders.memory, &mut stage.folders.out);
+    let mut stream = stage.long.stream.as_slice();
+    let answer = match command {
+        ObjectCommand::Ids => run_ids(alloc, memory, "chain", None, out),
+        ObjectCommand::Objects => run_objects(alloc, &mut stream, memory, "long", None, out),
     };
     println!(rt; "{answer:?}")?;
     io::writer(rt).write_all(out)

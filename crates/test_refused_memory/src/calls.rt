@@ -14,8 +14,10 @@ pub enum Call {
     Query(Query),
     Dates,
     Filters,
+    CheckObjects,
     Run(Command),
     RunHistory(HistoryCommand),
+    RunObjects(ObjectCommand),
     Open(Opener),
     OpenLayer,
 }
@@ -49,6 +51,13 @@ pub enum HistoryCommand {
     MergeBase,
     MergeBaseIds,
     Check,
+}
+
+/// A command that holds a graph against its commits.
+#[derive(Clone, Copy)]
+pub enum ObjectCommand {
+    Ids,
+    Objects,
 }
 
 /// A way to open a graph, in memory or on disk.
@@ -87,6 +96,7 @@ const CALLS: &[(&str, Call)] = &[
     ("put_dir", Call::Put { folder: true }),
     ("CorrectedDates::of_graph", Call::Dates),
     ("GraphFilters::of_graph", Call::Filters),
+    ("check_objects", Call::CheckObjects),
     ("run_list", Call::Run(Command::List)),
     ("run_verify", Call::Run(Command::Verify)),
     ("run_verify_info", Call::Run(Command::VerifyInfo)),
@@ -107,6 +117,8 @@ const CALLS: &[(&str, Call)] = &[
         Call::RunHistory(HistoryCommand::MergeBaseIds),
     ),
     ("run_check", Call::RunHistory(HistoryCommand::Check)),
+    ("run_ids", Call::RunObjects(ObjectCommand::Ids)),
+    ("run_objects", Call::RunObjects(ObjectCommand::Objects)),
     ("open_file_in", Call::Open(Opener::FileIn)),
     ("open_chain_dir_in", Call::Open(Opener::ChainDirIn)),
     ("open_info_dir_in", Call::Open(Opener::InfoDirIn)),

@@ -10,6 +10,7 @@
 mod answers;
 mod calls;
 mod further;
+mod long;
 mod stage;
 
 use calls::Call;

@@ -2,6 +2,7 @@
 
 use crate::answers::SECOND;
 use crate::further::with_chunks;
+use crate::long::Long;
 use anyhow::{Result, ensure};
 use gix_commitgraph::{File, Graph};
 use gix_hash_core::{Kind, ObjectId};
@@ -18,6 +19,7 @@ use std::{fs, slice};
 pub struct Stage {
     pub single: Single,
     pub graphs: Graphs,
+    pub long: Long,
     pub folders: Folders,
 }
 
@@ -58,9 +60,9 @@ pub struct Chain {
 /// What commands take and write.
 #[derive(Drop)]
 pub struct Folders {
-    /// The file `f`, the file `dated` of the graph of that name, and the folders `chain`, `info`
-    /// and `damaged`: that of the chain, an info folder with the chain, and one with a damaged file
-    /// beside the chain.
+    /// The file `f`, the files `dated` and `long` of the graphs of these names, and the folders
+    /// `chain`, `info` and `damaged`: that of the chain, an info folder with the chain, and one
+    /// with a damaged file beside the chain.
     pub memory: Memory,
     /// The id of the chain's second commit.
     pub others: Vec<String>,
@@ -72,10 +74,12 @@ impl Stage {
     /// The same each time. The folder `disk` is an info folder with the chain, and `f` a file.
     pub fn new<R: Files + Alloc>(rt: &R, alloc: Global) -> Result<Stage> {
         put_on_disk(rt, alloc)?;
+        let long = Long::new(alloc)?;
         Ok(Stage {
             single: Single::new(alloc)?,
             graphs: Graphs::new(alloc)?,
-            folders: Folders::new(alloc)?,
+            folders: Folders::new(alloc, &long)?,
+            long,
         })
     }
 }
@@ -116,9 +120,9 @@ impl Chain {
 }
 
 impl Folders {
-    fn new(alloc: Global) -> Result<Folders> {
+    fn new(alloc: Global, long: &Long) -> Result<Folders> {
         Ok(Folders {
-            memory: memory(alloc)?,
+            memory: memory(alloc, long)?,
             others: others(alloc)?,
             out: Vec::with_capacity(alloc, 4096)?,
         })
@@ -249,10 +253,11 @@ fn name_and_line(alloc: Global, bytes: &[u8]) -> Result<(String, String)> {
     Ok((name, format!(in alloc; "{checksum}\n")?))
 }
 
-fn memory(alloc: Global) -> Result<Memory> {
+fn memory(alloc: Global, long: &Long) -> Result<Memory> {
     let mut memory = Memory::new(alloc);
     put(alloc, &mut memory, "f", &file(alloc, &plan(alloc)?)?)?;
     put(alloc, &mut memory, "dated", &dated_file(alloc)?)?;
+    put(alloc, &mut memory, "long", &long.file)?;
     put(alloc, &mut memory, "damaged/commit-graph", b"damaged")?;
     for folder in ["chain", "info/commit-graphs", "damaged/commit-graphs"] {
         put_chain(alloc, &mut memory, folder)?;
