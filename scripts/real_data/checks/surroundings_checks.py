@@ -130,9 +130,15 @@ def check_pipe(program, results, folder):
     pipe = os.path.join(info, "commit-graph")
     os.mkdir(info)
     os.mkfifo(pipe)
-    threading.Thread(target=write_bytes, args=(pipe, built.diamond()), daemon=True).start()
+    threading.Thread(target=fill, args=(pipe, built.diamond()), daemon=True).start()
     right = partial(judge.verdict, reading.verified(built.diamond()))
     check_soon(results, "verify, a pipe in an info folder", right, partial(program.verify, info))
+
+
+def fill(pipe, content):
+    """Writes bytes into a pipe, as soon as somebody reads it."""
+    with open(pipe, "wb") as file:
+        file.write(content)
 
 
 def check_path(program, results, name, path, text, **streams):
