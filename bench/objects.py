@@ -41,7 +41,7 @@ def main(folder):
         "git cat-file": best(cat_file(made.folder), ids),
     }
     for name, run in figures.items():
-        print("%-14s %7.3f s of processor time, %7.3f elapsed, %6.1f MB" % (name, run.processor, run.elapsed, run.memory / 1e6))
+        print("%-14s %7.3f s of processor time, %7.3f elapsed" % (name, run.processor, run.elapsed))
     print("%-14s %7.3f s" % ("digest", digest))
     print("objects beside the digest      %.2f" % (figures["objects"].processor / digest))
     print("objects beside git cat-file    %.2f" % (figures["objects"].processor / figures["git cat-file"].processor))
