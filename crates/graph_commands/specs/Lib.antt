@@ -11,5 +11,4 @@ pub mod OpenerAnswer
 pub mod CheckAnswers
 pub mod Find
 pub mod Ancestor
-pub mod GraphtoolWords
-pub mod GraphtoolAnswers
+pub mod GraphtoolCommands

@@ -1,7 +1,7 @@
 //! The commands of `graphtool`, by the words of a command line.
 
 ghost use Rattle.std.specs.Prelude.{◌≡◌, ℕ, List, IfSome, IsNone, map, string_bytes};
-ghost use Rattle.graph_commands.specs.GraphtoolWords.{AskGraphtool};
+ghost use Rattle.graph_commands.specs.GraphtoolCommands.{AskGraphtool};
 ghost use Rattle.graph_commands.specs.declared.command.Command.{Command};
 
 use crate::line::WriteFailed;
@@ -81,7 +81,7 @@ impl<'a> Command<'a> {
 }
 
 impl Run for Command<'_> {
-    ghost use Rattle.graph_commands.specs.GraphtoolAnswers.{GraphtoolMayWrite};
+    ghost use Rattle.graph_commands.specs.GraphtoolCommands.{GraphtoolMayWrite};
 
     ghost MayWrite = { GraphtoolMayWrite };
 

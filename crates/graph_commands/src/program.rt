@@ -17,9 +17,10 @@ use std::io::{Read, Write};
 pub trait Run {
     /// What the command may write, and with which status: given the bytes that the input has left
     /// before and after, where they are known; that the folder is as it was before; what the opener
-    /// may answer at a path; and what the output holds before and after, where that is known.
+    /// may answer at a path while the count of device failures goes from one number to another; that
+    /// count before and after; and what the output holds before and after, where that is known.
     ghost MayWrite: { Self → Option (List ℕ) → Option (List ℕ) → Type 0
-        → (List ℕ → Result (List Layer) OpenError → Type 0)
+        → (List ℕ → ℕ → ℕ → Result (List Layer) OpenError → Type 0) → ℕ → ℕ
         → Option (List ℕ) → Option (List ℕ) → ℕ → Type 0 };
 
     /// Runs the command, and answers its exit status. `WriteFailed` comes where the output fails.
@@ -32,8 +33,7 @@ pub trait Run {
     ) -> Result<u8, WriteFailed>
         ensures written { IfOk result (MayWrite self
             (R.remaining input.old) (R.remaining input.new) (folder.new ≡ folder.old)
-            (λ path. MayOpen (T.tree folder.old) path (T.failure_count folder.old)
-            (T.failure_count folder.new))
+            (MayOpen (T.tree folder.old)) (T.failure_count folder.old) (T.failure_count folder.new)
             (W.contents output.old) (W.contents output.new)) }
         ensures tree { T.tree folder.new ≡ T.tree folder.old };
 }
@@ -69,8 +69,7 @@ pub fn respond<C: Run, R: Read, T: Folder, W: Write, E: Write>(
     ensures answered { IfSome command (λ command. IfOk result (λ status.
         (C.MayWrite command (R.remaining input.old) (R.remaining input.new)
         (folder.new ≡ folder.old)
-        (λ path. MayOpen (T.tree folder.old) path (T.failure_count folder.old)
-        (T.failure_count folder.new))
+        (MayOpen (T.tree folder.old)) (T.failure_count folder.old) (T.failure_count folder.new)
         (W.contents output.old) (W.contents output.new) status × (errors.new ≡ errors.old))
         ⊎ Complains complaints.entry.write_failed.now
         (E.contents errors.old) (E.contents errors.new) status)) }

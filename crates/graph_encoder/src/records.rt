@@ -7,10 +7,8 @@ ghost use Rattle.graph_encoder.specs.Written.{record_bytes, records_from};
 use crate::edges::{extra_words_len, parent_fields};
 use crate::plan::PlanCommit;
 use crate::push::{push_id, push_long, push_word};
+use graph_format::records::TIME_BITS;
 use std::alloc::AllocError;
-
-/// How many bits of a record's last number are the time. The generation number is in those above.
-const TIME_BITS: u32 = 34;
 
 /// Adds the record of a commit whose extra words begin at this index.
 #[tactic(auto, unfolding(crate::specs::Written::record_bytes))]

@@ -18,6 +18,7 @@ use gix_hash_core::{Kind, oid};
 use graph_folder::folder::{Folder, ReadError};
 use graph_format::chunks::record_len;
 use graph_format::integers::long_at;
+use graph_format::records::TIME_BITS;
 use std::alloc::Global;
 
 /// Searches the layer of a file that begins with this head: it reads the ids that begin with the
@@ -81,6 +82,3 @@ fn commit_of(kind: Kind, pos: u32, fields: &[u8]) -> FoundCommit
         time: generation_and_time % (1 << TIME_BITS),
     }
 }
-
-/// How many bits of a record's last eight bytes are the committer's time.
-const TIME_BITS: u32 = 34;

@@ -12,6 +12,7 @@ ghost use Rattle.graph_format.specs.ChunkRanges.{IsChunkRange, AreChunkRanges};
 ghost use Rattle.graph_format.specs.ChunkRanges.{size_at, chunk_start};
 
 use crate::error::FileError;
+use crate::header::BASE_COUNT_AT;
 use gix_chunk_core::Index;
 use gix_hash_core::Kind;
 
@@ -197,7 +198,7 @@ pub(crate) fn chunk_ranges(
     ensures refusal { Reports result (sizes_refusal kind (filled front.now len)) }
 {
     let bases = chunk_range(front, len, index, BASE_GRAPHS_LIST_CHUNK_ID);
-    check_bases(kind, front[7], bases)?;
+    check_bases(kind, front[BASE_COUNT_AT], bases)?;
     let records = check_records(kind, chunk_range(front, len, index, COMMIT_DATA_CHUNK_ID))?;
     let fan = check_fan(chunk_range(front, len, index, OID_FAN_CHUNK_ID))?;
     let ids = check_ids(kind, chunk_range(front, len, index, OID_LOOKUP_CHUNK_ID))?;

@@ -13,12 +13,27 @@ use gix_hash_core::Kind;
 /// The header's length.
 pub(crate) const HEADER_LEN: usize = 8;
 
+/// The length of an entry in the table of chunks.
+pub(crate) const TABLE_ENTRY_LEN: usize = 12;
+
+/// Where the header has the file's version.
+const VERSION_AT: usize = 4;
+
+/// Where it has the number of its kind of hash.
+const HASH_AT: usize = 5;
+
+/// Where it has the number of chunks.
+pub(crate) const CHUNK_COUNT_AT: usize = 6;
+
+/// Where it has the number of base layers.
+pub(crate) const BASE_COUNT_AT: usize = 7;
+
 /// The bytes that begin each file.
 const SIGNATURE: [u8; 4] = *b"CGPH";
 
 /// The least size of a file: a header, a table of three chunks and its end, a fan, and the shorter
 /// checksum.
-const MIN_FILE_SIZE: usize = HEADER_LEN + 4 * 12 + 256 * 4 + 20;
+const MIN_FILE_SIZE: usize = HEADER_LEN + 4 * TABLE_ENTRY_LEN + 256 * 4 + 20;
 
 /// The kind of a file's ids, where its header is right. The file has `len` bytes, and begins with
 /// these.
@@ -38,10 +53,10 @@ pub(crate) fn kind_of_file(front: &[u8], len: usize) -> Result<Kind, FileError>
     if &front[..4] != SIGNATURE.as_slice() {
         return Err(FileError::Signature);
     }
-    if front[4] != 1 {
-        return Err(FileError::Version(front[4]));
+    if front[VERSION_AT] != 1 {
+        return Err(FileError::Version(front[VERSION_AT]));
     }
-    match Kind::try_from(front[5]) {
+    match Kind::try_from(front[HASH_AT]) {
         Ok(kind) => Ok(kind),
         Err(byte) => Err(FileError::Hash(byte)),
     }

@@ -18,7 +18,7 @@ ghost use Rattle.graph_format.specs.Outline.{IsOutline};
 use crate::chunks::{ChunkRange, ChunkRanges, chunk_range, chunk_ranges, record_len};
 use crate::error::FileError;
 use crate::fan::{check_rising, fan_at_head};
-use crate::header::{HEADER_LEN, kind_of_file};
+use crate::header::{BASE_COUNT_AT, CHUNK_COUNT_AT, HEADER_LEN, TABLE_ENTRY_LEN, kind_of_file};
 use gix_chunk_core::Index;
 use gix_hash_core::Kind;
 
@@ -60,7 +60,7 @@ fn check_trailer(
     if len - end != kind.len_in_bytes() {
         return Err(FileError::Trailer);
     }
-    if front[7] > 0 && chunks.bases.is_none() {
+    if front[BASE_COUNT_AT] > 0 && chunks.bases.is_none() {
         return Err(FileError::BaseMissing);
     }
     Ok(())
@@ -145,7 +145,7 @@ fn index_of(front: &[u8], len: usize) -> Result<Index<'_>, FileError>
     ensures refusal { Reports result (option_map FileError.Chunks
         (table_fault (filled front.now len) 8 (slice_index (filled front.now len) 6))) }
 {
-    match Index::from_head(front, len, HEADER_LEN, front[6] as u32) {
+    match Index::from_head(front, len, HEADER_LEN, front[CHUNK_COUNT_AT] as u32) {
         Ok(index) => Ok(index),
         Err(fault) => Err(FileError::Chunks(fault)),
     }
@@ -196,7 +196,7 @@ fn layout_by_fan(front: &[u8], len: usize, outline: Outline) -> Result<Layout, F
     Ok(Layout {
         kind,
         commits,
-        base_count: front[7],
+        base_count: front[BASE_COUNT_AT],
         chunks,
         trailer_start,
     })
@@ -208,5 +208,8 @@ fn holds_table(front: &[u8], len: usize) -> bool
     ensures table { IsTrue result → min len (table_end front.now) ≤ length front.now }
     ensures whole { length front.now ≡ len → IsTrue result }
 {
-    front.len() == len || front.len() >= 20 && front.len() >= 20 + 12 * front[6] as usize
+    let least = HEADER_LEN + TABLE_ENTRY_LEN;
+    front.len() == len
+        || front.len() >= least
+            && front.len() >= least + TABLE_ENTRY_LEN * front[CHUNK_COUNT_AT] as usize
 }

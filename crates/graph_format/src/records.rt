@@ -15,7 +15,7 @@ use std::alloc::{AllocError, Global};
 
 /// How many bits of a record's last eight bytes are the committer's time; the generation number is
 /// in the others, above them.
-const TIME_BITS: u32 = 34;
+pub const TIME_BITS: u32 = 34;
 
 /// How many bytes a word of the extra edge list has.
 const WORD_LEN: usize = 4;

@@ -6,7 +6,7 @@ use Rattle.std.specs.Prelude.{String, Option, Some, None, IfSome, codes}
 use Rattle.std.specs.Global.{Global}
 use Rattle.object_commands.specs.AskedRange.{SpellsRange}
 use Rattle.object_commands.specs.declared.range.PositionRange.{PositionRange}
-use Rattle.history_program.specs.HistorytoolWords.{AskAfterName, AskHistorytool}
+use Rattle.history_program.specs.HistorytoolCommands.{AskAfterName, AskHistorytool}
 use Rattle.history_program.specs.declared.command.Command.{Command}
 use Rattle.history_program.specs.declared.command.Command.TheVariants as command
 

@@ -1,2 +1,1 @@
-pub mod HistorytoolWords
-pub mod HistorytoolAnswers
+pub mod HistorytoolCommands

@@ -2,8 +2,8 @@
 
 ghost use Rattle.std.specs.Prelude.{◌≡◌, ◌∷◌, [], ℕ, List, IfOk, IfSome, IsNone};
 ghost use Rattle.std.specs.Prelude.{codes, map, string_bytes};
-ghost use Rattle.history_program.specs.HistorytoolWords.{AskAfterName, AskHistorytool};
-ghost use Rattle.history_program.specs.HistorytoolAnswers.{TellsOfItself};
+ghost use Rattle.history_program.specs.HistorytoolCommands.{AskAfterName, AskHistorytool};
+ghost use Rattle.history_program.specs.HistorytoolCommands.{TellsOfItself};
 ghost use Rattle.object_commands.specs.AskedRange.{SpellsRange};
 ghost use Rattle.object_commands.specs.declared.range.PositionRange as declared;
 ghost use Rattle.history_program.specs.declared.command.Command.{Command};
@@ -270,7 +270,7 @@ impl<'a> Command<'a> {
 }
 
 impl Run for Command<'_> {
-    ghost use Rattle.history_program.specs.HistorytoolAnswers.{HistorytoolMayWrite};
+    ghost use Rattle.history_program.specs.HistorytoolCommands.{HistorytoolMayWrite};
 
     ghost MayWrite = { HistorytoolMayWrite };
 

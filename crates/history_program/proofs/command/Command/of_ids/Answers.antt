@@ -1,6 +1,6 @@
 -- A single text after the first one is the end of the range.
 use Rattle.std.proofs.Common.{◌≡◌, ◌∷◌, [], ℕ, List, IfSome, codes, map, string_bytes, subst, sym, arith}
-use Rattle.history_program.specs.HistorytoolWords.{AskAfterName}
+use Rattle.history_program.specs.HistorytoolCommands.{AskAfterName}
 use Rattle.history_program.proofs.WordsLemmas.{one_word}
 use Rattle.history_program.proofs.command.Command.of_ids.Goals as goal
 

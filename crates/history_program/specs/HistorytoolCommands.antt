@@ -1,0 +1,81 @@
+-- The commands of `historytool`: which words ask for each, and what it may write. The table scripts/commands lists the words:
+-- is-ancestor PATH HEX HEX, ids PATH [FROM TO] and so on; beside these --help or -h, and --version.
+use Rattle.std.specs.Prelude.{◌≡◌, ◌≢◌, ◌⊎◌, ℕ, List, [], ◌∷◌, Some, None, codes, map, string_bytes, Result, Option}
+use Rattle.object_commands.specs.AskedRange.{SpellsRange}
+use Rattle.history_program.specs.declared.command.Command.{Command}
+use Rattle.std.specs.Io.KnownBytes.{Appends}
+use Rattle.graph_format.specs.Layer.{Layer}
+use Rattle.graph_layer.specs.declared.opening.error.OpenError.{OpenError}
+use Rattle.graph_commands.specs.Text.{◌⧺◌, newline}
+use Rattle.graph_commands.specs.WrittenAnswer.{WritesAnswer}
+use Rattle.show_commands.specs.Show.{MayShow, show_text, show_status}
+use Rattle.object_commands.specs.CommitIds.{MayListIds, ids_text, ids_status}
+use Rattle.object_commands.specs.ComparedObjects.{MayCompareObjects, objects_text, objects_status}
+use Rattle.history_commands.specs.Check.{MayFindInAll, check_text, check_status}
+use Rattle.history_commands.specs.IsAncestor.{IsTold, is_ancestor_text, is_ancestor_status}
+use Rattle.history_commands.specs.MergeBases.{MayCompare, merge_base_text, merge_base_ids_text, merge_base_status}
+use Rattle.history_commands.specs.Question.{MayAnswer}
+use Rattle.history_commands.specs.Walk.{IsWalkOfIds, walk_text, walk_status}
+use Rattle.history_program.specs.declared.command.Command.TheVariants as command
+
+-- the words after the program's own name ask for this command, given the texts of the help and of the version
+abbrev pub AskAfterName : List ℕ → List ℕ → List (List ℕ) → Command → Type 0
+AskAfterName help version words (command.Help text) =
+    ((words ≡ codes "--help" ∷ []) ⊎ (words ≡ codes "-h" ∷ [])) × (text.now ≡ help)
+AskAfterName help version words (command.Version text) = (words ≡ codes "--version" ∷ []) × (text.now ≡ version)
+AskAfterName help version words (command.IsAncestor path first second) =
+    words ≡ codes "is-ancestor" ∷ path.now ∷ first.now ∷ second.now ∷ []
+AskAfterName help version words (command.Walk path first second) =
+    words ≡ codes "walk" ∷ path.now ∷ first.now ∷ second.now ∷ []
+AskAfterName help version words (command.MergeBase path first others) =
+    (words ≡ codes "merge-base" ∷ path.now ∷ first.now ∷ map string_bytes others.now) × (others.now ≢ [])
+AskAfterName help version words (command.MergeBaseIds path first others) =
+    (words ≡ codes "merge-base-ids" ∷ path.now ∷ first.now ∷ map string_bytes others.now) × (others.now ≢ [])
+AskAfterName help version words (command.Check path) = words ≡ codes "check" ∷ path.now ∷ []
+AskAfterName help version words (command.Show path) = words ≡ codes "show" ∷ path.now ∷ []
+AskAfterName help version words (command.Ids path None) = words ≡ codes "ids" ∷ path.now ∷ []
+AskAfterName help version words (command.Ids path (Some range)) =
+    (from to : List ℕ) × (words ≡ codes "ids" ∷ path.now ∷ from ∷ to ∷ []) × SpellsRange from to range
+AskAfterName help version words (command.Objects path None) = words ≡ codes "objects" ∷ path.now ∷ []
+AskAfterName help version words (command.Objects path (Some range)) =
+    (from to : List ℕ) × (words ≡ codes "objects" ∷ path.now ∷ from ∷ to ∷ []) × SpellsRange from to range
+
+-- the words of a command line ask for this command; the first of them is the program's own name
+abbrev pub AskHistorytool : List ℕ → List ℕ → List (List ℕ) → Command → Type 0
+AskHistorytool help version words asked =
+    (name : List ℕ) × (others : List (List ℕ)) × (words ≡ name ∷ others) × AskAfterName help version others asked
+
+-- a text is written, and the status is 0
+abbrev pub TellsOfItself : List ℕ → Option (List ℕ) → Option (List ℕ) → ℕ → Type 0
+TellsOfItself text old new status = Appends old new (text ⧺ newline) × (status ≡ 0)
+
+-- an answer that the command may give is written, with its status: help and version leave the folder alone; each other command
+-- answers of what the opener may answer at its path, while the count of failures goes from `before` to `after`. `objects`
+-- answers of what the input has left before and after, where that is known; none of the others asks for it
+abbrev pub HistorytoolMayWrite : Command → Option (List ℕ) → Option (List ℕ) → Type 0
+    → (List ℕ → ℕ → ℕ → Result (List Layer) OpenError → Type 0) → ℕ → ℕ → Option (List ℕ) → Option (List ℕ) → ℕ → Type 0
+HistorytoolMayWrite (command.Help text) input unread IsLeftAlone MayOpenAt before after old new status =
+    IsLeftAlone × TellsOfItself text.now old new status
+HistorytoolMayWrite (command.Version text) input unread IsLeftAlone MayOpenAt before after old new status =
+    IsLeftAlone × TellsOfItself text.now old new status
+HistorytoolMayWrite (command.IsAncestor path first second) input unread IsLeftAlone MayOpenAt before after old new status =
+    WritesAnswer is_ancestor_text is_ancestor_status
+    (MayAnswer IsTold first.now second.now IsLeftAlone (MayOpenAt path.now before after)) old new status
+HistorytoolMayWrite (command.Walk path first second) input unread IsLeftAlone MayOpenAt before after old new status =
+    WritesAnswer walk_text walk_status
+    (MayAnswer IsWalkOfIds first.now second.now IsLeftAlone (MayOpenAt path.now before after)) old new status
+HistorytoolMayWrite (command.MergeBase path first others) input unread IsLeftAlone MayOpenAt before after old new status =
+    WritesAnswer merge_base_text merge_base_status
+    (MayCompare (first.now ∷ map string_bytes others.now) IsLeftAlone (MayOpenAt path.now before after)) old new status
+HistorytoolMayWrite (command.MergeBaseIds path first others) input unread IsLeftAlone MayOpenAt before after old new status =
+    WritesAnswer merge_base_ids_text merge_base_status
+    (MayCompare (first.now ∷ map string_bytes others.now) IsLeftAlone (MayOpenAt path.now before after)) old new status
+HistorytoolMayWrite (command.Check path) input unread IsLeftAlone MayOpenAt before after old new status =
+    WritesAnswer check_text check_status (MayFindInAll (MayOpenAt path.now before after)) old new status
+HistorytoolMayWrite (command.Show path) input unread IsLeftAlone MayOpenAt before after old new status =
+    WritesAnswer show_text show_status (MayShow (MayOpenAt path.now before after)) old new status
+HistorytoolMayWrite (command.Ids path range) input unread IsLeftAlone MayOpenAt before after old new status =
+    WritesAnswer ids_text ids_status (MayListIds range (MayOpenAt path.now before after)) old new status
+HistorytoolMayWrite (command.Objects path range) input unread IsLeftAlone MayOpenAt before after old new status =
+    WritesAnswer objects_text objects_status
+    (MayCompareObjects range input unread (MayOpenAt path.now before after)) old new status
