@@ -217,23 +217,37 @@ module _ (h : List Node) (least : ℕ) (queued : List Marked) (list : List ℕ) 
         → IsQueued queued q
     named_are_queued w is q contained high = named_within (length list) w (omega arith) is q contained high
 
--- one word that is gone over, whose parent is queued before the word is marked
-module _ (h : List Node) (least : ℕ) (a b : List Marked) (c : ℕ) (extends : Extends a b c) (list : List ℕ)
-    (was now : List Marked) (next : ℕ) (read : IsRead h least a list was (Some next))
-    (marks : now ≡ was ++ record { number = next; mark = 0 } ∷ []) (pos : Position)
-    (names : pos.0 ≡ named_by (extra_edge_of (get_or list next 0)))
-    (queues : least ≤ generation_at h pos.0 → IsQueued b pos.0) where
+-- One word is gone over: the parent that it names is queued, before the word is marked.
+pub record GoesOver (h : List Node) (least : ℕ) (a b : List Marked) (list : List ℕ) (was now : List Marked) (next : ℕ)
+    (word : ExtraEdge) : Type 0 where
+  pub child : ℕ
+  pub extends : Extends a b child
+  pub read : IsRead h least a list was (Some next)
+  pub marks : now ≡ was ++ record { number = next; mark = 0 } ∷ []
+  pub says : extra_edge_of (get_or list next 0) ≡ word
+  pub parent : Position
+  pub names : parent.0 ≡ named_by word
+  pub queues : least ≤ generation_at h parent.0 → IsQueued b parent.0
+
+module _ {h : List Node} {least : ℕ} {a b : List Marked} {list : List ℕ} {was now : List Marked} {next : ℕ} {word : ExtraEdge}
+    (over : GoesOver h least a b list was now next word) where
+  open over use {child, extends, read, marks, says, parent, names, queues}
+
+  unmarked : IsRead h least b list was (Some next)
+  unmarked = read_extends h least a list was b child (Some next) extends read
+
+  named : named_by (extra_edge_of (get_or list next 0)) ≡ parent.0
+  named = ap named_by says ∙ sym names
+
   pub goes_over_internal : IsRead h least b list now (Some (next + 1))
   goes_over_internal =
       subst (λ (xs : List Marked). IsRead h least b list xs (Some (next + 1))) (sym marks)
-      (read_internal h least b list was next pos (read_extends h least a list was b c (Some next) extends read) (sym names)
-      queues)
+      (read_internal h least b list was next parent unmarked named queues)
 
-  pub goes_over_last : (last : Position) → extra_edge_of (get_or list next 0) ≡ extra.Last last → IsRead h least b list now None
+  pub goes_over_last : (last : Position) → word ≡ extra.Last last → IsRead h least b list now None
   goes_over_last last is =
       subst (λ (xs : List Marked). IsRead h least b list xs None) (sym marks)
-      (read_last h least b list was next pos (read_extends h least a list was b c (Some next) extends read) (sym names) queues
-      last is)
+      (read_last h least b list was next parent unmarked named queues last (says ∙ is))
 
   pub goes_over_marked : (w : ℕ) → IsMarked was w ⊎ (w ≡ next) → IsMarked now w
   goes_over_marked w begun =

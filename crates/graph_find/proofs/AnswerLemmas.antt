@@ -50,97 +50,113 @@ module _ (known : Option Tree) (path id : List ℕ) (head : Head) (is : IsHead h
         answers-in Missing seen.0 seen.1 seen.2
         (found-other_kind seen.0 path head.layout (is.layout.each seen.0 seen.2) id differs)
 
-    module _ (size : ℕ) (long : length id ≡ size) (kind : size ≡ id_len head.layout.kind) (byte : slice_index id 0 < 256)
-        (span : Span) (order : span.first ≤ span.end) (within : span.end ≤ head.layout.commits)
-        (fan : (file : List ℕ) → BeginsWith file head.front.items head.len → IsBucketSpan (fan_of file) (slice_index id 0) span)
-        (start len : ℕ) (starts : start ≡ head.layout.chunks.ids.start + size * span.first)
-        (lasts : len ≡ size * (span.end - span.first)) (bytes : List ℕ) (sized : length bytes ≡ len)
-        (part_seen : ForSome known (λ (tree : Tree). IsSomeAnd (file_at tree path)
-        (λ file. slice_range file start (start + len) ≡ bytes)))
-      where
-        part-seen : ForSome known (λ (tree : Tree). IsSomeAnd (file_at tree path) (λ file.
-            slice_range file start (start + length bytes) ≡ bytes))
-        part-seen =
-            let P : ℕ → Type 0 = λ n. ForSome known (λ (tree : Tree). IsSomeAnd (file_at tree path) (λ file.
-            slice_range file start (start + n) ≡ bytes)) in
-            subst P (sym sized) part_seen
+-- The bytes of the ids in a bucket were read.
+pub record ReadsBucket (known : Option Tree) (path id : List ℕ) (head : Head) (span : Span) (bytes : List ℕ) : Type 0 where
+  pub is : IsHead head
+  pub begins : BeginsAt known path head
+  pub size : ℕ
+  pub long : length id ≡ size
+  pub kind : size ≡ id_len head.layout.kind
+  pub byte : slice_index id 0 < 256
+  pub order : span.first ≤ span.end
+  pub within : span.end ≤ head.layout.commits
+  pub fan : (file : List ℕ) → BeginsWith file head.front.items head.len → IsBucketSpan (fan_of file) (slice_index id 0) span
+  pub start : ℕ
+  pub len : ℕ
+  pub starts : start ≡ head.layout.chunks.ids.start + size * span.first
+  pub lasts : len ≡ size * (span.end - span.first)
+  pub sized : length bytes ≡ len
+  pub part_seen : ForSome known (λ (tree : Tree). IsSomeAnd (file_at tree path) (λ file.
+      slice_range file start (start + len) ≡ bytes))
 
-        ends : start + length bytes ≤ head.layout.chunks.records.start
-        ends =
-            let rows = bucket-end size span.first span.end head.layout.commits order within in
-            let all : size * head.layout.commits ≡ id_len head.layout.kind * head.layout.commits =
-            ap (λ (n : ℕ). n * head.layout.commits) kind in
-            omega (arith, is.order.records, rows, all, sized, starts, lasts)
+module _ {known : Option Tree} {path id : List ℕ} {head : Head} {span : Span} {bytes : List ℕ}
+    (read : ReadsBucket known path id head span bytes) where
+  open read use {is, begins as front_seen, size, long, kind, byte, order, within, fan}
+  open read use {start, len, starts, lasts, sized, part_seen}
 
-        bucket : (file : List ℕ) → BeginsWith file head.front.items head.len
-            → slice_range file start (start + length bytes) ≡ bytes
-            → IsBucket (decoded_layer file path) id span.first span.end bytes
-        bucket file begins same =
-            let P : ℕ → Type 0 = λ n. slice_range file (head.layout.chunks.ids.start + n * span.first)
-            (head.layout.chunks.ids.start + n * span.first + n * (span.end - span.first)) ≡ bytes in
-            let Q : ℕ → ℕ → Type 0 = λ n m. slice_range file n m ≡ bytes in
-            let stop : start + length bytes ≡ head.layout.chunks.ids.start + size * span.first + size * (span.end - span.first) =
-            omega (arith, sized, starts, lasts) in
-            let moved : Q (head.layout.chunks.ids.start + size * span.first)
-            (head.layout.chunks.ids.start + size * span.first + size * (span.end - span.first)) =
-            subst (λ (n : ℕ). Q n (head.layout.chunks.ids.start + size * span.first + size * (span.end - span.first))) starts
-            (subst (Q start) stop same) in
-            is-bucket file path head.layout (is.layout.each file begins) id bytes span (long ∙ kind) byte (fan file begins) order
-            within (subst P (sym long) moved)
+  part-seen : ForSome known (λ (tree : Tree). IsSomeAnd (file_at tree path) (λ file.
+      slice_range file start (start + length bytes) ≡ bytes))
+  part-seen =
+      let P : ℕ → Type 0 = λ n. ForSome known (λ (tree : Tree). IsSomeAnd (file_at tree path) (λ file.
+      slice_range file start (start + n) ≡ bytes)) in
+      subst P (sym sized) part_seen
 
-        -- the id is not in its bucket
-        pub missing-bucket : ((layer : Layer) → IsBucket layer id span.first span.end bytes → Found layer id None)
-            → AnswersInLayer known path head id Missing
-        missing-bucket nowhere =
-            let seen =
-            seen-part known path head.front.items head.len start bytes (omega (arith, is.order.ids, starts))
-            (omega (arith, ends, is.order.end)) front_seen part-seen in
-            answers-in Missing seen.0 seen.1 seen.2.begins
-            (nowhere (decoded_layer seen.0 path) (bucket seen.0 seen.2.begins seen.2.has))
+  ends : start + length bytes ≤ head.layout.chunks.records.start
+  ends =
+      let rows = bucket-end size span.first span.end head.layout.commits order within in
+      let all : size * head.layout.commits ≡ id_len head.layout.kind * head.layout.commits =
+      ap (λ (n : ℕ). n * head.layout.commits) kind in
+      omega (arith, is.order.records, rows, all, sized, starts, lasts)
 
-        -- the id is there, and its record was read
-        pub found-commit : (pos : ℕ) → pos < span.end
-            → ((layer : Layer) → IsBucket layer id span.first span.end bytes → Found layer id (Some pos))
-            → (later more_len : ℕ) → more_len ≡ id_len head.layout.kind + 16
-            → later ≡ head.layout.chunks.records.start + more_len * pos
-            → (more : List ℕ) → length more ≡ more_len
-            → ForSome known (λ (tree : Tree). IsSomeAnd (file_at tree path)
-            (λ file. slice_range file later (later + more_len) ≡ more))
-            → (commit : FoundCommit) → commit.pos ≡ pos
-            → commit.generation ≡ (record_of head.layout.kind more).generation
-            → commit.time ≡ (record_of head.layout.kind more).time → AnswersInLayer known path head id (found_at commit)
-        found-commit pos below there later more_len is_len is_later more more_sized more_seen commit at generation time =
-            let R : ℕ → Type 0 = λ n. ForSome known (λ (tree : Tree). IsSomeAnd (file_at tree path) (λ file.
-            slice_range file later (later + n) ≡ more)) in
-            let rows : more_len * pos + more_len ≤ more_len * head.layout.commits =
-            row more_len pos head.layout.commits (omega arith) in
-            let all : more_len * head.layout.commits ≡ (id_len head.layout.kind + 16) * head.layout.commits =
-            ap (λ (n : ℕ). n * head.layout.commits) is_len in
-            let seen =
-            seen-parts known path head.front.items head.len start bytes later more (omega (arith, is.order.ids, starts))
-            (omega (arith, ends, is_later)) (omega (arith, is.order.end, rows, all, is_later, more_sized)) front_seen part-seen
-            (subst R (sym more_sized) more_seen) in
-            let file = seen.0 in
-            let begins = seen.2.first.begins in
-            let kept = is.layout.each file begins in
-            let found : Found (decoded_layer file path) id (Some pos) =
-            there (decoded_layer file path) (bucket file begins seen.2.first.has) in
-            let F : ℕ → Type 0 = λ n. Found (decoded_layer file path) id (Some n) in
-            let here : F commit.pos = subst F (sym at) found in
-            let wide = id_len head.layout.kind + 16 in
-            let Q : ℕ → ℕ → Type 0 = λ n m. slice_range file n m ≡ more in
-            let shift : more_len * pos ≡ wide * commit.pos = ap (λ (n : ℕ). n * pos) is_len ∙ ap (λ (n : ℕ). wide * n) (sym at) in
-            let from : later ≡ head.layout.chunks.records.start + wide * commit.pos = omega (arith, is_later, shift) in
-            let stop : later + length more ≡ head.layout.chunks.records.start + wide * commit.pos + wide =
-            omega (arith, from, more_sized, is_len) in
-            let moved : Q (head.layout.chunks.records.start + wide * commit.pos)
-            (head.layout.chunks.records.start + wide * commit.pos + wide) =
-            subst (λ (n : ℕ). Q n (head.layout.chunks.records.start + wide * commit.pos + wide)) from
-            (subst (Q later) stop seen.2.has) in
-            answers-in (found_at commit) file seen.1 begins (
-              here,
-              tells-record file path head.layout kept id more commit here moved generation time,
-            )
+  bucket : (file : List ℕ) → BeginsWith file head.front.items head.len
+      → slice_range file start (start + length bytes) ≡ bytes
+      → IsBucket (decoded_layer file path) id span.first span.end bytes
+  bucket file begins same =
+      let P : ℕ → Type 0 = λ n. slice_range file (head.layout.chunks.ids.start + n * span.first)
+      (head.layout.chunks.ids.start + n * span.first + n * (span.end - span.first)) ≡ bytes in
+      let Q : ℕ → ℕ → Type 0 = λ n m. slice_range file n m ≡ bytes in
+      let stop : start + length bytes ≡ head.layout.chunks.ids.start + size * span.first + size * (span.end - span.first) =
+      omega (arith, sized, starts, lasts) in
+      let moved : Q (head.layout.chunks.ids.start + size * span.first)
+      (head.layout.chunks.ids.start + size * span.first + size * (span.end - span.first)) =
+      subst (λ (n : ℕ). Q n (head.layout.chunks.ids.start + size * span.first + size * (span.end - span.first))) starts
+      (subst (Q start) stop same) in
+      is-bucket file path head.layout (is.layout.each file begins) id bytes span (long ∙ kind) byte (fan file begins) order
+      within (subst P (sym long) moved)
+
+  -- the id is not in its bucket
+  pub missing-bucket : ((layer : Layer) → IsBucket layer id span.first span.end bytes → Found layer id None)
+      → AnswersInLayer known path head id Missing
+  missing-bucket nowhere =
+      let seen =
+      seen-part known path head.front.items head.len start bytes (omega (arith, is.order.ids, starts))
+      (omega (arith, ends, is.order.end)) front_seen part-seen in
+      answers-in known path id head is Missing seen.0 seen.1 seen.2.begins
+      (nowhere (decoded_layer seen.0 path) (bucket seen.0 seen.2.begins seen.2.has))
+
+  -- the id is there, and its record was read
+  pub found-commit : (pos : ℕ) → pos < span.end
+      → ((layer : Layer) → IsBucket layer id span.first span.end bytes → Found layer id (Some pos))
+      → (later more_len : ℕ) → more_len ≡ id_len head.layout.kind + 16
+      → later ≡ head.layout.chunks.records.start + more_len * pos
+      → (more : List ℕ) → length more ≡ more_len
+      → ForSome known (λ (tree : Tree). IsSomeAnd (file_at tree path)
+      (λ file. slice_range file later (later + more_len) ≡ more))
+      → (commit : FoundCommit) → commit.pos ≡ pos
+      → commit.generation ≡ (record_of head.layout.kind more).generation
+      → commit.time ≡ (record_of head.layout.kind more).time → AnswersInLayer known path head id (found_at commit)
+  found-commit pos below there later more_len is_len is_later more more_sized more_seen commit at generation time =
+      let R : ℕ → Type 0 = λ n. ForSome known (λ (tree : Tree). IsSomeAnd (file_at tree path) (λ file.
+      slice_range file later (later + n) ≡ more)) in
+      let rows : more_len * pos + more_len ≤ more_len * head.layout.commits =
+      row more_len pos head.layout.commits (omega arith) in
+      let all : more_len * head.layout.commits ≡ (id_len head.layout.kind + 16) * head.layout.commits =
+      ap (λ (n : ℕ). n * head.layout.commits) is_len in
+      let seen =
+      seen-parts known path head.front.items head.len start bytes later more (omega (arith, is.order.ids, starts))
+      (omega (arith, ends, is_later)) (omega (arith, is.order.end, rows, all, is_later, more_sized)) front_seen part-seen
+      (subst R (sym more_sized) more_seen) in
+      let file = seen.0 in
+      let begins = seen.2.first.begins in
+      let kept = is.layout.each file begins in
+      let found : Found (decoded_layer file path) id (Some pos) =
+      there (decoded_layer file path) (bucket file begins seen.2.first.has) in
+      let F : ℕ → Type 0 = λ n. Found (decoded_layer file path) id (Some n) in
+      let here : F commit.pos = subst F (sym at) found in
+      let wide = id_len head.layout.kind + 16 in
+      let Q : ℕ → ℕ → Type 0 = λ n m. slice_range file n m ≡ more in
+      let shift : more_len * pos ≡ wide * commit.pos = ap (λ (n : ℕ). n * pos) is_len ∙ ap (λ (n : ℕ). wide * n) (sym at) in
+      let from : later ≡ head.layout.chunks.records.start + wide * commit.pos = omega (arith, is_later, shift) in
+      let stop : later + length more ≡ head.layout.chunks.records.start + wide * commit.pos + wide =
+      omega (arith, from, more_sized, is_len) in
+      let moved : Q (head.layout.chunks.records.start + wide * commit.pos)
+      (head.layout.chunks.records.start + wide * commit.pos + wide) =
+      subst (λ (n : ℕ). Q n (head.layout.chunks.records.start + wide * commit.pos + wide)) from
+      (subst (Q later) stop seen.2.has) in
+      answers-in known path id head is (found_at commit) file seen.1 begins (
+        here,
+        tells-record file path head.layout kept id more commit here moved generation time,
+      )
 
 -- Some layer of a head that was read.
 pub some-layer : (known : Option Tree) (path : List ℕ) (head : Head) → IsHead head → BeginsAt known path head

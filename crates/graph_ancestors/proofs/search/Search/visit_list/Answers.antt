@@ -1,21 +1,22 @@
-use Rattle.std.proofs.Common.{◌≡◌, ℕ, ◌≤◌, ◌∷◌, ◌++◌, [], List, length, get_or, None, refl, sym, ap, ◌∙◌}
+use Rattle.std.proofs.Common.{◌≡◌, ◌≢◌, ℕ, ◌≤◌, ◌∷◌, ◌++◌, [], List, length, get_or, None, refl, sym, ap, ◌∙◌}
 use Rattle.std.proofs.Common.{subst, subst₂, inl, inr, ⊎_elim, arith}
 use Rattle.std.proofs.lemmas.Bool.{false≢true}
 use Rattle.graph_format.specs.Layer.{Layer}
 use Rattle.graph_format.specs.StoredHistory.{history_of}
 use Rattle.graph_format.specs.Parents.{extra_edge_of}
 use Rattle.graph_walks.specs.History.{generation_at}
-use Rattle.graph_ancestors.specs.Commits.{list_in, named_by}
+use Rattle.graph_ancestors.specs.Commits.{list_in}
 use Rattle.graph_ancestors.specs.Marks.{IsMarked, marked_at, bound_at}
 use Rattle.graph_ancestors.specs.Queue.{commit_in, IsQueued}
-use Rattle.graph_ancestors.specs.Search.{queued_by}
+use Rattle.graph_ancestors.specs.Search.{queued_by, IsRead}
 use Rattle.graph_ancestors.specs.declared.words.WordMarks.{WordMarks}
 use Rattle.graph_ancestors.proofs.ListLemmas.{read_from, read_extends, read_stops, reading_within, reading_goes_on}
-use Rattle.graph_ancestors.proofs.ListLemmas.{next_is_parent}
-use Rattle.graph_ancestors.proofs.ListLemmas.{goes_over_internal, goes_over_last, goes_over_marked, named_are_queued, few_words}
+use Rattle.graph_ancestors.proofs.ListLemmas.{next_is_parent, few_words}
+use Rattle.graph_ancestors.proofs.ListLemmas.{GoesOver, goes_over_internal, goes_over_last, goes_over_marked, named_are_queued}
 use Rattle.graph_ancestors.proofs.QueueLemmas.{extends_refl, commit_extends}
 use Rattle.graph_ancestors.proofs.SearchLemmas.{goes_on_trans, are_read_from}
 use Rattle.graph_ancestors.proofs.search.Search.visit_list.Goals as goal
+use Rattle.graph_ancestors.proofs.search.Search.visit_list.Goals.{In_ok-set}
 
 pub loop-words-init : goal.loop-words-init
 loop-words-init c =
@@ -63,17 +64,15 @@ enqueue-requires-clause-parent c =
     let s = c.args.self.now in
     let l = c.loop-words in
     let inv = l.invariant in
-    let list = list_in s.graph.now c.args.layer in
-    let edge = sym (c.from_raw-edge.ensures ∙ ap (λ (xs : List ℕ). extra_edge_of (get_or xs l.next 0)) inv.list) in
-    let parent =
-    next_is_parent (history_of s.graph.now) list (commit_in (queued_by s) c.args.place) l.next inv.reading c.from_raw-edge.result
-    edge in
+    let says = sym (c.from_raw-edge.ensures ∙ ap (λ (xs : List ℕ). extra_edge_of (get_or xs l.next 0)) inv.list) in
     rw (
       inv.graph,
       c.parent_of.ensures,
       commit_extends (queued_by s) (queued_by l.self) c.args.place c.args.place
           inv.goes_on.extends c.requires.place,
-    ) parent
+    )
+    (next_is_parent (history_of s.graph.now) (list_in s.graph.now c.args.layer) (commit_in (queued_by s) c.args.place) l.next
+    inv.reading c.from_raw-edge.result says)
 
 pub set-requires-clause-bound : goal.set-requires-clause-bound
 set-requires-clause-bound c =
@@ -104,23 +103,46 @@ loop-words-smaller c =
     let inv = c.loop-words.invariant in
     omega (arith, reading_within _ _ _ _ inv.reading, ap length inv.list)
 
+-- Once the word that is next was gone over:
+module _ (c : In_ok-set) where
+  over : GoesOver (history_of c.args.self.now.graph.now) c.args.self.now.least (queued_by c.loop-words.self)
+      (queued_by c.enqueue.new.self) (list_in c.args.self.now.graph.now c.args.layer)
+      (marked_at c.loop-words.self.words.layers.items c.args.layer) (marked_at c.set.new.self.layers.items c.args.layer)
+      c.loop-words.next c.from_raw-edge.result
+  over =
+      let l = c.loop-words in
+      let e = c.in_ok-enqueue.ensures in
+      record {
+        child = c.args.place;
+        extends = e.goes_on.extends;
+        read = l.invariant.read;
+        marks = c.in_ok-set.ensures.marked
+            ∙ ap (λ (w : WordMarks). marked_at w.layers.items c.args.layer ++ record { number = l.next; mark = 0 } ∷ [])
+            c.enqueue.ensures.words;
+        says = sym (c.from_raw-edge.ensures ∙ ap (λ (xs : List ℕ). extra_edge_of (get_or xs l.next 0)) l.invariant.list);
+        parent = c.parent_of.result;
+        names = c.parent_of.ensures;
+        queues = subst₂ (λ (layers : List Layer) (least : ℕ). least ≤ generation_at (history_of layers) c.parent_of.result.0
+            → IsQueued (queued_by c.enqueue.new.self) c.parent_of.result.0) l.invariant.graph l.invariant.goes_on.least e.queued;
+      }
+
+  -- the lists of the other layers
+  others_read : (i : ℕ) → i ≢ c.args.layer
+      → IsRead (history_of c.args.self.now.graph.now) c.args.self.now.least (queued_by c.enqueue.new.self)
+      (list_in c.args.self.now.graph.now i) (marked_at c.set.new.self.layers.items i) None
+  others_read i apart =
+      rw (c.in_ok-set.ensures.others i apart, c.enqueue.ensures.words)
+      (read_extends _ _ _ _ _ (queued_by c.enqueue.new.self) c.args.place None c.in_ok-enqueue.ensures.goes_on.extends
+      (c.loop-words.invariant.others i apart))
+
 pub loop-words-preserved : goal.loop-words-preserved
 loop-words-preserved c =
+    let here = goal.at.loop-words-preserved c in
     let s = c.args.self.now in
     let l = c.loop-words in
     let inv = l.invariant in
-    let h = history_of s.graph.now in
     let e = c.in_ok-enqueue.ensures in
-    let after = c.enqueue.new.self in
-    let list = list_in s.graph.now c.args.layer in
-    let word = sym (c.from_raw-edge.ensures ∙ ap (λ (xs : List ℕ). extra_edge_of (get_or xs l.next 0)) inv.list) in
-    let marks =
-    c.in_ok-set.ensures.marked
-    ∙ ap (λ (w : WordMarks). marked_at w.layers.items c.args.layer ++ record { number = l.next; mark = 0 } ∷ [])
-    c.enqueue.ensures.words in
-    let names = c.parent_of.ensures ∙ ap named_by (sym word) in
-    let queues = subst₂ (λ (layers : List Layer) (least : ℕ). least ≤ generation_at (history_of layers) c.parent_of.result.0
-    → IsQueued (queued_by after) c.parent_of.result.0) inv.graph inv.goes_on.least e.queued in
+    let one = over here.In_ok-set in
     record {
       graph = c.enqueue.ensures.graph ∙ inv.graph;
       search = record {
@@ -131,7 +153,7 @@ loop-words-preserved c =
         queue = e.search.queue;
       };
       goes_on =
-          (let both = goes_on_trans s l.self after c.args.place inv.goes_on e.goes_on in
+          (let both = goes_on_trans s l.self c.enqueue.new.self c.args.place inv.goes_on e.goes_on in
           record { graph = both.graph; least = both.least; stack = both.stack; extends = both.extends });
       list = inv.list;
       room = omega (
@@ -140,49 +162,24 @@ loop-words-preserved c =
         c.set.ensures.bounds c.args.layer,
         ap (λ (w : WordMarks). bound_at w.layers.items c.args.layer) c.enqueue.ensures.words,
       );
-      others = λ i apart.
-          rw (c.in_ok-set.ensures.others i apart, c.enqueue.ensures.words)
-          (read_extends h s.least (queued_by l.self) (list_in s.graph.now i) (marked_at l.self.words.layers.items i)
-          (queued_by after) c.args.place None e.goes_on.extends (inv.others i apart));
-      read =
-          goes_over_internal h s.least (queued_by l.self) (queued_by after) c.args.place e.goes_on.extends list
-          (marked_at l.self.words.layers.items c.args.layer) _ l.next inv.read marks c.parent_of.result names queues;
+      others = others_read here.In_ok-set;
+      read = goes_over_internal one;
       reading =
-          reading_goes_on h list (commit_in (queued_by s) c.args.place) l.next inv.reading c.in-Internal.field-0
-          (word ∙ c.in-Internal.is);
-      begun =
-          inl (goes_over_marked h s.least (queued_by l.self) (queued_by after) c.args.place e.goes_on.extends list
-          (marked_at l.self.words.layers.items c.args.layer) _ l.next inv.read marks c.parent_of.result names queues c.args.index
-          inv.begun);
+          reading_goes_on (history_of s.graph.now) (list_in s.graph.now c.args.layer) (commit_in (queued_by s) c.args.place) l.next
+          inv.reading c.in-Internal.field-0 (one.says ∙ c.in-Internal.is);
+      begun = inl (goes_over_marked one c.args.index inv.begun);
     }
 
 pub returns-in-Last-clause-read : goal.returns-in-Last-clause-read
 returns-in-Last-clause-read c =
+    let here = goal.at.returns-in-Last-clause-read c in
     let s = c.args.self.now in
-    let l = c.loop-words in
-    let inv = l.invariant in
-    let h = history_of s.graph.now in
-    let e = c.in_ok-enqueue.ensures in
-    let after = c.enqueue.new.self in
-    let list = list_in s.graph.now c.args.layer in
-    let word = sym (c.from_raw-edge.ensures ∙ ap (λ (xs : List ℕ). extra_edge_of (get_or xs l.next 0)) inv.list) in
-    let marks =
-    c.in_ok-set.ensures.marked
-    ∙ ap (λ (w : WordMarks). marked_at w.layers.items c.args.layer ++ record { number = l.next; mark = 0 } ∷ [])
-    c.enqueue.ensures.words in
-    let names = c.parent_of.ensures ∙ ap named_by (sym word) in
-    let queues = subst₂ (λ (layers : List Layer) (least : ℕ). least ≤ generation_at (history_of layers) c.parent_of.result.0
-    → IsQueued (queued_by after) c.parent_of.result.0) inv.graph inv.goes_on.least e.queued in
+    let inv = c.loop-words.invariant in
     are_read_from (record c.enqueue.new.self { words = c.set.new.self }) s.graph.now s.least c.args.layer
     (c.enqueue.ensures.graph ∙ inv.graph)
-    (e.goes_on.least ∙ inv.goes_on.least)
-    (λ i apart.
-    rw (c.in_ok-set.ensures.others i apart, c.enqueue.ensures.words)
-    (read_extends h s.least (queued_by l.self) (list_in s.graph.now i) (marked_at l.self.words.layers.items i) (queued_by after)
-    c.args.place None e.goes_on.extends (inv.others i apart)))
-    (goes_over_last h s.least (queued_by l.self) (queued_by after) c.args.place e.goes_on.extends list
-    (marked_at l.self.words.layers.items c.args.layer) _ l.next inv.read marks c.parent_of.result names queues c.in-Last.field-0
-    (word ∙ c.in-Last.is))
+    (c.in_ok-enqueue.ensures.goes_on.least ∙ inv.goes_on.least)
+    (others_read here.In_ok-set)
+    (goes_over_last (over here.In_ok-set) c.in-Last.field-0 c.in-Last.is)
 
 pub returns-in-Last-clause-goes_on : goal.returns-in-Last-clause-goes_on
 returns-in-Last-clause-goes_on c =
@@ -193,28 +190,9 @@ returns-in-Last-clause-goes_on c =
 
 pub returns-in-Last-clause-named : goal.returns-in-Last-clause-named
 returns-in-Last-clause-named c = λ q contained high.
-    let s = c.args.self.now in
-    let l = c.loop-words in
-    let inv = l.invariant in
-    let h = history_of s.graph.now in
-    let e = c.in_ok-enqueue.ensures in
-    let after = c.enqueue.new.self in
-    let list = list_in s.graph.now c.args.layer in
-    let word = sym (c.from_raw-edge.ensures ∙ ap (λ (xs : List ℕ). extra_edge_of (get_or xs l.next 0)) inv.list) in
-    let marks =
-    c.in_ok-set.ensures.marked
-    ∙ ap (λ (w : WordMarks). marked_at w.layers.items c.args.layer ++ record { number = l.next; mark = 0 } ∷ [])
-    c.enqueue.ensures.words in
-    let names = c.parent_of.ensures ∙ ap named_by (sym word) in
-    let queues = subst₂ (λ (layers : List Layer) (least : ℕ). least ≤ generation_at (history_of layers) c.parent_of.result.0
-    → IsQueued (queued_by after) c.parent_of.result.0) inv.graph inv.goes_on.least e.queued in
-    let was = marked_at l.self.words.layers.items c.args.layer in
-    let now = was ++ record { number = l.next; mark = 0 } ∷ [] in
-    named_are_queued h s.least (queued_by after) list now
-    (goes_over_last h s.least (queued_by l.self) (queued_by after) c.args.place e.goes_on.extends list was now l.next inv.read
-    refl c.parent_of.result names queues c.in-Last.field-0 (word ∙ c.in-Last.is)) c.args.index
-    (goes_over_marked h s.least (queued_by l.self) (queued_by after) c.args.place e.goes_on.extends list was now l.next inv.read
-    refl c.parent_of.result names queues c.args.index inv.begun) q contained high
+    let one = over (goal.at.returns-in-Last-clause-named c).In_ok-set in
+    named_are_queued _ _ _ _ _ (goes_over_last one c.in-Last.field-0 c.in-Last.is) c.args.index
+    (goes_over_marked one c.args.index c.loop-words.invariant.begun) q contained high
 
 pub returns-clause-read : goal.returns-clause-read
 returns-clause-read c =
