@@ -29,17 +29,17 @@ look_at_repository() {
         esac
     done
     if [ $# -eq 0 ] || ! told=$(eval "look_up_by_git $words" 2>/dev/null) || ! take_ids $#; then
-        told=$(look_up_by_git) || exit 128
+        told=$(look_up_by_git) || leave 'Git tells of no repository here'
     fi
     info=${told%%"${newline}sha"*}
     rest=${told#"$info$newline"}
     format=${rest%%"$newline"*}
     rest=${rest#*"$newline"}
     is_shallow=${rest%%"$newline"*}
-    common=$(from_root "${rest#*"$newline"}") || exit 128
+    common=$(from_root "${rest#*"$newline"}") || refuse_folder "${rest#*"$newline"}"
     case $info in
     info) objects=$(pwd -P) ;;
-    *) objects=$(from_root "${info%/info}") || exit 128 ;;
+    *) objects=$(from_root "${info%/info}") || refuse_folder "${info%/info}" ;;
     esac
 }
 
@@ -148,7 +148,7 @@ is_scattered() {
 # Makes a folder for files of a moment, `scratch`, if there is none.
 make_scratch() {
     [ -z "$scratch" ] || return 0
-    scratch=$(mktemp -d) || exit 128
+    scratch=$(mktemp -d) || leave 'no folder for files of a moment can be made'
     trap 'rm -rf "$scratch"' EXIT
     for signal in HUP INT TERM; do trap "rm -rf \"\$scratch\"; trap - $signal EXIT; kill -$signal \$\$" $signal; done
 }
