@@ -3,7 +3,7 @@
 
 newline='
 '
-filter='' holds='' beside='' where='' advice='' cure='' commit=''
+filter='' holds='' beside='' where='' file='' advice='' cure='' commit='' warnings=''
 
 # Says one line on standard error.
 say() {
@@ -87,18 +87,23 @@ take_apart() {
 }
 
 # After `ask`, says on standard error what the program said there, and, unless the status is 0, what `line` means
-# and what to do, by the tables of docs/REFUSALS.md: report COMMAND PATH [ID..], as the program was asked. `beside` is the
-# line of another row, which has to be said too, or empty. What is known of a repository stands in `where`, a sentence on
-# the file of which the line speaks, `advice`, what to do in place of what the table has, and `cure`, the commands by
-# which a commit-graph is written anew; each is empty where nothing is known.
+# and what to do: report COMMAND PATH [ID..], as the program was asked.
 report() {
     printf %s "$said" >&2
-    [ "$status,$beside" != 0, ] || return 0
-    command=$1 path=$2
-    shift 2
-    NAME=$name LINE=$line COMMAND=$command IDS=$* COMMIT=${commit:-$(commit_at "$path")} BESIDE=$beside \
-        WHERE=$where ADVICE=$advice CURE=$cure LC_ALL=C \
-        awk -f "$top/scripts/explain.awk" "$top/docs/REFUSALS.md" >&2
+    [ "$status,$beside" = 0, ] || explain '' "$@" >&2
+}
+
+# Says what `line` means and what to do, by the tables of docs/REFUSALS.md: explain FORM COMMAND PATH [ID..]. `beside` is the
+# line of another row, which has to be said too, or empty. What is known of a repository stands in `where`, a sentence on
+# the file of which the line speaks, `advice`, what to do in place of what the table has, and `cure`, the commands by
+# which a commit-graph is written anew; each is empty where nothing is known. In the form `json` it writes the fields of an
+# object, with the path `file`, if `where` speaks of it, and with `warnings`.
+explain() {
+    form=$1 command=$2 path=$3
+    shift 3
+    NAME=$name FORM=$form LINE=$line COMMAND=$command IDS=$* COMMIT=${commit:-$(commit_at "$path")} BESIDE=$beside \
+        WHERE=$where FILE=${where:+$file} ADVICE=$advice CURE=$cure WARNINGS=$warnings LC_ALL=C \
+        awk -f "$top/scripts/json.awk" -f "$top/scripts/explain.awk" "$top/docs/REFUSALS.md"
 }
 
 # The id of the commit at the position that a refusal names, where the layers can be listed.

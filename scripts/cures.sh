@@ -82,11 +82,12 @@ name_file() {
         number=$(layer_of_position "${number%% *}")
         ;;
     'refused open 4 line '* | 'refused git 2 line '*)
-        where="this is line $((${line##* } + 1)) of '$(chain_file)'"
+        file=$(chain_file)
+        where="this is line $((${line##* } + 1)) of '$file'"
         return
         ;;
     'refused open 6 '*)
-        [ "$kind" = file ] || where="the chain file is '$(chain_file)'"
+        [ "$kind" = file ] || { file=$(chain_file) && where="the chain file is '$file'"; }
         return
         ;;
     'refused git 1') number=0 ;;
@@ -162,6 +163,7 @@ is_hindered() {
 # Sets what `report` says of a refusal beside the text of its row, and `is_absent` where it says nothing of what is written
 # there.
 diagnose() {
+    file=''
     case $line in
     'refused open 7' | 'refused verify 10' | 'refused dates 6' | 'refused filters 10' | 'refused walk') is_absent=yes ;;
     'refused read '*) is_absent=yes ;;

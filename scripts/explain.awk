@@ -1,9 +1,11 @@
 # Says in sentences what a line of an answer means and what to do, by the tables of docs/REFUSALS.md, which it
-# reads. The surroundings give LINE, COMMAND, the word by which the program was asked, NAME, the name to speak
-# by, and, each of them empty where it is not known, IDS, the ids that were asked about, COMMIT, the id of the
+# reads, after scripts/json.awk. The surroundings give LINE, COMMAND, the word by which the program was asked, NAME, the
+# name to speak by, and, each of them empty where it is not known, IDS, the ids that were asked about, COMMIT, the id of the
 # commit at the position that the line names, BESIDE, the line of another row, which is said too: what to do is then as
 # that row has it; WHERE, a sentence on the file of which the line speaks; ADVICE, what to do in the place of what the
-# row has; and CURE, the commands by which the commit-graph is written anew, a line for each.
+# row has; and CURE, the commands by which the commit-graph is written anew, a line for each. Where FORM is `json`, the
+# same is written as fields of a JSON object, with FILE, the path of the file, and WARNINGS, what else was said, as texts
+# of JSON with commas between them.
 #
 # A row is that of the line if a text in backquotes in its first cell has the line's words, where a capital
 # letter stands for any number, and the line may have more words at its end. Of several such rows the one with
@@ -26,29 +28,42 @@ BEGIN {
 }
 
 END {
-    if (best[line] == 0 && beside == "") exit
-    if (ENVIRON["COMMIT"] != "") say("the commit at position " value["P"] " is " ENVIRON["COMMIT"])
-    if (line ~ /^unknown /) say("id " value["N"] " is " nth_id(value["N"]))
-    if (line ~ /^refused id / && no_id() != "") say("`" no_id() "` is not an id")
     if (best[detail]) {
         sub(/; [^;]* is explained under .*/, "", happened[line])
         happened[line] = happened[line] ": " happened[detail]
     }
+    if (ENVIRON["FORM"] == "json") write_fields()
+    else if (best[line] || beside != "") say_all()
+}
+
+function say_all() {
+    if (ENVIRON["COMMIT"] != "") say("the commit at position " value["P"] " is " ENVIRON["COMMIT"])
+    if (line ~ /^unknown /) say("id " value["N"] " is " nth_id(value["N"]))
+    if (line ~ /^refused id / && no_id() != "") say("'" no_id() "' is not an id")
     if (best[line]) say(with_values(happened[line]))
     if (beside != "") {
         say(beside)
         say(happened[beside])
-        cure[line] = cure[beside]
     }
     if (ENVIRON["WHERE"] != "") say(ENVIRON["WHERE"])
-    tell_cure(ENVIRON["ADVICE"] != "" ? ENVIRON["ADVICE"] : with_values(cure[line]))
+    tell_cure(to_be_done())
+}
+
+# What to do, by the row of the line that stands beside, if there is one.
+function to_be_done() {
+    if (ENVIRON["ADVICE"] != "") return ENVIRON["ADVICE"]
+    return with_values(cure[beside != "" ? beside : line])
+}
+
+# Whether the commands by which a commit-graph is written anew are a part of what to do.
+function has_commands(text) {
+    return (text ~ /write it anew/ || ENVIRON["ADVICE"] != "") && ENVIRON["CURE"] != ""
 }
 
 # Says what to do, and how a commit-graph is written anew where that is a part of it.
-function tell_cure(text,    is_anew, anew) {
-    is_anew = text ~ /write it anew/ || ENVIRON["ADVICE"] != ""
+function tell_cure(text,    anew) {
     anew = happened["write it anew"]
-    if (is_anew && ENVIRON["CURE"] != "") {
+    if (has_commands(text)) {
         say("what to do: " text ":")
         printf "%s\n", ENVIRON["CURE"]
     } else if (text == "write it anew") say("what to do: " anew)
@@ -56,6 +71,26 @@ function tell_cure(text,    is_anew, anew) {
         if (text != "") say("what to do: " text)
         if (text ~ /write it anew/) say("to write it anew, " anew)
     }
+}
+
+# Writes the fields: those alone of which something is known. Commands with a byte that is no UTF-8 would name another path.
+function write_fields(    warnings, text) {
+    warnings = ENVIRON["WARNINGS"]
+    if (beside != "") warnings = warnings (warnings == "" ? "" : ",") text_of(beside ": " happened[beside])
+    if (warnings != "") printf ",\"warnings\":[%s]", warnings
+    write_field("error", line)
+    if (best[line]) write_field("reason", with_values(happened[line]))
+    write_field("where", ENVIRON["WHERE"])
+    write_field("file", ENVIRON["FILE"])
+    write_field("commit", line ~ /^unknown / ? nth_id(value["N"]) : ENVIRON["COMMIT"])
+    text = to_be_done()
+    if (text == "write it anew" && ENVIRON["CURE"] == "") text = happened[text]
+    write_field("advice", text)
+    if (has_commands(text) && is_readable(ENVIRON["CURE"])) printf ",\"cure\":%s", commands_of(ENVIRON["CURE"])
+}
+
+function write_field(name, text) {
+    if (text != "") printf ",\"%s\":%s", name, text_of(text)
 }
 
 # The line of the table that explains the last number of this one, if there is one.
@@ -80,7 +115,8 @@ function keep(text, wanted,    score) {
         best[wanted] = score
         happened[wanted] = cells[2]
         sub(/^from `[^`]*`[^:]*: /, "", happened[wanted])
-        cure[wanted] = to_do
+        happened[wanted] = quoted(happened[wanted])
+        cure[wanted] = quoted(to_do)
         if (wanted == line) take_values(text)
     }
 }
@@ -139,7 +175,12 @@ function no_id(    ids, count, number) {
     return ""
 }
 
-function say(text) {
+# A text of the table with the quotes of plain text.
+function quoted(text) {
     gsub(/`/, "'", text)
+    return text
+}
+
+function say(text) {
     printf "%s: %s\n", ENVIRON["NAME"], text
 }

@@ -5,7 +5,7 @@ _git_cgraph() {
     local commands='verify check distinct show list find is-ancestor walk merge-base'
     local command
     command=$(__git_find_on_cmdline "$commands")
-    local options='-C --object-dir --quiet --progress --no-progress --help --version'
+    local options='-C --object-dir --quiet --json --progress --no-progress --help --version'
     case $prev in
     -C | --object-dir)
         compopt -o filenames 2>/dev/null

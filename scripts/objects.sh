@@ -9,9 +9,9 @@
 # Asks for the check of the commit-graph and then for that of its commits, and once more where it is another one meanwhile.
 # The lines of the first check are held back until then.
 verify_objects() {
-    find_program historytool || exit 128
+    find_program historytool || leave "$line"
     historytool=$program
-    find_program graphtool || exit 128
+    find_program graphtool || leave "$line"
     graphtool=$program written=$filter
     for _ in 1 2; do
         find_graph

@@ -29,17 +29,17 @@ look_at_repository() {
         esac
     done
     if [ $# -eq 0 ] || ! told=$(eval "look_up_by_git $words" 2>/dev/null) || ! take_ids $#; then
-        told=$(look_up_by_git) || exit 128
+        told=$(look_up_by_git) || leave 'Git tells of no repository here'
     fi
     info=${told%%"${newline}sha"*}
     rest=${told#"$info$newline"}
     format=${rest%%"$newline"*}
     rest=${rest#*"$newline"}
     is_shallow=${rest%%"$newline"*}
-    common=$(from_root "${rest#*"$newline"}") || exit 128
+    common=$(from_root "${rest#*"$newline"}") || refuse_folder "${rest#*"$newline"}"
     case $info in
     info) objects=$(pwd -P) ;;
-    *) objects=$(from_root "${info%/info}") || exit 128 ;;
+    *) objects=$(from_root "${info%/info}") || refuse_folder "${info%/info}" ;;
     esac
 }
 
@@ -102,7 +102,7 @@ chain_file() {
 
 # The lines of the chain file as the programs read them, the last one with an end too: a CR before an end is left out.
 chain_lines() {
-    { LC_ALL=C sed 's/'"$return"'$//' "$(chain_file)" 2>/dev/null && echo; } | sed '${/^$/d;}'
+    { LC_ALL=C sed "s/$(printf '\r')\$//" "$(chain_file)" 2>/dev/null && echo; } | sed '${/^$/d;}'
 }
 
 # The path of the layer that a line of the chain names, in the first object folder that has it.
@@ -148,7 +148,7 @@ is_scattered() {
 # Makes a folder for files of a moment, `scratch`, if there is none.
 make_scratch() {
     [ -z "$scratch" ] || return 0
-    scratch=$(mktemp -d) || exit 128
+    scratch=$(mktemp -d) || leave 'no folder for files of a moment can be made'
     trap 'rm -rf "$scratch"' EXIT
     for signal in HUP INT TERM; do trap "rm -rf \"\$scratch\"; trap - $signal EXIT; kill -$signal \$\$" $signal; done
 }
@@ -218,12 +218,23 @@ has_commits() {
     [ -n "$tip" ]
 }
 
-# Whether the commit-graph has changed-path filters, by the table of chunks of its files.
+# Whether the commit-graph has changed-path filters, by the table of chunks of its files: those of a chain that its lines name,
+# up to eight, and those that lie beside it.
 has_filters() {
+    if [ "$kind" != chain ]; then
+        is_filtered "$folder/commit-graph"
+        return
+    fi
     for number in 0 1 2 3 4 5 6 7; do
-        file=$(layer_file $number)
-        ! head -c 256 "$file" 2>/dev/null | LC_ALL=C grep -aq BDAT || return 0
-        [ "$kind" = chain ] || return 1
+        ! is_filtered "$(layer_file $number)" || return 0
+    done
+    for file in "$folder"/commit-graphs/graph-*.graph; do
+        ! is_filtered "$file" || return 0
     done
     return 1
+}
+
+# Whether the table of chunks of a file names filters.
+is_filtered() {
+    head -c 256 "$1" 2>/dev/null | LC_ALL=C grep -aq BDAT
 }

@@ -18,7 +18,8 @@ keep() {
     sed 's/^/held /; s/^held refused /line refused /' >&4
 }
 
-# The lines that were held back, with the size and the path of each layer's file, and all sizes together.
+# The lines that were held back, with the size and the path of each layer's file, and all sizes together. For an object a path
+# is a text of JSON.
 with_files() {
     number=0 whole=0
     printf %s "$held" | while IFS= read -r row; do
@@ -27,6 +28,7 @@ with_files() {
         'chunks '*)
             file=$(layer_file $number)
             size=$(wc -c <"$file")
+            [ -z "$json" ] || file=$(json_text "$file")
             printf 'size %d file %s\n' "$size" "$file"
             number=$((number + 1)) whole=$((whole + size))
             ;;
@@ -85,24 +87,24 @@ compare_ids() {
 # Says why Git uses no commit-graph here, where that is so.
 say_unused() {
     [ "$(git config --type=bool core.commitGraph 2>/dev/null)" != false ] ||
-        say 'Git uses no commit-graph here, since core.commitGraph is false'
+        warn 'Git uses no commit-graph here, since core.commitGraph is false'
     ! has_replacements ||
-        say 'Git uses no commit-graph here, since some commits are replaced (git replace), unless it is called as git --no-replace-objects'
-    ! has_grafts || say "Git uses no commit-graph here, since '$common/info/grafts' gives commits other parents"
-    [ "$is_shallow" = false ] || say 'Git uses no commit-graph here, since this repository is shallow'
+        warn 'Git uses no commit-graph here, since some commits are replaced (git replace), unless it is called as git --no-replace-objects'
+    ! has_grafts || warn "Git uses no commit-graph here, since '$common/info/grafts' gives commits other parents"
+    [ "$is_shallow" = false ] || warn 'Git uses no commit-graph here, since this repository is shallow'
 }
 
 # Says what the commit-graph lacks, or has that is gone, and how it is written so that this is not so.
 say_uncovered() {
     case $missing in
     0) ;;
-    1) say '1 reachable commit is not in the commit-graph: Git has to read the commit itself' ;;
-    *) say "$missing reachable commits are not in the commit-graph: Git has to read the commits themselves" ;;
+    1) warn '1 reachable commit is not in the commit-graph: Git has to read the commit itself' ;;
+    *) warn "$missing reachable commits are not in the commit-graph: Git has to read the commits themselves" ;;
     esac
     case $gone in
     0) ;;
-    1) say "1 commit of the commit-graph is gone, for which 'git commit-graph verify' refuses it" ;;
-    *) say "$gone commits of the commit-graph are gone, for which 'git commit-graph verify' refuses it" ;;
+    1) warn "1 commit of the commit-graph is gone, for which 'git commit-graph verify' refuses it" ;;
+    *) warn "$gone commits of the commit-graph are gone, for which 'git commit-graph verify' refuses it" ;;
     esac
     [ "$missing,$gone" != 0,0 ] || return 0
     is_hindered || { advice='write it again' && cure=$(covers); }

@@ -10,6 +10,7 @@ import tempfile
 
 import refusals
 from wrappers.clone import Clone, exactly
+from wrappers.json_answers import fields_of, objects_in
 from wrappers.questions import anew, ask, git, make_repository, said
 
 COUNT = 7
@@ -141,6 +142,10 @@ def check_right(results, compared, shell):
     answer = compared.ask("--all-checks", "-j", "2", shell=shell)
     out = VERIFIED + "dates none\nfilters none\nobjects commits %d\n" % COUNT
     results.check("%s git-cgraph verify --objects --all-checks" % " ".join(shell), exactly(answer, 0, out))
+    answer = compared.ask("--json", "--all-checks", "-j2", shell=shell)
+    wanted = {"command": "verify", "status": 0, "commit_graph": os.path.join(compared.info, "commit-graph")}
+    right = objects_in(answer.out) == [{**wanted, **fields_of("verify", out)}] and answer[::2] == (0, "")
+    results.check("%s git-cgraph verify --objects --json" % " ".join(shell), None if right else "it is %r" % (answer,))
     results.check("%s git-cgraph verify --objects -q" % " ".join(shell), exactly(compared.ask("-q", shell=shell), 0, ""))
 
 

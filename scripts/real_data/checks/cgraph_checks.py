@@ -10,7 +10,7 @@ import shutil
 import subprocess
 
 import refusals
-from checks import disk_checks, show_checks, verify_checks
+from checks import case_checks, disk_checks, show_checks, verify_checks
 from damage import trees, wrong_commits, wrong_layout, wrong_trees
 from damage.layer import sealed
 from expected import reading
@@ -20,6 +20,7 @@ from expected.walks import Walks
 from histories import shapes
 from histories.repository import Repository, read_bytes, write_bytes
 from wrappers.clone import TOP, Clone, run
+from wrappers.json_answers import difference, objects_in
 from wrappers.tools import read
 
 ODD_TAG = "odd';$(id)\"&|<>`\u00e9!#%"
@@ -80,6 +81,7 @@ def check_all(programs, results, folder, new):
     check_recipes(installed, results, os.path.join(folder, "recipes"), new("sha1", "asked, recipes.git"))
     check_damage(installed, results, new("sha1", "asked, damaged"))
     check_damaged_trees(installed, results, new("sha1", "asked, damaged folders"))
+    case_checks.check_all(installed, results, new)
     for flags in (("--split",), ("--split", "--changed-paths")):
         check_pool(installed, results, new("sha1", "asked, a pool %s" % " ".join(flags)), flags)
     results.check("git cgraph, nothing is left over", installed.clone.left_over())
@@ -125,10 +127,15 @@ def check_recipes(installed, results, folder, repository):
             answer = run(["sh", "-c", command], installed.variables, cwd=repository.folder)
             told = repository.graph_path() in answer.err if damaged and " write " not in line else not answer.err
             ends = bool(answer.status) == (damaged and " write " not in line and not line.startswith("find"))
-            right = told and ends and not answer.out
+            right = told and ends and is_json(answer.out) == ("--json" in line)
             title = "the recipe %r, of a %s commit-graph" % (line, "damaged" if damaged else "right")
             results.check(title, None if right else "it is %r" % (answer,))
             repository.write_graph()
+
+
+def is_json(text):
+    """Whether there are lines, of which each is an object."""
+    return bool(text) and all(objects_in(line + "\n") for line in text.splitlines())
 
 
 def add_names(repository, ids):
@@ -206,6 +213,8 @@ def check_words(installed, results, title, way, graph, sums=(None,)):
         answer = installed.ask(way, *question)
         complaint = None if answer == (0, out, "") else "it is %r, expected %r" % (answer, out)
         results.check("git cgraph %s in %s" % (" ".join(question), title), complaint)
+        complaint = difference(question[0], answer, installed.ask(way, *question, "--json"))
+        results.check("git cgraph %s --json in %s" % (" ".join(question), title), complaint)
     answer = installed.ask(way, "find", "tree")
     right = answer[:2] == (128, "") and "git cgraph: 'tree' names no commit" in answer.err
     results.check("git cgraph find in %s, a tag of a tree" % title, None if right else "it is %r" % (answer,))
@@ -238,6 +247,9 @@ def check_pairs(installed, results, title, way, history):
             err = ""
             if answer.status != status or sorted(answer.out.split()) != sorted(out.split()) or answer.err != err:
                 complaints.append("%s: it is %r, expected %r" % (word, answer, (status, out)))
+        for words in (["is-ancestor"], ["walk"], ["merge-base", "--verbose"]):
+            pair = [installed.ask(way, *words, *more, first, second) for more in ([], ["--json"])]
+            complaints.append(difference(words[0], *pair))
         answer = installed.ask(way, "walk", second, first)
         text = answer._replace(out=answer.out.encode(), err="" if said.status else answer.err)
         complaints.append(walks.judge_ids(second, first, said.status == 0, text))
@@ -392,6 +404,8 @@ def check_cure(installed, results, repository, case):
     answer = installed.ask(way, "verify")
     right = answer[:2] == (status, line) and answer.err.startswith(start)
     results.check("git cgraph verify, %s, in sentences" % name, None if right else "it is %r, expected %r" % (answer, start))
+    complaint = difference("verify", answer, installed.ask(way, "verify", "--json"))
+    results.check("git cgraph verify --json, %s" % name, complaint)
     cure = "".join(line + "\n" for line in answer.err.splitlines() if line.startswith("    "))
     cured = run(["sh", "-e", "-c", cure], {**installed.variables, **way.variables}, cwd=way.folder)
     verdicts = installed.ask(way, "verify").status, installed.git(way, "commit-graph", "verify").status

@@ -10,6 +10,7 @@ from expected.facts import verified
 from histories import shapes
 from histories.repository import ID_LENGTH, read_bytes, write_bytes
 from wrappers.clone import run
+from wrappers.json_answers import difference
 
 PERSON = ("-c", "user.name=A", "-c", "user.email=a@example.com")
 
@@ -159,6 +160,7 @@ def check_state(results, title, place, counts):
     answer, (text, seen) = place.installed.ask(place.way, "show"), place.expected()
     right = answer[:2] == (0, text) and seen == counts and bool(answer.err) == (counts[:2] != (0, 0))
     results.check(title, None if right else "it is %r, expected %r" % (answer, text))
+    results.check(title + ", --json", difference("show", answer, place.installed.ask(place.way, "show", "--json")))
 
 
 def check_cure(results, title, place):
