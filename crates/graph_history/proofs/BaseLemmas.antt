@@ -29,10 +29,18 @@ module _ (x y : Paint) (grows : Grows (passed x) y) where
   pub passes_both : first_leads x ≡ true → others_lead x ≡ true → is_stale y ≡ true
   passes_both e f = grows.stale ((passed_says x).2 ∙ and_from (first_leads x) (others_lead x) e f)
 
-module _ (h : List Node) (a : ℕ) (bs : List ℕ) (coats : List Coat) (paint : IsPaint h a bs coats) (spread : IsSpread h a bs coats)
-    (done : IsDone h coats) (never_rises : (p q : ℕ) → Reaches h p q → generation_at h q ≤ generation_at h p)
-    (falls : (p q : ℕ) → IsProperAncestor h p q → generation_at h q < GENERATION_NUMBER_MAX
-    → generation_at h q < generation_at h p) where
+-- A painting that has ended, of a history whose generation numbers are right.
+pub record HasEnded (h : List Node) (a : ℕ) (bs : List ℕ) (coats : List Coat) : Type 0 where
+  pub paint : IsPaint h a bs coats
+  pub spread : IsSpread h a bs coats
+  pub done : IsDone h coats
+  pub never_rises : (p q : ℕ) → Reaches h p q → generation_at h q ≤ generation_at h p
+  pub falls : (p q : ℕ) → IsProperAncestor h p q → generation_at h q < GENERATION_NUMBER_MAX
+      → generation_at h q < generation_at h p
+
+module _ {h : List Node} {a : ℕ} {bs : List ℕ} {coats : List Coat} (ended : HasEnded h a bs coats) where
+  open ended use {paint, spread, done, never_rises, falls}
+
   queued_is_common : (p : ℕ) → is_queued coats p ≡ true → IsCommonAncestor h a bs p
   queued_is_common p queued =
       let stale = done.queued p queued in (

@@ -300,16 +300,31 @@ pub record TakenBy (h : List Node) (a : ℕ) (bs : List ℕ) (coats after : List
   pub level : IsLevel h after rest (generation_at h next.1)
   pub work : work after rest < work coats queue
 
--- A commit is taken from the queue.
-module _ (h : List Node) (a : ℕ) (bs : List ℕ) (coats : List Coat) (queue rest : List (ℕ × ℕ)) (next : ℕ × ℕ)
-    (paint : IsPaint h a bs coats) (spread : IsSpread h a bs coats) (waiting : IsWaiting h coats queue) (level : ℕ)
-    (levelled : IsLevel h coats queue level) (moved : IsPermutation queue (next ∷ rest))
-    (greatest : IsUpperBound entry_cmp next rest) where
+-- A queue gives this entry next, and the rest of it stays.
+pub record IsNext (h : List Node) (a : ℕ) (bs : List ℕ) (coats : List Coat) (queue rest : List (ℕ × ℕ)) (next : ℕ × ℕ)
+    : Type 0 where
+  pub paint : IsPaint h a bs coats
+  pub spread : IsSpread h a bs coats
+  pub waiting : IsWaiting h coats queue
+  pub level : ℕ
+  pub levelled : IsLevel h coats queue level
+  pub moved : IsPermutation queue (next ∷ rest)
+  pub order : IsHeap entry_cmp rest
+  pub greatest : IsUpperBound entry_cmp next rest
+
+-- Its commit is taken from the queue.
+module _ {h : List Node} {a : ℕ} {bs : List ℕ} {coats : List Coat} {queue rest : List (ℕ × ℕ)} {next : ℕ × ℕ}
+    (is_next : IsNext h a bs coats queue rest next) where
+  open is_next use {paint, spread, waiting, level, levelled, moved, order, greatest}
+
   taken_entries : All (IsEntry h) (next ∷ rest)
   taken_entries = All-permutation (IsEntry h) queue (next ∷ rest) moved waiting.entries
 
   pub taken_entry : IsEntry h next
   taken_entry = All-head (IsEntry h) next rest taken_entries
+
+  pub next_inside : next.1 < length coats
+  next_inside = let in' = taken_entry.0 in let len = paint.coats_len in omega arith
 
   taken_low : next.0 ≤ level
   taken_low =
@@ -337,11 +352,8 @@ module _ (h : List Node) (a : ℕ) (bs : List ℕ) (coats : List Coat) (queue re
   }
 
   -- where it goes on
-  module _ (coat : Coat) (is_coat : coat ≡ record { paint = paint_at coats next.1; queued = false }) (after : List Coat)
+  module _ {coat : Coat} {after : List Coat} (is_coat : coat ≡ record { paint = paint_at coats next.1; queued = false })
       (is_after : after ≡ set coats next.1 coat) where
-    next_inside : next.1 < length coats
-    next_inside = let in' = taken_entry.0 in let len = paint.coats_len in omega arith
-
     taken_here : (q : ℕ) → q ≡ next.1 → coat_at after q ≡ record { paint = paint_at coats next.1; queued = false }
     taken_here q e = ap (λ (ms : List Coat). coat_at ms q) is_after ∙ coat_here coats next.1 coat next_inside q e ∙ is_coat
 
@@ -361,8 +373,8 @@ module _ (h : List Node) (a : ℕ) (bs : List ℕ) (coats : List Coat) (queue re
       each = λ q. subst (IsSo h a bs q) (sym (same_paint q)) (paint.each q);
     }
 
-    taken_waiting : IsHeap entry_cmp rest → is_queued coats next.1 ≡ true → IsWaiting h after rest
-    taken_waiting order queued = record {
+    taken_waiting : is_queued coats next.1 ≡ true → IsWaiting h after rest
+    taken_waiting queued = record {
       order = order;
       entries = All-tail (IsEntry h) next rest taken_entries;
       queued = λ q is.
@@ -423,11 +435,11 @@ module _ (h : List Node) (a : ℕ) (bs : List ℕ) (coats : List Coat) (queue re
         let len = length_permutation queue (next ∷ rest) moved in
         omega arith
 
-    pub taken_by : IsHeap entry_cmp rest → is_queued coats next.1 ≡ true → TakenBy h a bs coats after queue rest next
-    taken_by order queued = record {
+    pub taken_by : is_queued coats next.1 ≡ true → TakenBy h a bs coats after queue rest next
+    taken_by queued = record {
       same = same_paint;
       paint = taken_paint;
-      waiting = taken_waiting order queued;
+      waiting = taken_waiting queued;
       here = ap (λ (m : Coat). m.queued) (taken_here next.1 refl);
       there = taken_there;
       spread = taken_spread;

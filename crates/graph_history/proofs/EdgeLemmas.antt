@@ -1,7 +1,7 @@
 -- What a painting visits, where no commit that it starts from is at the cap.
 use Rattle.std.proofs.Common.{◌≡◌, ◌≢◌, ℕ, ◌+◌, ◌<◌, ◌≤◌, suc, zero, List, [], ◌∷◌, length, map, Bool, true, false, not}
 use Rattle.std.proofs.Common.{cond}
-use Rattle.std.proofs.Common.{◌&&◌, All, Contains, IsPermutation, set, sum_by, count_by, refl, sym, ap, ◌∙◌, subst, inl, inr}
+use Rattle.std.proofs.Common.{◌&&◌, All, Contains, set, sum_by, count_by, refl, sym, ap, ◌∙◌, subst, inl, inr}
 use Rattle.std.proofs.Common.{⊎_elim}
 use Rattle.std.proofs.Common.{arith}
 use Rattle.std.specs.BinaryHeap.{IsHeap}
@@ -22,15 +22,15 @@ use Rattle.graph_history.specs.Paint.{coat_at, paint_at, is_queued, IsSo, IsPain
 use Rattle.graph_history.specs.Painting.{IsLevel, IsEntry, entry_cmp, IsWaiting, IsKnownEdge, IsVisiting, IsPainted}
 use Rattle.graph_history.proofs.PaintLemmas.{joined_painted, joined_fresh, one_side_painted, one_side, painted_leads}
 use Rattle.graph_history.proofs.ReachLemmas.{proper_step, reaches_itself}
-use Rattle.graph_history.proofs.CoatLemmas.{TakenBy}
+use Rattle.graph_history.proofs.CoatLemmas.{IsNext, TakenBy, taken_entry, next_inside, all_low}
 use Rattle.graph_history.proofs.FoundLemmas.{counted_number, some_counted, tested_within}
 use Rattle.graph_ancestors.proofs.VisitLemmas.{no_more}
 
 -- a commit of which something is known is below the cap
-pub painted_below_cap : (h : List Node) (a : ℕ) (bs : List ℕ) (coats : List Coat) → IsPaint h a bs coats
+pub painted_below_cap : {h : List Node} {a : ℕ} {bs : List ℕ} {coats : List Coat} → IsPaint h a bs coats
     → ((p q : ℕ) → Reaches h p q → generation_at h q ≤ generation_at h p) → AreBelowCap h a bs
     → (p : ℕ) → is_painted (paint_at coats p) ≡ true → generation_at h p < GENERATION_NUMBER_MAX
-painted_below_cap h a bs coats paint never_rises below p painted =
+painted_below_cap {h} {a} {bs} {coats} paint never_rises below p painted =
     ⊎_elim
     (λ e.
     let low = never_rises a p ((paint.each p).first e) in
@@ -61,8 +61,10 @@ painted_queued h coats queue level p levelled low painted =
     (cases_Bool (is_queued coats p))
 
 -- The commit that is taken is marked as queued, since as many commits are as the queue has entries.
-module _ (h : List Node) (coats : List Coat) (queue rest : List (ℕ × ℕ)) (next : ℕ × ℕ) (waiting : IsWaiting h coats queue)
-    (moved : IsPermutation queue (next ∷ rest)) where
+module _ {h : List Node} {a : ℕ} {bs : List ℕ} {coats : List Coat} {queue rest : List (ℕ × ℕ)} {next : ℕ × ℕ}
+    (is_next : IsNext h a bs coats queue rest next) where
+  open is_next use {waiting, moved}
+
   place_in : (entries : List (ℕ × ℕ)) (g p : ℕ) → Contains entries (g, p) → Contains (map (λ (e : ℕ × ℕ). e.1) entries) p
   place_in [] g p contained = absurd (let lt = contained.1 in omega arith)
   place_in (e ∷ es) g p (zero, lt, at) = (zero, omega arith, ap (λ (x : ℕ × ℕ). x.1) at)
@@ -214,12 +216,11 @@ module _ (h : List Node) (a : ℕ) (bs : List ℕ) (coats after : List Coat) (p 
   }
 
 -- A commit was taken from the queue, while one is fresh.
-module _ (h : List Node) (a : ℕ) (bs : List ℕ) (coats after : List Coat) (queue rest : List (ℕ × ℕ)) (next : ℕ × ℕ) (visits : ℕ)
-    (coat : Coat) (inside : next.1 < length coats) (is_coat : coat ≡ record { paint = paint_at coats next.1; queued = false })
-    (is_after : after ≡ set coats next.1 coat) (taken : TakenBy h a bs coats after queue rest next)
-    (queued : is_queued coats next.1 ≡ true) (is_entry : next.0 ≡ generation_at h next.1)
-    (low : (p : ℕ) → is_queued coats p ≡ true → generation_at h p ≤ next.0) (some : 0 < count_by is_fresh coats)
-    (visiting : IsVisiting h a bs coats visits) where
+module _ {h : List Node} {a : ℕ} {bs : List ℕ} {coats after : List Coat} {queue rest : List (ℕ × ℕ)} {next : ℕ × ℕ}
+    {visits : ℕ} {coat : Coat} (is_next : IsNext h a bs coats queue rest next)
+    (is_coat : coat ≡ record { paint = paint_at coats next.1; queued = false }) (is_after : after ≡ set coats next.1 coat)
+    (taken : TakenBy h a bs coats after queue rest next) (queued : is_queued coats next.1 ≡ true)
+    (some : 0 < count_by is_fresh coats) (visiting : IsVisiting h a bs coats visits) where
   settles : (q : ℕ) → is_queued coats q ≡ false → is_queued after q ≡ false
   settles q settled =
       ⊎_elim
@@ -253,7 +254,8 @@ module _ (h : List Node) (a : ℕ) (bs : List ℕ) (coats after : List Coat) (qu
         let fresh = some_counted is_fresh coats some in
         let f = fresh.0 in
         let parts = and_parts (is_queued coats f) (not (is_stale (paint_at coats f))) fresh.1 in
-        let le = low f parts.0 in
+        let le = all_low is_next f parts.0 in
+        let at = (taken_entry is_next).1 in
         let same = ap (generation_at h) e in (
           f,
           keeps f (visiting.edge f (visiting.painted f parts.0) (not_true (is_stale (paint_at coats f)) parts.1)),
@@ -267,7 +269,7 @@ module _ (h : List Node) (a : ℕ) (bs : List ℕ) (coats after : List Coat) (qu
         (cases_eq q next.1);
     count =
         let f : Coat → ℕ = λ m. cond (is_visited m) 1 0 in
-        let sums = sum_by-set f coats next.1 coat bare inside in
+        let sums = sum_by-set f coats next.1 coat bare (next_inside is_next) in
         let now : sum_by f after ≡ sum_by f (set coats next.1 coat) = ap (sum_by f) is_after in
         let old : f (coat_at coats next.1) ≡ 0 =
         ap (λ (b : Bool). cond {A = ℕ} b 1 0) (unvisited_queued (coat_at coats next.1) queued) in
@@ -282,7 +284,7 @@ module _ (h : List Node) (a : ℕ) (bs : List ℕ) (coats after : List Coat) (qu
     not_true false e = refl
 
 -- What was visited at the end.
-module _ (h : List Node) (a : ℕ) (bs : List ℕ) (coats : List Coat) (visits : ℕ) (painted : IsPainted h a bs coats)
+module _ {h : List Node} {a : ℕ} {bs : List ℕ} {coats : List Coat} {visits : ℕ} (painted : IsPainted h a bs coats)
     (paint : IsPaint h a bs coats) (visiting : IsVisiting h a bs coats visits) where
   is_one_side : (c : ℕ) → is_on_one_side (paint_at coats c) ≡ true → IsOnOneSide h a bs c
   is_one_side c e =

@@ -112,112 +112,125 @@ pub record IsPassedTo (coats : List Coat) (list : List ℕ) (trail : List Paint)
       → Grows (trail_at trail w) (trail_at trail (w + 1))
       ⊎ ((w + 1 ≡ next) × Grows (trail_at trail w) (joined (trail_at trail (w + 1)) x))
 
-module _ (coats : List Coat) (list : List ℕ) (trail : List Paint) (next : ℕ) (x : Paint) where
-  pub passed_begins : IsPassed coats list trail → IsPassedTo coats list trail next x
-  passed_begins are = record { named = are.named; goes_on = λ w pos is. inl (are.goes_on w pos is) }
+pub passed_begins : {coats : List Coat} {list : List ℕ} {trail : List Paint} {next : ℕ} {x : Paint} → IsPassed coats list trail
+    → IsPassedTo coats list trail next x
+passed_begins are = record { named = are.named; goes_on = λ w pos is. inl (are.goes_on w pos is) }
 
-  module _ (are : IsPassedTo coats list trail next x) where
-    pub passed_stops : covers (trail_at trail next) x ≡ true → IsPassed coats list trail
-    passed_stops covered = record {
-      named = are.named;
-      goes_on = λ w pos is.
-          ⊎_elim
-          (λ (on : Grows (trail_at trail w) (trail_at trail (w + 1))). on)
-          (λ at.
-          subst (Grows (trail_at trail w))
-          (covers_joined (trail_at trail (w + 1)) x (ap (λ (v : ℕ). covers (trail_at trail v) x) at.0 ∙ covered)) at.1)
-          (are.goes_on w pos is);
-    }
+pub passed_stops : {coats : List Coat} {list : List ℕ} {trail : List Paint} {next : ℕ} {x : Paint}
+    → IsPassedTo coats list trail next x → covers (trail_at trail next) x ≡ true → IsPassed coats list trail
+passed_stops {trail = trail} {next = next} {x = x} are covered = record {
+  named = are.named;
+  goes_on = λ w pos is.
+      ⊎_elim
+      (λ (on : Grows (trail_at trail w) (trail_at trail (w + 1))). on)
+      (λ at.
+      subst (Grows (trail_at trail w))
+      (covers_joined (trail_at trail (w + 1)) x (ap (λ (v : ℕ). covers (trail_at trail v) x) at.0 ∙ covered)) at.1)
+      (are.goes_on w pos is);
+}
 
-    -- that word is passed
-    module _ (more : List Coat) (after : List Paint) (grows : (q : ℕ) → Grows (paint_at coats q) (paint_at more q))
-        (heard : Grows x (paint_at more (named_by (extra_edge_of (get_or list next 0)))))
-        (here : trail_at after next ≡ joined (trail_at trail next) x)
-        (there : (w : ℕ) → w ≢ next → trail_at after w ≡ trail_at trail w) where
-      at_next : (w : ℕ) → w ≡ next → trail_at after w ≡ joined (trail_at trail w) x
-      at_next w e = ap (trail_at after) e ∙ here ∙ ap (λ (v : ℕ). joined (trail_at trail v) x) (sym e)
+-- That word is passed, once the commit that it names has heard the paint.
+pub record PassesNext (coats more : List Coat) (list : List ℕ) (trail after : List Paint) (next : ℕ) (x : Paint)
+    (word : ExtraEdge) : Type 0 where
+  pub are : IsPassedTo coats list trail next x
+  pub grows : (q : ℕ) → Grows (paint_at coats q) (paint_at more q)
+  pub says : extra_edge_of (get_or list next 0) ≡ word
+  pub hears : Grows x (paint_at more (named_by word))
+  pub here : trail_at after next ≡ joined (trail_at trail next) x
+  pub there : (w : ℕ) → w ≢ next → trail_at after w ≡ trail_at trail w
 
-      named_after : (w : ℕ) → Grows (trail_at after w) (paint_at more (named_by (extra_edge_of (get_or list w 0))))
-      named_after w =
-          ⊎_elim
-          (λ (e : w ≡ next).
-          subst (λ (y : Paint). Grows y (paint_at more (named_by (extra_edge_of (get_or list w 0))))) (sym (at_next w e))
-          (grows_joined (trail_at trail w) x _ (grows_trans _ _ _ (are.named w) (grows _))
-          (subst (λ (v : ℕ). Grows x (paint_at more (named_by (extra_edge_of (get_or list v 0))))) (sym e) heard)))
-          (λ (apart : w ≢ next).
-          subst (λ (y : Paint). Grows y (paint_at more (named_by (extra_edge_of (get_or list w 0))))) (sym (there w apart))
-          (grows_trans _ _ _ (are.named w) (grows _)))
-          (cases_eq w next)
+module _ {coats more : List Coat} {list : List ℕ} {trail after : List Paint} {next : ℕ} {x : Paint} {word : ExtraEdge}
+    (passes : PassesNext coats more list trail after next x word) where
+  open passes use {are, grows, says, hears, here, there}
 
-      -- the words that are not next
-      goes_on_after : (w : ℕ) (pos : Position) → w ≢ next → extra_edge_of (get_or list w 0) ≡ extra.Internal pos
-          → Grows (trail_at after w) (trail_at after (w + 1))
-      goes_on_after w pos apart is =
-          subst (λ (y : Paint). Grows y (trail_at after (w + 1))) (sym (there w apart))
-          (⊎_elim
-          (λ (e : w + 1 ≡ next).
-          subst (Grows (trail_at trail w)) (sym (at_next (w + 1) e))
-          (⊎_elim
-          (λ (on : Grows (trail_at trail w) (trail_at trail (w + 1))).
-          grows_trans _ _ _ on (grows_left (trail_at trail (w + 1)) x))
-          (λ at. at.1)
-          (are.goes_on w pos is)))
-          (λ (other : w + 1 ≢ next).
-          subst (Grows (trail_at trail w)) (sym (there (w + 1) other))
-          (⊎_elim
-          (λ (on : Grows (trail_at trail w) (trail_at trail (w + 1))). on)
-          (λ at. absurd (other at.0))
-          (are.goes_on w pos is)))
-          (cases_eq (w + 1) next))
+  heard : Grows x (paint_at more (named_by (extra_edge_of (get_or list next 0))))
+  heard = subst (λ (e : ExtraEdge). Grows x (paint_at more (named_by e))) (sym says) hears
 
-      pub passed_next : IsPassedTo more list after (next + 1) x
-      passed_next = record {
-        named = named_after;
-        goes_on = λ w pos is.
-            ⊎_elim
-            (λ (e : w ≡ next).
-            let other : w + 1 ≢ next = λ f. omega (arith, e, f) in
-            let on : Grows (trail_at trail w) (trail_at trail (w + 1)) =
-            ⊎_elim
-            (λ (was : Grows (trail_at trail w) (trail_at trail (w + 1))). was)
-            (λ at. absurd (other at.0))
-            (are.goes_on w pos is) in
-            inr (
-              ap (λ (v : ℕ). v + 1) e,
-              subst (λ (y : Paint). Grows y (joined (trail_at after (w + 1)) x)) (sym (at_next w e))
-                  (subst (λ (y : Paint). Grows (joined (trail_at trail w) x) (joined y x)) (sym (there (w + 1) other))
-                  (grows_joined (trail_at trail w) x _ (grows_trans _ _ _ on (grows_left (trail_at trail (w + 1)) x))
-                  (grows_right (trail_at trail (w + 1)) x))),
-            ))
-            (λ (apart : w ≢ next). inl (goes_on_after w pos apart is))
-            (cases_eq w next);
-      }
+  at_next : (w : ℕ) → w ≡ next → trail_at after w ≡ joined (trail_at trail w) x
+  at_next w e = ap (trail_at after) e ∙ here ∙ ap (λ (v : ℕ). joined (trail_at trail v) x) (sym e)
 
-      pub passed_last : (last : Position) → extra_edge_of (get_or list next 0) ≡ extra.Last last → IsPassed more list after
-      passed_last last ends = record {
-        named = named_after;
-        goes_on = λ w pos is.
-            ⊎_elim
-            (λ (e : w ≡ next).
-            let both : extra_edge_of (get_or list next 0) ≡ extra.Internal pos =
-            ap (λ (v : ℕ). extra_edge_of (get_or list v 0)) (sym e) ∙ is in
-            absurd (cc))
-            (λ (apart : w ≢ next). goes_on_after w pos apart is)
-            (cases_eq w next);
-      }
+  named_after : (w : ℕ) → Grows (trail_at after w) (paint_at more (named_by (extra_edge_of (get_or list w 0))))
+  named_after w =
+      ⊎_elim
+      (λ (e : w ≡ next).
+      subst (λ (y : Paint). Grows y (paint_at more (named_by (extra_edge_of (get_or list w 0))))) (sym (at_next w e))
+      (grows_joined (trail_at trail w) x _ (grows_trans _ _ _ (are.named w) (grows _))
+      (subst (λ (v : ℕ). Grows x (paint_at more (named_by (extra_edge_of (get_or list v 0))))) (sym e) heard)))
+      (λ (apart : w ≢ next).
+      subst (λ (y : Paint). Grows y (paint_at more (named_by (extra_edge_of (get_or list w 0))))) (sym (there w apart))
+      (grows_trans _ _ _ (are.named w) (grows _)))
+      (cases_eq w next)
 
-      pub begun_after : (index : ℕ) → Grows x (trail_at trail index) ⊎ (index ≡ next) → Grows x (trail_at after index)
-      begun_after index begun =
-          ⊎_elim
-          (λ (e : index ≡ next).
-          subst (Grows x) (sym (at_next index e)) (grows_right (trail_at trail index) x))
-          (λ (apart : index ≢ next).
-          subst (Grows x) (sym (there index apart))
-          (⊎_elim
-          (λ (was : Grows x (trail_at trail index)). was)
-          (λ (e : index ≡ next). absurd (apart e))
-          begun))
-          (cases_eq index next)
+  -- the words that are not next
+  goes_on_after : (w : ℕ) (pos : Position) → w ≢ next → extra_edge_of (get_or list w 0) ≡ extra.Internal pos
+      → Grows (trail_at after w) (trail_at after (w + 1))
+  goes_on_after w pos apart is =
+      subst (λ (y : Paint). Grows y (trail_at after (w + 1))) (sym (there w apart))
+      (⊎_elim
+      (λ (e : w + 1 ≡ next).
+      subst (Grows (trail_at trail w)) (sym (at_next (w + 1) e))
+      (⊎_elim
+      (λ (on : Grows (trail_at trail w) (trail_at trail (w + 1))).
+      grows_trans _ _ _ on (grows_left (trail_at trail (w + 1)) x))
+      (λ at. at.1)
+      (are.goes_on w pos is)))
+      (λ (other : w + 1 ≢ next).
+      subst (Grows (trail_at trail w)) (sym (there (w + 1) other))
+      (⊎_elim
+      (λ (on : Grows (trail_at trail w) (trail_at trail (w + 1))). on)
+      (λ at. absurd (other at.0))
+      (are.goes_on w pos is)))
+      (cases_eq (w + 1) next))
+
+  pub passed_next : IsPassedTo more list after (next + 1) x
+  passed_next = record {
+    named = named_after;
+    goes_on = λ w pos is.
+        ⊎_elim
+        (λ (e : w ≡ next).
+        let other : w + 1 ≢ next = λ f. omega (arith, e, f) in
+        let on : Grows (trail_at trail w) (trail_at trail (w + 1)) =
+        ⊎_elim
+        (λ (was : Grows (trail_at trail w) (trail_at trail (w + 1))). was)
+        (λ at. absurd (other at.0))
+        (are.goes_on w pos is) in
+        inr (
+          ap (λ (v : ℕ). v + 1) e,
+          subst (λ (y : Paint). Grows y (joined (trail_at after (w + 1)) x)) (sym (at_next w e))
+              (subst (λ (y : Paint). Grows (joined (trail_at trail w) x) (joined y x)) (sym (there (w + 1) other))
+              (grows_joined (trail_at trail w) x _ (grows_trans _ _ _ on (grows_left (trail_at trail (w + 1)) x))
+              (grows_right (trail_at trail (w + 1)) x))),
+        ))
+        (λ (apart : w ≢ next). inl (goes_on_after w pos apart is))
+        (cases_eq w next);
+  }
+
+  pub passed_last : (last : Position) → word ≡ extra.Last last → IsPassed more list after
+  passed_last last ends = record {
+    named = named_after;
+    goes_on = λ w pos is.
+        ⊎_elim
+        (λ (e : w ≡ next).
+        let both : extra_edge_of (get_or list next 0) ≡ extra.Internal pos =
+        ap (λ (v : ℕ). extra_edge_of (get_or list v 0)) (sym e) ∙ is in
+        let last_one = says ∙ ends in
+        absurd (cc))
+        (λ (apart : w ≢ next). goes_on_after w pos apart is)
+        (cases_eq w next);
+  }
+
+  pub begun_after : (index : ℕ) → Grows x (trail_at trail index) ⊎ (index ≡ next) → Grows x (trail_at after index)
+  begun_after index begun =
+      ⊎_elim
+      (λ (e : index ≡ next).
+      subst (Grows x) (sym (at_next index e)) (grows_right (trail_at trail index) x))
+      (λ (apart : index ≢ next).
+      subst (Grows x) (sym (there index apart))
+      (⊎_elim
+      (λ (was : Grows x (trail_at trail index)). was)
+      (λ (e : index ≡ next). absurd (apart e))
+      begun))
+      (cases_eq index next)
 
 -- Words were passed, and nothing else has changed.
 pub passes_with : (s : Painting) (t : Trails) (p : ℕ) (x : Paint) → PassesPaint s p x

@@ -151,7 +151,7 @@ module _ (h : List Node) (a : ℕ) (bs : List ℕ) (coats : List Coat) (visits :
             (painted_leads (paint_at coats p) painted)
 
 -- What was visited at the end.
-module _ (h : List Node) (a : ℕ) (bs : List ℕ) (coats : List Coat) (visits : ℕ) (painted : IsPainted h a bs coats)
+module _ {h : List Node} {a : ℕ} {bs : List ℕ} {coats : List Coat} {visits : ℕ} (painted : IsPainted h a bs coats)
     (paint : IsPaint h a bs coats) (done : IsDone h coats) (count : IsVisitCount coats visits)
     (capped : (p : ℕ) → IsReached h a bs p → GENERATION_NUMBER_MAX ≤ generation_at h p → is_visited (coat_at coats p) ≡ true)
   where

@@ -1,4 +1,4 @@
-use Rattle.std.proofs.Common.{inr, ℕ, ◌<◌, ◌≤◌, length, get_or, ◌∙◌, heap_items, arith}
+use Rattle.std.proofs.Common.{inr, ◌<◌, ◌≤◌, length, get_or, ◌∙◌, heap_items, arith}
 use Rattle.std.proofs.lemmas.List.{length-map}
 use Rattle.graph_format.specs.declared.Position.{Position}
 use Rattle.graph_walks.specs.declared.TheConstants.{GENERATION_NUMBER_MAX}
@@ -9,9 +9,10 @@ use Rattle.graph_history.proofs.CoatLemmas.{so_first, so_other, bare_level, begu
 use Rattle.graph_history.proofs.CoatLemmas.{number_at, number_contained}
 use Rattle.graph_history.proofs.EdgeLemmas.{painted_queued, at_most_once}
 use Rattle.graph_history.proofs.PassLemmas.{passed_kept}
-use Rattle.graph_history.proofs.BaseLemmas.{painted_is_exact, capped_visited}
+use Rattle.graph_history.proofs.BaseLemmas.{HasEnded, painted_is_exact, capped_visited}
 use Rattle.graph_history.proofs.VisitCountLemmas.{visits_told}
 use Rattle.graph_history.proofs.painting.paint_from.Goals as goal
+use Rattle.graph_history.proofs.painting.paint_from.Goals.{In-loop-other, In_ok-run}
 
 pub add-requires-clause-so : goal.add-requires-clause-so
 add-requires-clause-so c =
@@ -47,30 +48,31 @@ loop-other-init c =
       level = level GENERATION_NUMBER_MAX capped none;
     }
 
+-- the other that is next is a commit of the graph
+within : (c : In-loop-other)
+    → (get_or c.args.others.now c.loop-other.other-index (record { 0 = 0 })).0 < length (history_of c.args.graph.now.layers)
+within c =
+    let i = c.loop-other.invariant in
+    let commits = rw i.graph at i.painting.commits in
+    omega (arith, commits, c.requires.others c.loop-other.other-index (record { 0 = 0 }) c.loop-other-test.true)
+
 pub add-requires-in-loop-other-clause-so : goal.add-requires-in-loop-other-clause-so
 add-requires-in-loop-other-clause-so c =
     let l = c.loop-other in
     let i = l.invariant in
-    let h = history_of c.args.graph.now.layers in
-    let commits = rw i.graph at i.painting.commits in
-    let below = c.requires.others l.other-index (record { 0 = 0 }) c.loop-other-test.true in
-    let other = get_or c.args.others.now l.other-index (record { 0 = 0 }) in
-    let within : other.0 < length h = omega (arith, commits, below) in
     rw (i.graph, i.first, i.others)
-    (so_other h c.args.first.0 (numbers_of c.args.others.now) other.0
-    (number_contained c.args.others.now l.other-index c.loop-other-test.true) within)
+    (so_other (history_of c.args.graph.now.layers) c.args.first.0 (numbers_of c.args.others.now) _
+    (number_contained c.args.others.now l.other-index c.loop-other-test.true)
+    (within (goal.at.add-requires-in-loop-other-clause-so c).In-loop-other))
 
 pub loop-other-preserved : goal.loop-other-preserved
 loop-other-preserved c =
     let l = c.loop-other in
     let i = l.invariant in
     let h = history_of c.args.graph.now.layers in
-    let commits = rw i.graph at i.painting.commits in
-    let below = c.requires.others l.other-index (record { 0 = 0 }) c.loop-other-test.true in
     let other = get_or c.args.others.now l.other-index (record { 0 = 0 }) in
-    let within : other.0 < length h = omega (arith, commits, below) in
     let sound = rw i.graph at i.painting.sound in
-    let capped : generation_at h other.0 ≤ GENERATION_NUMBER_MAX = (sound.generations other.0 within).capped in
+    let low = sound.generations other.0 (within (goal.at.loop-other-preserved c).In-loop-other) in
     let level = rw i.graph at c.in_ok-add-2.ensures.level in
     record {
       graph = c.add-in-loop-other.ensures.graph ∙ i.graph;
@@ -85,7 +87,7 @@ loop-other-preserved c =
           begun_more h c.args.first.0 (numbers_of c.args.others.now) l.other-index other.0 l.painting.coats.all.items
           c.add-in-loop-other.new.self.coats.all.items i.begun (number_at c.args.others.now l.other-index)
           c.in_ok-add-2.ensures.adds;
-      level = level GENERATION_NUMBER_MAX capped i.level;
+      level = level GENERATION_NUMBER_MAX low.capped i.level;
     }
 
 pub run-requires-clause-spread : goal.run-requires-clause-spread
@@ -102,17 +104,6 @@ run-requires-clause-level c =
     let i = c.loop-other.invariant in
     (GENERATION_NUMBER_MAX, rw i.graph i.level)
 
-pub returns-clause-painted : goal.returns-clause-painted
-returns-clause-painted c =
-    let h = history_of c.args.graph.now.layers in
-    let i = c.loop-other.invariant in
-    let e = c.in_ok-run.ensures in
-    let sound = rw i.graph at i.painting.sound in
-    painted_is_exact h c.args.first.0 (numbers_of c.args.others.now) c.run.new.self.coats.all.items
-    (rw (i.graph, i.first, i.others) at e.paint) (rw (i.graph, i.first, i.others) at e.spread) (rw i.graph at e.done)
-    (λ x y. c.generations_never_rise_along_walks.ensures h x y sound.generations)
-    (λ x y. c.generations_fall_along_walks.ensures h x y sound.generations)
-
 pub add-requires-in-loop-other-clause-waits : goal.add-requires-in-loop-other-clause-waits
 add-requires-in-loop-other-clause-waits c =
     let l = c.loop-other in
@@ -124,22 +115,30 @@ add-requires-in-loop-other-clause-waits c =
     painted_queued h l.painting.coats.all.items (heap_items l.painting.queue) GENERATION_NUMBER_MAX other.0 i.level
     (below other.0 (inr (number_contained c.args.others.now l.other-index c.loop-other-test.true))) painted)
 
-pub returns-clause-visits : goal.returns-clause-visits
-returns-clause-visits c =
+-- all is painted
+ended : (c : In_ok-run)
+    → HasEnded (history_of c.args.graph.now.layers) c.args.first.0 (numbers_of c.args.others.now) c.run.new.self.coats.all.items
+ended c =
     let h = history_of c.args.graph.now.layers in
-    let a = c.args.first.0 in
-    let bs = numbers_of c.args.others.now in
-    let coats = c.run.new.self.coats.all.items in
     let i = c.loop-other.invariant in
     let e = c.in_ok-run.ensures in
     let sound = rw i.graph at i.painting.sound in
-    let paint = rw (i.graph, i.first, i.others) at e.paint in
-    let done = rw i.graph at e.done in
-    let visiting = rw (i.graph, i.first, i.others) at e.visiting in
-    let spread = rw (i.graph, i.first, i.others) at e.spread in
-    let never_rises = λ (x y : ℕ). c.generations_never_rise_along_walks.ensures h x y sound.generations in
-    let falls = λ (x y : ℕ). c.generations_fall_along_walks.ensures h x y sound.generations in
-    let painted = painted_is_exact h a bs coats paint spread done never_rises falls in
-    visits_told h a bs coats c.run.new.self.visits painted paint done e.count
-    (capped_visited h a bs coats paint spread done never_rises falls)
-    (λ below. at_most_once h a bs coats c.run.new.self.visits painted paint (visiting below))
+    record {
+      paint = rw (i.graph, i.first, i.others) at e.paint;
+      spread = rw (i.graph, i.first, i.others) at e.spread;
+      done = rw i.graph at e.done;
+      never_rises = λ x y. c.generations_never_rise_along_walks.ensures h x y sound.generations;
+      falls = λ x y. c.generations_fall_along_walks.ensures h x y sound.generations;
+    }
+
+pub returns-clause-painted : goal.returns-clause-painted
+returns-clause-painted c = painted_is_exact (ended (goal.at.returns-clause-painted c).In_ok-run)
+
+pub returns-clause-visits : goal.returns-clause-visits
+returns-clause-visits c =
+    let end = ended (goal.at.returns-clause-visits c).In_ok-run in
+    let painted = painted_is_exact end in
+    let i = c.loop-other.invariant in
+    let visiting = rw (i.graph, i.first, i.others) at c.in_ok-run.ensures.visiting in
+    visits_told painted end.paint end.done c.in_ok-run.ensures.count (capped_visited end)
+    (λ below. at_most_once painted end.paint (visiting below))
