@@ -13,3 +13,6 @@ pub mod BelowLemmas
 pub mod IdLemmas
 pub mod VisitCountLemmas
 pub mod BaseLawLemmas
+pub mod LowestLemmas
+pub mod LowerLemmas
+pub mod ReloadLemmas

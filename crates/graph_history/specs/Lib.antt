@@ -6,3 +6,5 @@ pub mod Comparison
 pub mod Trails
 pub mod Paint
 pub mod Painting
+pub mod Reload
+pub mod LowerStatistics

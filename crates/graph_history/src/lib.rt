@@ -1,24 +1,28 @@
 //! Commit-graphs that were checked and are right, as types, and what may be asked of them.
 //!
-//! A [`Checked`] borrows a graph, and a [`CheckedGraph`] owns it. Both are made by a check alone. A
+//! A [`Checked`] borrows a graph, and a [`CheckedGraph`] owns it. Both are made by a check alone.
+//! Where the files were written anew, [`Checked::reload`] checks only the layers that are new. A
 //! checked graph says of each of its commits what the file says, and whether one commit is an
 //! ancestor of another, and by which shortest walk along parents. A [`Searcher`] answers many such
 //! queries over one memory. A checked graph also says which merge bases some commits have, and how
 //! far they have come apart: a [`Comparison`] is both, and a [`Comparer`] makes many of them over
-//! one memory. Queries rely on the generation numbers,
-//! which the check has found right, and leave out each commit whose number is too low to lead to
-//! the one that is looked for ("topological level" in Git's commit-graph design).
+//! one memory. Queries rely on the generation numbers, which the check has found right, and leave
+//! out each commit whose number is too low to lead to the one that is looked for ("topological
+//! level" in Git's commit-graph design).
 #![tactic(auto)]
 
 mod access;
 mod bases;
 mod checked;
 pub mod law;
+mod lower;
 mod owned;
 mod paint;
 mod painting;
 mod parents;
 mod passing;
+mod reload;
+mod shared;
 mod trails;
 
 pub use bases::{Bases, Comparer, Comparison, Divergence};
@@ -26,3 +30,4 @@ pub use checked::Checked;
 pub use graph_ancestors::{NoFault, Reached, Searcher};
 pub use owned::{CheckedGraph, PushError};
 pub use parents::ParentPositions;
+pub use reload::Reloaded;

@@ -34,9 +34,9 @@ pub enum PushError {
 /// options of the check.
 #[derive(Drop)]
 pub struct CheckedGraph {
-    graph: Graph,
-    options: VerifyOptions,
-    outcome: Outcome,
+    pub(crate) graph: Graph,
+    pub(crate) options: VerifyOptions,
+    pub(crate) outcome: Outcome,
 }
 
 impl Model for CheckedGraph {
