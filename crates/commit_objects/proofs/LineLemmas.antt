@@ -1,21 +1,22 @@
 -- Lines with ids: one line begins given bytes at most, and a commit says one thing at most.
 use Rattle.std.proofs.Common.{◌≡◌, ◌≢◌, ℕ, ◌*◌, ◌<◌, List, [], ◌∷◌, ◌++◌, length, take, drop, Bor, Bool, true, false}
-use Rattle.std.proofs.Common.{refl, sym, ap, ◌∙◌, arith, take-append-drop, append_assoc}
+use Rattle.std.proofs.Common.{refl, sym, ap, ◌∙◌, arith, take-append-drop, append_assoc, inl, inr, ⊎_elim, ◌%◌}
 use Rattle.std.proofs.lemmas.List.{append_cancel_left, length-append}
 use Rattle.std.proofs.Math.Seq.{take-append_seam}
-use Rattle.hex.proofs.HexLemmas.{decode_of-ok, decode_of-same}
-use Rattle.hex.specs.Hex.{decode_of}
-use Rattle.std.specs.Prelude.{Ok, Option, Some, None, MatchOption, codes, nat_eq}
-use Rattle.std.specs.List.{IsSplitAt, starts_with}
+use Rattle.hex.proofs.HexLemmas.{decode_of-ok, decode_of-same, decode_of-digits}
+use Rattle.hex.specs.Hex.{decode_of, is_hex_digit}
+use Rattle.hex.specs.declared.error.FromHexError.{FromHexError}
+use Rattle.std.specs.Prelude.{Result, Ok, Option, Some, None, MatchOption, codes, nat_eq}
+use Rattle.std.specs.List.{AllPass, IsSplitAt, starts_with}
+use Rattle.std.specs.Result.{result_unwrap_or}
 use Rattle.std.proofs.lemmas.Slice.Eq.{starts_is}
 use Rattle.std.proofs.lemmas.Bool.Decides.{Decides-eqb}
 use Rattle.gix_hash_core.specs.declared.kind.Kind.{Kind}
 use Rattle.gix_hash_core.specs.Kind.{id_len}
-use Rattle.gix_hash_core.specs.Hexadecimal.{SpellsId, SpellsNone}
-use Rattle.gix_hash_core.specs.declared.object_id.IdError.{IdError}
-use Rattle.gix_hash_core.specs.declared.object_id.IdError.TheVariants.{Length, Digit}
+use Rattle.gix_hash_core.specs.declared.kind.Kind.TheVariants.{Sha1, Sha256}
+use Rattle.gix_hash_core.specs.Hexadecimal.{SpellsId, IsHexLen}
 use Rattle.commit_objects.specs.CommitContents.{IsIdLine}
-use Rattle.commit_objects.specs.Lines.{BeginsWithWord, BeginsWithLine}
+use Rattle.commit_objects.specs.Lines.{BeginsWithWord, BeginsWithLine, id_of_digits}
 
 -- an id has two digits for each byte
 pub digits_len : (text id : List ℕ) → SpellsId text id → length text ≡ 2 * length id
@@ -75,17 +76,27 @@ pub no_feed : (kind : Kind) (word bytes front end : List ℕ) → bytes ≡ word
 no_feed kind word bytes front end e n none id next line =
     none (next, (line_digits kind word bytes front end id next line e n).1)
 
-none_spelled : (text id : List ℕ) (error : IdError) → SpellsNone text error → ¬ (SpellsId text id)
-none_spelled text id Length none spells = none spells.0
-none_spelled text id Digit none spells = none.1 (decode_of-ok text id spells.1).1
-
 -- nor those with no digits there
-pub no_digits : (kind : Kind) (word bytes front end : List ℕ) (error : IdError) → bytes ≡ word ++ (front ++ end)
-    → length front ≡ 2 * id_len kind → SpellsNone front error → (id next : List ℕ)
+pub no_digits : (kind : Kind) (word bytes front end : List ℕ) → bytes ≡ word ++ (front ++ end)
+    → length front ≡ 2 * id_len kind → ((id : List ℕ) → ¬ (SpellsId front id)) → (id next : List ℕ)
     → ¬ (BeginsWithLine kind word bytes id next)
-no_digits kind word bytes front end error e n none id next line =
-    let same = line_digits kind word bytes front end id next line e n in
-    none_spelled front id error none (rw same.0 line.spells)
+no_digits kind word bytes front end e n none id next line =
+    let same = line_digits kind word bytes front end id next line e n in none id (rw same.0 line.spells)
+
+-- digits as long as an id's spell one, and the one that is read of them
+pub spelled : (text : List ℕ) → IsHexLen (length text) → AllPass is_hex_digit text → (id : List ℕ) × SpellsId text id
+spelled text sized digits =
+    let even : length text % 2 ≡ 0 = ⊎_elim (λ e. omega (arith, e)) (λ e. omega (arith, e)) sized in
+    let read = decode_of-digits text even digits in (read.0, (sized, read.1))
+
+pub spells_own : (text id : List ℕ) → SpellsId text id → SpellsId text (id_of_digits text)
+spells_own text id spells =
+    (spells.0, spells.1 ∙ ap (λ l. Ok l) (sym (ap (λ (r : Result (List ℕ) FromHexError). result_unwrap_or r []) spells.1)))
+
+-- ids have as many digits as texts that may spell one
+pub as_many_digits : (kind : Kind) (n : ℕ) → n ≡ 2 * id_len kind → IsHexLen n
+as_many_digits Sha1 n e = inl e
+as_many_digits Sha256 n e = inr e
 
 -- what was read is a line
 pub is_line : (kind : Kind) (word bytes front end id next : List ℕ) → bytes ≡ word ++ (front ++ end)

@@ -1,7 +1,7 @@
 -- The lines of parents, one after another, and what a commit says.
-use Rattle.std.proofs.Common.{◌≡◌, ◌≢◌, ℕ, ◌*◌, ◌/◌, ◌-◌, ◌<◌, ◌≤◌, List, [], ◌∷◌, ◌++◌, length, take, drop}
+use Rattle.std.proofs.Common.{◌≡◌, ◌≢◌, ℕ, ◌+◌, ◌*◌, ◌/◌, ◌-◌, ◌<◌, ◌≤◌, List, [], ◌∷◌, ◌++◌, length, take, drop}
 use Rattle.std.proofs.Common.{refl, sym, ap, ◌∙◌, arith, append_assoc}
-use Rattle.std.proofs.lemmas.List.{length-append}
+use Rattle.std.proofs.lemmas.List.{length-append, drop-drop}
 use Rattle.std.proofs.Math.Seq.{take-append_seam, drop-append_seam}
 use Rattle.std.proofs.Math.Nat.{mul-div_cancel_left}
 use Rattle.hex.specs.Hex.{decode_of}
@@ -10,6 +10,7 @@ use Rattle.std.specs.List.{AllZip, concat}
 use Rattle.gix_hash_core.specs.declared.kind.Kind.{Kind}
 use Rattle.gix_hash_core.specs.declared.kind.Kind.TheVariants.{Sha1, Sha256}
 use Rattle.gix_hash_core.specs.Kind.{id_len}
+use Rattle.gix_hash_core.specs.Hexadecimal.{SpellsId}
 use Rattle.commit_objects.specs.CommitContents.{IsIdLine, Said, Says, parent_word, tree_word}
 use Rattle.commit_objects.specs.Lines.{BeginsWithWord, BeginsWithLine, AreLinesAndRest, AreParentLines}
 use Rattle.commit_objects.specs.Lines.{parent_line_len, id_in_line, ids_in_lines, ids_of_lines}
@@ -306,3 +307,80 @@ no_line kind ids text lines none = at ids lines.0 lines.1 lines.2
     at (other ∷ ids) [] each e = absurd each
     at (other ∷ ids) (line ∷ lines) each e =
         absurd (none other (concat lines) (rw e (line_begins kind parent_word other line (concat lines) each.0)))
+
+-- ---- where the parts of the first line stand
+
+-- Some lines begin with one.
+pub record HasFirstLine (kind : Kind) (lines : List ℕ) : Type 0 where
+  pub id : List ℕ
+  pub next : List ℕ
+  pub begins : BeginsWithLine kind parent_word lines id next
+
+pub first_there : (kind : Kind) (ids : List (List ℕ)) (text : List ℕ) → AreParentLines kind ids text → 0 < length text
+    → HasFirstLine kind text
+first_there kind ids text lines some = at ids lines.0 lines.1 lines.2
+  where
+    at : (ids lines : List (List ℕ)) → AllZip (IsIdLine kind parent_word) ids lines → text ≡ concat lines
+        → HasFirstLine kind text
+    at [] [] each e = absurd (omega (arith, ap length e, some))
+    at [] (line ∷ lines) each e = absurd each
+    at (id ∷ ids) [] each e = absurd each
+    at (id ∷ ids) (line ∷ lines) each e = record {
+      id = id;
+      next = concat lines;
+      begins = rw e (line_begins kind parent_word id line (concat lines) each.0);
+    }
+
+behind_word : (kind : Kind) (word bytes id next : List ℕ) (line : BeginsWithLine kind word bytes id next)
+    → drop (length word) bytes ≡ line.digits ++ 10 ∷ next
+behind_word kind word bytes id next line =
+    ap (drop (length word)) line.whole ∙ drop-append_seam word (line.digits ++ 10 ∷ next)
+
+-- its digits
+pub digits_at : (kind : Kind) (word bytes id next : List ℕ) (line : BeginsWithLine kind word bytes id next) (n : ℕ)
+    → n ≡ 2 * id_len kind → take n (drop (length word) bytes) ≡ line.digits
+digits_at kind word bytes id next line n e =
+    ap (take n) (behind_word kind word bytes id next line)
+    ∙ ap (λ k. take k (line.digits ++ 10 ∷ next)) (e ∙ sym (digits_of_kind kind word bytes id next line))
+    ∙ take-append_seam line.digits (10 ∷ next)
+
+-- what is next
+pub next_at : (kind : Kind) (word bytes id next : List ℕ) (line : BeginsWithLine kind word bytes id next) (n place : ℕ)
+    → n ≡ 2 * id_len kind → place ≡ length word + (n + 1) → drop place bytes ≡ next
+next_at kind word bytes id next line n place e there =
+    let behind : drop n (line.digits ++ 10 ∷ next) ≡ 10 ∷ next =
+    ap (λ k. drop k (line.digits ++ 10 ∷ next)) (e ∙ sym (digits_of_kind kind word bytes id next line))
+    ∙ drop-append_seam line.digits (10 ∷ next) in
+    let two : drop (n + 1) (line.digits ++ 10 ∷ next) ≡ drop 1 (drop n (line.digits ++ 10 ∷ next)) =
+    ap (λ k. drop k (line.digits ++ 10 ∷ next)) (omega arith) ∙ sym (drop-drop 1 n (line.digits ++ 10 ∷ next)) in
+    ap (λ k. drop k bytes) (there ∙ omega arith) ∙ sym (drop-drop (n + 1) (length word) bytes)
+    ∙ ap (drop (n + 1)) (behind_word kind word bytes id next line) ∙ two ∙ ap (drop 1) behind
+
+-- how many bytes there are
+pub len_with_line : (kind : Kind) (word bytes id next : List ℕ) (line : BeginsWithLine kind word bytes id next)
+    → length bytes ≡ length word + (2 * id_len kind + (1 + length next))
+len_with_line kind word bytes id next line =
+    omega (
+      arith,
+      ap length line.whole,
+      length-append word (line.digits ++ 10 ∷ next),
+      length-append line.digits (10 ∷ next),
+      digits_of_kind kind word bytes id next line,
+    )
+
+-- what was cut out is the first line
+pub is_first : (kind : Kind) (lines digits id next : List ℕ) (there : HasFirstLine kind lines)
+    → digits ≡ there.begins.digits → next ≡ there.next → SpellsId digits id
+    → BeginsWithLine kind parent_word lines id next
+is_first kind lines digits id next there same after spells = record {
+  digits = digits;
+  spells = spells;
+  sized = omega (
+    arith,
+    digits_len digits id spells,
+    ap length same,
+    digits_of_kind kind parent_word lines there.id there.next there.begins,
+  );
+  whole = there.begins.whole ∙ ap (λ d. parent_word ++ (d ++ 10 ∷ there.next)) (sym same)
+      ∙ ap (λ r. parent_word ++ (digits ++ 10 ∷ r)) (sym after);
+}

@@ -6,12 +6,14 @@ use Rattle.std.proofs.lemmas.Bool.{eqb-true, eq-eqb}
 use Rattle.std.proofs.lemmas.Grind.{common_steps}
 use Rattle.std.proofs.lemmas.Slice.Eq.{starts_is}
 use Rattle.std.proofs.lemmas.List.Sums.{split_at_first, passes_at_first, fails_before_first, suffix_len_is, prefix_len_is}
+use Rattle.std.proofs.lemmas.List.Sums.{position_or_len_is}
 use Rattle.std.proofs.Math.Seq.{drop-append_seam}
-use Rattle.std.specs.Prelude.{MatchOption, Option, Some, None, option_map, position, nat_eq, nat_lt, ◌==◌}
+use Rattle.std.specs.Prelude.{MatchOption, IfSome, Option, Some, None, option_map, position, nat_eq, nat_lt, ◌==◌}
 use Rattle.std.specs.List.{starts_with, after_last, before_first, after_first, position_or_len, suffix_len}
 use Rattle.std.specs.Str.Parse.{digits_value}
 use Rattle.std.specs.Char.{digit_value, is_ascii_digit}
 use Rattle.std.proofs.lemmas.Int.Digits.{digits_value_push}
+use Rattle.memchr.specs.Find.{IsFirstByte, is_byte}
 use Rattle.commit_objects.specs.Time.{behind_word, behind_byte, behind_last_byte, leading_number}
 
 -- what a word is followed by, as `strip_prefix` tells it
@@ -124,3 +126,28 @@ pub number_ends : (bytes : List ℕ) (i : ℕ) → i ≤ length bytes
 number_ends bytes i within digits other =
     ap (λ n. min (digits_value 10 (take n bytes)) (2 ^ 64 - 1))
     (sym (prefix_len_is is_ascii_digit bytes i 0 within digits other))
+
+not_passed : (b : Bool) → ¬ (b ≡ true) → b ≡ false
+not_passed true never = absurd (never refl)
+not_passed false never = refl
+
+-- the first place of a byte, as `memchr` tells it
+pub first_is : (value : ℕ) (bytes : List ℕ) (r : Option ℕ) → IsFirstByte (is_byte value) bytes r
+    → r ≡ position (λ byte. byte == value) bytes
+first_is value bytes None nowhere =
+    let at_end : position_or_len (λ b. b == value) bytes ≡ length bytes =
+    position_or_len_is (λ b. b == value) bytes (length bytes) 0 (omega arith)
+    (λ k within. not_passed _ (nowhere k (omega arith) within)) (λ within. absurd (omega (arith, within))) in
+    let no : nat_lt (length bytes) (length bytes) ≡ false = grind (arith, nat_tests) in
+    rw (at_end, no) refl
+first_is value bytes (Some place) found =
+    let here : position_or_len (λ b. b == value) bytes ≡ place =
+    position_or_len_is (λ b. b == value) bytes place 0 (omega (arith, found.0.high))
+    (λ k before. not_passed _ (found.0.before k (omega arith) before)) (λ _. found.1) in
+    let yes : nat_lt place (length bytes) ≡ true = grind (arith, nat_tests, found.0.high) in
+    rw (here, yes) refl
+
+pub first_within : (value : ℕ) (bytes : List ℕ) (r : Option ℕ) → IsFirstByte (is_byte value) bytes r
+    → IfSome r (λ place. place < length bytes)
+first_within value bytes None nowhere = tt
+first_within value bytes (Some place) found = found.0.high

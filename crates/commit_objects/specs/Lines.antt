@@ -33,9 +33,13 @@ AreParentLines kind ids text =
 abbrev pub parent_line_len : Kind → ℕ
 parent_line_len kind = length parent_word + 2 * id_len kind + 1
 
+-- the id that digits spell
+abbrev pub id_of_digits : List ℕ → List ℕ
+id_of_digits digits = result_unwrap_or (decode_of digits) []
+
 -- the id in the line of a parent with which bytes begin
 abbrev pub id_in_line : Kind → List ℕ → List ℕ
-id_in_line kind bytes = result_unwrap_or (decode_of (take (2 * id_len kind) (drop (length parent_word) bytes))) []
+id_in_line kind bytes = id_of_digits (take (2 * id_len kind) (drop (length parent_word) bytes))
 
 -- the ids in so many lines of parents
 abbrev pub ids_in_lines : Kind → ℕ → List ℕ → List (List ℕ)

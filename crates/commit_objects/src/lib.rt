@@ -4,6 +4,7 @@
 #![tactic(auto)]
 
 mod digest;
+mod hex_id;
 pub mod law;
 mod line;
 mod parents;

@@ -4,7 +4,7 @@ ghost use Rattle.std.specs.Prelude.{◌≡◌};
 ghost use Rattle.commit_objects.specs.Lines.{AreParentLines};
 ghost use Rattle.std.specs.Prelude.{ℕ, List};
 
-use crate::line::split_id_line;
+use crate::line::first_parent;
 use gix_hash_core::{Kind, ObjectId};
 use std::marker::Model;
 
@@ -58,10 +58,10 @@ impl<'a> Iterator for Parents<'a> {
     ghost remaining = { item_count {S = List (List ℕ)} (λ left. left) };
 
     fn next(&mut self) -> Option<ObjectId> {
-        let Some(line) = split_id_line(self.kind, b"parent ", self.lines) else {
+        let Some(line) = first_parent(self.kind, self.lines) else {
             return None;
         };
         self.lines = line.next;
-        Some(line.id)
+        Some(line.id.decode())
     }
 }

@@ -5,6 +5,7 @@ ghost use Rattle.commit_objects.specs.CommitContents.{Said, Says};
 ghost use Rattle.commit_objects.specs.Lines.{AreLinesAndRest};
 ghost use Rattle.commit_objects.specs.Time as spec;
 
+use crate::hex_id::HexId;
 use crate::line::split_id_line;
 use crate::parents::Parents;
 use crate::time;
@@ -22,7 +23,7 @@ pub struct Unreadable;
 /// of its parents, and the rest, in which its time stands.
 #[derive(Drop)]
 pub struct CommitObject<'a> {
-    tree: ObjectId,
+    tree: HexId<'a>,
     parents: Parents<'a>,
     rest: &'a [u8],
 }
@@ -60,7 +61,7 @@ impl<'a> CommitObject<'a> {
     pub fn tree(&self) -> ObjectId
         ensures { result ≡ self.now.tree }
     {
-        self.tree
+        self.tree.decode()
     }
 
     /// The ids of the parents, in order.

@@ -5,6 +5,7 @@ ghost use Rattle.std.specs.Prelude.{length, IfSome};
 ghost use Rattle.commit_objects.specs.Time as spec;
 
 use crate::line::behind_word;
+use memchr::memchr;
 
 /// The time as Git from 2.41 on reads it, from what follows the parents.
 #[tactic(auto, unfolding(crate::specs::Time::newer_time))]
@@ -71,7 +72,7 @@ fn place_of(value: u8, bytes: &[u8]) -> Option<usize>
     ensures value { result ≡ position (λ byte. byte == value) bytes.now }
     ensures inside { IfSome result (λ place. place < length bytes.now) }
 {
-    bytes.iter().position(|byte| *byte == value)
+    memchr(value, bytes)
 }
 
 /// What stands before the first byte with this value.

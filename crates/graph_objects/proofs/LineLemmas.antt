@@ -1,11 +1,18 @@
 -- What the line before the contents says.
 use Rattle.std.proofs.Common.{◌≡◌, ◌≢◌, ℕ, ◌*◌, ◌^◌, ◌<◌, List, ◌++◌, length, take, decimal, sym, ap, ◌∙◌, arith}
-use Rattle.std.proofs.Common.{take-append-drop}
+use Rattle.std.proofs.Common.{take-append-drop, min}
+use Rattle.std.proofs.lemmas.Bool.{eqb-true, eq-eqb}
+use Rattle.std.proofs.lemmas.List.{get_or-take, length-take, take_min}
+use Rattle.std.proofs.lemmas.List.Elements.{All-same, All-from_get_or}
+use Rattle.memchr.specs.Find.{IsFirstByte, is_byte}
 use Rattle.std.specs.Prelude.{Option, Some, None, MatchOption}
 use Rattle.std.specs.List.{AllPass, IsSplitAt}
 use Rattle.std.proofs.lemmas.List.{append_cancel_left}
-use Rattle.graph_objects.specs.BatchEntry.{IsHeading, IsTail, is_lower_digit}
+use Rattle.graph_objects.specs.BatchEntry.{IsHeading, IsTail, is_lower_digit, HasNoFeed, IsLineEnd, line_of_commit}
+use Rattle.graph_objects.specs.BatchEntry.{longest_line}
 use Rattle.graph_objects.specs.declared.heading.Heading.{Heading}
+use Rattle.graph_objects.specs.declared.heading.Heading.TheVariants.{Commit}
+use Rattle.hex.specs.Hex.{encode_lower}
 
 -- a size behind a word
 pub size_there : (word tail text : List ℕ) (r : Option ℕ) → tail ≡ word ++ text
@@ -27,3 +34,28 @@ heading_is id line digits tail heading same split lower says = record {
   whole = sym (put_together _ line digits tail split);
   is_tail = says;
 }
+
+-- the first line feed, as `memchr` finds it in the bytes of the longest line
+pub feed_in_front : (bytes : List ℕ) (n : ℕ) (r : Option ℕ) → n ≡ min 93 (length bytes)
+    → IsFirstByte (is_byte 10) (take n bytes) r → MatchOption r (HasNoFeed (take longest_line bytes)) (IsLineEnd bytes)
+feed_in_front bytes n None least nowhere =
+    All-same (λ b. b ≢ 10) (take 93 bytes) (take n bytes) (sym (ap (λ n. take n bytes) least ∙ take_min 93 bytes))
+    (All-from_get_or (λ b. b ≢ 10) (take n bytes) 0 (λ k within same. nowhere k (omega arith) within (eq-eqb _ _ same)))
+feed_in_front bytes n (Some end) least found =
+    let within : end < n = omega (arith, found.0.high, length-take n bytes) in
+    record {
+      within = omega (arith, within, least);
+      feed = sym (get_or-take n bytes end 0 within) ∙ eqb-true _ _ found.1;
+      one = All-from_get_or (λ b. b ≢ 10) (take end bytes) 0 (λ k there same.
+          let before : k < end = omega (arith, there, length-take end bytes) in
+          found.0.before k (omega arith) before
+          (eq-eqb _ _ (get_or-take n bytes k 0 (omega (arith, before, within)) ∙ sym (get_or-take end bytes k 0 before) ∙ same)));
+      short = omega (arith, within, least);
+    }
+
+-- the line of a commit, by its digits and what stands behind them
+pub own_line : (id line digits tail : List ℕ) (n : ℕ) (heading : Heading) (size : ℕ) → IsSplitAt line (2 * n) digits tail
+    → IsTail tail heading → heading ≡ Commit size → digits ≡ encode_lower id → line ≡ line_of_commit id size
+own_line id line digits tail n heading size split says is own =
+    let told : IsTail tail (Commit size) = rw is at says in
+    sym (put_together _ line digits tail split) ∙ ap (λ d. d ++ tail) own ∙ ap (λ t. encode_lower id ++ t) told.1

@@ -62,6 +62,13 @@ impl Buffer {
         self.start += count;
     }
 
+    /// Keeps a byte until the next read, so that the work is done by which it came about.
+    pub(crate) fn keep(&mut self, byte: u8)
+        ensures { self.new ≡ self.old }
+    {
+        self.piece[0] = byte;
+    }
+
     /// Whether more than `more` bytes stand behind the first `place`.
     fn has(&self, place: usize, more: usize) -> bool
         ensures { IsTrue result ↔ (place + more < length self.now) }

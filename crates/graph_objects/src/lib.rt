@@ -7,6 +7,7 @@ ghost use Rattle.gix_commitgraph.specs.Graph.{total};
 ghost use Rattle.graph_objects.specs.Matching.{MatchesAt};
 ghost use Rattle.graph_objects.specs.Mismatches.{MismatchesAt};
 
+mod ahead;
 mod buffer;
 mod commit;
 mod error;

@@ -11,7 +11,7 @@ ghost use Rattle.graph_objects.specs.Taking.{MayStop, TakesEntry, FindsHead};
 use crate::buffer::Buffer;
 use crate::error::{EntryError, ObjectsError};
 use crate::line::{LINE, commit_size, line_end};
-use crate::matches;
+use crate::{ahead, matches};
 use gix_commitgraph::{Graph, Position};
 use std::alloc::Global;
 use std::io::Read;
@@ -43,12 +43,25 @@ pub fn check_objects<R: Read>(
         return Err(ObjectsError::OutOfMemory);
     };
     for number in from..to {
+        look_ahead(graph, from, number, to, &mut buffer);
         check_next(graph, Position(number), &mut buffer, reader)?;
     }
     if buffer.fill(reader, 0, 0)? {
         return Err(ObjectsError::LeftOver);
     }
     Ok(())
+}
+
+/// Looks ahead to the parents of the commits from a position on, where it is the first of so many.
+fn look_ahead(graph: &Graph, from: u32, number: u32, to: u32, buffer: &mut Buffer)
+    requires begun { from ≤ number }
+    requires within { to ≤ total graph.now }
+    ensures { buffer.new ≡ buffer.old }
+{
+    if (number - from) % ahead::COMMITS == 0 {
+        let end = to.min(number.saturating_add(ahead::COMMITS));
+        buffer.keep(ahead::look_at_parents(graph, number, end));
+    }
 }
 
 /// Compares the commit at a position with the next entry, and goes past that.

@@ -4,7 +4,7 @@ use Rattle.graph_objects.proofs.stream.check_objects.Goals as goal
 
 pub loop-number-preserved : goal.loop-number-preserved
 loop-number-preserved g c = one_known c.args.graph.now c.args.from c.loop-number.number _ _ _ c.loop-number.invariant
-    c.in_ok-check_next.ensures.ok
+    (rw c.look_ahead.ensures at c.in_ok-check_next.ensures.ok)
 
 pub returns-then-branch-clause-refused : goal.returns-then-branch-clause-refused
 returns-then-branch-clause-refused g c =

@@ -1,4 +1,5 @@
-use Rattle.std.proofs.Common.{◌≡◌, ◌∷◌, [], sym, ap, ◌∙◌, arith, length}
+use Rattle.std.proofs.Common.{◌≡◌, ◌∷◌, [], ℕ, List, sym, ap, ◌∙◌, arith, length}
+use Rattle.commit_objects.specs.Lines.{ids_of_lines}
 use Rattle.commit_objects.proofs.ParentLemmas.{ids_are, first_line, no_line}
 use Rattle.commit_objects.proofs.parents.ParentsIterator.next.Goals as goal
 
@@ -25,9 +26,11 @@ returns-clause-steps c =
     let lines = c.self.inside.lines.now in
     let next = c.in-Some.line.next.now in
     let left = c.self.invariant in
-    let cut = first_line kind left.0 lines c.in-Some.line.id next left.1 c.in-Some.ensures in
+    let id : List ℕ = c.in-Some.line.id in
+    let cut = first_line kind left.0 lines id next left.1 c.in-Some.ensures in
     sym c.self.view_is ∙ ids_are kind left.0 lines left.1 ∙ cut.1
-    ∙ ap (λ ids. c.in-Some.line.id ∷ ids) (sym (ids_are kind cut.0 next cut.2))
+    ∙ ap (λ ids. id ∷ ids) (sym (ids_are kind cut.0 next cut.2))
+    ∙ ap (λ x. x ∷ ids_of_lines kind next) (sym c.decode.ensures)
 
 pub returns-clause-goes : goal.returns-clause-goes
 returns-clause-goes c = record {
