@@ -61,6 +61,18 @@ find_obstacle() {
     done
 }
 
+# The first folder in which a commit-graph may be, and which may not be entered. The answer is false where there is none.
+closed_folder() {
+    eval "set -- $folders"
+    [ -z "$named" ] || set -- "$1"
+    for place in "$@"; do
+        for file in "$place/info" "$place/info/commit-graphs"; do
+            [ ! -d "$file" ] || [ -x "$file" ] || { printf '%s\n' "$file" && return; }
+        done
+    done
+    return 1
+}
+
 # The layer in which a position of the whole commit-graph is.
 layer_of_position() {
     list_layers "$place/$graph" 2>/dev/null | awk -v position="$1" '
@@ -182,7 +194,11 @@ diagnose() {
 
 # The same where a file was not opened or not read.
 diagnose_opening() {
-    if [ "$kind" = none ]; then
+    if [ "$kind" = none ] && file=$(closed_folder); then
+        is_absent=yes where="the folder '$file' may not be read (permission denied)"
+        advice="see to it that whoever runs this may enter the folder, and ask again" cure="    ls -ld $(quoted "$file")"
+        return
+    elif [ "$kind" = none ]; then
         is_absent=yes line='there is no commit-graph'
         said="$name: $line$newline"
         is_hindered || { advice='have Git write one' && cure=$(writes); }

@@ -43,11 +43,14 @@ look_at_repository() {
     esac
 }
 
-# Where the repository is, and the ids of revisions, by the commits themselves: the commit-graph may be wrong, and it knows
-# no replacements.
+# Git, which goes by the commits themselves: the commit-graph may be wrong, and it knows neither replacements nor grafts.
+plain_git() {
+    GIT_GRAFT_FILE=/dev/null/none git --no-replace-objects -c core.commitGraph=false "$@"
+}
+
+# Where the repository is, and the ids of revisions.
 look_up_by_git() {
-    git --no-replace-objects -c core.commitGraph=false \
-        rev-parse --git-path objects/info --show-object-format --is-shallow-repository --git-common-dir "$@"
+    plain_git rev-parse --git-path objects/info --show-object-format --is-shallow-repository --git-common-dir "$@"
 }
 
 # Takes so many ids from the end of `told` to `ids`. The answer is false where there are other lines.

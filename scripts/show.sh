@@ -63,7 +63,10 @@ tell_coverage() {
 list_reachable() {
     set -- --all
     ! shows_progress || set -- --progress='Listing commits' --all
-    GIT_PROGRESS_DELAY=${delay-} git --no-replace-objects -c core.commitGraph=false rev-list "$@"
+    (
+        export GIT_PROGRESS_DELAY="${delay-}"
+        plain_git rev-list "$@"
+    )
 }
 
 # The ids that stand in the commit-graph.
@@ -117,7 +120,7 @@ say_uncovered() {
 covers() {
     [ "$home" = "$objects" ] || [ -n "$named" ] || { home=$objects folder=$objects/info kind=file; }
     [ "$gone" -eq 0 ] || [ "$kind" = file ] || removes
-    if [ -n "$(git --no-replace-objects rev-list -n 1 --all --not --glob='refs/*' 2>/dev/null)" ]; then
+    if [ -n "$(plain_git rev-list -n 1 --all --not --glob='refs/*' 2>/dev/null)" ]; then
         writes | sed 's/^    \(.*\) commit-graph write --reachable/    \1 rev-list --no-walk --all | \1 commit-graph write --stdin-commits/'
     else
         writes

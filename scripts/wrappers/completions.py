@@ -19,6 +19,8 @@ ASKED = {
     "git cgraph find HE": {"HEAD"},
     "git cgraph -q walk HEAD HE": {"HEAD"},
     "git cgraph --q": {"--quiet"},
+    "git cgraph --js": {"--json"},
+    "git cgraph verify --js": {"--json"},
     "git cgraph verify --all": {"--all-checks"},
     "git cgraph verify --ob": {"--objects", "--object-dir"},
     "git cgraph verify -q --jo": {"--jobs"},

@@ -158,6 +158,7 @@ def check_completion(results, clone, repository):
         ("",): {command.word for command in commands() if command.by_git},
         ("--h",): {"--help"},
         ("--q",): {"--quiet"},
+        ("--js",): {"--json"},
         ("find", "anno"): {"annotated"},
         ("-C", "..", "walk", "HEAD", "HE"): {"HEAD"},
         ("merge-base", "--v"): {"--verbose", "--version"},

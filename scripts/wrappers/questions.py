@@ -280,6 +280,9 @@ def check_ends(results, clone, repository):
     clone.put_program("graphtool", many)
     with open("/dev/full", "wb") as full:
         results.check("git cgraph, to a full device", exactly(ask(clone, ["verify"], repository, stdout=full), 128, "", sentences))
+        for word in ("--version", "--help"):
+            answer = ask(clone, [word], repository, ("sh",), stdout=full)
+            results.check("git-cgraph %s, to a full device" % word, exactly(answer, 128, "", said([unwritten])))
     closed = ask(clone, ["verify"], repository, ("sh",), preexec_fn=lambda: os.close(1))
     results.check("git cgraph, output that is closed", exactly(closed, 128, "", sentences))
     for name, word in (("git-cgraph", "verify"), ("graphtool", "distinct")):

@@ -10,7 +10,7 @@ import shutil
 import subprocess
 
 import refusals
-from checks import case_checks, disk_checks, show_checks, verify_checks
+from checks import case_checks, disk_checks, place_checks, show_checks, verify_checks
 from damage import trees, wrong_commits, wrong_layout, wrong_trees
 from damage.layer import sealed
 from expected import reading
@@ -78,10 +78,13 @@ def check_all(programs, results, folder, new):
     check_empty(installed, results, new("sha1", "asked, empty"))
     check_abbreviation(installed, results, new("sha1", "asked, abbreviations"))
     check_session(installed, results, os.path.join(folder, "repository"))
+    check_examples(installed, results, os.path.join(folder, "repository"))
     check_recipes(installed, results, os.path.join(folder, "recipes"), new("sha1", "asked, recipes.git"))
     check_damage(installed, results, new("sha1", "asked, damaged"))
     check_damaged_trees(installed, results, new("sha1", "asked, damaged folders"))
     case_checks.check_all(installed, results, new)
+    os.mkdir(os.path.join(folder, "kinds"))
+    place_checks.check_all(installed, results, os.path.join(folder, "kinds"), new)
     for flags in (("--split",), ("--split", "--changed-paths")):
         check_pool(installed, results, new("sha1", "asked, a pool %s" % " ".join(flags)), flags)
     results.check("git cgraph, nothing is left over", installed.clone.left_over())
@@ -107,6 +110,27 @@ def check_session(installed, results, folder):
         expected = "".join(line + "\n" for line in lines[at + 1 : end]).replace("/repository", os.path.realpath(folder))
         complaint = None if answer.out == expected else "it is %r, expected %r" % (answer, expected)
         results.check("README.md: %s" % command, complaint)
+
+
+def check_examples(installed, results, folder):
+    """The examples of the manual, word by word but for what stands as dots, in a repository of the commits of
+    examples/README.md; before some of them a commit is made, or the damaged file put there.
+    """
+    examples = re.search(r"## Examples\n(.*?)\n## ", read("docs", "MANUAL.md"), re.DOTALL).group(1)
+    blocks = re.findall(r"^    \$ (.*)\n((?:    (?!\$).*\n)*)", examples, re.MULTILINE)
+    graph = os.path.join(os.path.realpath(folder), ".git/objects/info/commit-graph")
+    shutil.copy(os.path.join(folder, "examples", "commit-graph"), graph)
+    for at, (command, out) in enumerate(blocks):
+        if command == "git cgraph show":
+            person = ("-c", "user.name=A", "-c", "user.email=a@example.com")
+            installed.git(Way(folder), *person, "commit", "-q", "--allow-empty", "-m", "later")
+        if at == len(blocks) - 1:
+            shutil.copy(os.path.join(folder, "examples", "damaged"), graph)
+        answer = run(["sh", "-c", command + " 2>&1"], installed.variables, cwd=folder)
+        expected = re.sub("(?m)^    ", "", out).replace("/repository", os.path.realpath(folder))
+        right = re.fullmatch(re.escape(expected).replace(r"\.\.\.", "[0-9a-f]*"), answer.out)
+        results.check("MANUAL.md: %s" % command, None if right else "it is %r, expected %r" % (answer, expected))
+    results.check("MANUAL.md has examples", None if len(blocks) > 5 else "they are %s" % blocks)
 
 
 def check_recipes(installed, results, folder, repository):
