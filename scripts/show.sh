@@ -2,15 +2,25 @@
 # commit-graph covers. It reads this file with `.`, after answers.sh, repository.sh and cures.sh. This defines functions, and
 # runs nothing.
 
-# Shows the commit-graph that is there, also where it is refused: `line` is the refusal then.
+# Shows the commit-graph that is there, also where it is refused: `line` is the refusal then. Where it is another one meanwhile,
+# all is asked once more, and nothing is written until then.
 show_graph() {
     filter=keep
-    ask_program
-    case $quiet,$held,$status in
-    ,?*,[01]) write_text "$(with_files)" ;;
-    *) return 0 ;;
-    esac
-    [ "$status" -ne 0 ] || tell_coverage
+    for _ in 1 2 3; do
+        find_graph
+        stamp=$(graph_stamp)
+        ask_program
+        case $quiet,$held,$status in ,?*,[01]) ;; *) return 0 ;; esac
+        shown=$(with_files 2>/dev/null) missing=''
+        [ "$status" -ne 0 ] || find_coverage
+        find_graph
+        if [ "$stamp" = "$(graph_stamp)" ]; then
+            write_text "$shown"
+            [ -z "$missing" ] || tell_coverage
+            return
+        fi
+    done
+    tell_written
 }
 
 # Holds back what a program writes. A refusal in it becomes the line that is told of the program.
@@ -37,21 +47,21 @@ with_files() {
     done
 }
 
-# Tells how many reachable commits the commit-graph lacks, how many of its commits are gone, and how many are unreachable;
-# and what to do, where that is something.
-tell_coverage() {
+# Finds how many reachable commits the commit-graph lacks, how many of its commits are gone, and how many are unreachable.
+find_coverage() {
     make_scratch
     if ! list_reachable >"$scratch/reachable"; then
         line='the commits of this repository could not be listed' status=128
-        said="$said$name: $line$newline"
-        return
+    elif ! list_stored >"$scratch/stored" || ! compare_ids; then
+        line='the ids could not be compared' status=128 missing=''
+    else
+        return 0
     fi
-    list_stored >"$scratch/stored" && [ "$before" = "$(find_graph && identity)" ] || { tell_written && return; }
-    if ! compare_ids; then
-        line='the ids could not be compared' status=128
-        said="$said$name: $line$newline"
-        return
-    fi
+    said="$said$name: $line$newline"
+}
+
+# Tells that, and what to do, where that is something.
+tell_coverage() {
     write_text "missing $missing${newline}gone $gone${newline}unreachable $unreachable"
     [ "$status" -eq 0 ] || return 0
     say_unused

@@ -37,7 +37,7 @@ def check_all(programs, results, folder, new, runs=100):
     tips = [ids[30], ids[60], ids[-1]]
     repository.write_graph(*FLAGS, tips=tips[:1])
     commands = [["verify"]] * 7 + [["verify", "--all-checks"], ["is-ancestor", ids[3], ids[30]], ["list"]]
-    commands += [["verify", "--objects"]] * installed.knows_objects
+    commands += [["verify", "--objects"], ["show"]] * installed.knows_objects
     writer = Writer(repository, tips)
     writer.start()
     try:
