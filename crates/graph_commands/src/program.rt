@@ -17,7 +17,7 @@ use std::io::{Read, Write};
 pub trait Run {
     /// What the command may write, and with which status: given the bytes that the input has left
     /// before and after, where they are known; that the folder is as it was before; what the opener
-    /// may answer at a path while the count of device failures goes from one number to another; that
+    /// may answer at a path while the count of device failures goes from one number to another; the
     /// count before and after; and what the output holds before and after, where that is known.
     ghost MayWrite: { Self → Option (List ℕ) → Option (List ℕ) → Type 0
         → (List ℕ → ℕ → ℕ → Result (List Layer) OpenError → Type 0) → ℕ → ℕ

@@ -165,8 +165,8 @@ loop-words-preserved c =
       others = others_read here.In_ok-set;
       read = goes_over_internal one;
       reading =
-          reading_goes_on (history_of s.graph.now) (list_in s.graph.now c.args.layer) (commit_in (queued_by s) c.args.place) l.next
-          inv.reading c.in-Internal.field-0 (one.says ∙ c.in-Internal.is);
+          reading_goes_on (history_of s.graph.now) (list_in s.graph.now c.args.layer) (commit_in (queued_by s) c.args.place)
+          l.next inv.reading c.in-Internal.field-0 (one.says ∙ c.in-Internal.is);
       begun = inl (goes_over_marked one c.args.index inv.begun);
     }
 
