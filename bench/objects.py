@@ -5,8 +5,9 @@ usage: python3 bench/objects.py FOLDER
 
 FOLDER keeps the repository, of bench/topics.py, as Git packs it with `git repack -adfk`, and the stream of its commits; making
 them takes some minutes. Seconds of processor time: `historytool objects` beside the digest of the stream by the kit's sha1,
-beside the check of the graph alone, and beside `git cat-file`; and of elapsed time: `git cgraph verify --objects` with one
-job and with four, beside `git commit-graph verify`. Each is the least of all runs.
+beside the check of the graph alone, and beside `git cat-file`; of elapsed time: `cg_matches` over the same commits, through C
+(bench/objects/matches.c, by `cc -O2`), beside that digest, and `git cgraph verify --objects` with one job and with four,
+beside `git commit-graph verify`. Each is the least of all runs.
 """
 
 import os
@@ -42,7 +43,9 @@ def main(folder):
     }
     for name, run in figures.items():
         print("%-14s %7.3f s of processor time, %7.3f elapsed" % (name, run.processor, run.elapsed))
+    matches = seconds_of(matches_program(folder), [layer, stream])
     print("%-14s %7.3f s" % ("digest", digest))
+    print("%-14s %7.3f s, %.2f of the digest" % ("cg_matches", matches, matches / digest))
     print("objects beside the digest      %.2f" % (figures["objects"].processor / digest))
     print("objects beside git cat-file    %.2f" % (figures["objects"].processor / figures["git cat-file"].processor))
     by_git = best(["git", "-C", made.folder, "commit-graph", "verify", "--no-progress"], None, LONG_RUNS)
@@ -78,8 +81,21 @@ def best(command, source, runs=RUNS):
 
 def digest_of(folder, path):
     """The seconds that the digest of a file takes."""
-    program = common.our_program(folder, "objects", ["sha1", "anyhow"])
-    return min(dict(common.lines(program, [path]))["digest"][0] for _ in range(RUNS)) / 1e9
+    return seconds_of(common.our_program(folder, "objects", ["sha1", "anyhow"]), [path])
+
+
+def matches_program(folder):
+    """The path of the program in C, built over the library."""
+    program = os.path.join(folder, "objects_matches")
+    library = subprocess.check_output([os.path.join(common.TOP, "scripts", "library")], text=True).strip()
+    flags = ["-std=c11", "-D_GNU_SOURCE", "-O2", "-I" + os.path.join(common.TOP, "bindings", "c")]
+    subprocess.check_call(["cc", *flags, os.path.join(common.sources("objects"), "matches.c"), library, "-o", program])
+    return program
+
+
+def seconds_of(program, words):
+    """The seconds of the one figure that a program prints."""
+    return min(next(common.lines(program, words))[1][0] for _ in range(RUNS)) / 1e9
 
 
 if __name__ == "__main__":
