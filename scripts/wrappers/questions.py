@@ -266,6 +266,13 @@ def check_revisions(results, clone, repository):
         answer = ask(clone, ["find", name], repository)
         right = answer[:2] == (128, "") and "git cgraph: '%s' " % name in answer.err
         results.check("git cgraph find %a, which is no commit" % name, None if right else "it is %r" % (answer,))
+    path = os.path.join(repository, b".git/objects", before[:2].encode(), before[2:].encode())
+    os.rename(path, path + b" aside")
+    for name in ("annotated", "HEAD~1", before):
+        answer = ask(clone, ["find", name], repository)
+        right = answer[:2] == (128, "") and "git cgraph: the object that '%s' names is missing, or cannot be read" % name in answer.err
+        results.check("git cgraph find %a, whose commit is missing" % name, None if right else "it is %r" % (answer,))
+    os.rename(path + b" aside", path)
     answer = ask(clone, ["verify"], clone.folder)
     right = answer[:2] == (128, "") and "not a git repository" in answer.err
     results.check("git cgraph verify where there is no repository", None if right else "it is %r" % (answer,))

@@ -18,6 +18,7 @@ use history_commands::run::{
     run_check, run_is_ancestor, run_merge_base, run_merge_base_ids, run_walk,
 };
 use object_commands::{run_ids, run_objects};
+use show_commands::run::run_show;
 use std::alloc::{AllocError, Global};
 use std::convert::Infallible;
 use std::io::Write;
@@ -239,6 +240,7 @@ fn run_history(
             run_merge_base_ids(alloc, memory, "chain", FIRST, others, out)
         }
         HistoryCommand::Check => run_check(alloc, memory, "dated", out),
+        HistoryCommand::Show => run_show(alloc, memory, "dated", out),
     };
     println!(rt; "{answer:?}")?;
     io::writer(rt).write_all(out)

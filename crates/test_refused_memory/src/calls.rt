@@ -51,6 +51,7 @@ pub enum HistoryCommand {
     MergeBase,
     MergeBaseIds,
     Check,
+    Show,
 }
 
 /// A command that holds a graph against its commits.
@@ -117,6 +118,7 @@ const CALLS: &[(&str, Call)] = &[
         Call::RunHistory(HistoryCommand::MergeBaseIds),
     ),
     ("run_check", Call::RunHistory(HistoryCommand::Check)),
+    ("run_show", Call::RunHistory(HistoryCommand::Show)),
     ("run_ids", Call::RunObjects(ObjectCommand::Ids)),
     ("run_objects", Call::RunObjects(ObjectCommand::Objects)),
     ("open_file_in", Call::Open(Opener::FileIn)),

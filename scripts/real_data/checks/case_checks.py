@@ -144,6 +144,7 @@ ON_CHAIN = (
     of_chain("a page of HTML", becomes(PAGE), NOT_OPENED, "which line 1 of '{chain}' names, is missing"),
     of_chain("a link to nothing in its place", to_nothing, NOT_OPENED, "the file '{chain}' is a link to what is not there"),
     of_chain("a folder in its place", to_folder, NOT_OPENED, "the file '{chain}' is a folder, not a file"),
+    Case("a file beside the chain that may not be read", "{file}", lambda path: (write_bytes(path, b"CGPH"), closed(path)), NOT_OPENED, "the file '{file}' " + DENIED, 128),
     of_chain("no right to read it", closed, NOT_OPENED, "the file '{chain}' " + DENIED, 128),
 )
 
