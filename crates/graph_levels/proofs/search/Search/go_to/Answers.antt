@@ -27,8 +27,7 @@ returns-in-Open-clause-cycle c =
     pending_above s.below.now s.states.items c.args.parent c.requires.pending in
     let within : c.args.parent < length s.below.now + commit_count s.parents.now =
     parent_within s.below.now s.parents.now s.times.now (get_or s.stack.items t no_frame).commit c.args.index c.args.parent
-    c.requires.input (c.requires.going.going.frames t (omega arith)).within c.requires.parent in
-    (
+    c.requires.input (c.requires.going.going.frames t (omega arith)).within c.requires.parent in (
       above,
       within,
       λ h on_top.
