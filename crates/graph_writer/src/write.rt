@@ -1,6 +1,6 @@
 //! Writing a layer.
 
-ghost use Rattle.std.specs.Prelude.{◌≡◌, ◌+◌, ◌<◌, ◌≤◌, ℕ, List, IfOk, IfErr, length, slice_index};
+ghost use Rattle.std.specs.Prelude.{◌≡◌, ◌<◌, ◌≤◌, ℕ, List, IfOk, IfErr, length, slice_index};
 ghost use Rattle.graph_walks.specs.Dates.{AreRight};
 ghost use Rattle.graph_walks.specs.Generations.{AreLocal};
 ghost use Rattle.graph_walks.specs.History.{Node};
