@@ -54,7 +54,9 @@ AreClosedBelow history base = (p : ℕ) → p < base → All (λ q. q < base) (p
 abbrev pub HasNoCycleOnTop : List Node → ℕ → Type 0
 HasNoCycleOnTop history base = (p : ℕ) → base ≤ p → ¬ IsProperAncestor history p p
 
--- Of a cycle one commit is named that is its own proper ancestor.
+-- Of a cycle one new commit is named that is its own proper ancestor.
 abbrev pub IsLevelsRefusal : ℕ → ParentLists → LevelsError → Type 0
-IsLevelsRefusal base parents (Cycle p) = (history : List Node) → HasOnTop history base parents → IsProperAncestor history p p
+IsLevelsRefusal base parents (Cycle p) =
+    (base ≤ p) × (p < base + commit_count parents)
+    × ((history : List Node) → HasOnTop history base parents → IsProperAncestor history p p)
 IsLevelsRefusal base parents OutOfMemory = Unit {0}

@@ -254,7 +254,7 @@ impl Search<'_> {
 ///
 /// # Errors
 ///
-/// `Cycle` with a commit that is its own proper ancestor, where there is one, or `OutOfMemory`
+/// `Cycle` with a new commit that is its own proper ancestor, where there is one, or `OutOfMemory`
 /// where an allocation failed.
 pub fn levels(
     alloc: Global,
@@ -264,6 +264,9 @@ pub fn levels(
 ) -> Result<Vec<Level>, LevelsError>
     requires { FitTogether below.now parents.now times.now }
     ensures len { IfOk result (λ own. length own.items ≡ commit_count parents.now) }
+    ensures bounds { IfOk result (λ own. (i : ℕ) → i < length own.items
+        → ((level_at own.items i).generation ≤ GENERATION_NUMBER_MAX)
+        × (slice_index times.now i ≤ (level_at own.items i).date)) }
     ensures generations { IfOk result (λ own. (history : List Node)
         → HasOnTop history (length below.now) parents.now
         → HasLevelGenerations history below.now own.items → AreLocal history) }

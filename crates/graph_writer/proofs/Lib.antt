@@ -6,3 +6,16 @@ pub mod OrderSteps
 pub mod KnownSteps
 pub mod RefusalSteps
 pub mod NewLayerSteps
+pub mod LoopSteps
+pub mod TimeSteps
+pub mod TopSteps
+pub mod WrittenSteps
+pub mod AcceptedSteps
+pub mod RightSteps
+pub mod DateSteps
+pub mod DistinctSteps
+pub mod PlanSteps
+pub mod CycleSteps
+pub mod ReasonSteps
+pub mod FitSteps
+pub mod WriteSteps

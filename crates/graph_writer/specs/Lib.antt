@@ -1,5 +1,11 @@
 pub mod NewCommits
 pub mod WriteRefusal
 pub mod NewLayers
+pub mod Cycles
+pub mod WritingRefusal
 pub mod SortedPlaces
 pub mod Known
+pub mod LevelsBelow
+pub mod OwnLevels
+pub mod PlannedCommits
+pub mod WrittenLayers

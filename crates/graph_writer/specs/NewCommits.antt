@@ -14,6 +14,10 @@ layers_of_below below = option_map_or (λ graph. graph.now.layers) below []
 abbrev pub new_ids : List NewCommit → List (List ℕ)
 new_ids commits = map (λ commit. commit.id) commits
 
+-- their times
+abbrev pub new_times : List NewCommit → List ℕ
+new_times commits = map (λ commit. commit.time) commits
+
 -- The positions are those of these ids, one by one.
 abbrev pub HoldIds : List (List ℕ) → List ℕ → List (List ℕ) → Type 0
 HoldIds all positions ids = map (slice_get all) positions ≡ map (λ id. Some id) ids

@@ -2,6 +2,7 @@
 
 use gix_commitgraph::Position;
 use gix_hash_core::ObjectId;
+use graph_chunks::dates::DatesError;
 use std::alloc::AllocError;
 use thiserror::Error;
 
@@ -52,6 +53,19 @@ pub enum WriteError {
     /// No commit is handed in. Git writes no file then.
     #[error("Nothing")]
     Nothing,
+    /// The corrected dates of the graph below are wrong, or cannot be read.
+    #[error("Dates")]
+    Dates(DatesError),
+    /// This commit is its own proper ancestor.
+    #[error("Cycle")]
+    Cycle(usize),
+    /// The graph below has 256 layers, so that no file can name all of them ("HEADER").
+    #[error("TooManyLayers")]
+    TooManyLayers,
+    /// The parents from the second on of commits with more than two are 2^31 or more, so that no
+    /// record can name all of their places ("Extra Edge List").
+    #[error("TooManyEdges")]
+    TooManyEdges,
     /// An allocation failed.
     #[error("OutOfMemory")]
     OutOfMemory,

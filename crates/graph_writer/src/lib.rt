@@ -5,10 +5,14 @@
 mod below;
 mod check;
 mod commit;
+mod levels_below;
 mod new_layer;
 mod numbers;
 mod order;
+mod plan;
 mod resolve;
+mod write;
 
 pub use commit::{NewCommit, WriteError};
 pub use new_layer::NewLayer;
+pub use write::write_layer;

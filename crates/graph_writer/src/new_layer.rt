@@ -78,7 +78,7 @@ impl NewLayer {
 }
 
 /// The kind of hash of the layer.
-fn kind_to_write(below: Option<&Checked<'_>>, commits: &[NewCommit]) -> Kind
+pub(crate) fn kind_to_write(below: Option<&Checked<'_>>, commits: &[NewCommit]) -> Kind
     ensures { result ≡ kind_to_write (layers_of_below below.entry) commits.now }
 {
     match below {

@@ -1,5 +1,7 @@
-//! Tests of new layers. What is expected follows from Git's format alone.
+//! Tests of new layers. What is expected follows from Git's format, or Git wrote it.
 #![tactic(auto)]
 
 #[cfg(test)]
 mod new_layers;
+#[cfg(test)]
+mod written;

@@ -1,10 +1,23 @@
-use Rattle.std.proofs.Common.{ℕ, List, subst}
+use Rattle.std.proofs.Common.{ℕ, List, get_or, length, subst, arith}
 use Rattle.graph_levels.specs.declared.level.Level.{Level}
 use Rattle.graph_levels.specs.declared.lists.ParentLists.{ParentLists}
+use Rattle.graph_levels.specs.OnTop.{no_level}
 use Rattle.graph_levels.specs.SearchStates.{IsSearch}
 use Rattle.graph_levels.proofs.LevelLemmas.{all_local, all_right}
 use Rattle.graph_levels.proofs.AcyclicLemmas.{no_cycle_on_top}
 use Rattle.graph_levels.proofs.search.levels.Goals as goal
+
+pub returns-clause-bounds : goal.returns-clause-bounds
+returns-clause-bounds c i within =
+    let inv = c.loop-commit.invariant in
+    let s = c.loop-commit.search in
+    let search : IsSearch c.args.below.now c.args.parents.now c.args.times.now s.states.items s.stack.items =
+    subst (λ (below : List Level). IsSearch below c.args.parents.now c.args.times.now s.states.items s.stack.items) inv.below
+    (subst (λ (parents : ParentLists). IsSearch s.below.now parents c.args.times.now s.states.items s.stack.items) inv.parents
+    (subst (λ (times : List ℕ). IsSearch s.below.now s.parents.now times s.states.items s.stack.items) inv.times inv.going)) in
+    let own = c.in_ok-found.field-0.items in
+    let is = search.levels i (get_or own i no_level) (c.in_ok-found.ensures.each i (omega (arith, c.in_ok-found.ensures.len))) in
+    (omega (arith, is.generation), omega (arith, is.date))
 
 pub returns-clause-generations : goal.returns-clause-generations
 returns-clause-generations c h on_top has =

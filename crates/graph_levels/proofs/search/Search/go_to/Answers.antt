@@ -19,7 +19,7 @@ parent_within below parents times i index p input within at =
     (slice_get_within (parent_list parents i) index p at) (input.within i within))
 
 pub returns-in-Open-clause-cycle : goal.returns-in-Open-clause-cycle
-returns-in-Open-clause-cycle c h on_top =
+returns-in-Open-clause-cycle c =
     let s = c.args.self.now in
     let t : ℕ = length s.stack.items - 1 in
     let last : t + 1 ≡ length s.stack.items = omega arith in
@@ -27,10 +27,13 @@ returns-in-Open-clause-cycle c h on_top =
     pending_above s.below.now s.states.items c.args.parent c.requires.pending in
     let within : c.args.parent < length s.below.now + commit_count s.parents.now =
     parent_within s.below.now s.parents.now s.times.now (get_or s.stack.items t no_frame).commit c.args.index c.args.parent
-    c.requires.input (c.requires.going.going.frames t (omega arith)).within c.requires.parent in
-    closes_cycle s.below.now s.parents.now s.times.now s.states.items s.stack.items c.requires.going t c.args.parent
-    c.args.index last
-    c.requires.parent above h on_top within (sym c.state_of.ensures ∙ c.in-Open.is)
+    c.requires.input (c.requires.going.going.frames t (omega arith)).within c.requires.parent in (
+      above,
+      within,
+      λ h on_top.
+          closes_cycle s.below.now s.parents.now s.times.now s.states.items s.stack.items c.requires.going t c.args.parent
+          c.args.index last c.requires.parent above h on_top within (sym c.state_of.ensures ∙ c.in-Open.is),
+    )
 
 pub overflow_sub-parent : goal.overflow_sub-parent
 overflow_sub-parent c =

@@ -1,0 +1,165 @@
+use Rattle.std.proofs.Common.{◌≡◌, ◌<◌, ◌≤◌, ◌^◌, ℕ, true, false, List, Option, Some, None, IsSomeAnd, map, length, get_or, slice_get, inr}
+use Rattle.std.proofs.Common.{option_map, sym, ap, ◌∙◌, subst, ⊎_elim, arith}
+use Rattle.std.specs.Prelude.{IfSome, IfNone, MatchOption}
+use Rattle.std.proofs.lemmas.Bool.{cases_lt}
+use Rattle.std.proofs.lemmas.List.{length-map}
+use Rattle.std.proofs.lemmas.Result.{err_from_is_err_and}
+use Rattle.graph_walks.specs.Dates.{AreRight}
+use Rattle.graph_walks.specs.Generations.{AreLocal}
+use Rattle.graph_walks.specs.History.{Node}
+use Rattle.graph_format.specs.Layer.{Layer}
+use Rattle.graph_encoder.specs.DateOffsets.{offsets_of}
+use Rattle.graph_encoder.specs.Plan.{AreOffsets}
+use Rattle.graph_encoder.specs.declared.plan.LayerPlan.{LayerPlan}
+use Rattle.graph_levels.specs.OnTop.{FitTogether, HasOnTop, HasLevelGenerations, HasLevelDates, level_at}
+use Rattle.graph_levels.specs.ParentLists.{parent_list}
+use Rattle.graph_levels.specs.declared.level.Level.{Level}
+use Rattle.graph_writer.specs.NewCommits.{layers_of_below, new_times}
+use Rattle.graph_writer.specs.OwnLevels.{MayHaveNoLevels}
+use Rattle.graph_writer.specs.PlannedCommits.{IsPlanOf, AreOffsetsOf}
+use Rattle.graph_writer.specs.WritingRefusal.{word_count}
+use Rattle.graph_writer.specs.declared.commit.NewCommit.{NewCommit}
+use Rattle.graph_writer.proofs.FitSteps.{fit-together}
+use Rattle.graph_writer.proofs.PlanSteps.{is-plan}
+use Rattle.graph_writer.proofs.ReasonSteps.{refused-new, refused-levels}
+use Rattle.graph_writer.proofs.WriteSteps.{HasOffsets, written}
+use Rattle.graph_writer.proofs.write.write_layer.Goals as goal
+
+-- a list that may be missing
+match-items : {X : Type 0} (items : X → List ℕ) (o : Option X) (F : Type 0) (P : List ℕ → Type 0) → IfSome o (λ x. P (items x))
+    → IfNone o F → MatchOption (option_map items o) F P
+match-items items None F P some none = none
+match-items items (Some x) F P some none = some
+
+offsets-fit : (o : Option (List ℕ)) (F T : Type 0) (times : List ℕ) (own : List Level) (n : ℕ) → n ≡ length own
+    → MatchOption o F (λ offsets. T × AreOffsetsOf times own offsets) → IfSome o (AreOffsets n)
+offsets-fit None F T times own n same h = tt
+offsets-fit (Some offsets) F T times own n same h = record { count = h.1.as_many ∙ sym same; fit = h.1.fit }
+
+pub returns-in_err-new-clause-refusal : goal.returns-in_err-new-clause-refusal
+returns-in_err-new-clause-refusal c =
+    let handed = err_from_is_err_and c.from_residual.result c.from_residual.ensures.1 in
+    rw (handed.1, handed.2)
+    (refused-new (layers_of_below c.args.below) c.args.commits.now _ c.in_err-new.ensures.refusal)
+
+pub own_levels-requires-clause-fits : goal.own_levels-requires-clause-fits
+own_levels-requires-clause-fits c =
+    subst (λ (ls : List Level). FitTogether ls c.in_ok-new.new.parents c.deref-3.result.now) (sym c.deref-2.ensures.value)
+    (subst (λ (ts : List ℕ). FitTogether c.in_ok-known.known.levels.items c.in_ok-new.new.parents ts)
+    (sym c.deref-3.ensures.value)
+    (fit-together (layers_of_below c.args.below) c.args.commits.now c.in_ok-new.new c.in_ok-new.ensures.layer
+    c.in_ok-new.ensures.accepted c.in_ok-known.known c.in_ok-known.ensures.levels c.in_ok-times.times.items
+    (c.in_ok-times.ensures ∙ ap (map (λ (i : ℕ). get_or (new_times c.args.commits.now) i 0)) c.deref.ensures.value)))
+
+pub returns-in_err-own-clause-refusal : goal.returns-in_err-own-clause-refusal
+returns-in_err-own-clause-refusal c =
+    let handed = err_from_is_err_and c.from_residual-in_err-own.result c.from_residual-in_err-own.ensures.1 in
+    let base = ap length c.deref-2.ensures.value ∙ c.in_ok-known.ensures.levels.as_many in
+    rw (handed.1, handed.2)
+    (refused-levels (layers_of_below c.args.below) c.args.commits.now c.in_ok-new.ensures.accepted c.in_ok-new.new
+    c.in_ok-new.ensures.layer _
+    (subst (λ (n : ℕ). MayHaveNoLevels n c.in_ok-new.new c.in_err-own.field-0.0) base c.in_err-own.ensures.refusal))
+
+pub returns-then-not-is_buildable-clause-refusal : goal.returns-then-not-is_buildable-clause-refusal
+returns-then-not-is_buildable-clause-refusal c =
+    let layers : List Layer = layers_of_below c.args.below in
+    let commits : List NewCommit = c.args.commits.now in
+    let new = c.in_ok-new.new in
+    let own : List Level = c.in_ok-own.own.items in
+    let times : List ℕ = c.in_ok-times.times.items in
+    let plan : LayerPlan = record {
+      kind = c.kind_to_write.result;
+      bases = c.in_ok-checksums_below.field-0;
+      commits = c.in_ok-planned_commits.field-0;
+      date_offsets = c.in_ok-offsets_of.field-0;
+    } in
+    let planned =
+    subst (λ (ls : List Level). (p i : ℕ) (commit : NewCommit) → slice_get new.order.items p ≡ Some i
+    → slice_get commits i ≡ Some commit
+    → IsSomeAnd (slice_get plan.commits.items p) (IsPlanOf commit (parent_list new.parents p) (level_at ls p).generation))
+    c.deref-4.ensures.value c.in_ok-planned_commits.ensures.each in
+    let match_offsets =
+    match-items (λ v. v.items) c.in_ok-offsets_of.field-0 (c.in_ok-known.known.have_dates ≡ false)
+    (λ offsets. (c.in_ok-known.known.have_dates ≡ true) × AreOffsetsOf c.deref-5.result.now c.deref-6.result.now offsets)
+    c.in_ok-offsets_of.ensures.some c.in_ok-offsets_of.ensures.none in
+    let size : length plan.commits.items ≡ length c.deref-6.result.now =
+    c.in_ok-planned_commits.ensures.as_many
+    ∙ c.in_ok-new.ensures.layer.as_many
+    ∙ sym c.in_ok-new.ensures.layer.listed
+    ∙ sym c.in_ok-own.ensures.len
+    ∙ sym (ap length c.deref-6.ensures.value) in
+    let bound : 2 ^ 31 ≤ word_count new =
+    ⊎_elim
+    (λ (less : word_count new < 2 ^ 31).
+    let yes_it_is : c.is_buildable.result ≡ true =
+    c.is_buildable.ensures.1
+    (is-plan layers commits new c.in_ok-new.ensures.layer own plan c.in_ok-planned_commits.ensures.as_many planned
+    c.in_ok-new.ensures.accepted c.in_ok-known.known c.in_ok-known.ensures.levels c.kind_to_write.ensures
+    c.in_ok-checksums_below.ensures
+    (omega (
+      arith,
+      c.if-len-gt-MOST_BELOW.false,
+      c.len.ensures,
+      ap length c.in_ok-checksums_below.ensures,
+      length-map layers (λ (l : Layer). l.checksum),
+    ))
+    c.in_ok-own.ensures.len (λ p lt. (c.in_ok-own.ensures.bounds p lt).0)
+    (offsets-fit (offsets_of plan) _ _ c.deref-5.result.now c.deref-6.result.now (length plan.commits.items) size match_offsets)
+    less) in
+    let no_it_is : c.is_buildable.result ≡ false = c.if-not-is_buildable.true in
+    absurd (cc))
+    (λ (many : 2 ^ 31 ≤ word_count new). many)
+    (cases_lt (word_count new) (2 ^ 31)) in
+    inr (inr (c.in_ok-new.ensures.accepted, (new, c.in_ok-new.ensures.layer, bound)))
+
+pub returns-clause-written : goal.returns-clause-written
+returns-clause-written c path =
+    let layers : List Layer = layers_of_below c.args.below in
+    let commits : List NewCommit = c.args.commits.now in
+    let new = c.in_ok-new.new in
+    let known = c.in_ok-known.known in
+    let own : List Level = c.in_ok-own.own.items in
+    let times : List ℕ = c.in_ok-times.times.items in
+    let plan : LayerPlan = record {
+      kind = c.kind_to_write.result;
+      bases = c.in_ok-checksums_below.field-0;
+      commits = c.in_ok-planned_commits.field-0;
+      date_offsets = c.in_ok-offsets_of.field-0;
+    } in
+    let planned =
+    subst (λ (ls : List Level). (p i : ℕ) (commit : NewCommit) → slice_get new.order.items p ≡ Some i
+    → slice_get commits i ≡ Some commit
+    → IsSomeAnd (slice_get plan.commits.items p) (IsPlanOf commit (parent_list new.parents p) (level_at ls p).generation))
+    c.deref-4.ensures.value c.in_ok-planned_commits.ensures.each in
+    let match_offsets =
+    match-items (λ v. v.items) c.in_ok-offsets_of.field-0 (known.have_dates ≡ false)
+    (λ offsets. (known.have_dates ≡ true) × AreOffsetsOf c.deref-5.result.now c.deref-6.result.now offsets)
+    c.in_ok-offsets_of.ensures.some c.in_ok-offsets_of.ensures.none in
+    let has : HasOffsets known times own plan =
+    subst (λ (ts : List ℕ). HasOffsets known ts own plan) c.deref-5.ensures.value
+    (subst (λ (ls : List Level). HasOffsets known c.deref-5.result.now ls plan) c.deref-6.ensures.value match_offsets) in
+    let local =
+    subst (λ (ls : List Level). (history : List Node) → HasOnTop history (length ls) new.parents
+    → HasLevelGenerations history ls own → AreLocal history) c.deref-2.ensures.value c.in_ok-own.ensures.generations in
+    let right =
+    subst (λ (ls : List Level). (history : List Node) (ts ds : List ℕ) → HasOnTop history (length ls) new.parents
+    → HasLevelDates history ts ds ls own times → AreRight history ts ds) c.deref-2.ensures.value
+    (subst (λ (all : List ℕ). (history : List Node) (ts ds : List ℕ)
+    → HasOnTop history (length c.deref-2.result.now) new.parents
+    → HasLevelDates history ts ds c.deref-2.result.now own all → AreRight history ts ds) c.deref-3.ensures.value
+    c.in_ok-own.ensures.dates) in
+    let found = c.in_ok-build.ensures.layer path in (
+      found.0,
+      found.1,
+      written layers commits new c.in_ok-new.ensures.layer c.in_ok-new.ensures.accepted known c.in_ok-known.ensures.levels times
+          (c.in_ok-times.ensures ∙ ap (map (λ (i : ℕ). get_or (new_times commits) i 0)) c.deref.ensures.value)
+          own c.in_ok-own.ensures.len local right plan c.kind_to_write.ensures c.in_ok-checksums_below.ensures
+          (omega (
+            arith,
+            c.if-len-gt-MOST_BELOW.false,
+            c.len.ensures,
+            ap length c.in_ok-checksums_below.ensures,
+            length-map layers (λ (l : Layer). l.checksum),
+          ))
+          c.in_ok-planned_commits.ensures.as_many planned has c.in_ok-build.field-0.items path found.0 found.1 found.2,
+    )

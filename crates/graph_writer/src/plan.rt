@@ -1,0 +1,138 @@
+//! What the file of a new layer is to hold.
+
+ghost use Rattle.std.specs.Prelude.{◌≡◌, ◌+◌, ◌<◌, ◌≤◌, ◌^◌, ℕ, true, All, IfOk, IfSome};
+ghost use Rattle.std.specs.Prelude.{IfNone, IsSomeAnd, Some, false, length, map, slice_get, slice_index};
+ghost use Rattle.graph_levels.specs.OnTop.{level_at};
+ghost use Rattle.graph_levels.specs.ParentLists.{commit_count, parent_list};
+ghost use Rattle.graph_writer.specs.NewCommits.{layers_of_below, new_times};
+ghost use Rattle.graph_writer.specs.PlannedCommits.{IsPlanOf, AreOffsetsOf};
+ghost use Rattle.graph_writer.specs.declared.commit.NewCommit.{NewCommit};
+
+use crate::commit::NewCommit;
+use crate::new_layer::NewLayer;
+use gix_commitgraph::File;
+use gix_hash_core::ObjectId;
+use graph_encoder::PlanCommit;
+use graph_history::Checked;
+use graph_levels::Level;
+use std::alloc::{AllocError, Global};
+
+/// The times of the commits of these numbers.
+pub(crate) fn times_in_order(
+    alloc: Global,
+    commits: &[NewCommit],
+    order: &[usize],
+) -> Result<Vec<u64>, AllocError>
+    requires { All (λ i. i < length commits.now) order.now }
+    ensures { IfOk result (λ times.
+        times.items ≡ map (λ i. slice_index (new_times commits.now) i) order.now) }
+{
+    let mut times = Vec::with_capacity(alloc, order.len())?;
+    for number in order {
+        times.push(commits[*number].time)?;
+    }
+    Ok(times)
+}
+
+/// The checksums of the layers below, the lowest first.
+pub(crate) fn checksums_below(
+    alloc: Global,
+    below: Option<&Checked<'_>>,
+) -> Result<Vec<ObjectId>, AllocError>
+    ensures { IfOk result (λ bases.
+        bases.items ≡ map (λ layer. layer.checksum) (layers_of_below below.entry)) }
+{
+    match below {
+        Some(graph) => checksums_of(alloc, graph.graph().layers()),
+        None => Ok(Vec::new(alloc)),
+    }
+}
+
+/// The checksums of layers.
+fn checksums_of(alloc: Global, layers: &[File]) -> Result<Vec<ObjectId>, AllocError>
+    ensures { IfOk result (λ bases. bases.items ≡ map (λ layer. layer.checksum) layers.now) }
+{
+    let mut checksums = Vec::with_capacity(alloc, layers.len())?;
+    for layer in layers {
+        checksums.push(layer.checksum().to_owned())?;
+    }
+    Ok(checksums)
+}
+
+/// What the file holds of each commit, in their order.
+pub(crate) fn planned_commits(
+    alloc: Global,
+    commits: &[NewCommit],
+    new: &NewLayer,
+    levels: &[Level],
+) -> Result<Vec<PlanCommit>, AllocError>
+    requires each { All (λ i. i < length commits.now) new.now.order.items }
+    requires listed { commit_count new.now.parents ≡ length new.now.order.items }
+    requires levels { length levels.now ≡ length new.now.order.items }
+    ensures as_many { IfOk result (λ planned.
+        length planned.items ≡ length new.now.order.items) }
+    ensures each { IfOk result (λ planned. (p i : ℕ) (commit : NewCommit)
+        → slice_get new.now.order.items p ≡ Some i → slice_get commits.now i ≡ Some commit
+        → IsSomeAnd (slice_get planned.items p) (IsPlanOf commit
+        (parent_list new.now.parents p) (level_at levels.now p).generation)) }
+{
+    let mut planned = Vec::with_capacity(alloc, new.order.len())?;
+    for place in 0..new.order.len() {
+        let commit = &commits[new.order[place]];
+        let generation = levels[place].generation;
+        planned.push(planned_commit(alloc, commit, new.parents.of(place), generation)?)?;
+    }
+    Ok(planned)
+}
+
+/// What the file holds of one commit.
+fn planned_commit(
+    alloc: Global,
+    commit: &NewCommit,
+    parents: &[u32],
+    generation: u32,
+) -> Result<PlanCommit, AllocError>
+    ensures { IfOk result (IsPlanOf commit.now parents.now generation) }
+{
+    Ok(PlanCommit {
+        id: commit.id,
+        tree: commit.tree,
+        parents: Vec::from_slice(alloc, parents)?,
+        generation,
+        time: commit.time,
+    })
+}
+
+/// For each commit how many seconds its corrected date is past its time, if the layer is to have
+/// dates.
+pub(crate) fn offsets_of(
+    alloc: Global,
+    have_dates: bool,
+    times: &[u64],
+    levels: &[Level],
+) -> Result<Option<Vec<u64>>, AllocError>
+    requires as_many { length times.now ≡ length levels.now }
+    requires late { (i : ℕ) → i < length levels.now
+        → slice_index times.now i ≤ (level_at levels.now i).date }
+    ensures some { IfOk result (λ found. IfSome found (λ offsets. (have_dates ≡ true)
+        × AreOffsetsOf times.now levels.now offsets.items)) }
+    ensures none { IfOk result (λ found. IfNone found (have_dates ≡ false)) }
+{
+    if !have_dates {
+        return Ok(None);
+    }
+    let mut offsets = Vec::with_capacity(alloc, levels.len())?;
+    for place in 0..levels.len() {
+        offsets.push(offset_of(levels[place].date, times[place]))?;
+    }
+    Ok(Some(offsets))
+}
+
+/// How many seconds a date is past a time.
+fn offset_of(date: u64, time: u64) -> u64
+    requires { time ≤ date }
+    ensures sum { result + time ≡ date }
+    ensures fits { result < 2 ^ 64 }
+{
+    date - time
+}

@@ -1,0 +1,93 @@
+//! Writing a layer.
+
+ghost use Rattle.std.specs.Prelude.{◌≡◌, ◌<◌, ◌≤◌, ℕ, List, IfOk, IfErr, length, slice_index};
+ghost use Rattle.graph_walks.specs.Dates.{AreRight};
+ghost use Rattle.graph_walks.specs.Generations.{AreLocal};
+ghost use Rattle.graph_walks.specs.History.{Node};
+ghost use Rattle.graph_levels.specs.OnTop.{FitTogether, HasOnTop, HasLevelGenerations};
+ghost use Rattle.graph_levels.specs.OnTop.{HasLevelDates, level_at};
+ghost use Rattle.graph_levels.specs.ParentLists.{commit_count};
+ghost use Rattle.graph_writer.specs.NewCommits.{layers_of_below};
+ghost use Rattle.graph_writer.specs.OwnLevels.{MayHaveNoLevels};
+ghost use Rattle.graph_writer.specs.WritingRefusal.{MayRefuseWriting};
+ghost use Rattle.graph_writer.specs.WrittenLayers.{IsWritten};
+
+use crate::commit::{NewCommit, WriteError};
+use crate::levels_below::LevelsBelow;
+use crate::new_layer::{NewLayer, kind_to_write};
+use crate::plan::{checksums_below, offsets_of, planned_commits, times_in_order};
+use graph_encoder::{LayerPlan, build};
+use graph_history::Checked;
+use graph_levels::{Level, LevelsError, levels};
+use graph_walks::GENERATION_NUMBER_MAX;
+use std::alloc::Global;
+
+/// The most layers that the header's byte can count below a layer.
+const MOST_BELOW: usize = 255;
+
+/// The bytes of a layer with these commits, on top of a graph or on none: what Git writes of them
+/// without changed-path filters (gitformat-commit-graph). The layer has corrected dates where all
+/// layers below have them, and where there are none below.
+///
+/// # Errors
+///
+/// The first of [`WriteError`] that holds, in their order; `OutOfMemory` where an allocation
+/// failed.
+pub fn write_layer(
+    alloc: Global,
+    below: Option<&Checked<'_>>,
+    commits: &[NewCommit],
+) -> Result<Vec<u8>, WriteError>
+    ensures written { IfOk result (λ bytes.
+        IsWritten (layers_of_below below.entry) commits.now bytes.items) }
+    ensures refusal { IfErr result (MayRefuseWriting (layers_of_below below.entry) commits.now) }
+{
+    let new = NewLayer::of(alloc, below, commits)?;
+    let known = LevelsBelow::of(alloc, below)?;
+    let times = times_in_order(alloc, commits, &new.order)?;
+    let own = own_levels(alloc, &known.levels, &new, &times)?;
+    let plan = LayerPlan {
+        kind: kind_to_write(below, commits),
+        bases: checksums_below(alloc, below)?,
+        commits: planned_commits(alloc, commits, &new, &own)?,
+        date_offsets: offsets_of(alloc, known.have_dates, &times, &own)?,
+    };
+    if plan.bases.len() > MOST_BELOW {
+        return Err(WriteError::TooManyLayers);
+    }
+    if !plan.is_buildable() {
+        return Err(WriteError::TooManyEdges);
+    }
+    Ok(build(alloc, &plan)?)
+}
+
+/// The levels of the commits of a new layer, given those of the commits below.
+fn own_levels(
+    alloc: Global,
+    below: &[Level],
+    new: &NewLayer,
+    times: &[u64],
+) -> Result<Vec<Level>, WriteError>
+    requires fits { FitTogether below.now new.now.parents times.now }
+    requires ordered { length new.now.order.items ≡ commit_count new.now.parents }
+    ensures len { IfOk result (λ own. length own.items ≡ commit_count new.now.parents) }
+    ensures bounds { IfOk result (λ own. (i : ℕ) → i < length own.items
+        → ((level_at own.items i).generation ≤ GENERATION_NUMBER_MAX)
+        × (slice_index times.now i ≤ (level_at own.items i).date)) }
+    ensures generations { IfOk result (λ own. (history : List Node)
+        → HasOnTop history (length below.now) new.now.parents
+        → HasLevelGenerations history below.now own.items → AreLocal history) }
+    ensures dates { IfOk result (λ own. (history : List Node) (all dates : List ℕ)
+        → HasOnTop history (length below.now) new.now.parents
+        → HasLevelDates history all dates below.now own.items times.now
+        → AreRight history all dates) }
+    ensures refusal { IfErr result (MayHaveNoLevels (length below.now) new.now) }
+{
+    match levels(alloc, below, &new.parents, times) {
+        Ok(own) => Ok(own),
+        Err(LevelsError::Cycle(pos)) => {
+            Err(WriteError::Cycle(new.order[pos as usize - below.len()]))
+        }
+        Err(LevelsError::OutOfMemory) => Err(WriteError::OutOfMemory),
+    }
+}

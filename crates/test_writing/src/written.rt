@@ -1,0 +1,230 @@
+//! Layers that were written, beside those that Git 2.39.5 wrote of the same commits, with
+//! `commitGraph.generationVersion=2`: their sizes and their checksums.
+
+use gix_commitgraph::{File, Graph};
+use gix_hash_core::ObjectId;
+use graph_encoder::{LayerPlan, PlanCommit, build};
+use graph_history::{Checked, CheckedGraph};
+use graph_writer::{NewCommit, WriteError, write_layer};
+use std::alloc::Global;
+use std::process::Abort;
+
+/// A commit of Git: its id, its parents by their places in the history, and its time.
+type Made = (&'static str, &'static [usize], u64);
+
+/// The root tree of all of them.
+const TREE: &str = "4b825dc642cb6eb9a060e54bf8d69288fbee4904";
+
+/// Merges of two to five parents, two roots and one apart, times out of order, and offsets of dates
+/// past 31 bits.
+const HISTORY: &[Made] = &[
+    ("a9800b2790ffd9ee8b060b901a49ab7cb3d698b5", &[], 1500000000),
+    ("f52e8b7f3916ca3f75f247a3a37d940ffca93a86", &[0], 1500000060),
+    ("7c139d2a930e9bfaf1edd2921b4d6978df037411", &[0], 1400000000),
+    (
+        "263872282ff1a1cdf63942a4b9d460a4c0d57018",
+        &[1, 2],
+        1500000030,
+    ),
+    ("56e015b1c33bb0baa3382e1e5fe0682257d48dbb", &[], 8589934592),
+    (
+        "e28b62cc42967b9a96ccc0b93a2d1f26f13a84dc",
+        &[3, 4, 2],
+        1500000100,
+    ),
+    ("a509d273eac6f95b5dd05228c5eca35bb397adfb", &[4], 0),
+    (
+        "4ca46376a3ab5298ebbb915d757777bf6a97167b",
+        &[5, 6, 0, 3],
+        17179869183,
+    ),
+    ("248f7ceb7e1cf1dd8e5cbdc6aa761ab0731cbf00", &[7], 5),
+    ("3a55ceab5e44e733449c6316a60ff000c0f1d604", &[5], 1600000000),
+    (
+        "1a6c80e29b789daf79e35d6543df858f986f3bd1",
+        &[8, 9],
+        1600000001,
+    ),
+    (
+        "79f0f2b1f27534180de2a9f72654ccb17792e17d",
+        &[10, 7, 1, 0, 6],
+        0,
+    ),
+    ("3b7c0ba71f02f6968f3933e695c3116b6a34d2e9", &[], 1),
+];
+
+/// The first commits of the history that one layer has, where there are two.
+const LOWER: usize = 8;
+
+/// The id of this text.
+fn id(rt: &impl Abort, text: &str) -> ObjectId {
+    ObjectId::from_hex(text.as_bytes()).expect(rt, "an id")
+}
+
+/// The commit at a place of the history.
+fn commit(rt: &impl Abort, alloc: Global, place: usize) -> NewCommit {
+    let (own, listed, time) = HISTORY[place];
+    let mut parents = Vec::new(alloc);
+    for parent in listed {
+        parents
+            .push(id(rt, HISTORY[*parent].0))
+            .expect(rt, "memory for a parent");
+    }
+    NewCommit {
+        id: id(rt, own),
+        tree: id(rt, TREE),
+        parents,
+        time,
+    }
+}
+
+/// The commits from a place of the history up to another one, the last first.
+fn commits(rt: &impl Abort, alloc: Global, from: usize, to: usize) -> Vec<NewCommit> {
+    let mut all = Vec::new(alloc);
+    for place in (from..to).rev() {
+        all.push(commit(rt, alloc, place))
+            .expect(rt, "memory for commits");
+    }
+    all
+}
+
+/// The bytes of a layer with these commits.
+fn written(
+    rt: &impl Abort,
+    alloc: Global,
+    below: Option<&Checked<'_>>,
+    commits: &[NewCommit],
+) -> Vec<u8> {
+    write_layer(alloc, below, commits).expect(rt, "a layer")
+}
+
+/// Asserts the size of a layer, and its checksum.
+fn expect_file(rt: &impl Abort, bytes: &[u8], size: usize, checksum: &str) {
+    assert_eq!(rt; bytes.len(), size);
+    assert!(rt;
+        bytes.ends_with(id(rt, checksum).as_oid().as_bytes()),
+        "{checksum}"
+    );
+}
+
+/// The file with these bytes, of no name.
+fn opened(rt: &impl Abort, alloc: Global, bytes: Vec<u8>) -> File {
+    File::new(alloc, bytes, String::new(alloc)).expect(rt, "a file")
+}
+
+/// The graph of one file, checked.
+fn graph_of(rt: &impl Abort, alloc: Global, file: File) -> CheckedGraph {
+    let mut files = Vec::new(alloc);
+    files.push(file).expect(rt, "memory for a file");
+    let graph = Graph::new(alloc, files).expect(rt, "a graph");
+    CheckedGraph::new(alloc, graph).expect(rt, "a right graph")
+}
+
+#[test]
+fn a_file_is_as_git_writes_it(rt: HostRuntime) {
+    let alloc = rt.alloc();
+    let lower = written(&rt, alloc, None, &commits(&rt, alloc, 0, LOWER));
+    expect_file(
+        &rt,
+        &lower,
+        1652,
+        "4702599196805c4167fbd7ab7350450cab364d43",
+    );
+    let whole = written(&rt, alloc, None, &commits(&rt, alloc, 0, HISTORY.len()));
+    expect_file(
+        &rt,
+        &whole,
+        2000,
+        "f72c03845ab9bc83333e27640c9c3ba248d804e1",
+    );
+}
+
+#[test]
+fn a_layer_of_a_chain_is_as_git_writes_it(rt: HostRuntime) {
+    let alloc = rt.alloc();
+    let lower = written(&rt, alloc, None, &commits(&rt, alloc, 0, LOWER));
+    let mut graph = graph_of(&rt, alloc, opened(&rt, alloc, lower));
+    let more = commits(&rt, alloc, LOWER, HISTORY.len());
+    let upper = written(&rt, alloc, Some(&graph.as_checked()), &more);
+    expect_file(
+        &rt,
+        &upper,
+        1516,
+        "51a2999d19401f6e47b70a494fd0114b42ed8fa4",
+    );
+    graph
+        .push(alloc, opened(&rt, alloc, upper))
+        .expect(&rt, "a right graph");
+    assert_eq!(rt; graph.as_checked().num_commits() as usize, HISTORY.len());
+}
+
+/// A graph of the first commit, without corrected dates.
+fn graph_without_dates(rt: &impl Abort, alloc: Global) -> CheckedGraph {
+    let root = id(rt, HISTORY[0].0);
+    let mut plan = LayerPlan::new(alloc, root.as_oid().kind(), &[]).expect(rt, "memory");
+    let commit = PlanCommit {
+        id: root,
+        tree: id(rt, TREE),
+        parents: Vec::new(alloc),
+        generation: 1,
+        time: HISTORY[0].2,
+    };
+    plan.commits.push(commit).expect(rt, "memory for a commit");
+    assert!(rt; plan.is_buildable());
+    let bytes = build(alloc, &plan).expect(rt, "memory for a file");
+    graph_of(rt, alloc, opened(rt, alloc, bytes))
+}
+
+#[test]
+fn dates_follow_those_below(rt: HostRuntime) {
+    let alloc = rt.alloc();
+    let graph = graph_without_dates(&rt, alloc);
+    let more = commits(&rt, alloc, 1, LOWER);
+    let bytes = written(&rt, alloc, Some(&graph.as_checked()), &more);
+    let layer = opened(&rt, alloc, bytes);
+    assert!(rt; layer.chunk(*b"GDA2").is_none());
+    assert!(rt; layer.chunk(*b"EDGE").is_some());
+    let dated = written(&rt, alloc, None, &commits(&rt, alloc, 0, LOWER));
+    assert!(rt; opened(&rt, alloc, dated).chunk(*b"GDO2").is_some());
+}
+
+/// Asserts why no layer is written of commits.
+fn expect_refusal(
+    rt: &impl Abort,
+    alloc: Global,
+    below: Option<&Checked<'_>>,
+    commits: &[NewCommit],
+    want: WriteError,
+) {
+    assert_eq!(rt; write_layer(alloc, below, commits).err(), Some(want));
+}
+
+#[test]
+fn a_commit_that_is_its_own_ancestor_is_refused(rt: HostRuntime) {
+    let alloc = rt.alloc();
+    let mut all = commits(&rt, alloc, 0, LOWER);
+    let own = all[3].id;
+    all[3].parents.push(own).expect(&rt, "memory for a parent");
+    expect_refusal(&rt, alloc, None, &all, WriteError::Cycle(3));
+}
+
+#[test]
+fn a_commit_below_is_refused(rt: HostRuntime) {
+    let alloc = rt.alloc();
+    let lower = written(&rt, alloc, None, &commits(&rt, alloc, 0, LOWER));
+    let graph = graph_of(&rt, alloc, opened(&rt, alloc, lower));
+    let below = graph.as_checked();
+    let more = commits(&rt, alloc, LOWER - 1, HISTORY.len());
+    let pos = below
+        .find(id(&rt, HISTORY[LOWER - 1].0).as_oid())
+        .expect(&rt, "a position");
+    let last = HISTORY.len() - LOWER;
+    expect_refusal(
+        &rt,
+        alloc,
+        Some(&below),
+        &more,
+        WriteError::Below(last, pos),
+    );
+    expect_refusal(&rt, alloc, Some(&below), &[], WriteError::Nothing);
+}
