@@ -7,8 +7,8 @@ use Rattle.commit_objects.proofs.hex_id.decoded.Goals as goal
 pub loop-i-preserved : goal.loop-i-preserved
 loop-i-preserved g c = record {
   room = length-set _ _ _ ∙ c.loop-i.invariant.room;
-  so_far = decode_step _ _ c.loop-i.i _ (omega arith) (omega (arith, c.loop-i.invariant.room)) (c.byte_of.ensures (2 * c.loop-i.i))
-      c.loop-i.invariant.so_far;
+  so_far = decode_step _ _ c.loop-i.i _ (omega arith) (omega (arith, c.loop-i.invariant.room))
+      (c.byte_of.ensures (2 * c.loop-i.i)) c.loop-i.invariant.so_far;
 }
 
 pub returns : goal.returns
