@@ -1,4 +1,5 @@
-//! Ids in hexadecimal. Their digits are as good as random, so nothing here branches on them.
+//! Ids in hexadecimal. Their digits are as good as random, so nothing here branches on what they
+//! are.
 
 ghost use Rattle.std.specs.Prelude.{◌≡◌, ◌↔◌, ◌<◌, ◌*◌, ℕ, List, IsTrue, MatchOption, Ok, Some};
 ghost use Rattle.std.specs.Prelude.{length, true};
