@@ -32,7 +32,7 @@ usage: python3 scripts/real_data GRAPHTOOL HISTORYTOOL TEST_FILTERS [every-value
 - each byte of three small files, changed to some other values, or with `every-value` to all of them, beside
   a slow reading of the file; two million runs then, which take more than half an hour.
 - `git cgraph`: each word, installed, in repositories of every kind, beside Git's own answers, and what is said
-  of damaged ones.
+  of damaged ones: of each refusal, and of what happens to files. By the commands that it gives all is right again.
 - `git cgraph` beside a process that writes the commit-graph anew all the time: no run refuses it. scripts/races makes more
   such runs.
 - a file of 300,000 commits, asked by each command, and with one fault late in it, which is named at its position.
@@ -54,6 +54,7 @@ sys.path.insert(0, os.path.dirname(os.path.dirname(os.path.abspath(__file__))))
 from checks import (
     ancestor_checks,
     base_checks,
+    case_checks,
     cgraph_checks,
     cycle_checks,
     damaged_checks,
@@ -65,6 +66,7 @@ from checks import (
     list_checks,
     object_checks,
     path_checks,
+    place_checks,
     question_checks,
     race_checks,
     random_checks,
@@ -88,7 +90,9 @@ def main(path, history_path, filter_path, every_value=False):
     results, differences = Results(), Differences()
     with ProcessPoolExecutor() as pool:
         of_kinds = [pool.submit(check_kind, paths, object_format) for object_format in ID_LENGTH]
+        of_places = pool.submit(check_places, paths)
         check_others(paths, results, every_value)
+        results.add(of_places.result())
         for of_kind in of_kinds:
             counted, seen, lines = of_kind.result()
             results.add(counted)
@@ -120,6 +124,17 @@ def check_kind(paths, object_format):
         show_checks.check_all(histories, results, new)
         damaged_checks.check_all((histories, asker), results, new)
     return results, differences, LINES
+
+
+def check_places(paths):
+    """The checks of `git cgraph` in repositories of many kinds, and of what happens to files, in a process of their own."""
+    results = Results()
+    with tempfile.TemporaryDirectory() as folder:
+        os.chmod(folder, 0o755)
+        installed = cgraph_checks.Installed(os.path.join(folder, "installed"), (Program(paths[0]), HistoryProgram(paths[1])))
+        case_checks.check_all(installed, results, partial(new_repository, folder))
+        place_checks.check_all(installed, results, os.path.join(folder, "kinds"), partial(new_repository, folder))
+    return results
 
 
 def check_others(paths, results, every_value):

@@ -10,7 +10,7 @@ import shutil
 import subprocess
 
 import refusals
-from checks import case_checks, disk_checks, place_checks, show_checks, verify_checks
+from checks import disk_checks, show_checks, verify_checks
 from damage import trees, wrong_commits, wrong_layout, wrong_trees
 from damage.layer import sealed
 from expected import reading
@@ -82,9 +82,6 @@ def check_all(programs, results, folder, new):
     check_recipes(installed, results, os.path.join(folder, "recipes"), new("sha1", "asked, recipes.git"))
     check_damage(installed, results, new("sha1", "asked, damaged"))
     check_damaged_trees(installed, results, new("sha1", "asked, damaged folders"))
-    case_checks.check_all(installed, results, new)
-    os.mkdir(os.path.join(folder, "kinds"))
-    place_checks.check_all(installed, results, os.path.join(folder, "kinds"), new)
     for flags in (("--split",), ("--split", "--changed-paths")):
         check_pool(installed, results, new("sha1", "asked, a pool %s" % " ".join(flags)), flags)
     results.check("git cgraph, nothing is left over", installed.clone.left_over())

@@ -57,7 +57,7 @@ def check_all(installed, results, folder, new):
         origin.git("symbolic-ref", "HEAD", tip)
         origin.git("config", "uploadpack.allowFilter", "true")
         origin.write_graph()
-        os.mkdir(os.path.join(folder, kind))
+        os.makedirs(os.path.join(folder, kind))
         place = Place(installed, os.path.join(folder, kind))
         for check in (check_submodule, check_forks, check_partial, check_shallow, check_closed, check_hook, check_parents):
             check(results, kind, place, origin.folder)
