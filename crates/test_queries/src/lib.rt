@@ -1,5 +1,5 @@
-//! Tests of checked graphs: of queries, of layers that are put on top, and of the examples of
-//! calls, on files that are built for them.
+//! Tests of checked graphs: of queries, of layers that are put on top, of graphs that are opened
+//! anew, and of the examples of calls, on files that are built for them.
 //!
 //! The module `fixtures` has what several tests share.
 #![tactic(auto)]
@@ -16,6 +16,8 @@ mod fixtures;
 mod pushing;
 #[cfg(test)]
 mod refusals;
+#[cfg(test)]
+mod reloading;
 #[cfg(test)]
 mod shared_bases;
 #[cfg(test)]

@@ -1,14 +1,16 @@
 //! A layer whose commits share one long extra edge list. A check or a query that goes over the list
 //! once for each of them takes longer than a test may.
 
-use crate::fixtures::{graph_of, opened, right};
+use crate::fixtures::{graph_of, layer as layer_of_rows, opened, right};
 use gix_commitgraph::file::Commit;
 use gix_commitgraph::{File, Graph};
 use gix_hash_core::Kind;
+use graph_history::CheckedGraph;
 use graph_vectors::{END, file_of_parts, reseal, words};
 use std::alloc::Global;
 use std::convert::Infallible;
 use std::process::Abort;
+use std::time::Instant;
 
 /// How many commits the layer has. Each but the first has the one before as its first parent.
 const COMMITS: u32 = 50_000;
@@ -124,4 +126,35 @@ fn a_shared_list_is_checked_in_time(rt: HostRuntime) {
     let graph = graph_of(&rt, alloc, [file]);
     compare_verified(&rt, alloc, &graph);
     compare_queries(&rt, alloc, &graph);
+}
+
+/// The graph of the layer and of one above it, with one commit, whose id repeats this byte.
+fn with_one_above(rt: &impl Abort, alloc: Global, byte: u8) -> Graph {
+    let lower = layer(rt, alloc);
+    let bases = [lower.checksum().to_owned()];
+    graph_of(
+        rt,
+        alloc,
+        [lower, layer_of_rows(rt, alloc, &bases, &[(byte, &[], 1)])],
+    )
+}
+
+// The commits of the layer below are compared and counted, and not checked. A check takes ten times
+// as long.
+#[test]
+fn a_shared_list_is_reloaded_in_less_time_than_a_check_takes(rt: HostRuntime) {
+    let alloc = rt.alloc();
+    let graph = with_one_above(&rt, alloc, 0x33);
+    let start = Instant::now(&rt).expect(&rt, "a clock");
+    let old = CheckedGraph::new(alloc, graph);
+    let check = start.elapsed(&rt).expect(&rt, "a clock").as_micros();
+    let old = old.expect(&rt, "a right graph");
+    let next = with_one_above(&rt, alloc, 0x44);
+    let start = Instant::now(&rt).expect(&rt, "a clock");
+    let answer = old.as_checked().reload(alloc, next);
+    let reload = start.elapsed(&rt).expect(&rt, "a clock").as_micros();
+    let answer = answer.expect(&rt, "a right graph");
+    assert!(&rt; answer.checked == 1);
+    assert!(&rt; answer.graph.as_checked().outcome() == old.as_checked().outcome());
+    assert!(&rt; reload < check);
 }
