@@ -11,7 +11,8 @@ use Rattle.graph_format.specs.Layer.{Layer}
 use Rattle.graph_format.specs.RightLayer.{IsNull}
 use Rattle.graph_format.specs.declared.TheConstants.{MAX_COMMITS}
 use Rattle.gix_commitgraph.specs.Graph.{graph_ids, total}
-use Rattle.graph_writer.specs.WriteRefusal.{own_refusal, own_refusal_at, below_at, kind_to_write, has_ids_of_kind, new_layer_refusal}
+use Rattle.graph_writer.specs.WriteRefusal.{own_refusal, own_refusal_at, below_at, kind_to_write, has_ids_of_kind}
+use Rattle.graph_writer.specs.WriteRefusal.{new_layer_refusal}
 use Rattle.graph_writer.specs.declared.commit.NewCommit.{NewCommit}
 use Rattle.graph_writer.specs.declared.commit.WriteError.{WriteError}
 use Rattle.graph_writer.specs.declared.commit.WriteError.TheVariants as error

@@ -164,7 +164,8 @@ module _ (layers : List Layer) (commits : List NewCommit) (new : NewLayer) (is_n
 
   -- a walk that ends at a new commit has no other, and is one among the commits
   follows : (p q : ℕ) (rest : List ℕ) → Path plain p q rest → base ≤ q
-      → (base ≤ p) × IsNewWalk commits (map number (p ∷ rest)) × (slice_get (map number (p ∷ rest)) (length rest) ≡ Some (number q))
+      → (base ≤ p) × IsNewWalk commits (map number (p ∷ rest))
+      × (slice_get (map number (p ∷ rest)) (length rest) ≡ Some (number q))
   follows p q [] w le =
       let end : p ≡ q = w.0 in
       (omega arith, number-within p (omega arith) (omega (arith, w.1, size-plain)), ap (λ (n : ℕ). Some (number n)) end)

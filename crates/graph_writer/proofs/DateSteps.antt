@@ -135,7 +135,8 @@ module _ (layers : List Layer) (commits : List NewCommit) (new : NewLayer) (is_n
   base-is : length known.levels.items ≡ length a
   base-is = below.as_many ∙ sym (length-history layers below.opened)
 
-  has-dates : HasLevelDates (a ++ b) (times_of layers ++ own_times) (dates_of layers ++ dates_in layer) known.levels.items own times
+  has-dates : HasLevelDates (a ++ b) (times_of layers ++ own_times) (dates_of layers ++ dates_in layer) known.levels.items own
+      times
   has-dates = record {
     as_many =
         ap length (sym dates-top)

@@ -95,7 +95,8 @@ pub graph-levels : (layers : List Layer) (known : LevelsBelow) (dates : Option (
     → ((p : ℕ) → p < total layers → generation_at (history_of layers) p ≡ (level_at known.levels.items p).generation)
     → ((p : ℕ) → p < total layers → number_at (unwrap_or dates []) p ≡ (level_at known.levels.items p).date)
     → known.have_dates ≡ is_some dates → IfSome dates (λ _. All HasDates layers) → IfNone dates (¬ All HasDates layers)
-    → IfSome dates (λ found. found ≡ dates_of layers) → IfSome dates (λ found. AreRight (history_of layers) (times_of layers) found)
+    → IfSome dates (λ found. found ≡ dates_of layers)
+    → IfSome dates (λ found. AreRight (history_of layers) (times_of layers) found)
     → AreLevelsBelow layers known
 graph-levels layers known None sound graph many generations dates dated some none stored right = record {
   sound = sound;

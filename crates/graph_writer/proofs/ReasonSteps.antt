@@ -5,7 +5,7 @@ use Rattle.gix_commitgraph.specs.Graph.{total}
 use Rattle.graph_writer.specs.NewLayers.{IsNewLayer}
 use Rattle.graph_writer.specs.OwnLevels.{MayHaveNoLevels}
 use Rattle.graph_writer.specs.WriteRefusal.{new_layer_refusal, MayRefuseNewLayer}
-use Rattle.graph_writer.specs.WritingRefusal.{MayRefuseDates, MayRefuseWriting}
+use Rattle.graph_writer.specs.WritingRefusal.{MayRefuseDatesBelow, MayRefuseWriting}
 use Rattle.graph_writer.specs.declared.commit.NewCommit.{NewCommit}
 use Rattle.graph_writer.specs.declared.commit.WriteError.{WriteError}
 use Rattle.graph_writer.specs.declared.commit.WriteError.TheVariants as error
@@ -21,7 +21,7 @@ module _ (layers : List Layer) (commits : List NewCommit) where
       ]
 
   module _ (none : new_layer_refusal layers commits ≡ None) where
-    pub refused-dates : (e : WriteError) → MayRefuseDates layers e → MayRefuseWriting layers commits e
+    pub refused-dates : (e : WriteError) → MayRefuseDatesBelow layers e → MayRefuseWriting layers commits e
     refused-dates (error.Kind i) h = inl h
     refused-dates (error.NullId i) h = inl h
     refused-dates (error.NullTree i) h = inl h

@@ -78,7 +78,11 @@ module _ (layers : List Layer) (commits : List NewCommit) (new : NewLayer) (is_n
       let is = found.3 in
       slice_get-map (node_of layer) layer.records p
       ∙ ap (option_map (node_of layer)) is.recorded
-      ∙ ap (λ (g : ℕ). Some (record { generation = g; parents = map (λ (pos : Position). pos.0) (parents_of found.2 layer.edges).positions }))
+      ∙ ap
+      (λ (g : ℕ). Some (record {
+        generation = g;
+        parents = map (λ (pos : Position). pos.0) (parents_of found.2 layer.edges).positions;
+      }))
       is.generation
       ∙ ap (λ (ps : List ℕ). Some (record { generation = (level_at own p).generation; parents = ps }))
       (ap (λ d. map (λ (pos : Position). pos.0) d.positions) is.parents ∙ plain-positions (parent_list new.parents p))

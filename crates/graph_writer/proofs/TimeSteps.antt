@@ -38,7 +38,8 @@ some-time layer n (Some chunk) j h =
     ap (λ (rs : List Record). slice_get rs j) h.1 ∙ slice_get-map (record_of layer.kind) all j in
     subst (λ (o : Option Record). (unwrap_or o no_record).time < 2 ^ 34) (sym read) (read-time layer.kind (slice_get all j))
 
-time-of : (layers : List Layer) (p : ℕ) (place : Layer × ℕ) → All IsOpened layers → slice_get (graph_commits layers) p ≡ Some place
+time-of : (layers : List Layer) (p : ℕ) (place : Layer × ℕ) → All IsOpened layers
+    → slice_get (graph_commits layers) p ≡ Some place
     → (record_at place.0 place.1).time < 2 ^ 34
 time-of layers p (layer, j) opened here =
     let lies = commit-lies layers p j layer here in

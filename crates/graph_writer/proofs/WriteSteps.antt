@@ -65,10 +65,16 @@ module _ (layers : List Layer) (commits : List NewCommit) (new : NewLayer) (is_n
     distinct-top : AreDistinct layers → AreDistinct all
     distinct-top distinct =
         subst HoldOnce (sym (ids-top layers layer))
-        (once-more (graph_ids layers) layer.ids distinct (has-commits layers commits new is_new own plan counted planned layer says).ascending (λ j id here.
+        (once-more (graph_ids layers) layer.ids distinct
+        (has-commits layers commits new is_new own plan counted planned layer says).ascending
+        (λ j id here.
         let found =
         told layers commits new is_new own plan counted planned layer says j
-        (omega (arith, slice_get_within layer.ids j id here, as-many layers commits new is_new own plan counted planned layer says)) in
+        (omega (
+          arith,
+          slice_get_within layer.ids j id here,
+          as-many layers commits new is_new own plan counted planned layer says,
+        )) in
         let same : found.1.id ≡ id = same_Some found.1.id id (sym found.3.id ∙ here) in
         subst (λ (x : List ℕ). scan (graph_ids layers) x ≡ None) same
         (scanned-none layers commits none found.0 found.1 found.3.handed)))

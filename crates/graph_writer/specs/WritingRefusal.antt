@@ -15,9 +15,9 @@ use Rattle.graph_writer.specs.declared.commit.WriteError.TheVariants as error
 use Rattle.graph_writer.specs.declared.new_layer.NewLayer.{NewLayer}
 
 -- the errors that come where the corrected dates of the graph below are read
-abbrev pub MayRefuseDates : List Layer → WriteError → Type 0
-MayRefuseDates layers (error.Dates fault) = MayRefuseGraphDates layers fault
-MayRefuseDates layers fault = fault ≡ error.OutOfMemory
+abbrev pub MayRefuseDatesBelow : List Layer → WriteError → Type 0
+MayRefuseDatesBelow layers (error.Dates fault) = MayRefuseGraphDates layers fault
+MayRefuseDatesBelow layers fault = fault ≡ error.OutOfMemory
 
 -- the parents of the commits, one list for each
 abbrev pub lists_of : NewLayer → List (List ℕ)

@@ -48,4 +48,5 @@ pub record IsWrittenLayer (layers : List Layer) (handed : List NewCommit) (layer
 
 -- The bytes are a file of such a layer, whatever its name.
 abbrev pub IsWritten : List Layer → List NewCommit → List ℕ → Type 0
-IsWritten layers commits bytes = (path : List ℕ) → (layer : Layer) × IsLayer bytes path layer × IsWrittenLayer layers commits layer
+IsWritten layers commits bytes =
+    (path : List ℕ) → (layer : Layer) × IsLayer bytes path layer × IsWrittenLayer layers commits layer

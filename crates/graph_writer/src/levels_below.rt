@@ -7,7 +7,7 @@ ghost use Rattle.graph_format.specs.StoredHistory.{history_of};
 ghost use Rattle.gix_commitgraph.specs.Graph.{total};
 ghost use Rattle.graph_levels.specs.OnTop.{level_at};
 ghost use Rattle.graph_writer.specs.NewCommits.{layers_of_below};
-ghost use Rattle.graph_writer.specs.WritingRefusal.{MayRefuseDates};
+ghost use Rattle.graph_writer.specs.WritingRefusal.{MayRefuseDatesBelow};
 ghost use Rattle.graph_writer.specs.LevelsBelow.{AreLevelsBelow};
 
 use crate::commit::WriteError;
@@ -30,7 +30,7 @@ impl LevelsBelow {
     /// What is known of the commits below.
     pub(crate) fn of(alloc: Global, below: Option<&Checked<'_>>) -> Result<LevelsBelow, WriteError>
         ensures levels { IfOk result (AreLevelsBelow (layers_of_below below.entry)) }
-        ensures refusal { IfErr result (MayRefuseDates (layers_of_below below.entry)) }
+        ensures refusal { IfErr result (MayRefuseDatesBelow (layers_of_below below.entry)) }
     {
         match below {
             Some(graph) => LevelsBelow::of_graph(alloc, graph),
@@ -44,7 +44,7 @@ impl LevelsBelow {
     /// What is known of the commits of a graph.
     fn of_graph(alloc: Global, graph: &Checked<'_>) -> Result<LevelsBelow, WriteError>
         ensures levels { IfOk result (AreLevelsBelow graph.now.layers) }
-        ensures refusal { IfErr result (MayRefuseDates graph.now.layers) }
+        ensures refusal { IfErr result (MayRefuseDatesBelow graph.now.layers) }
     {
         let dates = match CorrectedDates::of_graph(alloc, graph.graph()) {
             Ok(dates) => dates,

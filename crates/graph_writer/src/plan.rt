@@ -1,7 +1,8 @@
 //! What the file of a new layer is to hold.
 
 ghost use Rattle.std.specs.Prelude.{◌≡◌, ◌+◌, ◌<◌, ◌≤◌, ◌^◌, ℕ, true, All, IfOk, IfSome};
-ghost use Rattle.std.specs.Prelude.{IfNone, IsSomeAnd, Some, false, length, map, slice_get, slice_index};
+ghost use Rattle.std.specs.Prelude.{IfNone, IsSomeAnd, Some, false, length, map, slice_get};
+ghost use Rattle.std.specs.Prelude.{slice_index};
 ghost use Rattle.graph_levels.specs.OnTop.{level_at};
 ghost use Rattle.graph_levels.specs.ParentLists.{commit_count, parent_list};
 ghost use Rattle.graph_writer.specs.NewCommits.{layers_of_below, new_times};

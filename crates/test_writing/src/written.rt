@@ -63,11 +63,12 @@ fn id(rt: &impl Abort, text: &str) -> ObjectId {
 
 /// The commit at a place of the history.
 fn commit(rt: &impl Abort, alloc: Global, place: usize) -> NewCommit {
-    let (own, listed, time) = HISTORY[place];
+    let (own, listed, time) = *HISTORY.get(place).expect(rt, "a commit");
     let mut parents = Vec::new(alloc);
-    for parent in listed {
+    for place in listed {
+        let (parent, _, _) = *HISTORY.get(*place).expect(rt, "a parent");
         parents
-            .push(id(rt, HISTORY[*parent].0))
+            .push(id(rt, parent))
             .expect(rt, "memory for a parent");
     }
     NewCommit {
@@ -213,12 +214,14 @@ fn a_commit_below_is_refused(rt: HostRuntime) {
     let alloc = rt.alloc();
     let lower = written(&rt, alloc, None, &commits(&rt, alloc, 0, LOWER));
     let graph = graph_of(&rt, alloc, opened(&rt, alloc, lower));
-    let below = graph.as_checked();
     let more = commits(&rt, alloc, LOWER - 1, HISTORY.len());
-    let pos = below
-        .find(id(&rt, HISTORY[LOWER - 1].0).as_oid())
+    let top = more.last().expect(&rt, "a commit").id;
+    let pos = graph
+        .as_checked()
+        .find(top.as_oid())
         .expect(&rt, "a position");
-    let last = HISTORY.len() - LOWER;
+    let last = more.len() - 1;
+    let below = graph.as_checked();
     expect_refusal(
         &rt,
         alloc,
