@@ -6,14 +6,14 @@
  * Rules for all calls
  * - A pointer is valid for the length beside it and is not null, also where the length is 0. What a call writes does not
  *   overlap what it reads, and what it reads does not change until it returns (a mapped file can change: see cg_open).
- * - A cg_graph is CG_CLOSED, or a copy of what cg_open wrote and cg_close was not yet given. All copies are one graph.
- *   Nobody looks into it or changes it.
- * - Threads: any number of calls may read one graph at a time. cg_close is called once, when no call on the graph is
- *   running, and none follows.
+ * - A cg_graph is CG_CLOSED, or a copy of what cg_open, cg_open_checked or cg_check wrote, and neither cg_close nor cg_check was
+ *   yet given. All copies are one graph. Nobody looks into it or changes it.
+ * - Threads: any number of calls may read one graph at a time. cg_close, or cg_check, is called once, when no call on the
+ *   graph is running, and none follows.
  * - No call keeps a pointer that it was given. No call is made from a signal handler, or in the child of a process with
  *   threads before it execs. Memory comes from malloc, realloc and free.
- * - What an out parameter holds before a call does not matter, but for the cg_graph of cg_open and cg_open_checked, which
- *   has to be CG_CLOSED.
+ * - What an out parameter holds before a call does not matter, but for the cg_graph that a call hands out, which has to
+ *   be CG_CLOSED.
  * - Where a call answers a code, CG_OK, 0, is a full answer, and any other the number of the cause: see CG_OK. Other codes than
  *   those that are named beside a call do not come. Calls with a graph that is CG_CLOSED answer CG_CLOSED_GRAPH, or as each says.
  *
@@ -178,14 +178,34 @@ struct cg_count;
 cg_error cg_open_checked(const cg_file *files, size_t count, bool distinct_ids, struct cg_verdict *verdict,
                          struct cg_count *counts, size_t counts_len, cg_graph *out);
 
-/* Frees a graph. Nothing is done with CG_CLOSED. */
-void cg_close(cg_graph graph);
+/* Checks a graph, as cg_verify does, and hands it out in *out as cg_open_checked does: no file is read again. The graph that is
+ * passed is given back as to cg_close, also where it is refused. Answers the verdict's code, and *verdict is always written: its
+ * codes are those of cg_verify, and `called` is 0 where it is not CG_OK. Then *out is left as it was, and `counts` too. */
+uint32_t cg_check(cg_graph graph, bool distinct_ids, struct cg_verdict *verdict, struct cg_count *counts, size_t counts_len,
+                  cg_graph *out);
+
+/* Frees a graph, and answers whether there was one: false of CG_CLOSED, with which nothing is done. */
+bool cg_close(cg_graph graph);
 
 /* The number of commits; 0 of CG_CLOSED. */
 uint32_t cg_num_commits(cg_graph graph);
 
 /* The number of bytes of an id: 20 of SHA-1, 32 of SHA-256; 0 of CG_CLOSED. */
 size_t cg_id_len(cg_graph graph);
+
+/* The number of layers, which count from the lowest; 0 of CG_CLOSED. */
+uint64_t cg_num_layers(cg_graph graph);
+
+/* A layer: the position of its first commit, the number of its commits and of its base ids, and its kind of hash: 1 is SHA-1,
+ * and 2 is SHA-256. The positions of a layer are those from `first` on. */
+typedef struct cg_layer_info { uint32_t first, num_commits, bases, hash; } cg_layer_info;
+
+/* Writes what is told of a layer; false, and nothing, where there is none, and for CG_CLOSED. */
+bool cg_layer(cg_graph graph, uint64_t layer, cg_layer_info *out);
+
+/* Writes the checksum that ends a layer's file, or its base id of a number, which counts from 0, as cg_id_at writes an id. */
+size_t cg_layer_checksum(cg_graph graph, uint64_t layer, uint8_t *out, size_t len);
+size_t cg_base_id_at(cg_graph graph, uint64_t layer, uint64_t index, uint8_t *out, size_t len);
 
 /* The position of an id, or CG_NOWHERE: for a length other than 20 or 32 too, and for CG_CLOSED. A position that is answered
  * holds the id. In a graph that cg_verify found right it is the least that does, and CG_NOWHERE means that none does. */
@@ -262,7 +282,7 @@ uint32_t cg_verify(cg_graph graph, bool distinct_ids, cg_verdict *out, cg_count 
 
 /* A search for a walk. `code` is
  *   CG_CLOSED_GRAPH; else
- *   CG_NOT_CHECKED         where the graph was not opened by cg_open_checked; else
+ *   CG_NOT_CHECKED         where the graph is none that cg_open_checked or cg_check has handed out; else
  *   CG_NO_SUCH_POSITION    where a position is none; else
  *   CG_OUT_OF_MEMORY; else
  *   CG_OK: `length` is the number of commits on a shortest walk, both ends included, or 0 where there is none, and `visits`
@@ -287,7 +307,7 @@ typedef struct cg_pair { uint32_t ancestor, descendant; } cg_pair;
 
 /* How many pairs were answered. `code` is
  *   CG_CLOSED_GRAPH; else
- *   CG_NOT_CHECKED         where the graph was not opened by cg_open_checked; else
+ *   CG_NOT_CHECKED         where the graph is none that cg_open_checked or cg_check has handed out; else
  *   CG_OK                  where `answered` is the smaller of the two lengths: each pair was answered for which there is room; else
  *   CG_NO_SUCH_POSITION    where a position of the next pair, whose number `answered` is, is none; else
  *   CG_OUT_OF_MEMORY       where memory ran out on that pair.
@@ -367,7 +387,7 @@ static inline const char *cg_strerror(uint32_t code) {
     case CG_OK: return "no error";
     case CG_OUT_OF_MEMORY: return "memory ran out";
     case CG_CLOSED_GRAPH: return "no graph is open";
-    case CG_NOT_CHECKED: return "the graph was not opened by cg_open_checked";
+    case CG_NOT_CHECKED: return "no check has found the graph right";
     case CG_NO_SUCH_POSITION: return "the graph has no such position";
     case CG_PATH_NOT_UTF8: return "the path of a layer is not UTF-8";
     case CG_NO_DATES: return "a layer has no corrected dates";

@@ -100,7 +100,7 @@ SENTENCES = {
     Code.OK: "no error",
     Code.OUT_OF_MEMORY: "memory ran out",
     Code.CLOSED_GRAPH: "no graph is open",
-    Code.NOT_CHECKED: "the graph was not opened by cg_open_checked",
+    Code.NOT_CHECKED: "no check has found the graph right",
     Code.NO_SUCH_POSITION: "the graph has no such position",
     Code.PATH_NOT_UTF8: "the path of a layer is not UTF-8",
     Code.NO_DATES: "a layer has no corrected dates",
@@ -222,7 +222,7 @@ class _Line(ctypes.Structure):
 CALLS = {
     "cg_version": (c_uint32, ()),
     "cg_open_checked": (_Error, (POINTER(_File), c_size_t, c_bool, POINTER(_Verdict), c_void_p, c_size_t, POINTER(_Graph))),
-    "cg_close": (None, (_Graph,)),
+    "cg_close": (c_bool, (_Graph,)),
     "cg_num_commits": (c_uint32, (_Graph,)),
     "cg_id_len": (c_size_t, (_Graph,)),
     "cg_lookup": (c_uint32, (_Graph, c_void_p, c_size_t)),

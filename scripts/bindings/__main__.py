@@ -1,4 +1,4 @@
-"""Tests the library for C, Rust and Python: `python3 scripts/bindings [GRAPHTOOL [HISTORYTOOL]]`. Its last line is
+"""Tests the library for C, Rust, Python and Go: `python3 scripts/bindings [GRAPHTOOL [HISTORYTOOL]]`. Its last line is
 `N passed, M failed`.
 
 It builds the static library, where it is not built, over what `rt ci` left, as scripts/library hands it out. What C and
@@ -98,13 +98,13 @@ def wait_for_crates(log):
 
 
 def exports(archive):
-    """No export has a `requires`, each has an `ensures` but cg_close. The library, the header and the Rust crate have just them,
+    """No export has a `requires`, and each has an `ensures`. The library, the header and the Rust crate have just them,
     and each is called by the Rust crate, and by the programs that make all calls."""
     texts = [path.read_text() for path in (CRATE / "src").glob("*.rt")]
     found = dict(pair for text in texts for pair in re.findall(r'pub extern "C" fn (\w+)(.*?)\n?\{\n', text, re.DOTALL))
     expect("no export has a `requires`", found and not any("requires" in contract for contract in found.values()), found)
     silent = [name for name, contract in found.items() if "ensures" not in contract]
-    expect("each export but cg_close says what it answers", silent == ["cg_close"], silent)
+    expect("each export says what it answers", silent == [], silent)
     header, rust = HEADER / "commitgraph.h", TOP / "bindings/rust/src/sys.rs"
     for path, pattern in ((header, r"^(?!static)[\w ]+ \*?(cg_\w+)\("), (rust, r"pub fn (cg_\w+)\(")):
         declared = re.findall(pattern, path.read_text(), re.MULTILINE)
@@ -186,12 +186,9 @@ def told_by_program(*words):
 
 @functools.lru_cache(maxsize=None)
 def listed_by_program(file):
-    """The lines of the commits of a file that `graphtool` lists, and its status."""
+    """The lines of a file that `graphtool` lists, and its status."""
     with open(file, "rb") as given:
-        answer = run(GRAPHTOOL, "list", stdin=given)
-    lines = answer.stdout.splitlines(keepends=True)
-    answer.stdout = "".join(line for line in lines if not line.startswith(("layer ", "base ")))
-    return answer
+        return run(GRAPHTOOL, "list", stdin=given)
 
 
 def questions(ids):
@@ -202,7 +199,7 @@ def questions(ids):
 
 
 def same_list(name, program, file):
-    """The lines of the commits of a file, or of its refusal: the library tells no base ids."""
+    """The lines of the layer of a file and of its commits, or of its refusal."""
     answer, expected = run(program, file, "list"), listed_by_program(file)
     expect(f"{name}: list", answers_alike(answer, expected), (answer, expected))
 
@@ -308,6 +305,8 @@ def fields(name, compiler, archive, scratch):
             path.write_bytes(data)
         rows, _ = layout.without_visits(run(program, *files).stdout.splitlines())
         expect(f"{name}: each field, {fault}", rows[0] == ["error", *error] and rows[1] == ["verdict", *verdict], rows)
+        told = [row[1:] for row in rows if row[0] == "layer"]
+        expect(f"{name}: layers, {fault}", told == (layout.layers_of(layers) if error[0] == 0 else []), told)
 
 
 def many_commits(compiler, archive, scratch):
@@ -531,6 +530,16 @@ def installed(compilers, scratch, graphs):
             done = run(compiler, "-D_GNU_SOURCE", *words.split(), HEADER / "example.c", *flags, "-o", program)
             done = run(program, graphs["sha1"][0], ids[-1], env=at) if done.returncode == 0 else done
             expect(f"installed, {compiler}, {kind}", done.returncode == 0 and "\nparent " in done.stdout, done)
+    if present("musl-gcc", "the installed library under musl"):
+        program = scratch / "installed-musl"
+        flags = [f"-I{prefix}/include", f"-L{prefix}/lib", "-l:libcommitgraph.a"]
+        done = run("musl-gcc", "-static", "-D_GNU_SOURCE", HEADER / "example.c", *flags, "-o", program)
+        done = run(program, graphs["sha1"][0], ids[-1]) if done.returncode == 0 else done
+        expect("installed, musl", done.returncode == 0 and "\nparent " in done.stdout, done)
+    if present("pkg-config", "Go") and present("go", "Go"):
+        package = shutil.copytree(TOP / "bindings/go", scratch / "go")
+        done = run("go", "test", "-count=1", cwd=package, env={**at, "GOCACHE": str(scratch / "go-built"), "GOFLAGS": "-mod=mod"})
+        expect("Go: tests", done.returncode == 0 and done.stdout.startswith("ok"), done)
     if compilers and present("cmake", "the installed library by CMake"):
         by_cmake(compilers[0], prefix, scratch, graphs["sha1"][0], ids[-1])
 

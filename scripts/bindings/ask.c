@@ -130,8 +130,24 @@ static bool answers_first(cg_graph graph, uint32_t pos, cg_parent_count all, con
     return true;
 }
 
+/* The layer and the base ids of a graph of one file, as `graphtool list` has them. */
+static bool print_layer(cg_graph graph) {
+    uint8_t id[32];
+    cg_layer_info layer;
+    if (!cg_layer(graph, 0, &layer) || layer.first || layer.num_commits != cg_num_commits(graph)) return false;
+    if (cg_id_len(graph) != (layer.hash == 1 ? 20 : 32)) return false;
+    printf("layer %s bases %" PRIu32 " commits %" PRIu32 "\n", layer.hash == 1 ? "sha1" : "sha256", layer.bases, layer.num_commits);
+    for (uint32_t i = 0; i < layer.bases; i++) {
+        printf("base ");
+        print_hex(id, cg_base_id_at(graph, 0, i, id, cg_id_len(graph)));
+        putchar('\n');
+    }
+    return !cg_base_id_at(graph, 0, layer.bases, id, cg_id_len(graph)) && !cg_base_id_at(graph, 1, 0, id, cg_id_len(graph));
+}
+
 /* All commits, from blocks, each compared with what the calls for one commit say. */
 static int list(cg_graph graph) {
+    if (cg_num_layers(graph) == 1 && !print_layer(graph)) return 9;
     uint32_t count = cg_num_commits(graph), out[ROOM + 1], one[ROOM];
     cg_parent_count answers[PLACES + 1];
     cg_commit commits[PLACES + 1];
@@ -267,7 +283,13 @@ static bool closed_answers(void) {
     cg_verdict verdict = { .called = 7 };
     cg_pair pair = { 0, 0 };
     uint64_t date = 7;
-    cg_close(CG_CLOSED);
+    cg_layer_info layer = { .first = 7 };
+    cg_graph none = CG_CLOSED;
+    if (cg_close(CG_CLOSED) || cg_num_layers(CG_CLOSED) || cg_layer(CG_CLOSED, 0, &layer) || layer.first != 7) return false;
+    if (cg_layer_checksum(CG_CLOSED, 0, id, 20) || cg_base_id_at(CG_CLOSED, 0, 0, id, 20)) return false;
+    if (cg_check(CG_CLOSED, true, &verdict, &count, 1, &none) != CG_CLOSED_GRAPH || verdict.code != CG_CLOSED_GRAPH) return false;
+    if (none.opened || verdict.called) return false;
+    verdict.called = 7;
     bool good = cg_num_commits(CG_CLOSED) == 0 && cg_id_len(CG_CLOSED) == 0 && cg_lookup(CG_CLOSED, id, 20) == CG_NOWHERE
         && cg_id_at(CG_CLOSED, 0, id, 20) == 0 && cg_tree_at(CG_CLOSED, 0, id, 20) == 0 && !cg_commit_at(CG_CLOSED, 0, &commit)
         && cg_commits(CG_CLOSED, 0, &commit, 1) == 0 && cg_parents(CG_CLOSED, 0, out, 1).code == CG_CLOSED_GRAPH
@@ -280,6 +302,43 @@ static bool closed_answers(void) {
         && cg_corrected_dates(CG_CLOSED, &date, 1).code == CG_CLOSED_GRAPH && cg_version() == CG_VERSION
         && cg_probe_path(CG_CLOSED, (const uint8_t *)"a", 1, out, 1, id, 1).code == CG_CLOSED_GRAPH;
     return good && date == 7 && out[0] == 7 && id[0] == 7 && commit.time == 7 && answer.code == 7 && count.parents == 7;
+}
+
+#define SAME(two, one, other) ((two)[0].one == (two)[1].one && (two)[0].other == (two)[1].other)
+
+/* Whether each call answers the same where NULL stands beside a length of 0 as where another pointer does. */
+static bool null_answers(cg_graph graph) {
+    uint8_t bytes[1] = { 7 };
+    uint32_t numbers[1] = { 7 };
+    uint64_t dates[1] = { 7 };
+    cg_pair pairs[1] = { { 7, 7 } };
+    cg_parent_count answers[1] = { { .code = 7 } };
+    cg_count counts[1] = { { .parents = 7 } };
+    cg_verdict verdicts[2];
+    memset(verdicts, 7, sizeof verdicts);
+    cg_graph opened = CG_CLOSED;
+    cg_parent_count parents[] = { cg_parents(graph, 0, NULL, 0), cg_parents(graph, 0, numbers, 0) };
+    cg_parent_count first[] = { cg_first_parents(graph, 0, NULL, 0), cg_first_parents(graph, 0, numbers, 0) };
+    cg_block blocks[] = { cg_parents_from(graph, 0, NULL, 0, NULL, 0), cg_parents_from(graph, 0, answers, 0, numbers, 0) };
+    cg_reached walks[] = { cg_ancestor_walk(graph, 0, 0, NULL, 0), cg_ancestor_walk(graph, 0, 0, numbers, 0) };
+    cg_answered many[] = { cg_are_ancestors(graph, NULL, 0, NULL, 0), cg_are_ancestors(graph, pairs, 0, bytes, 0) };
+    cg_bases bases[] = { cg_merge_bases(graph, 0, NULL, 0, NULL, 0), cg_merge_bases(graph, 0, numbers, 0, numbers, 0) };
+    cg_dates told[] = { cg_corrected_dates(graph, NULL, 0), cg_corrected_dates(graph, dates, 0) };
+    cg_probed probed[] = { cg_probe_path(graph, NULL, 0, NULL, 0, NULL, 0), cg_probe_path(graph, bytes, 0, numbers, 0, bytes, 0) };
+    cg_matched matched[] = { cg_matches(graph, 0, NULL, 0), cg_matches(graph, 0, bytes, 0) };
+    cg_file files[] = { { NULL, 0, NULL, 0 }, { bytes, 0, bytes, 0 } };
+    cg_error errors[] = { cg_open(&files[0], 1, &opened), cg_open(&files[1], 1, &opened) };
+    cg_error none[] = { cg_open(NULL, 0, &opened), cg_open(files, 0, &opened) };
+    cg_verify(graph, false, &verdicts[0], NULL, 0);
+    cg_verify(graph, false, &verdicts[1], counts, 0);
+    return SAME(parents, code, count) && SAME(first, code, count) && SAME(blocks, commits, length) && SAME(walks, code, length)
+        && SAME(many, code, answered) && SAME(bases, ahead, length) && SAME(told, code, length) && SAME(probed, code, answered)
+        && SAME(matched, code, parent) && bases[0].code == bases[1].code && errors[0].code == CG_FILE_TOO_SHORT && errors[1].code == CG_FILE_TOO_SHORT
+        && none[0].code == CG_GRAPH_NO_FILES && none[1].code == CG_GRAPH_NO_FILES && verdicts[0].code == verdicts[1].code
+        && verdicts[0].kinds == verdicts[1].kinds && cg_commits(graph, 0, NULL, 0) == cg_num_commits(graph) && !cg_chain_line(NULL, 0, 0).found
+        && cg_lookup(graph, NULL, 0) == CG_NOWHERE && !cg_id_at(graph, 0, NULL, 0) && !cg_tree_at(graph, 0, NULL, 0)
+        && !cg_layer_checksum(graph, 0, NULL, 0) && !cg_base_id_at(graph, 0, 0, NULL, 0) && !opened.opened
+        && bytes[0] == 7 && numbers[0] == 7 && dates[0] == 7 && answers[0].code == 7 && counts[0].parents == 7;
 }
 
 /* What the queries answer of a graph that was not checked. */
@@ -320,6 +379,39 @@ static bool add_layers(cg_file *files, size_t *count, const char *chain, int fol
     }
     free(text);
     return good;
+}
+
+/* Whether two open graphs have the same layers. */
+static bool same_layers(cg_graph one, cg_graph other) {
+    uint8_t id[2][32] = { { 0 }, { 0 } };
+    cg_layer_info layer[2];
+    uint64_t count = cg_num_layers(one), commits = 0;
+    for (uint64_t number = 0; number < count; number++) {
+        if (!cg_layer(one, number, &layer[0]) || !cg_layer(other, number, &layer[1])) return false;
+        if (memcmp(&layer[0], &layer[1], sizeof layer[0]) || layer[0].first != commits) return false;
+        commits += layer[0].num_commits;
+        size_t len = cg_layer_checksum(one, number, id[0], cg_id_len(one));
+        if (len != cg_id_len(one) || cg_layer_checksum(other, number, id[1], len) != len || memcmp(id[0], id[1], len)) return false;
+        if (cg_layer_checksum(one, number, id[0], len + 1)) return false;
+    }
+    return cg_num_layers(other) == count && cg_num_commits(other) == commits && !cg_layer(one, count, &layer[0])
+        && !cg_layer_checksum(one, count, id[0], 20);
+}
+
+/* Whether the check of an open graph hands it out checked where it is right, and tells what cg_verify tells. */
+static bool same_checked(const cg_file *files, size_t files_count, cg_graph graph) {
+    cg_graph opened = CG_CLOSED, checked = CG_CLOSED;
+    cg_verdict found, verdict = { .code = 7 };
+    cg_count counts[ROOM], count = { .parents = 7 };
+    if (cg_open(files, files_count, &opened).code || !same_layers(opened, graph)) return false;
+    uint32_t code = cg_verify(opened, false, &found, counts, ROOM);
+    if (cg_check(opened, false, &verdict, &count, 1, &checked) != code || verdict.code != code) return false;
+    bool good = checked.opened == !code && (code || same_layers(checked, graph)) && (code || !found.kinds || count.parents == counts[0].parents)
+        && cg_is_ancestor(checked, 0, 0).code == (code ? CG_CLOSED_GRAPH : cg_num_commits(checked) ? CG_OK : CG_NO_SUCH_POSITION);
+    if (code && count.parents != 7) return false;
+    good = good && verdict.longest == found.longest && verdict.position == found.position && verdict.other == found.other
+        && verdict.layer == found.layer && verdict.index == found.index && verdict.kinds == found.kinds && verdict.num_commits == found.num_commits;
+    return cg_close(checked) == !code && good && verdict.called == (code ? 0 : found.called);
 }
 
 /* The lines of a file, each after its length. */
@@ -368,11 +460,12 @@ int main(int argc, char **argv) {
     cg_count counts[1];
     bool asks = strchr("ab", argv[2][0]) || !strcmp(argv[2], "parents");
     cg_error error = asks ? cg_open_checked(files, count, false, &verdict, counts, 1, &graph) : cg_open(files, count, &graph);
+    if (!error.code && !same_checked(files, count, graph)) return 9;
     while (count) free((void *)files[--count].bytes);
     if (asks && verdict.code != error.code) return 9;
     if (error.code > 300 && error.code < 400) return not_right(verdict);
     if (error.code) return not_opened(error, !strcmp(argv[2], "list"));
+    if (!null_answers(graph) || !null_answers(CG_CLOSED)) return 9;
     int status = asks || unchecked_answers(graph) ? answer(graph, argc - 2, argv + 2) : 9;
-    cg_close(graph);
-    return closed_answers() ? status : 9;
+    return cg_close(graph) && closed_answers() ? status : 9;
 }

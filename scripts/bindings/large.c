@@ -177,6 +177,22 @@ static void tell(cg_graph graph, cg_graph checked, const char *questions, const 
     if (fclose(file)) exit(2);
 }
 
+/* The same graph, of one layer, which is opened and then checked. */
+static void opened_and_checked(const cg_file *file, cg_graph graph) {
+    cg_graph opened = CG_CLOSED, checked = CG_CLOSED;
+    cg_layer_info layer;
+    cg_verdict found, verdict;
+    cg_count counts[KINDS];
+    uint8_t id[LEN];
+    agree(!cg_open(file, 1, &opened).code && cg_num_layers(opened) == 1);
+    agree(cg_layer(opened, 0, &layer) && !layer.first && layer.num_commits == cg_num_commits(graph) && layer.hash == 1);
+    agree(cg_layer_checksum(opened, 0, id, LEN) == LEN && !layer.bases && !cg_base_id_at(opened, 0, 0, id, LEN));
+    uint32_t code = cg_verify(graph, true, &found, counts, KINDS);
+    agree(cg_check(opened, true, &verdict, counts, KINDS, &checked) == code && verdict.longest == found.longest);
+    agree(cg_num_commits(checked) == (code ? 0 : layer.num_commits));
+    cg_close(checked);
+}
+
 int main(int argc, char **argv) {
     size_t len;
     if (argc != 2 && argc != 4) return 2;
@@ -191,6 +207,7 @@ int main(int argc, char **argv) {
     cg_error told = cg_open_checked(&file, 1, true, &verdict, counts, KINDS, &checked);
     PRINT("checked", told.code, told.layer, N(checked.opened));
     if (error.code) return 0;
+    opened_and_checked(&file, graph);
     print_verdict(verdict, counts);
     print_check(graph, false);
     print_check(graph, true);

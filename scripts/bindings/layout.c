@@ -10,6 +10,8 @@
 SIZE(cg_graph, 16); AT(cg_graph, address, 0); AT(cg_graph, opened, 8);
 SIZE(cg_file, 32); AT(cg_file, bytes, 0); AT(cg_file, len, 8); AT(cg_file, path, 16); AT(cg_file, path_len, 24);
 SIZE(cg_error, 16); AT(cg_error, code, 0); AT(cg_error, layer, 8);
+SIZE(cg_layer_info, 16); AT(cg_layer_info, first, 0); AT(cg_layer_info, num_commits, 4); AT(cg_layer_info, bases, 8);
+AT(cg_layer_info, hash, 12);
 SIZE(cg_commit, 16); AT(cg_commit, time, 0); AT(cg_commit, generation, 8);
 SIZE(cg_parent_count, 16); AT(cg_parent_count, code, 0); AT(cg_parent_count, count, 8);
 SIZE(cg_block, 16); AT(cg_block, commits, 0); AT(cg_block, length, 8);
@@ -50,6 +52,12 @@ static void print_check(cg_graph graph) {
     PRINT("verdict", v.code, v.num_commits, v.longest, N(v.has_longest), v.position, v.other, v.called, v.layer, v.index,
           v.kinds);
     for (uint64_t i = 0; i < v.kinds; i++) PRINT("count", counts[i].parents, counts[i].commits);
+}
+
+static void print_layers(cg_graph graph) {
+    cg_layer_info layer;
+    memset(&layer, OTHER, sizeof layer);
+    for (uint64_t i = 0; cg_layer(graph, i, &layer); i++) PRINT("layer", layer.first, layer.num_commits, layer.bases, layer.hash);
 }
 
 /* What is answered of each commit, and of all. */
@@ -112,6 +120,7 @@ int main(int argc, char **argv) {
     cg_error error = cg_open(files, (size_t)argc - 1, &graph);
     PRINT("error", error.code, error.layer, N(graph.opened), N(graph.address != NULL));
     print_check(graph);
+    print_layers(graph);
     print_commits(graph);
     print_chunks(graph);
     error = cg_open_checked(files, (size_t)argc - 1, false, &verdict, counts, 1, &checked);

@@ -44,6 +44,7 @@ class History:
         yield ["verdict", *self.verdict()]
         counts = collections.Counter(map(len, self.parents.values()))
         yield from (["count", *count] for count in sorted(counts.items()))
+        yield ["layer", 0, len(self.ids), 0, 1]
         yield ["block", len(self.ids), sum(map(len, self.parents.values()))]
         for commit in self.ids:
             parents = len(self.parents[commit])
@@ -117,6 +118,12 @@ def date_faults(data, history):
     place = chunk(data, b"GDA2") + 4 * merge
     yield "a later date", changed(data, place, 1000), [405, merge, 0, history.date(history.ids[merge]), 0]
     yield "no such date", changed(data, place, 1 << 31), [403, merge, 0, 0, 0]
+
+
+def layers_of(files):
+    """What is told of each layer of a chain of SHA-1: where it begins, its commits, its base ids, and 1."""
+    counts = [word(data, chunk(data, b"OIDF") + 4 * 255) for data in files]
+    return [[sum(counts[:number]), count, number, 1] for number, count in enumerate(counts)]
 
 
 def layered(layers):

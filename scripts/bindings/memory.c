@@ -73,6 +73,19 @@ static outcome open_graph(void) {
     return opening(error, opened);
 }
 
+/* The check of a graph that is opened before, without refusals. */
+static outcome check_graph(void) {
+    cg_graph opened = CG_CLOSED, checked = { files, false };
+    long later = left;
+    left = NONE;
+    if (cg_open(files, layers, &opened).code) return WRONG;
+    left = later;
+    memset(counts, OTHER, sizeof counts);
+    uint32_t code = cg_check(opened, true, &verdict, counts, 8, &checked);
+    if (verdict.code != code || (code && (verdict.called || !unwritten(counts, sizeof counts)))) return WRONG;
+    return opening((cg_error){ code, 0 }, checked);
+}
+
 static outcome open_checked(void) {
     cg_graph opened = { files, false };
     memset(&verdict, OTHER, sizeof verdict);
@@ -143,7 +156,11 @@ static outcome reading(void) {
     uint8_t id[32];
     cg_commit commit;
     cg_parent_count answers[4];
+    cg_layer_info layer;
     size_t len = cg_id_at(graph, from, id, cg_id_len(graph));
+    uint64_t last = cg_num_layers(graph) - 1;
+    if (!cg_layer(graph, last, &layer) || cg_layer_checksum(graph, last, id, len) != len) return WRONG;
+    if (cg_base_id_at(graph, last, 0, id, len) != (last ? len : 0) || cg_id_at(graph, from, id, len) != len) return WRONG;
     bool good = cg_lookup(graph, id, len) == from && cg_tree_at(graph, from, id, len) == len && cg_commit_at(graph, from, &commit)
         && cg_commits(graph, from, &commit, 1) == cg_num_commits(graph) - from && cg_parents(graph, from, out, 4).code == CG_OK
         && cg_first_parents(graph, from, out, 4).code == CG_OK && cg_matches(graph, from, id, len).code == CG_OBJECT_OTHER_CONTENTS
@@ -188,6 +205,7 @@ int main(int argc, char **argv) {
     to = position_of(argv[2]);
     printf("open %ld\n", refusals("open", open_graph));
     printf("open_checked %ld\n", refusals("open_checked", open_checked));
+    printf("check %ld\n", refusals("check", check_graph));
     printf("verify %ld\n", refusals("verify", verify));
     printf("walk %ld\n", refusals("walk", walk));
     printf("ancestor %ld\n", refusals("ancestor", ancestor));

@@ -9,13 +9,16 @@ enum { THREADS = 4, ROOM = 64 };
 static cg_graph graph;
 static cg_file file;
 
-/* How many commits a graph has that is opened by this thread, and closed again. */
+/* How many commits graphs have that are opened and checked by this thread, and closed again. */
 static uint32_t opened(void) {
-    cg_graph own = CG_CLOSED;
-    cg_error error = cg_open(&file, 1, &own);
-    uint32_t count = cg_num_commits(own);
+    cg_graph own = CG_CLOSED, other = CG_CLOSED, checked = CG_CLOSED;
+    cg_verdict verdict;
+    cg_count counts[1];
+    cg_error error = cg_open(&file, 1, &own), told = cg_open(&file, 1, &other);
+    uint32_t count = cg_num_commits(own) + cg_check(other, true, &verdict, counts, 1, &checked) + cg_num_commits(checked);
     cg_close(own);
-    return count + error.code;
+    cg_close(checked);
+    return count + error.code + told.code;
 }
 
 /* A number made from all that a graph answers. */
@@ -27,6 +30,10 @@ static uint64_t sum(void) {
     cg_verdict verdict;
     cg_count counts[ROOM];
     uint64_t dates[ROOM];
+    cg_layer_info layer = { 0, 0, 0, 0 };
+    uint8_t checksum[32];
+    all += cg_num_layers(graph) + cg_layer(graph, 0, &layer) + layer.num_commits;
+    all += cg_layer_checksum(graph, 0, checksum, cg_id_len(graph)) + checksum[0] + cg_base_id_at(graph, 0, 0, checksum, 20);
     for (uint32_t pos = 0; pos < count; pos++) {
         uint8_t id[32];
         size_t len = cg_id_at(graph, pos, id, cg_id_len(graph));

@@ -1,8 +1,8 @@
 //! `ask PATH list | verify | distinct | dates | probe NAME | find ID | ancestor ID ID`: answers of the graph at the path, in the
 //! lines of `graphtool`, and `dates` and what refuses a `probe` in lines of `historytool check`.
 
-use commitgraph::{Checked, CommitFault, DatesError, Fault, FileError, Graph, GraphError, LayerFault, ObjectId, OpenError};
-use commitgraph::{ParentError, Position, Probe, ProbeError, VerifyError, VerifyOptions};
+use commitgraph::{Checked, CommitFault, DatesError, Fault, FileError, Graph, GraphError, Kind, LayerFault, ObjectId};
+use commitgraph::{OpenError, ParentError, Position, Probe, ProbeError, VerifyError, VerifyOptions};
 use std::convert::Infallible;
 use std::process::ExitCode;
 
@@ -31,8 +31,17 @@ fn main() -> ExitCode {
 }
 
 /// The commits, a line for each, told one by one and many at a time.
+/// The layer and the base ids of a graph of one file.
+fn layer_lines(graph: &Graph) -> String {
+    let layer = graph.layer(0).expect("it is there");
+    let kind = if graph.object_hash() == Kind::Sha1 { "sha1" } else { "sha256" };
+    let bases = layer.base_ids();
+    let first = format!("layer {kind} bases {} commits {}\n", bases.len(), layer.num_commits());
+    bases.fold(first, |lines, id| format!("{lines}base {id}\n"))
+}
+
 fn list(graph: &Graph) -> Answer {
-    let mut lines = String::new();
+    let mut lines = if graph.num_layers() == 1 { layer_lines(graph) } else { String::new() };
     for ((commit, record), told) in graph.iter_commits().zip(graph.iter_records()).zip(graph.iter_parents()) {
         let parents: Vec<_> = commit.iter_parents().collect();
         assert_eq!(told, parents.iter().copied().collect());

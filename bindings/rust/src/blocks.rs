@@ -1,6 +1,8 @@
 //! What is said of many commits, read by one call for many of them.
 
-use crate::{sys, Graph, ParentError, Position};
+use crate::room::{collected, room_for};
+use crate::{codes, sys, Graph, ParentError, Position};
+use std::collections::TryReserveError;
 use std::iter::FusedIterator;
 
 /// Of so many commits one call tells.
@@ -22,6 +24,9 @@ pub struct ParentBlock {
     pub(crate) parents: Vec<Position>,
 }
 
+/// What is told of the one commit of a block for which there is no memory.
+const REFUSED: &[sys::ParentCount] = &[sys::ParentCount { code: codes::OUT_OF_MEMORY, count: 0 }];
+
 impl ParentBlock {
     /// Of no commits.
     #[inline]
@@ -34,19 +39,39 @@ impl ParentBlock {
         self.first
     }
 
+    /// What is told of each commit.
+    fn told(&self) -> &[sys::ParentCount] {
+        if self.answers.is_empty() { REFUSED } else { &self.answers }
+    }
+
     /// How many commits these are, at least one.
     #[allow(clippy::len_without_is_empty)]
     pub fn len(&self) -> usize {
-        self.answers.len()
+        self.told().len()
     }
 
-    /// The parents of each commit, in the order of the commits; or why they cannot be decoded, or not all of them.
+    /// The parents of each commit, in the order of the commits; or why they cannot be decoded, or not all of them. Where there is
+    /// no memory for a block, it is one commit, of which that is told.
     pub fn iter(&self) -> impl ExactSizeIterator<Item = Result<&[Position], ParentError>> + FusedIterator {
         let mut rest = &self.parents[..];
-        self.answers.iter().map(move |answer| {
+        self.told().iter().map(move |answer| {
             let (parents, later) = rest.split_at(answer.count as usize);
             rest = later;
             ParentError::of(answer.code).map_or(Ok(parents), Err)
+        })
+    }
+
+    /// The same, in vectors.
+    fn into_vectors(self) -> impl FusedIterator<Item = Result<Vec<Position>, ParentError>> {
+        let mut used = 0;
+        (0..self.len()).map(move |place| {
+            let answer = self.told()[place];
+            let parents = &self.parents[used..][..answer.count as usize];
+            used += parents.len();
+            match ParentError::of(answer.code) {
+                None => Ok(collected(parents.iter().copied())?),
+                Some(error) => Err(error),
+            }
         })
     }
 }
@@ -68,8 +93,7 @@ impl Graph {
 
     /// The parents of each commit, in the order of their positions, as [`crate::Commit::parents`] has them.
     pub fn iter_parents(&self) -> impl FusedIterator<Item = Result<Vec<Position>, ParentError>> + '_ {
-        let owned = |block: ParentBlock| block.iter().map(|parents| parents.map(<[_]>::to_vec)).collect::<Vec<_>>();
-        self.parent_blocks().flat_map(owned)
+        self.parent_blocks().flat_map(ParentBlock::into_vectors)
     }
 
     /// The parents of all commits, in blocks: the fastest way to go over them, since nothing is allocated for each commit.
@@ -83,37 +107,38 @@ impl Graph {
         .fuse()
     }
 
-    /// The parents of some commits from a position on, in the room of a block; and whether they end since the parents of the next
-    /// commit do not fit.
-    pub(crate) fn parents_within(&self, first: Position) -> (ParentBlock, bool) {
-        let mut answers = vec![sys::ParentCount::default(); BLOCK];
-        let mut parents = vec![Position(0); 2 * BLOCK];
-        let (told, room) = (answers.as_mut_ptr(), parents.as_mut_ptr().cast());
-        // SAFETY: `raw` is open, each pointer and length are those of a vector, and a position is one number.
-        let block = unsafe { sys::cg_parents_from(self.raw, first.0, told, answers.len(), room, parents.len()) };
-        let ends_at_long = block.length > parents.len() as u64;
-        answers.truncate(block.commits as usize - usize::from(ends_at_long));
-        (ParentBlock { first, answers, parents }, ends_at_long)
+    /// The parents of some commits from a position on, in the room of a block; and where they end since those of the next commit do
+    /// not fit, the room that all of them take.
+    pub(crate) fn parents_within(&self, first: Position) -> Result<(ParentBlock, Option<usize>), TryReserveError> {
+        let mut answers = room_for(sys::ParentCount::default(), BLOCK)?;
+        let mut parents = room_for(Position(0), 2 * BLOCK)?;
+        let block = self.write_block(first, &mut answers, &mut parents);
+        let wanted = (block.length > parents.len() as u64).then_some(block.length as usize);
+        answers.truncate(block.commits as usize - usize::from(wanted.is_some()));
+        Ok((ParentBlock { first, answers, parents }, wanted))
     }
 
     /// The parents of some commits from a position on, or `None` where no commit is left.
-    pub(crate) fn parents_from(&self, first: Position) -> Option<ParentBlock> {
-        let mut answers = vec![sys::ParentCount::default(); BLOCK];
-        let mut parents = vec![Position(0); 2 * BLOCK];
-        loop {
-            let (told, room) = (answers.as_mut_ptr(), parents.as_mut_ptr().cast());
-            // SAFETY: `raw` is open, each pointer and length are those of a vector, and a position is one number.
-            let block = unsafe { sys::cg_parents_from(self.raw, first.0, told, answers.len(), room, parents.len()) };
-            let fits = block.length <= parents.len() as u64;
-            let whole = block.commits as usize - usize::from(!fits);
-            if fits && whole == 0 {
-                return None;
-            }
-            if whole > 0 {
-                answers.truncate(whole);
-                return Some(ParentBlock { first, answers, parents });
-            }
-            parents.resize(block.length as usize, Position(0));
+    fn parents_from(&self, first: Position) -> Option<ParentBlock> {
+        let refused = ParentBlock { first, answers: Vec::new(), parents: Vec::new() };
+        (first.0 < self.num_commits()).then(|| self.whole_from(first).unwrap_or(refused))
+    }
+
+    /// The same where a commit is left: its own parents find room, if there is memory.
+    fn whole_from(&self, first: Position) -> Result<ParentBlock, TryReserveError> {
+        let (mut block, wanted) = self.parents_within(first)?;
+        if let (true, Some(length)) = (block.answers.is_empty(), wanted) {
+            block.answers = room_for(sys::ParentCount::default(), 1)?;
+            block.parents = room_for(Position(0), length)?;
+            self.write_block(first, &mut block.answers, &mut block.parents);
         }
+        Ok(block)
+    }
+
+    /// Writes the parents of some commits from a position on, as `cg_parents_from` does.
+    fn write_block(&self, first: Position, answers: &mut [sys::ParentCount], parents: &mut [Position]) -> sys::Block {
+        let (told, room) = (answers.as_mut_ptr(), parents.as_mut_ptr().cast());
+        // SAFETY: `raw` is open, each pointer and length are those of a slice, and a position is one number.
+        unsafe { sys::cg_parents_from(self.raw, first.0, told, answers.len(), room, parents.len()) }
     }
 }

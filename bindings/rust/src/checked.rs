@@ -1,5 +1,6 @@
 //! Graphs that a check has found right, and what they alone answer.
 
+use crate::error::fault_of;
 use crate::open::{open_at, open_chain, open_file, open_info};
 use crate::room::{collected, positions_of, room_for};
 use crate::verify::{outcome_of, ROOM};
@@ -56,8 +57,39 @@ impl Checked {
                 sys::cg_open_checked(files.as_ptr(), files.len(), distinct, verdict, counts.as_mut_ptr(), ROOM, raw)
             }
         })?;
+        Checked::found_right(graph, options, &verdict, &counts)
+    }
+
+    /// Checks a graph that is open, without reading its files again, for what the options ask.
+    ///
+    /// # Errors
+    ///
+    /// `Check` with the first fault, or `OutOfMemory`. The graph is dropped then.
+    pub fn of_graph(graph: Graph, options: VerifyOptions) -> Result<Checked, OpenError> {
+        let mut counts = [sys::Count::default(); ROOM];
+        let mut verdict = sys::Verdict::default();
+        let (mut raw, given) = (sys::CLOSED, graph.raw);
+        // The call closes it.
+        std::mem::forget(graph);
+        // SAFETY: `given` is open, and no copy of it is used from here on; `raw` is CG_CLOSED, and the other pointers are those
+        // of a value, and of an array with its length.
+        unsafe { sys::cg_check(given, options.distinct_ids, &mut verdict, counts.as_mut_ptr(), ROOM, &mut raw) };
+        match verdict.code {
+            codes::OK => Checked::found_right(Graph::of_raw(raw), options, &verdict, &counts),
+            codes::OUT_OF_MEMORY => Err(OpenError::OutOfMemory),
+            _ => Err(OpenError::Check(fault_of(&verdict))),
+        }
+    }
+
+    /// The graph that a check has found right, with what it counted, as far as there was room.
+    fn found_right(
+        graph: Graph,
+        options: VerifyOptions,
+        verdict: &sys::Verdict,
+        counts: &[sys::Count],
+    ) -> Result<Checked, OpenError> {
         let outcome = match counts.get(..verdict.kinds as usize) {
-            Some(counts) => outcome_of(&verdict, counts),
+            Some(counts) => outcome_of(verdict, counts),
             None => graph.outcome(options).map_err(|_| OpenError::OutOfMemory)?,
         };
         Ok(Checked { graph, options, outcome })
@@ -143,6 +175,15 @@ impl Checked {
             Ok::<_, QueryError>(bases.length)
         })?;
         Ok(Comparison { bases, ahead, behind })
+    }
+}
+
+/// Checks a graph that is open, without reading its files again.
+impl TryFrom<Graph> for Checked {
+    type Error = OpenError;
+
+    fn try_from(graph: Graph) -> Result<Checked, OpenError> {
+        Checked::of_graph(graph, VerifyOptions::default())
     }
 }
 

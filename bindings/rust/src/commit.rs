@@ -1,8 +1,10 @@
 //! A commit of a graph, and its parents.
 
+use crate::room::{collected, room_for};
 use crate::{codes, sys, Graph, Mismatch, ObjectId, ParentError, Position, Record};
 use std::fmt;
 use std::iter::FusedIterator;
+use std::vec::IntoIter;
 
 /// Of a commit with at most so many parents they stand in no memory of their own.
 pub(crate) const FEW: usize = 2;
@@ -74,12 +76,12 @@ impl<'g> Commit<'g> {
     ///
     /// # Errors
     ///
-    /// They cannot be decoded, or not all of them. Of a [`crate::Checked`] graph they can.
+    /// They cannot be decoded, or not all of them, or there is no memory for them. Of a [`crate::Checked`] graph they can be.
     pub fn parents(&self) -> Result<Vec<Position>, ParentError> {
         if let Some(few) = self.known {
-            return Ok(few.positions[..few.count as usize].to_vec());
+            return Ok(collected(few.positions[..few.count as usize].iter().copied())?);
         }
-        let mut positions = vec![Position(0); FEW];
+        let mut positions = room_for(Position(0), FEW)?;
         loop {
             let (room, len) = (positions.as_mut_ptr().cast(), positions.len());
             // SAFETY: `raw` is open, the pointer and the length are those of a vector, and a position is one number.
@@ -88,7 +90,7 @@ impl<'g> Commit<'g> {
                 positions.truncate(told.count as usize);
                 return ParentError::of(told.code).map_or(Ok(positions), Err);
             }
-            positions.resize(told.count as usize, Position(0));
+            positions = room_for(Position(0), told.count as usize)?;
         }
     }
 
@@ -105,13 +107,13 @@ impl<'g> Commit<'g> {
         }
     }
 
-    /// The positions of its parents in order, and after them the error that ends their decoding, if there is one. No more are
-    /// read ahead than are already given, or a few.
+    /// The positions of its parents in order, and after them the error that ends their decoding, or that there is no memory for
+    /// more, if there is one. No more are read ahead than are already given, or a few.
     #[inline]
     pub fn iter_parents(&self) -> Parents<'g> {
         let (graph, pos) = (self.graph, self.pos);
         match self.known {
-            Some(few) => Parents { graph, pos, few, many: None, read: few.count as usize, code: codes::OK },
+            Some(few) => Parents { graph, pos, few, many: none(), read: few.count as usize, code: codes::OK },
             None => read_parents(graph, pos),
         }
     }
@@ -145,7 +147,13 @@ fn read_parents(graph: &Graph, pos: Position) -> Parents<'_> {
     let mut positions = [Position(0); FEW];
     let told = write_first_parents(graph, pos, &mut positions);
     let few = Few { positions, count: told.count as u32 };
-    Parents { graph, pos, few, many: None, read: told.count as usize, code: told.code }
+    Parents { graph, pos, few, many: none(), read: told.count as usize, code: told.code }
+}
+
+/// No position, in no memory.
+#[inline]
+fn none() -> IntoIter<Position> {
+    Vec::new().into_iter()
 }
 
 /// Writes the positions of the first parents of the commit at a position, as many as there is room for.
@@ -162,7 +170,7 @@ pub struct Parents<'g> {
     /// Those that were read first and are left.
     few: Few,
     /// Those that were read later and are left, in the few commits that have so many.
-    many: Option<Box<std::vec::IntoIter<Position>>>,
+    many: IntoIter<Position>,
     /// How many were read.
     read: usize,
     /// What comes after them: more, an error, or nothing.
@@ -173,27 +181,28 @@ impl Parents<'_> {
     /// The next of those that were read later, or else what comes after them.
     #[cold]
     fn next_of_many(&mut self) -> Option<Result<Position, ParentError>> {
-        if let Some(pos) = self.many.as_mut().and_then(|many| many.next()) {
-            return Some(Ok(pos));
-        }
-        if self.code == codes::MORE_PARENTS {
+        if self.many.len() == 0 && self.code == codes::MORE_PARENTS {
             self.read_more();
-            return self.many.as_mut().and_then(|many| many.next()).map(Ok);
         }
-        ParentError::of(std::mem::replace(&mut self.code, codes::OK)).map(Err)
+        match self.many.next() {
+            Some(pos) => Some(Ok(pos)),
+            None => ParentError::of(std::mem::replace(&mut self.code, codes::OK)).map(Err),
+        }
     }
 
-    /// Reads as many again as were read. The first ones are read anew, so that all take twice the steps.
+    /// Reads as many again as were read, if there is memory. The first ones are read anew, so that all take twice the steps.
     fn read_more(&mut self) {
-        let mut positions = vec![Position(0); 2 * self.read];
+        let Ok(mut positions) = room_for(Position(0), 2 * self.read) else {
+            self.code = codes::OUT_OF_MEMORY;
+            return;
+        };
         let told = write_first_parents(self.graph, self.pos, &mut positions);
         positions.truncate(told.count as usize);
-        let mut many = positions.into_iter();
+        self.many = positions.into_iter();
         // Those were given.
-        many.by_ref().take(self.read).for_each(drop);
+        self.many.by_ref().take(self.read).for_each(drop);
         self.read = told.count as usize;
         self.code = told.code;
-        self.many = Some(Box::new(many));
     }
 }
 
@@ -213,7 +222,7 @@ impl Iterator for Parents<'_> {
             self.few = Few { positions: [second, second], count: self.few.count - 1 };
             return Some(Ok(first));
         }
-        if self.many.is_none() && self.code == codes::OK {
+        if self.many.len() == 0 && self.code == codes::OK {
             return None;
         }
         self.next_of_many()
@@ -221,7 +230,7 @@ impl Iterator for Parents<'_> {
 
     #[inline]
     fn size_hint(&self) -> (usize, Option<usize>) {
-        let left = self.few.count as usize + self.many.as_ref().map_or(0, |many| many.len());
+        let left = self.few.count as usize + self.many.len();
         let more = usize::from(self.code != codes::OK);
         (left + more, (self.code != codes::MORE_PARENTS).then_some(left + more))
     }

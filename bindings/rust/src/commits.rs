@@ -41,13 +41,14 @@ impl<'g> Commits<'g> {
     }
 
     /// Reads the parents of the next commits. A commit with a long list ends that, since counting the list takes long: then no
-    /// parents are read of the commits after it, and of twice as many each time.
+    /// parents are read of the commits after it, and of twice as many each time. So it is where there is no memory for them.
     #[cold]
     fn read_ahead(&mut self) {
-        let (block, ends_at_long) = self.graph.parents_within(Position(self.next));
+        let read = self.graph.parents_within(Position(self.next));
+        let (block, wanted) = read.unwrap_or_else(|_| (ParentBlock::empty(), Some(0)));
         self.block = block;
         (self.given, self.used) = (0, 0);
-        if ends_at_long {
+        if wanted.is_some() {
             self.alone = self.stretch;
             self.stretch = self.stretch.saturating_mul(2);
         }

@@ -575,6 +575,8 @@ pub enum ParentError {
     NoEdgeList,
     /// The extra edge list ends before the last parent.
     EdgeOverflow,
+    /// There is no memory for them.
+    OutOfMemory,
 }
 
 impl ParentError {
@@ -585,6 +587,7 @@ impl ParentError {
             codes::PARENT_FIRST_IS_EDGE_INDEX => Some(ParentError::FirstIsEdgeIndex),
             codes::PARENT_NO_EDGE_LIST => Some(ParentError::NoEdgeList),
             codes::PARENT_EDGE_OVERFLOW => Some(ParentError::EdgeOverflow),
+            codes::OUT_OF_MEMORY => Some(ParentError::OutOfMemory),
             _ => None,
         }
     }
@@ -597,11 +600,18 @@ impl fmt::Display for ParentError {
             ParentError::FirstIsEdgeIndex => "its first parent field points into `EDGE`",
             ParentError::NoEdgeList => "its second parent field points into `EDGE`, which is not there",
             ParentError::EdgeOverflow => "its list in `EDGE` runs past the end",
+            ParentError::OutOfMemory => OUT_OF_MEMORY,
         })
     }
 }
 
 impl std::error::Error for ParentError {}
+
+impl From<TryReserveError> for ParentError {
+    fn from(_: TryReserveError) -> ParentError {
+        ParentError::OutOfMemory
+    }
+}
 
 /// What differs first between the record of a commit and the bytes of its object.
 #[derive(Clone, Copy, Debug, PartialEq, Eq)]

@@ -22,6 +22,7 @@ mod commits;
 mod error;
 mod file_error;
 mod id;
+mod layer;
 mod open;
 mod room;
 mod sys;
@@ -37,7 +38,9 @@ pub use error::{CommitFault, DatesError, Fault, LayerFault, OpenError, PairError
 pub use error::{Mismatch, VerifyError};
 pub use file_error::{FileError, GraphError};
 pub use id::{IdError, ObjectId};
+pub use layer::{Kind, Layer};
 use open::{open_at, open_chain, open_file, open_info};
+use room::collected;
 use std::fmt;
 use std::iter::FusedIterator;
 use std::path::Path;
@@ -71,7 +74,7 @@ unsafe impl Sync for Graph {}
 impl Drop for Graph {
     fn drop(&mut self) {
         // SAFETY: `raw` is what `cg_open` wrote, and no copy of it is used from here on.
-        unsafe { sys::cg_close(self.raw) }
+        unsafe { sys::cg_close(self.raw) };
     }
 }
 
@@ -113,6 +116,12 @@ impl Graph {
         .map(|(graph, _)| graph)
     }
 
+    /// The graph that a call has opened.
+    pub(crate) fn of_raw(raw: sys::Graph) -> Graph {
+        // SAFETY: `raw` is open.
+        Graph { id_len: unsafe { sys::cg_id_len(raw) }, raw }
+    }
+
     /// The graph that a call opens, and the verdict that it may write.
     fn opened(
         layers: &[(&[u8], &str)],
@@ -124,14 +133,13 @@ impl Graph {
             path: path.as_ptr(),
             path_len: path.len(),
         };
-        let files: Vec<sys::File> = layers.iter().map(file).collect();
+        let files = collected(layers.iter().map(file)).map_err(|_| OpenError::OutOfMemory)?;
         let mut raw = sys::CLOSED;
         let mut verdict = sys::Verdict::default();
         let error = open(&files, &mut raw, &mut verdict);
         let layer = error.layer as usize;
         match error.code {
-            // SAFETY: `raw` is open.
-            codes::OK => Ok((Graph { id_len: unsafe { sys::cg_id_len(raw) }, raw }, verdict)),
+            codes::OK => Ok((Graph::of_raw(raw), verdict)),
             codes::OUT_OF_MEMORY => Err(OpenError::OutOfMemory),
             code => Err(match FileError::of(code) {
                 Some(error) => OpenError::Layer { layer, path: layers[layer].1.into(), error },

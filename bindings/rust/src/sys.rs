@@ -28,6 +28,15 @@ pub struct Error {
 
 #[repr(C)]
 #[derive(Clone, Copy, Default)]
+pub struct Layer {
+    pub first: u32,
+    pub num_commits: u32,
+    pub bases: u32,
+    pub hash: u32,
+}
+
+#[repr(C)]
+#[derive(Clone, Copy, Default)]
 pub struct Commit {
     pub time: u64,
     pub generation: u32,
@@ -155,7 +164,19 @@ extern "C" {
         counts_len: usize,
         out: *mut Graph,
     ) -> Error;
-    pub fn cg_close(graph: Graph);
+    pub fn cg_check(
+        graph: Graph,
+        distinct_ids: bool,
+        verdict: *mut Verdict,
+        counts: *mut Count,
+        counts_len: usize,
+        out: *mut Graph,
+    ) -> u32;
+    pub fn cg_close(graph: Graph) -> bool;
+    pub fn cg_num_layers(graph: Graph) -> u64;
+    pub fn cg_layer(graph: Graph, layer: u64, out: *mut Layer) -> bool;
+    pub fn cg_layer_checksum(graph: Graph, layer: u64, out: *mut u8, len: usize) -> usize;
+    pub fn cg_base_id_at(graph: Graph, layer: u64, index: u64, out: *mut u8, len: usize) -> usize;
     pub fn cg_num_commits(graph: Graph) -> u32;
     pub fn cg_id_len(graph: Graph) -> usize;
     pub fn cg_lookup(graph: Graph, id: *const u8, len: usize) -> u32;
@@ -220,6 +241,7 @@ mod layout {
     laid_out!(Graph, 16, address 0, opened 8);
     laid_out!(File, 32, bytes 0, len 8, path 16, path_len 24);
     laid_out!(Error, 16, code 0, layer 8);
+    laid_out!(Layer, 16, first 0, num_commits 4, bases 8, hash 12);
     laid_out!(Commit, 16, time 0, generation 8);
     laid_out!(ParentCount, 16, code 0, count 8);
     laid_out!(Block, 16, commits 0, length 8);

@@ -5,6 +5,7 @@ pub mod Files
 pub mod FirstLine
 pub mod FirstParents
 pub mod Held
+pub mod Layers
 pub mod Many
 pub mod Matched
 pub mod Probes

@@ -108,7 +108,7 @@ fn commits_before(graph: &Graph, error: &VerifyError<NoFault>) -> u32
 }
 
 /// How many commits the layers below one have.
-fn commits_below(graph: &Graph, layer: usize) -> u32
+pub(crate) fn commits_below(graph: &Graph, layer: usize) -> u32
     ensures { result ≡ start graph.now layer }
 {
     let files = graph.layers();

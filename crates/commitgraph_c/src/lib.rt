@@ -13,6 +13,7 @@ mod codes;
 mod dates;
 mod first_parents;
 mod handle;
+mod layers;
 mod matched;
 mod open;
 mod opened;

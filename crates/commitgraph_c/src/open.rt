@@ -1,7 +1,8 @@
 //! Opening a graph from the bytes of its layers, and giving it back.
 
-ghost use Rattle.std.specs.Prelude.{◌≡◌, ◌≢◌, ◌⊎◌, ◌++◌, ◌∷◌, [], IfErr, IfOk, IsSomeAnd, OnOk};
-ghost use Rattle.std.specs.Prelude.{None, Some, false, string_bytes, true};
+ghost use Rattle.std.specs.Prelude.{◌≡◌, ◌≢◌, ◌⊎◌, ◌++◌, ◌∷◌, [], IfErr, IfNone, IfOk, IfSome};
+ghost use Rattle.std.specs.Prelude.{IsSomeAnd, OnOk};
+ghost use Rattle.std.specs.Prelude.{None, Some, false, is_some, string_bytes, true};
 ghost use Rattle.std.specs.Str.{IsUtf8};
 ghost use Rattle.graph_format.specs.Layer.{IsLayer};
 ghost use Rattle.graph_format.specs.Refusal.{refusal};
@@ -10,10 +11,10 @@ ghost use Rattle.gix_commitgraph.specs.Distinct.{IsSoundWith};
 ghost use Rattle.commitgraph_c.specs.Files.{IsOpenedFrom, RefusesFile, RefusesFiles};
 ghost use Rattle.commitgraph_c.specs.Files.{no_error, told_file, told_graph};
 ghost use Rattle.commitgraph_c.specs.Verdict.{FailsCheck, TellsCounts, TellsStats, options_of};
-ghost use Rattle.commitgraph_c.specs.Verdict.{told_unopened};
+ghost use Rattle.commitgraph_c.specs.Verdict.{IsRefused, closed_verdict, told_unopened};
 
 use crate::check::{CgCount, CgVerdict, refused, right, wrong};
-use crate::codes::{PATH_NOT_UTF8, file_code, graph_code};
+use crate::codes::{CLOSED_GRAPH, PATH_NOT_UTF8, file_code, graph_code};
 use crate::handle::CgOwner;
 use crate::opened::Opened;
 use gix_commitgraph::verify::VerifyOptions;
@@ -106,6 +107,45 @@ pub extern "C" fn cg_open_checked(
     }
 }
 
+/// Checks an open graph and hands it out checked. The graph that is passed is taken as by
+/// `cg_close`, also where it is refused. The answer is the verdict's code.
+#[unsafe(no_mangle)]
+pub extern "C" fn cg_check(
+    alloc: Global,
+    graph: CgOwner,
+    distinct_ids: bool,
+    verdict: &mut CgVerdict,
+    counts: &mut [CgCount],
+    out: &mut CgOwner,
+) -> u32
+    ensures code { result ≡ verdict.new.code }
+    ensures opened { result ≡ 0 → IsSomeAnd graph.address.held (λ was.
+        out.new.address.held ≡ Some (was.0, true)) }
+    ensures right { result ≡ 0 → IsSomeAnd graph.address.held (λ was.
+        IsSoundWith (options_of distinct_ids) was.0) }
+    ensures verdict { result ≡ 0 → IsSomeAnd graph.address.held (λ was.
+        TellsStats was.0 verdict.new × TellsCounts was.0 verdict.new counts.old counts.new) }
+    ensures refused { result ≢ 0 → IfSome graph.address.held (λ was.
+        IsRefused (options_of distinct_ids) was.0 verdict.new
+        ⊎ (verdict.new ≡ told_unopened (told_graph GraphError.OutOfMemory))) }
+    ensures closed { IfNone graph.address.held (verdict.new ≡ closed_verdict) }
+    ensures kept { result ≢ 0 → (out.new ≡ out.old) × (counts.new ≡ counts.old) }
+{
+    let Some(opened) = graph.into_box() else {
+        *verdict = refused(CLOSED_GRAPH);
+        return CLOSED_GRAPH;
+    };
+    let graph = Box::into_inner(opened).into_graph();
+    let options = VerifyOptions { distinct_ids };
+    match CheckedGraph::new_with(alloc, options, graph) {
+        Ok(graph) => hand_out(alloc, graph, verdict, counts, out).code,
+        Err(refusal) => {
+            *verdict = wrong(refusal);
+            verdict.code
+        }
+    }
+}
+
 /// Tells in the verdict too that no graph was opened.
 fn unopened(error: CgError, verdict: &mut CgVerdict) -> CgError
     ensures same { result ≡ error }
@@ -165,10 +205,18 @@ fn boxed(alloc: Global, opened: Opened) -> Result<Box<Opened>, CgError>
     }
 }
 
-/// Frees a graph. Nothing is done where none is open.
+/// Frees a graph, and answers whether there was one to free.
 #[unsafe(no_mangle)]
-pub extern "C" fn cg_close(graph: CgOwner) {
-    drop(graph.into_box());
+pub extern "C" fn cg_close(graph: CgOwner) -> bool
+    ensures { result ≡ is_some graph.address.held }
+{
+    match graph.into_box() {
+        Some(opened) => {
+            drop(opened);
+            true
+        }
+        None => false,
+    }
 }
 
 /// Opens each file, and makes a graph of the layers.

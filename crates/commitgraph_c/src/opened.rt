@@ -63,6 +63,17 @@ impl Opened {
         }
     }
 
+    /// The graph alone.
+    pub fn into_graph(self) -> Graph
+        ensures { result ≡ self.0 }
+    {
+        let Opened { state } = self;
+        match state {
+            State::Unchecked(graph) => graph,
+            State::Checked(graph) => graph.into_graph(),
+        }
+    }
+
     /// The graph for queries, if it was checked.
     pub fn as_checked(&self) -> Option<Checked<'_>>
         ensures graph { IfSome result (λ checked. checked.layers ≡ self.now.0) }

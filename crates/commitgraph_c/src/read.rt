@@ -137,7 +137,7 @@ pub extern "C" fn cg_tree_at(graph: CgGraph, pos: u32, out: &mut [u8]) -> usize
 }
 
 /// Writes an id, if the room is of its size, and answers its length.
-fn put(id: oid<'_>, out: &mut [u8]) -> usize
+pub(crate) fn put(id: oid<'_>, out: &mut [u8]) -> usize
     ensures id { result ≢ 0 → out.new ≡ oid_bytes id.entry }
     ensures length { result ≢ 0 → result ≡ length out.new }
     ensures none { result ≡ 0 → length (oid_bytes id.entry) ≢ length out.old }

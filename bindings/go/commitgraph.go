@@ -1,0 +1,274 @@
+// Package commitgraph reads and checks Git's commit-graph files by proved code.
+//
+// It calls libcommitgraph, which pkg-config has to find. The calls are proved, this package is not. Any number of goroutines may
+// ask one graph at a time; Close is called when none does.
+package commitgraph
+
+/*
+#cgo pkg-config: commitgraph
+#include <commitgraph.h>
+#include <stdlib.h>
+*/
+import "C"
+
+import (
+	"errors"
+	"os"
+	"path/filepath"
+	"runtime"
+	"unicode/utf8"
+	"unsafe"
+)
+
+// Nowhere is no position.
+const Nowhere = uint32(C.CG_NOWHERE)
+
+// Graph is a commit-graph that its check has found right. Positions count from 0 over all layers.
+type Graph struct {
+	raw C.cg_graph
+}
+
+// Error says why a graph is refused, or a question has no answer.
+type Error struct {
+	// Code is one of enum cg_code in commitgraph.h.
+	Code uint32
+	// Layer is the layer that is refused, counted from 0.
+	Layer uint64
+	// Position is that of the commit that is refused.
+	Position uint32
+	// Path is that of the layer's file, where its bytes are refused.
+	Path string
+}
+
+func (e *Error) Error() string {
+	said := C.GoString(C.cg_strerror(C.uint32_t(e.Code)))
+	if e.Path != "" {
+		said = e.Path + ": " + said
+	}
+	return said
+}
+
+// Layer is the bytes of a layer, and the path of its file.
+type Layer struct {
+	Bytes []byte
+	Path  string
+}
+
+// Open opens the graph at a path, of a file, of a folder with a chain or of an info folder, in most repositories
+// .git/objects/info, and checks it; with distinctIDs also that no id stands in two layers.
+func Open(path string, distinctIDs bool) (*Graph, error) {
+	if isFile(path) {
+		return openFile(path, distinctIDs)
+	}
+	if isFile(filepath.Join(path, "commit-graph-chain")) {
+		return openChain(path, distinctIDs)
+	}
+	graph, err := openFile(filepath.Join(path, "commit-graph"), distinctIDs)
+	var refused *Error
+	settled := errors.As(err, &refused) && (refused.Code > 300 || refused.Code == C.CG_OUT_OF_MEMORY)
+	if err == nil || settled {
+		return graph, err
+	}
+	chain := filepath.Join(path, "commit-graphs")
+	if refused != nil && !isFile(filepath.Join(chain, "commit-graph-chain")) {
+		return nil, err
+	}
+	return openChain(chain, distinctIDs)
+}
+
+func isFile(path string) bool {
+	status, err := os.Stat(path)
+	return err == nil && status.Mode().IsRegular()
+}
+
+func openFile(path string, distinctIDs bool) (*Graph, error) {
+	bytes, err := os.ReadFile(path)
+	if err != nil {
+		return nil, err
+	}
+	return OpenLayers([]Layer{{bytes, path}}, distinctIDs)
+}
+
+func openChain(folder string, distinctIDs bool) (*Graph, error) {
+	file := filepath.Join(folder, "commit-graph-chain")
+	text, err := os.ReadFile(file)
+	if err != nil {
+		return nil, err
+	}
+	var layers []Layer
+	for _, line := range chainLines(text) {
+		if !utf8.ValidString(line) {
+			return nil, &Error{Code: C.CG_PATH_NOT_UTF8, Layer: uint64(len(layers)), Path: file}
+		}
+		path := filepath.Join(folder, "graph-"+line+".graph")
+		bytes, err := os.ReadFile(path)
+		if err != nil {
+			return nil, err
+		}
+		layers = append(layers, Layer{bytes, path})
+	}
+	return OpenLayers(layers, distinctIDs)
+}
+
+// chainLines are the lines of a chain file, each of which names a layer.
+func chainLines(text []byte) []string {
+	var lines []string
+	for start := C.size_t(0); ; {
+		line := C.cg_chain_line(at(text), C.size_t(len(text)), start)
+		if !line.found {
+			return lines
+		}
+		lines = append(lines, string(text[start:line.end]))
+		start = line.next
+	}
+}
+
+// OpenLayers opens and checks the graph of layers whose bytes are at hand, the lowest first.
+func OpenLayers(layers []Layer, distinctIDs bool) (*Graph, error) {
+	room := C.calloc(C.size_t(len(layers)+1), C.sizeof_cg_file)
+	if room == nil {
+		return nil, &Error{Code: C.CG_OUT_OF_MEMORY}
+	}
+	defer C.free(room)
+	files := unsafe.Slice((*C.cg_file)(room), len(layers)+1)
+	for number, layer := range layers {
+		bytes, path := C.CBytes(layer.Bytes), C.CBytes([]byte(layer.Path))
+		defer C.free(bytes)
+		defer C.free(path)
+		files[number] = C.cg_file{(*C.uint8_t)(bytes), C.size_t(len(layer.Bytes)), (*C.uint8_t)(path), C.size_t(len(layer.Path))}
+	}
+	var verdict C.cg_verdict
+	var counts [1]C.cg_count
+	graph := &Graph{}
+	told := C.cg_open_checked(&files[0], C.size_t(len(layers)), C.bool(distinctIDs), &verdict, &counts[0], 0, &graph.raw)
+	if told.code == C.CG_OK {
+		runtime.SetFinalizer(graph, (*Graph).Close)
+		return graph, nil
+	}
+	err := &Error{Code: uint32(told.code), Layer: uint64(verdict.layer), Position: uint32(verdict.position)}
+	if told.code > 100 && told.code < 200 {
+		err.Path = layers[told.layer].Path
+	}
+	return nil, err
+}
+
+// Close frees the graph, which answers nothing after that.
+func (g *Graph) Close() {
+	runtime.SetFinalizer(g, nil)
+	C.cg_close(g.raw)
+	g.raw = C.cg_graph{}
+}
+
+// Len is the number of commits.
+func (g *Graph) Len() uint32 {
+	defer runtime.KeepAlive(g)
+	return uint32(C.cg_num_commits(g.raw))
+}
+
+// Lookup is the position of the commit with an id, or Nowhere.
+func (g *Graph) Lookup(id []byte) uint32 {
+	defer runtime.KeepAlive(g)
+	return uint32(C.cg_lookup(g.raw, at(id), C.size_t(len(id))))
+}
+
+// ID is the id of the commit at a position.
+func (g *Graph) ID(position uint32) ([]byte, error) {
+	defer runtime.KeepAlive(g)
+	id := make([]byte, 32)
+	length := C.cg_id_at(g.raw, C.uint32_t(position), at(id), C.cg_id_len(g.raw))
+	return written(id, length, position)
+}
+
+// Tree is the id of the root tree of the commit at a position.
+func (g *Graph) Tree(position uint32) ([]byte, error) {
+	defer runtime.KeepAlive(g)
+	id := make([]byte, 32)
+	length := C.cg_tree_at(g.raw, C.uint32_t(position), at(id), C.cg_id_len(g.raw))
+	return written(id, length, position)
+}
+
+func written(id []byte, length C.size_t, position uint32) ([]byte, error) {
+	if length == 0 {
+		return nil, &Error{Code: C.CG_NO_SUCH_POSITION, Position: position}
+	}
+	return id[:length], nil
+}
+
+// Record is what the record of a commit says, but for its ids and its parents.
+type Record struct {
+	// Time is in seconds since 1970-01-01 00:00:00 UTC.
+	Time       uint64
+	Generation uint32
+}
+
+// Record is what the record of the commit at a position says.
+func (g *Graph) Record(position uint32) (Record, error) {
+	defer runtime.KeepAlive(g)
+	var told C.cg_commit
+	if !C.cg_commit_at(g.raw, C.uint32_t(position), &told) {
+		return Record{}, &Error{Code: C.CG_NO_SUCH_POSITION, Position: position}
+	}
+	return Record{uint64(told.time), uint32(told.generation)}, nil
+}
+
+// Parents are the positions of the parents of the commit at a position, the first parent first.
+func (g *Graph) Parents(position uint32) ([]uint32, error) {
+	defer runtime.KeepAlive(g)
+	for room := 2; ; {
+		out := make([]uint32, room)
+		told := C.cg_parents(g.raw, C.uint32_t(position), (*C.uint32_t)(&out[0]), C.size_t(room))
+		if told.code != C.CG_OK {
+			return nil, &Error{Code: uint32(told.code), Position: position}
+		}
+		if uint64(told.count) <= uint64(room) {
+			return out[:told.count], nil
+		}
+		room = int(told.count)
+	}
+}
+
+// IsAncestor says whether a commit is an ancestor of another, in the order of git merge-base --is-ancestor.
+func (g *Graph) IsAncestor(ancestor, descendant uint32) (bool, error) {
+	defer runtime.KeepAlive(g)
+	told := C.cg_is_ancestor(g.raw, C.uint32_t(ancestor), C.uint32_t(descendant))
+	if told.code != C.CG_OK {
+		return false, &Error{Code: uint32(told.code)}
+	}
+	return bool(told.found), nil
+}
+
+// Comparison is what a commit and some others have in common, and how far they have come apart.
+type Comparison struct {
+	// Bases are the positions of the merge bases, the least first.
+	Bases []uint32
+	// Ahead counts the commits that the first leads to and none of the others does, Behind those that some of the others leads to
+	// and the first does not.
+	Ahead, Behind uint32
+}
+
+// Compare finds the merge bases that git merge-base --all FIRST OTHERS.. names.
+func (g *Graph) Compare(first uint32, others ...uint32) (Comparison, error) {
+	defer runtime.KeepAlive(g)
+	asked := append(append([]uint32{}, others...), 0)
+	for room := 64; ; {
+		out := make([]uint32, room)
+		told := C.cg_merge_bases(g.raw, C.uint32_t(first), (*C.uint32_t)(&asked[0]), C.size_t(len(others)), (*C.uint32_t)(&out[0]), C.size_t(room))
+		if told.code != C.CG_OK {
+			return Comparison{}, &Error{Code: uint32(told.code)}
+		}
+		if uint64(told.length) <= uint64(room) {
+			return Comparison{out[:told.length], uint32(told.ahead), uint32(told.behind)}, nil
+		}
+		room = int(told.length)
+	}
+}
+
+var none [1]byte
+
+// at is the address of bytes, which is not null, also where there are none.
+func at(bytes []byte) *C.uint8_t {
+	if len(bytes) == 0 {
+		bytes = none[:]
+	}
+	return (*C.uint8_t)(unsafe.Pointer(&bytes[0]))
+}

@@ -1,0 +1,3 @@
+module nolavimure/commitgraph
+
+go 1.19
