@@ -1,2 +1,4 @@
 pub mod LineLemmas
 pub mod QuestionLemmas
+pub mod ReplyLemmas
+pub mod AskingLemmas

@@ -2,3 +2,6 @@ pub mod Places
 pub mod InputLines
 pub mod Questions
 pub mod WordsLeft
+pub mod Replies
+pub mod Asking
+pub mod Proceeding

@@ -1,10 +1,13 @@
-//! Questions about one graph that was checked, one a line.
+//! Questions about graphs that were checked, one a line.
 //!
-//! [`lines`] reads lines with room for the longest of them alone, and [`question`] has which line
-//! asks which question.
+//! [`asking`] has the command: its contract says what it may write. [`lines`] reads lines with room
+//! for the longest of them alone, [`question`] has which line asks which question, and [`telling`]
+//! the answers over one graph.
 #![tactic(auto)]
 
+pub mod asking;
 pub mod lines;
 mod place;
 pub mod question;
+pub mod telling;
 mod words;

@@ -1,0 +1,216 @@
+-- From one turn to all of them.
+use Rattle.std.proofs.Common.{◌≡◌, ℕ, List, [], ◌∷◌, ◌++◌, Option, Some, None, map, refl, sym, ap, subst, ◌∙◌}
+use Rattle.std.proofs.Common.{append_assoc, append-nil, inl, inr}
+use Rattle.std.specs.Io.KnownBytes.{Appends, prepend_known}
+use Rattle.std.proofs.KnownBytes.{Appends-nil, Appends-trans}
+use Rattle.std.specs.List.{AllByRecursion, flat_map}
+use Rattle.std.specs.Str.Lines.{lines}
+use Rattle.std.proofs.lemmas.List.{map-append}
+use Rattle.std.proofs.lemmas.List.Concat.{flat_map-append}
+use Rattle.std.specs.Prelude.{Bool, true, Result, Ok, Err, IfOk, OnOk, ◌≢◌}
+use Rattle.graph_folder.specs.Tree.{Tree}
+use Rattle.graph_folder.specs.declared.folder.ReadError.{ReadError}
+use Rattle.graph_folder.specs.declared.folder.ReadError.TheVariants.{NotOpened}
+use Rattle.graph_format.specs.Layer.{Layer}
+use Rattle.graph_commands.specs.Block.{with_block}
+use Rattle.graph_commands.specs.OpenerAnswer.{MayOpen}
+use Rattle.graph_commands.specs.declared.refusal.Refusal.TheVariants.{Read}
+use Rattle.graph_commands.specs.Text.{newline}
+use Rattle.graph_commands.specs.WrittenAnswer.{WritesAnswer, WritesRefusal}
+use Rattle.question_commands.specs.Asking.{AreLinesOf, AreTurns, MayAsk, MayTake, MayTurn, Opener, Reloads, Session, Standing}
+use Rattle.question_commands.specs.Asking.{Turn, ask_text, ask_status, end_text, end_status, session_text, taken_line, turn_text}
+use Rattle.question_commands.specs.InputLines.{HasNoLine, LeavesBehind, TakesLine}
+use Rattle.question_commands.specs.Proceeding.{HasRead, Proceeds}
+use Rattle.question_commands.specs.Replies.{HasWords, MayTellFor}
+use Rattle.question_commands.specs.declared.question.Name.TheVariants.{Reload}
+use Rattle.question_commands.proofs.ReplyLemmas.{tells_kept}
+
+-- nothing was read yet
+pub reads_none : (input : Option (List ℕ)) → HasRead input input []
+reads_none None = tt
+reads_none (Some bytes) = refl
+
+-- some lines were read, and behind others
+pub reads_more : (input middle left : Option (List ℕ)) (first behind : List (List ℕ)) → HasRead input middle first
+    → HasRead middle left behind → HasRead input left (first ++ behind)
+reads_more None middle left first behind before after = tt
+reads_more (Some bytes) None left first behind before after = absurd before
+reads_more (Some bytes) (Some more) None first behind before after = absurd after
+reads_more (Some bytes) (Some more) (Some rest) first behind before after =
+    before ∙ ap (λ (l : List (List ℕ)). first ++ l) after ∙ sym (append_assoc first behind (lines rest))
+
+-- a line was read
+pub reads_line : (input left : Option (List ℕ)) (line : List ℕ) → LeavesBehind line input left → HasRead input left (line ∷ [])
+reads_line None left line behind = tt
+reads_line (Some bytes) None line behind = absurd behind
+reads_line (Some bytes) (Some more) line behind = behind.1
+
+all_append : {X : Type 0} (P : X → Type 0) (xs ys : List X) → AllByRecursion P xs → AllByRecursion P ys
+    → AllByRecursion P (xs ++ ys)
+all_append P [] ys first behind = behind
+all_append P (x ∷ xs) ys first behind = (first.0, all_append P xs ys first.1 behind)
+
+module _ (MayOpen : Opener) where
+  pub turns_none : (first : Standing) → AreTurns MayOpen first first []
+  turns_none first = record { allowed = tt; joined = refl }
+
+  pub one_turn : (turn : Turn) → MayTurn MayOpen turn → AreTurns MayOpen turn.before turn.after (turn ∷ [])
+  one_turn turn may = record { allowed = (may, tt); joined = refl }
+
+  pub turns_more : (first middle last : Standing) (turns more : List Turn) → AreTurns MayOpen first middle turns
+      → AreTurns MayOpen middle last more → AreTurns MayOpen first last (turns ++ more)
+  turns_more first middle last turns more are behind = record {
+    allowed = all_append (MayTurn MayOpen) turns more are.allowed behind.allowed;
+    joined =
+        let before : List Turn → List Standing = map (λ (turn : Turn). turn.before) in
+        let after : List Turn → List Standing = map (λ (turn : Turn). turn.after) in
+        ap (λ (l : List Standing). l ++ last ∷ []) (map-append (λ (turn : Turn). turn.before) turns more)
+        ∙ append_assoc (before turns) (before more) (last ∷ [])
+        ∙ ap (λ (l : List Standing). before turns ++ l) behind.joined
+        ∙ sym (append_assoc (before turns) (middle ∷ []) (after more))
+        ∙ ap (λ (l : List Standing). l ++ after more) are.joined
+        ∙ ap (λ (l : List Standing). first ∷ l) (sym (map-append (λ (turn : Turn). turn.after) turns more));
+  }
+
+  pub proceeds_none : (standing : Standing) (input old : Option (List ℕ)) → Proceeds MayOpen standing standing input input old old
+  proceeds_none standing input old = ([], turns_none standing, reads_none input, Appends-nil old)
+
+  pub proceeds_turn : (turn : Turn) (input left old new : Option (List ℕ)) → MayTurn MayOpen turn
+      → HasRead input left (turn.line ∷ []) → Appends old new (turn_text turn)
+      → Proceeds MayOpen turn.before turn.after input left old new
+  proceeds_turn turn input left old new may read written =
+      (turn ∷ [], one_turn turn may, read, subst (Appends old new) (sym (append-nil (turn_text turn))) written)
+
+  pub proceeds_more : (first middle last : Standing) (input read left old written new : Option (List ℕ))
+      → Proceeds MayOpen first middle input read old written → Proceeds MayOpen middle last read left written new
+      → Proceeds MayOpen first last input left old new
+  proceeds_more first middle last input read left old written new before behind =
+      let line = λ (turn : Turn). turn.line in (
+        before.0 ++ behind.0,
+        turns_more first middle last before.0 behind.0 before.1 behind.1,
+        subst (HasRead input left) (sym (map-append line before.0 behind.0))
+            (reads_more input read left (map line before.0) (map line behind.0) before.2 behind.2),
+        subst (Appends old new) (sym (flat_map-append turn_text before.0 behind.0))
+            (Appends-trans old written new (flat_map turn_text before.0) (flat_map turn_text behind.0) before.3 behind.3),
+      )
+
+-- no byte is left where none is there
+nothing_left : (ahead left : List ℕ) → ahead ++ left ≡ [] → left ≡ []
+nothing_left [] left none = none
+nothing_left (byte ∷ ahead) left none = cc
+
+-- all lines were read
+pub lines_ended : (input left unread : Option (List ℕ)) (ahead : List ℕ) (asked : List (List ℕ)) → HasRead input left asked
+    → HasNoLine left (prepend_known ahead unread) → AreLinesOf input unread asked None
+lines_ended None left unread ahead asked read none = tt
+lines_ended (Some bytes) None unread ahead asked read none = absurd read
+lines_ended (Some bytes) (Some more) None ahead asked read none = absurd none
+lines_ended (Some bytes) (Some more) (Some rest) ahead asked read none = (
+  read ∙ ap (λ (l : List ℕ). asked ++ lines l) none.0 ∙ append-nil asked,
+  nothing_left ahead rest none.1,
+)
+
+-- no further line could be read
+pub lines_failed : (input left unread : Option (List ℕ)) (asked : List (List ℕ)) (error : ReadError) → HasRead input left asked
+    → error ≢ NotOpened → AreLinesOf input unread asked (Some error)
+lines_failed None left unread asked error read is = (is, tt)
+lines_failed (Some bytes) None unread asked error read is = absurd read
+lines_failed (Some bytes) (Some more) unread asked error read is = (is, (lines more, read))
+
+module _ (MayOpen : Opener) (first last : Standing) (input left unread old new : Option (List ℕ))
+    (proceeds : Proceeds MayOpen first last input left old new) where
+  -- the lines are answered
+  abbrev pub Answered : Option ReadError → ℕ → Type 0
+  Answered failed failures =
+      (turns : List Turn) × (end : Standing) × AreTurns MayOpen first end turns × (end.failures ≡ failures)
+      × AreLinesOf input unread (map (λ turn. turn.line) turns) failed × Appends old new (flat_map turn_text turns)
+
+  pub answered_to_end : (ahead : List ℕ) (failures : ℕ) → last.failures ≡ failures → HasNoLine left (prepend_known ahead unread)
+      → Answered None failures
+  answered_to_end ahead failures is none =
+      let asked = map (λ (turn : Turn). turn.line) proceeds.0 in
+      (proceeds.0, last, proceeds.1, is, lines_ended input left unread ahead asked proceeds.2 none, proceeds.3)
+
+  pub answered_to_failure : (error : ReadError) (failures : ℕ) → last.failures ≡ failures → error ≢ NotOpened
+      → Answered (Some error) failures
+  answered_to_failure error failures is failed =
+      let asked = map (λ (turn : Turn). turn.line) proceeds.0 in
+      (proceeds.0, last, proceeds.1, is, lines_failed input left unread asked error proceeds.2 failed, proceeds.3)
+
+-- a line was answered over the graph that stands
+pub tells_line : (known : Option Tree) (path : List ℕ) (failures : ℕ) (layers : List Layer)
+    (before left old new : Option (List ℕ)) (kept told : List ℕ) → TakesLine before left kept
+    → MayTellFor layers kept told → Appends old new (told ++ newline)
+    → let standing : Standing = record { layers = layers; failures = failures } in
+    Proceeds (MayOpen known path) standing standing before left old new
+tells_line known path failures layers before left old new kept told takes may written =
+    let standing : Standing = record { layers = layers; failures = failures } in
+    let turn : Turn = record { line = takes.0; before = standing; told = told; after = standing } in
+    proceeds_turn (MayOpen known path) turn before left old new
+    (inl (tells_kept layers takes.0 kept told takes.2 may, refl)) (reads_line before left takes.0 takes.1) written
+
+-- a line was read that asks for the graph to be opened anew, and it was
+pub reloads_line : (MayOpen : Opener) (before after : Standing) (line told : List ℕ) (read left old new : Option (List ℕ))
+    → HasRead read left (line ∷ []) → HasWords line Reload [] → Reloads MayOpen before told after
+    → Appends old new (told ++ newline) → Proceeds MayOpen before after read left old new
+reloads_line MayOpen before after line told read left old new reads has reloads written =
+    proceeds_turn MayOpen (record { line = line; before = before; told = told; after = after }) read left old new
+    (inr (has, reloads)) reads written
+
+-- the text of a session was written, and why it ended
+pub asks : (MayOpen : Opener) (before opened after status : ℕ) (input unread a b c d : Option (List ℕ)) (layers : List Layer)
+    (turns : List Turn) (last : Standing) (failed : Option ReadError)
+    → MayTake (MayOpen before opened) (Ok layers)
+    → AreTurns MayOpen (record { layers = layers; failures = opened }) last turns → last.failures ≡ after
+    → AreLinesOf input unread (map (λ (turn : Turn). turn.line) turns) failed
+    → Appends a b (taken_line (Ok layers) ++ newline) → Appends b c (flat_map turn_text turns) → Appends c d (end_text failed)
+    → status ≡ end_status failed → WritesAnswer ask_text ask_status (MayAsk MayOpen before after input unread) a d status
+asks MayOpen before opened after status input unread a b c d layers turns last failed takes are is read first middle end same =
+    let session : Session = record { opened = layers; turns = turns; failed = failed } in
+    let text : (taken_line (Ok layers) ++ newline) ++ (flat_map turn_text turns ++ end_text failed) ≡ session_text session =
+    append_assoc (taken_line (Ok layers)) newline (flat_map turn_text turns ++ end_text failed) in (
+      Ok session,
+      (
+        opened,
+        last.layers,
+        takes,
+        subst (λ (n : ℕ). AreTurns MayOpen (record { layers = layers; failures = opened })
+            (record { layers = last.layers; failures = n }) turns) is are,
+        read,
+      ),
+      subst (Appends a d) text (Appends-trans a b d _ _ first (Appends-trans b c d _ _ middle end)),
+      same,
+    )
+
+-- the same, where the reason was written, if it was
+pub asks_failed : {E : Type 0} (result : Result ℕ E) (MayOpen : Opener) (before opened after : ℕ)
+    (input unread a b c d : Option (List ℕ)) (layers : List Layer) (turns : List Turn) (last : Standing) (error : ReadError)
+    → MayTake (MayOpen before opened) (Ok layers)
+    → AreTurns MayOpen (record { layers = layers; failures = opened }) last turns → last.failures ≡ after
+    → AreLinesOf input unread (map (λ (turn : Turn). turn.line) turns) (Some error)
+    → Appends a b (taken_line (Ok layers) ++ newline) → Appends b c (flat_map turn_text turns)
+    → IfOk result (WritesRefusal (Read error) c d)
+    → IfOk result (WritesAnswer ask_text ask_status (MayAsk MayOpen before after input unread) a d)
+asks_failed (Ok status) MayOpen before opened after input unread a b c d layers turns last error takes are is read first middle
+    end =
+    asks MayOpen before opened after status input unread a b c d layers turns last (Some error) takes are is read first middle
+    end.0 end.1
+asks_failed (Err failed) MayOpen before opened after input unread a b c d layers turns last error takes are is read first middle
+    end = tt
+
+with_nothing : (old : Option (List ℕ)) → with_block old [] ≡ old
+with_nothing None = refl
+with_nothing (Some bytes) = ap (λ (l : List ℕ). Some l) (append-nil bytes)
+
+-- an answer and an empty line were written, if they were
+pub finishes : {E : Type 0} (result : Result Bool E) (layers : List Layer) (line text block : List ℕ)
+    (old middle new : Option (List ℕ)) → MayTellFor layers line text → block ≡ [] → Appends (with_block old block) middle text
+    → OnOk result (Appends middle new newline)
+    → IfOk result (λ (told : Bool). told ≡ true
+    → (text : List ℕ) × MayTellFor layers line text × Appends old new (text ++ newline))
+finishes (Ok told) layers line text block old middle new may none added written = λ is.
+    let begun : Appends old middle text =
+    subst (λ (front : Option (List ℕ)). Appends front middle text) (ap (λ (b : List ℕ). with_block old b) none ∙ with_nothing old)
+    added in
+    (text, may, Appends-trans old middle new text newline begun written)
+finishes (Err failed) layers line text block old middle new may none added written = tt

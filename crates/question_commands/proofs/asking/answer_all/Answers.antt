@@ -1,0 +1,21 @@
+-- There is no memory for a line.
+use Rattle.std.proofs.Common.{[], refl}
+use Rattle.std.proofs.KnownBytes.{Appends-nil}
+use Rattle.graph_folder.specs.declared.folder.ReadError.TheVariants.{OutOfMemory}
+use Rattle.graph_commands.specs.OpenerAnswer.{MayOpen}
+use Rattle.question_commands.specs.Asking.{Standing}
+use Rattle.question_commands.proofs.AskingLemmas.{lines_failed, reads_none, turns_none}
+use Rattle.question_commands.proofs.asking.answer_all.Goals as goal
+
+pub returns-in_default-clause-answered : goal.returns-in_default-clause-answered
+returns-in_default-clause-answered g c =
+    let first : Standing =
+    record { layers = c.args.graph.layers; failures = g.T.Folder.failure_count c.args.folder.now } in
+    let input = g.R.Read.remaining c.args.reader.now in (
+      [],
+      first,
+      turns_none (MayOpen (g.T.Folder.tree c.args.folder.now) c.args.path.now) first,
+      refl,
+      lines_failed input input input [] OutOfMemory (reads_none input) (λ is. cc),
+      Appends-nil (g.W.Write.contents c.args.writer.now),
+    )

@@ -1,0 +1,69 @@
+-- The lines are answered over one graph after another.
+use Rattle.std.proofs.Common.{◌≡◌, ◌∙◌, List, ℕ, Option, ap, refl, subst, sym}
+use Rattle.std.specs.Io.KnownBytes.{prepend_known}
+use Rattle.std.proofs.KnownBytes.{prepend_known-nil}
+use Rattle.graph_commands.specs.OpenerAnswer.{MayOpen}
+use Rattle.question_commands.specs.Asking.{Opener, Standing}
+use Rattle.question_commands.specs.Proceeding.{Proceeds}
+use Rattle.question_commands.proofs.AskingLemmas.{answered_to_end, answered_to_failure}
+use Rattle.question_commands.proofs.AskingLemmas.{proceeds_more, proceeds_none, reloads_line}
+use Rattle.question_commands.proofs.asking.answer_lines.Goals as goal
+
+pub loop-init : goal.loop-init
+loop-init g c =
+    let input = g.R.Read.remaining c.args.reader.now in
+    let old = g.W.Write.contents c.args.writer.now in
+    let opens : Opener = MayOpen (g.T.Folder.tree c.args.folder.now) c.args.path.now in
+    let first : Standing =
+    record { layers = c.args.graph.layers; failures = g.T.Folder.failure_count c.args.folder.now } in
+    let same : prepend_known c.args.lines.now.ahead input ≡ input =
+    ap (λ (ahead : List ℕ). prepend_known ahead input) c.requires.lines ∙ prepend_known-nil input in
+    record {
+      answered = subst (λ (left : Option (List ℕ)). Proceeds opens first first input left old old) (sym same)
+          (proceeds_none opens first input old);
+      block = c.requires.block;
+      tree = refl;
+    }
+
+pub returns-in-End-clause-answered : goal.returns-in-End-clause-answered
+returns-in-End-clause-answered g c =
+    let tree = g.T.Folder.tree c.args.folder.now in
+    let opens : Opener = MayOpen tree c.args.path.now in
+    let failures = g.T.Folder.failure_count c.loop.folder in
+    let standing : Standing = record { layers = c.loop.graph.layers; failures = failures } in
+    let over = c.in_ok-next.ensures.answered tree c.args.path.now failures in
+    let end = rw c.in-End.is at over.2 in
+    answered_to_end opens _ standing _ over.0 _ _ _
+    (proceeds_more opens _ standing standing _ _ over.0 _ _ _ c.loop.invariant.answered over.1)
+    c.answer_over.new.lines.ahead failures refl end
+
+pub returns-in-Failed-clause-answered : goal.returns-in-Failed-clause-answered
+returns-in-Failed-clause-answered g c =
+    let tree = g.T.Folder.tree c.args.folder.now in
+    let opens : Opener = MayOpen tree c.args.path.now in
+    let failures = g.T.Folder.failure_count c.loop.folder in
+    let standing : Standing = record { layers = c.loop.graph.layers; failures = failures } in
+    let over = c.in_ok-next.ensures.answered tree c.args.path.now failures in
+    let failed = rw c.in-Failed.is at over.2 in
+    answered_to_failure opens _ standing _ over.0 (g.R.Read.remaining c.answer_over.new.reader) _ _
+    (proceeds_more opens _ standing standing _ _ over.0 _ _ _ c.loop.invariant.answered over.1)
+    c.in-Failed.error failures refl failed
+
+pub loop-preserved : goal.loop-preserved
+loop-preserved g c =
+    let tree = g.T.Folder.tree c.args.folder.now in
+    let opens : Opener = MayOpen tree c.args.path.now in
+    let failures = g.T.Folder.failure_count c.loop.folder in
+    let standing : Standing = record { layers = c.loop.graph.layers; failures = failures } in
+    let after : Standing =
+    record { layers = c.in_ok-taken-in-Reload.taken.layers; failures = g.T.Folder.failure_count c.reload.new.folder } in
+    let over = c.in_ok-next.ensures.answered tree c.args.path.now failures in
+    let asks = rw c.in-Reload.is at over.2 in
+    let told = rw c.loop.invariant.tree at c.in_ok-taken-in-Reload.ensures.told in
+    record {
+      answered = proceeds_more opens _ standing after _ over.0 _ _ _ _
+          (proceeds_more opens _ standing standing _ _ over.0 _ _ _ c.loop.invariant.answered over.1)
+          (reloads_line opens standing after asks.0 told.0 over.0 _ _ _ asks.1 asks.2 told.1 told.2);
+      block = c.in_ok-next.ensures.block;
+      tree = c.reload.ensures.tree ∙ c.loop.invariant.tree;
+    }

@@ -1,0 +1,124 @@
+-- Questions about graphs, one a line: which graph stands at each, what may be told, and what is written of the whole.
+use Rattle.std.specs.Prelude.{◌≡◌, ◌≢◌, ◌⊎◌, ℕ, List, [], ◌∷◌, ◌++◌, Option, Some, None, Result, Ok, Err, IfSome}
+use Rattle.std.specs.Prelude.{codes, decimal, map}
+use Rattle.std.specs.Io.KnownBytes.{IsAtEnd}
+use Rattle.std.specs.List.{AllByRecursion, flat_map}
+use Rattle.std.specs.Str.Lines.{lines}
+use Rattle.graph_folder.specs.declared.folder.ReadError.{ReadError}
+use Rattle.graph_folder.specs.declared.folder.ReadError.TheVariants.{NotOpened}
+use Rattle.graph_format.specs.Layer.{Layer}
+use Rattle.graph_layer.specs.declared.opening.error.OpenError.{OpenError}
+use Rattle.gix_commitgraph.specs.Graph.{total}
+use Rattle.gix_commitgraph.specs.Sound.{Sound}
+use Rattle.graph_commands.specs.RefusalLines.{refusal_text, refusal_status}
+use Rattle.graph_commands.specs.Text.{◌⧺◌, newline}
+use Rattle.graph_commands.specs.declared.refusal.Refusal.{Refusal}
+use Rattle.graph_commands.specs.declared.refusal.Refusal.TheVariants.{Read}
+use Rattle.history_commands.specs.Check.{MayRefuseToStart}
+use Rattle.question_commands.specs.Replies.{HasWords, MayTellFor}
+use Rattle.question_commands.specs.declared.question.Name.TheVariants.{Reload}
+
+-- What an opener may answer in a call that took the count of the device's failures from one number to another.
+abbrev pub Opener : Type 1
+Opener = ℕ → ℕ → Result (List Layer) OpenError → Type 0
+
+-- What stands between two lines: the graph that answers, and how many reads of the folder's device have failed.
+pub record Standing : Type 0 where
+  pub layers : List Layer
+  pub failures : ℕ
+
+-- A line, what stood when it was answered, what was told for it, and what has stood since.
+pub record Turn : Type 0 where
+  pub line : List ℕ
+  pub before : Standing
+  pub told : List ℕ
+  pub after : Standing
+
+-- what may come of opening a path and checking its graph, as `verify` does: a right graph, or a refusal
+abbrev pub MayTake : (Result (List Layer) OpenError → Type 0) → Result (List Layer) Refusal → Type 0
+MayTake MayOpen (Ok layers) = MayOpen (Ok layers) × Sound layers
+MayTake MayOpen (Err refusal) = MayRefuseToStart MayOpen refusal
+
+-- its line: how many commits the graph has, or why it is refused
+abbrev pub taken_line : Result (List Layer) Refusal → List ℕ
+taken_line (Ok layers) = codes "ok commits " ⧺ decimal (total layers) ⧺ newline
+taken_line (Err refusal) = refusal_text refusal ⧺ newline
+
+-- the graph that stands then: the new one, or where that was refused the one that stood before
+abbrev pub layers_after : List Layer → Result (List Layer) Refusal → List Layer
+layers_after before (Ok layers) = layers
+layers_after before (Err refusal) = before
+
+-- a path is opened anew, and its line is told
+abbrev pub Reloads : Opener → Standing → List ℕ → Standing → Type 0
+Reloads MayOpen before told after =
+    (taken : Result (List Layer) Refusal) × MayTake (MayOpen before.failures after.failures) taken × (told ≡ taken_line taken)
+    × (after.layers ≡ layers_after before.layers taken)
+
+-- A turn may be so: what is told for the line may be told over the graph that stood, which stands on; or the line asks that the
+-- path is opened anew.
+abbrev pub MayTurn : Opener → Turn → Type 0
+MayTurn MayOpen turn =
+    (MayTellFor turn.before.layers turn.line turn.told × (turn.after ≡ turn.before))
+    ⊎ (HasWords turn.line Reload [] × Reloads MayOpen turn.before turn.told turn.after)
+
+-- Turns lead from one standing to another: each of them may be so, and what stood before it is what has stood since the one
+-- before.
+pub record AreTurns (MayOpen : Opener) (first last : Standing) (turns : List Turn) : Type 0 where
+  pub allowed : AllByRecursion (MayTurn MayOpen) turns
+  pub joined : map (λ turn. turn.before) turns ++ last ∷ [] ≡ first ∷ map (λ turn. turn.after) turns
+
+-- the text of a turn: what was told, and an empty line
+abbrev pub turn_text : Turn → List ℕ
+turn_text turn = turn.told ⧺ newline
+
+-- What was asked of a path: the graph that it opened, the turns, and why they ended, if not with the input.
+pub record Session : Type 0 where
+  pub opened : List Layer
+  pub turns : List Turn
+  pub failed : Option ReadError
+
+-- the lines of the turns are those of the input, all of which was read; or where a read failed, its first lines. (NotOpened is no
+-- failure of a read.)
+abbrev pub AreLinesOf : Option (List ℕ) → Option (List ℕ) → List (List ℕ) → Option ReadError → Type 0
+AreLinesOf input unread asked None = IfSome input (λ bytes. (lines bytes ≡ asked) × IsAtEnd unread)
+AreLinesOf input unread asked (Some error) =
+    (error ≢ NotOpened) × IfSome input (λ bytes. (rest : List (List ℕ)) × (lines bytes ≡ asked ++ rest))
+
+-- the turns begin with the graph that the path opened, and end with some graph
+abbrev pub IsSession : Opener → ℕ → ℕ → Option (List ℕ) → Option (List ℕ) → Session → Type 0
+IsSession MayOpen old new input unread session =
+    (opened : ℕ) × (last : List Layer) × MayTake (MayOpen old opened) (Ok session.opened)
+    × AreTurns MayOpen (record { layers = session.opened; failures = opened }) (record { layers = last; failures = new })
+    session.turns
+    × AreLinesOf input unread (map (λ turn. turn.line) session.turns) session.failed
+
+-- what may come of `ask`, in a call that took the count of failures from old to new, and left so much of the input unread; where
+-- the graph is refused, nothing is read
+abbrev pub MayAsk : Opener → ℕ → ℕ → Option (List ℕ) → Option (List ℕ) → Result Session Refusal → Type 0
+MayAsk MayOpen old new input unread (Ok session) = IsSession MayOpen old new input unread session
+MayAsk MayOpen old new input unread (Err refusal) = MayRefuseToStart (MayOpen old new) refusal × (unread ≡ input)
+
+-- why the turns ended, if a read failed
+abbrev pub end_text : Option ReadError → List ℕ
+end_text (Some error) = refusal_text (Read error) ⧺ newline
+end_text None = []
+
+abbrev pub end_status : Option ReadError → ℕ
+end_status (Some error) = 1
+end_status None = 0
+
+-- the text of a session: the line of the graph and an empty one, the texts of the turns, and why they ended
+abbrev pub session_text : Session → List ℕ
+session_text session =
+    taken_line (Ok session.opened) ⧺ newline ⧺ flat_map turn_text session.turns ⧺ end_text session.failed
+
+-- the text of a session, or the line of a refusal
+abbrev pub ask_text : Result Session Refusal → List ℕ
+ask_text (Ok session) = session_text session
+ask_text (Err refusal) = refusal_text refusal ⧺ newline
+
+-- 0 where the input was answered whole, and else 1
+abbrev pub ask_status : Result Session Refusal → ℕ
+ask_status (Ok session) = end_status session.failed
+ask_status (Err refusal) = refusal_status refusal

@@ -1,0 +1,296 @@
+//! The command `ask`: many questions about the graph at a path, one a line.
+
+ghost use Rattle.std.specs.Prelude.{◌≡◌, ◌≢◌, ◌⊎◌, [], ◌∷◌, ℕ, List, Option, Some, None, Ok, Err};
+ghost use Rattle.std.specs.Prelude.{IfErr, IfOk, OnOk, map, true, false};
+ghost use Rattle.std.specs.Io.KnownBytes.{Appends, prepend_known};
+ghost use Rattle.std.specs.List.{flat_map};
+ghost use Rattle.graph_folder.specs.Tree.{Tree};
+ghost use Rattle.gix_commitgraph.specs.Sound.{Sound};
+ghost use Rattle.graph_commands.specs.Block.{with_block};
+ghost use Rattle.graph_commands.specs.OpenerAnswer.{MayOpen};
+ghost use Rattle.graph_commands.specs.Text.{◌⧺◌, newline};
+ghost use Rattle.graph_commands.specs.WrittenAnswer.{WritesAnswer};
+ghost use Rattle.history_commands.specs.Check.{MayRefuseToStart};
+ghost use Rattle.question_commands.specs.Asking.{MayAsk, ask_text, ask_status};
+ghost use Rattle.question_commands.specs.Asking.{AreLinesOf, AreTurns, MayTake, Reloads};
+ghost use Rattle.question_commands.specs.Asking.{Standing, Turn, taken_line, turn_text};
+ghost use Rattle.question_commands.specs.Proceeding.{Proceeds, StopsAt};
+ghost use Rattle.question_commands.specs.Replies.{HasWords, MayTellFor};
+ghost use Rattle.question_commands.specs.declared.question.Name.TheVariants as named;
+
+use crate::lines::LineReader;
+use crate::question::{Question, read_question};
+use crate::telling::Teller;
+use gix_commitgraph::opening::open_in;
+use graph_commands::block::Block;
+use graph_commands::line::{WriteFailed, write_line};
+use graph_commands::refusal::Refusal;
+use graph_commands::run::refuse;
+use graph_commands::status::Status;
+use graph_folder::folder::{Folder, ReadError};
+use graph_history::{Checked, CheckedGraph};
+use std::alloc::Global;
+use std::io::{Read, Write};
+
+/// Opens the graph at the path and checks it, writes how many commits it has, and answers the
+/// questions that the reader gives, one a line, each before it waits for the next.
+///
+/// A question is `find ID`, `is-ancestor ID ID`, `walk ID ID`, `merge-base ID ID..` or
+/// `parents ID`, with ids in hexadecimal digits of either case, and its answer has the lines that
+/// the command of that name writes. For `reload` the path is opened anew and checked, and the graph
+/// answers from then on, unless it is refused. Any other line is answered by `refused question`.
+/// Each answer ends with an empty line, and is flushed with it.
+///
+/// Where the graph is refused at first, one line is written that says why, and nothing is read.
+/// Where a read fails, or there is no memory for a line, such a line ends the answers. The answer
+/// is the exit status. `WriteFailed` comes where the writer fails.
+pub fn run_ask<R: Read, T: Folder, W: Write>(
+    alloc: Global,
+    reader: &mut R,
+    folder: &mut T,
+    path: &str,
+    writer: &mut W,
+) -> Result<u8, WriteFailed>
+    ensures written { IfOk result (WritesAnswer ask_text ask_status
+        (MayAsk (MayOpen (T.tree folder.old) path.now)
+        (T.failure_count folder.old) (T.failure_count folder.new)
+        (R.remaining reader.old) (R.remaining reader.new))
+        (W.contents writer.old) (W.contents writer.new)) }
+    ensures tree { T.tree folder.new ≡ T.tree folder.old }
+{
+    match open_checked(alloc, folder, path) {
+        Ok(graph) => {
+            write_taken(writer, &graph)?;
+            let failed = answer_all(alloc, reader, folder, path, writer, graph)?;
+            match failed {
+                None => Ok(Status::Yes as u8),
+                Some(error) => refuse(writer, &Refusal::Read(error)),
+            }
+        }
+        Err(refusal) => refuse(writer, &refusal),
+    }
+}
+
+/// Opens the graph at the path, and checks it.
+fn open_checked<T: Folder>(
+    alloc: Global,
+    folder: &mut T,
+    path: &str,
+) -> Result<CheckedGraph, Refusal>
+    ensures graph { IfOk result (λ graph. MayTake
+        (MayOpen (T.tree folder.old) path.now (T.failure_count folder.old)
+        (T.failure_count folder.new)) (Ok graph.layers)) }
+    ensures refused { IfErr result (MayRefuseToStart
+        (MayOpen (T.tree folder.old) path.now (T.failure_count folder.old)
+        (T.failure_count folder.new))) }
+    ensures tree { T.tree folder.new ≡ T.tree folder.old }
+{
+    let graph = open_in(alloc, folder, path)?;
+    Ok(CheckedGraph::new(alloc, graph)?)
+}
+
+/// Writes how many commits a graph has, and an empty line.
+fn write_taken<W: Write>(writer: &mut W, graph: &CheckedGraph) -> Result<(), WriteFailed>
+    ensures { OnOk result (Appends (W.contents writer.old) (W.contents writer.new)
+        (taken_line (Ok graph.now.layers) ⧺ newline)) }
+{
+    let commits = graph.as_checked().num_commits();
+    write_line(writer, format_args!("ok commits {commits}\n"))?;
+    writer.flush()?;
+    Ok(())
+}
+
+/// Writes why a graph was not taken, and an empty line.
+fn write_refused<W: Write>(writer: &mut W, refusal: &Refusal) -> Result<(), WriteFailed>
+    ensures { OnOk result (Appends (W.contents writer.old) (W.contents writer.new)
+        (taken_line (Err refusal.now) ⧺ newline)) }
+{
+    write_line(writer, format_args!("{refusal}\n"))?;
+    writer.flush()?;
+    Ok(())
+}
+
+/// Answers all lines, over the graph or those that are taken in its place, and answers why no line
+/// could be read, if that is how they ended.
+fn answer_all<R: Read, T: Folder, W: Write>(
+    alloc: Global,
+    reader: &mut R,
+    folder: &mut T,
+    path: &str,
+    writer: &mut W,
+    graph: CheckedGraph,
+) -> Result<Option<ReadError>, WriteFailed>
+    ensures answered { IfOk result (λ failed. (turns : List Turn) × (last : Standing)
+        × AreTurns (MayOpen (T.tree folder.old) path.now)
+        (record { layers = graph.layers; failures = T.failure_count folder.old }) last turns
+        × (last.failures ≡ T.failure_count folder.new)
+        × AreLinesOf (R.remaining reader.old) (R.remaining reader.new)
+        (map (λ turn. turn.line) turns) failed
+        × Appends (W.contents writer.old) (W.contents writer.new) (flat_map turn_text turns)) }
+    ensures tree { T.tree folder.new ≡ T.tree folder.old }
+{
+    let (Ok(mut lines), Ok(mut block)) = (LineReader::new(alloc), Block::new(alloc)) else {
+        return Ok(Some(ReadError::OutOfMemory));
+    };
+    answer_lines(
+        alloc, &mut lines, reader, folder, path, &mut block, writer, graph,
+    )
+}
+
+/// Answers lines as `answer_all` does, with a reader of lines that has read none, and a block that
+/// has nothing.
+fn answer_lines<R: Read, T: Folder, W: Write>(
+    alloc: Global,
+    lines: &mut LineReader,
+    reader: &mut R,
+    folder: &mut T,
+    path: &str,
+    block: &mut Block,
+    writer: &mut W,
+    graph: CheckedGraph,
+) -> Result<Option<ReadError>, WriteFailed>
+    requires lines { lines.old.ahead ≡ [] }
+    requires block { block.old ≡ [] }
+    ensures answered { IfOk result (λ failed. (turns : List Turn) × (last : Standing)
+        × AreTurns (MayOpen (T.tree folder.old) path.now)
+        (record { layers = graph.layers; failures = T.failure_count folder.old }) last turns
+        × (last.failures ≡ T.failure_count folder.new)
+        × AreLinesOf (R.remaining reader.old) (R.remaining reader.new)
+        (map (λ turn. turn.line) turns) failed
+        × Appends (W.contents writer.old) (W.contents writer.new) (flat_map turn_text turns)) }
+    ensures tree { T.tree folder.new ≡ T.tree folder.old }
+{
+    let mut graph = graph;
+    for _ in 0..u64::MAX {
+        let next = answer_over(alloc, &graph, lines, reader, block, writer)?;
+        match next {
+            Next::End => return Ok(None),
+            Next::Failed(error) => return Ok(Some(error)),
+            Next::Reload => {
+                let taken = reload(alloc, folder, path, writer, graph)?;
+                graph = taken;
+            }
+        }
+    }
+    Ok(Some(ReadError::Device))
+}
+
+/// Opens the graph at the path anew, and tells that. The graph that stands then is the new one, or
+/// where that was refused the one before.
+fn reload<T: Folder, W: Write>(
+    alloc: Global,
+    folder: &mut T,
+    path: &str,
+    writer: &mut W,
+    graph: CheckedGraph,
+) -> Result<CheckedGraph, WriteFailed>
+    ensures told { IfOk result (λ taken. (told : List ℕ)
+        × Reloads (MayOpen (T.tree folder.old) path.now)
+        (record { layers = graph.layers; failures = T.failure_count folder.old }) told
+        (record { layers = taken.layers; failures = T.failure_count folder.new })
+        × Appends (W.contents writer.old) (W.contents writer.new) (told ⧺ newline)) }
+    ensures tree { T.tree folder.new ≡ T.tree folder.old }
+{
+    match open_checked(alloc, folder, path) {
+        Ok(taken) => {
+            write_taken(writer, &taken)?;
+            Ok(taken)
+        }
+        Err(refusal) => {
+            write_refused(writer, &refusal)?;
+            Ok(graph)
+        }
+    }
+}
+
+/// Why lines are no longer answered over a graph.
+enum Next {
+    /// There is no line any more.
+    End,
+    /// No line could be read.
+    Failed(ReadError),
+    /// A line asks for the graph to be opened anew.
+    Reload,
+}
+
+/// Answers lines over a graph, until none is left, or one asks for the graph to be opened anew.
+fn answer_over<R: Read, W: Write>(
+    alloc: Global,
+    graph: &CheckedGraph,
+    lines: &mut LineReader,
+    reader: &mut R,
+    block: &mut Block,
+    writer: &mut W,
+) -> Result<Next, WriteFailed>
+    requires { block.old ≡ [] }
+    ensures answered { IfOk result (λ next. (known : Option Tree) (path : List ℕ) (failures : ℕ)
+        → let standing : Standing = record { layers = graph.now.layers; failures = failures } in
+        (left : Option (List ℕ)) × Proceeds (MayOpen known path) standing standing
+        (prepend_known lines.old.ahead (R.remaining reader.old)) left
+        (W.contents writer.old) (W.contents writer.new)
+        × StopsAt left (prepend_known lines.new.ahead (R.remaining reader.new)) next) }
+    ensures block { OnOk result (block.new ≡ []) }
+{
+    let graph = graph.as_checked();
+    let mut teller = Teller::new(alloc, &graph);
+    for _ in 0..u64::MAX {
+        let more = match lines.read(reader) {
+            Ok(more) => more,
+            Err(error) => return Ok(Next::Failed(error)),
+        };
+        if !more {
+            return Ok(Next::End);
+        }
+        if !answer(alloc, &mut teller, lines.line(), block, writer)? {
+            return Ok(Next::Reload);
+        }
+    }
+    Ok(Next::Failed(ReadError::Device))
+}
+
+/// Answers a line, unless it asks for the graph to be opened anew; and answers whether it does not.
+fn answer<W: Write>(
+    alloc: Global,
+    teller: &mut Teller<'_, '_>,
+    line: &[u8],
+    block: &mut Block,
+    writer: &mut W,
+) -> Result<bool, WriteFailed>
+    requires { block.old ≡ [] }
+    ensures told { IfOk result (λ told. told ≡ true → (text : List ℕ)
+        × MayTellFor teller.old line.now text
+        × Appends (W.contents writer.old) (W.contents writer.new) (text ⧺ newline)) }
+    ensures reload { IfOk result (λ told. told ≡ false → HasWords line.now named.Reload []
+        × (writer.new ≡ writer.old)) }
+    ensures block { OnOk result (block.new ≡ []) }
+    ensures teller { teller.new ≡ teller.old }
+{
+    match read_question(alloc, line) {
+        Ok(Some(Question::Reload)) => Ok(false),
+        Ok(Some(question)) => {
+            teller.tell(&question, block, writer)?;
+            finish(block, writer)
+        }
+        Ok(None) => {
+            block.push_text(writer, "refused question\n")?;
+            finish(block, writer)
+        }
+        Err(_) => {
+            block.push_text(writer, "refused walk\n")?;
+            finish(block, writer)
+        }
+    }
+}
+
+/// Adds an empty line to an answer, writes the whole and flushes it. It answers that this was done.
+fn finish<W: Write>(block: &mut Block, writer: &mut W) -> Result<bool, WriteFailed>
+    ensures written { OnOk result (Appends (with_block (W.contents writer.old) block.old)
+        (W.contents writer.new) newline) }
+    ensures block { OnOk result (block.new ≡ []) }
+    ensures told { IfOk result (λ told. told ≡ true) }
+{
+    block.push_byte(writer, b'\n')?;
+    block.write_out(writer)?;
+    writer.flush()?;
+    Ok(true)
+}
