@@ -9,8 +9,8 @@ use Rattle.graph_format.proofs.PointLemmas.{ran_out}
 use Rattle.gix_commitgraph.specs.InGraph.{InGraph}
 use Rattle.gix_commitgraph.proofs.history.HistoryLemmas.{node_at}
 use Rattle.gix_commitgraph.proofs.layers.LayerSpanLemmas.{span-commit, span-stop, take-next, take-fits, parents-told}
-use Rattle.gix_commitgraph.proofs.check.LayerCheckLemmas.{IsTurn, turn, place-none, refused_by_bases, reached_first, stops_at_commit}
-use Rattle.gix_commitgraph.proofs.check.LayerCheckLemmas.{reached_next, layer_passed}
+use Rattle.gix_commitgraph.proofs.check.LayerCheckLemmas.{IsTurn, turn, place-none, refused_by_bases, reached_first}
+use Rattle.gix_commitgraph.proofs.check.LayerCheckLemmas.{stops_at_commit, reached_next, layer_passed}
 use Rattle.gix_commitgraph.proofs.graph.Graph.verify_layer.Given.{Over}
 use Rattle.gix_commitgraph.proofs.graph.Graph.verify_layer.Goals.{After-position-layer_pos}
 use Rattle.gix_commitgraph.proofs.graph.Graph.verify_layer.Goals as goal
