@@ -105,84 +105,75 @@ told_is commit told old new t =
     ap (λ n. record { code = told.code; count = n }) t.count_of
     ∙ ap (λ n. record { code = n; count = min (length (parents_in commit).positions) (2 ^ 64 - 1) }) t.code_of
 
-module _ (commits : List (Layer × ℕ)) (answers : List CgParents) (room : List ℕ) (place used : ℕ) (answered : List CgParents)
-    (now : List ℕ) (commit : Layer × ℕ) (told : CgParents) (new : List ℕ) where
-  -- the parents of one commit more
-  more_parents : slice_get commits place ≡ Some commit
-      → flat_map parent_positions (take (place + 1) commits)
+-- One commit more is told.
+module _ {commits : List (Layer × ℕ)} {answers : List CgParents} {room : List ℕ} {place used : ℕ} {answered : List CgParents}
+    {now : List ℕ} {commit : Layer × ℕ} {told : CgParents} {new : List ℕ} (here : slice_get commits place ≡ Some commit)
+    (fits : place < length answers) (t : AreTold commits answers room place used answered now)
+    (s : TellsParents (parents_in commit) told (take (length now - used) (drop used now)) new) where
+  -- its parents are told too
+  more_parents : flat_map parent_positions (take (place + 1) commits)
       ≡ flat_map parent_positions (take place commits) ++ parent_positions commit
-  more_parents here =
+  more_parents =
       ap (flat_map parent_positions) (next_taken commits place commit here)
       ∙ sym (flat_map_more parent_positions [] (take place commits) commit)
 
   -- its answer is written
-  next_answer : slice_get commits place ≡ Some commit → place < length answers → told ≡ told_parents commit
-      → answered ≡ written (map told_parents (take place commits)) answers
-      → set answered place told ≡ written (map told_parents (take (place + 1) commits)) answers
-  next_answer here fits is before =
+  next_answer : set answered place told ≡ written (map told_parents (take (place + 1) commits)) answers
+  next_answer =
       let within = slice_get_within commits place commit here in
       let so_far : length (map told_parents (take place commits)) ≡ place =
       length-map (take place commits) told_parents ∙ first_places commits place (omega (arith, within)) in
-      ap (λ xs. set xs place told) before
+      ap (λ xs. set xs place told) t.answers_of
       ∙ ap (λ k. set (written (map told_parents (take place commits)) answers) k told) (sym so_far)
       ∙ one_more (map told_parents (take place commits)) told answers
       (subst (λ k. k < length answers) (sym so_far) fits)
-      ∙ ap (λ t. written (map told_parents (take place commits) ++ t ∷ []) answers) is
+      ∙ ap (λ one. written (map told_parents (take place commits) ++ one ∷ []) answers) (told_is commit told _ new s)
       ∙ ap (λ xs. written xs answers)
       (sym (ap (map told_parents) (next_taken commits place commit here)
       ∙ map-append told_parents (take place commits) (commit ∷ [])))
 
   -- and its parents
-  next_room : slice_get commits place ≡ Some commit → AreTold commits answers room place used answered now
-      → new ≡ written (parent_positions commit) (drop used now)
-      → take used now ++ new ≡ written (flat_map parent_positions (take (place + 1) commits)) room
-  next_room here t is =
+  next_room : take used now ++ new ≡ written (flat_map parent_positions (take (place + 1) commits)) room
+  next_room =
       let before = flat_map parent_positions (take place commits) in
-      ap (λ ys. take used now ++ ys) is
+      ap (λ ys. take used now ++ ys) (s.room ∙ ap (written (parent_positions commit)) (rest_of used now))
       ∙ ap (λ xs. take used xs ++ written (parent_positions commit) (drop used xs)) t.room_of
       ∙ ap (λ k. take k (written before room) ++ written (parent_positions commit) (drop k (written before room))) t.used_of
       ∙ written_after before (parent_positions commit) room (subst (λ k. k ≤ length room) t.used_of t.fits)
-      ∙ ap (λ ps. written ps room) (sym (more_parents here))
+      ∙ ap (λ ps. written ps room) (sym more_parents)
 
   -- what is ahead begins with the commit
-  ahead_is : slice_get commits place ≡ Some commit → AreTold commits answers room place used answered now
-      → block_of (length answers) (length room) commits
+  ahead_is : block_of (length answers) (length room) commits
       ≡ take place commits ++ block_of (length answers - place) (length room - used) (commit ∷ drop (place + 1) commits)
-  ahead_is here t =
+  ahead_is =
       t.ahead ∙ ap (λ cs. take place commits ++ block_of (length answers - place) (length room - used) cs)
       (drop-next commits place commit here)
 
   -- so many positions are written then
-  more_used : slice_get commits place ≡ Some commit → AreTold commits answers room place used answered now
-      → used + length (parent_positions commit) ≡ length (flat_map parent_positions (take (place + 1) commits))
-  more_used here t =
+  more_used : used + length (parent_positions commit) ≡ length (flat_map parent_positions (take (place + 1) commits))
+  more_used =
       ap (λ k. k + length (parent_positions commit)) t.used_of
       ∙ sym (length-append (flat_map parent_positions (take place commits)) (parent_positions commit))
-      ∙ ap length (sym (more_parents here))
+      ∙ ap length (sym more_parents)
 
-  -- one commit more is told, whose parents fit
-  pub next_told : slice_get commits place ≡ Some commit → place < length answers → length room < 2 ^ 64 - 1
-      → AreTold commits answers room place used answered now
-      → TellsParents (parents_in commit) told (take (length now - used) (drop used now)) new
-      → told.count ≤ length room - used
+  -- where its parents fit
+  pub next_told : length room < 2 ^ 64 - 1 → told.count ≤ length room - used
       → AreTold commits answers room (place + 1) (used + told.count) (set answered place told)
       (take used now ++ (new ++ drop (length now - used) (drop used now)))
-  next_told here fits few t s all =
+  next_told few all =
       let parents = length (parent_positions commit) in
       let rest = drop (place + 1) commits in
       let count : told.count ≡ parents =
       omega (arith, s.count_of, numbers_length (parents_in commit).positions, few, all) in
-      let written_is : new ≡ written (parent_positions commit) (drop used now) =
-      s.room ∙ ap (written (parent_positions commit)) (rest_of used now) in
       let places : length answers - place - 1 ≡ length answers - (place + 1) = omega arith in
       let left : length room - used - parents ≡ length room - (used + told.count) = omega (arith, count) in
       record {
-        answers_of = next_answer here fits (told_is commit told _ new s) t.answers_of;
-        room_of = rest_put used now new ∙ next_room here t written_is;
-        used_of = ap (λ k. used + k) count ∙ more_used here t;
+        answers_of = next_answer;
+        room_of = rest_put used now new ∙ next_room;
+        used_of = ap (λ k. used + k) count ∙ more_used;
         fits = omega (arith, all, t.fits);
         ahead =
-            ahead_is here t
+            ahead_is
             ∙ ap (λ cs. take place commits ++ cs)
             (block_goes_on (length answers - place) (length room - used) commit rest (omega (arith, fits))
             (omega (arith, count, all)))
@@ -195,22 +186,17 @@ module _ (commits : List (Layer × ℕ)) (answers : List CgParents) (room : List
       }
 
   -- or do not, which ends the block
-  pub last_told : slice_get commits place ≡ Some commit → place < length answers
-      → AreTold commits answers room place used answered now
-      → TellsParents (parents_in commit) told (take (length now - used) (drop used now)) new
-      → length room - used < told.count
+  pub last_told : length room - used < told.count
       → TellsBlock (block_of (length answers) (length room) commits)
       (record { commits = place + 1; length = min (used + told.count) (2 ^ 64 - 1) })
       answers (set answered place told) room (take used now ++ (new ++ drop (length now - used) (drop used now)))
-  last_told here fits t s past =
+  last_told past =
       let parents = length (parent_positions commit) in
       let same = numbers_length (parents_in commit).positions in
       let within = slice_get_within commits place commit here in
-      let more = more_used here t in
-      let written_is : new ≡ written (parent_positions commit) (drop used now) =
-      s.room ∙ ap (written (parent_positions commit)) (rest_of used now) in
+      let more = more_used in
       let whole : block_of (length answers) (length room) commits ≡ take (place + 1) commits =
-      ahead_is here t
+      ahead_is
       ∙ ap (λ cs. take place commits ++ cs)
       (block_ends (length answers - place) (length room - used) commit (drop (place + 1) commits) (omega (arith, fits))
       (omega (arith, s.count_of, same, past)))
@@ -218,8 +204,8 @@ module _ (commits : List (Layer × ℕ)) (answers : List CgParents) (room : List
       rw whole (record {
         commits = sym (first_places commits (place + 1) (omega (arith, within)));
         length_of = omega (arith, s.count_of, same, more);
-        answers_of = next_answer here fits (told_is commit told _ new s) t.answers_of;
-        room = rest_put used now new ∙ next_room here t written_is;
+        answers_of = next_answer;
+        room = rest_put used now new ∙ next_room;
       })
 
 -- a number at the first place of the rest
@@ -229,15 +215,15 @@ set_in_rest (suc place) [] x = refl
 set_in_rest (suc place) (y ∷ xs) x = ap (λ ys. y ∷ ys) (set_in_rest place xs x)
 
 -- One commit more is told, whose fields give one parent.
-pub only_told : (commits : List (Layer × ℕ)) (answers : List CgParents) (room : List ℕ) (place used : ℕ)
-    (answered : List CgParents) (now : List ℕ) (commit : Layer × ℕ) (pos : Position) → slice_get commits place ≡ Some commit
-    → place < length answers → length room < 2 ^ 64 - 1 → AreTold commits answers room place used answered now
+pub only_told : {commits : List (Layer × ℕ)} {answers : List CgParents} {room : List ℕ} {place used : ℕ}
+    {answered : List CgParents} {now : List ℕ} {commit : Layer × ℕ} {pos : Position} → slice_get commits place ≡ Some commit
+    → place < length answers → AreTold commits answers room place used answered now → length room < 2 ^ 64 - 1
     → used < length room
     → edge_of (record_at commit.0 commit.1).parent1 ≡ edge.GraphPosition pos
     → edge_of (record_at commit.0 commit.1).parent2 ≡ edge.None
     → AreTold commits answers room (place + 1) (used + 1) (set answered place (record { code = 0; count = 1 }))
     (set now used pos.0)
-only_told commits answers room place used answered now commit pos here fits few t free first second =
+only_told {commits} {answers} {room} {place} {used} {answered} {now} {commit} {pos} here fits t few free first second =
     let r = record_at commit.0 commit.1 in
     let rest = take (length now - used) (drop used now) in
     let told = one_told (edge_of r.parent1) (edge_of r.parent2) commit.0.edges rest pos first second in
@@ -245,11 +231,10 @@ only_told commits answers room place used answered now commit pos here fits few 
     rest_put used now (set rest 0 pos.0) ∙ ap (λ ys. take used now ++ set ys 0 pos.0) (rest_of used now)
     ∙ set_in_rest used now pos.0 in
     subst (AreTold commits answers room (place + 1) (used + 1) (set answered place (record { code = 0; count = 1 }))) is
-    (next_told commits answers room place used answered now commit (record { code = 0; count = 1 }) (set rest 0 pos.0) here fits
-    few t told (omega (arith, free)))
+    (next_told here fits t told few (omega (arith, free)))
 
-module _ (commits : List (Layer × ℕ)) (answers : List CgParents) (room : List ℕ) (place used : ℕ) (answered : List CgParents)
-    (now : List ℕ) where
+module _ {commits : List (Layer × ℕ)} {answers : List CgParents} {room : List ℕ} {place used : ℕ} {answered : List CgParents}
+    {now : List ℕ} (t : AreTold commits answers room place used answered now) where
   -- no commit is ahead, or there is no room for its answer
   none_ahead : ((nat_le (length answers) place ≡ true) × (length answers ≤ place))
       ⊎ ((nat_le (length answers) place ≡ false) × (place < length answers))
@@ -263,11 +248,10 @@ module _ (commits : List (Layer × ℕ)) (answers : List CgParents) (room : List
       ∙ block_of_none (length answers - place) (length room - used)
 
   -- all of a block is told
-  pub block_told : AreTold commits answers room place used answered now → length room < 2 ^ 64
-      → (place < length answers → length commits ≤ place) → place ≤ length commits
+  pub block_told : length room < 2 ^ 64 → (place < length answers → length commits ≤ place) → place ≤ length commits
       → TellsBlock (block_of (length answers) (length room) commits) (record { commits = place; length = used }) answers answered
       room now
-  block_told t few end within =
+  block_told few end within =
       let whole : block_of (length answers) (length room) commits ≡ take place commits =
       t.ahead ∙ ap (λ cs. take place commits ++ cs) (none_ahead (leb_tells (length answers) place) end)
       ∙ append-nil (take place commits) in

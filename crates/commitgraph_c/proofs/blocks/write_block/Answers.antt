@@ -1,56 +1,54 @@
-use Rattle.std.proofs.Common.{◌≡◌, ◌-◌, ◌<◌, ◌^◌, drop, length, length-drop, ap, sym, ◌∙◌, arith, rules}
+use Rattle.std.proofs.Common.{◌≡◌, ◌+◌, ◌-◌, ◌<◌, ◌^◌, ◌∷◌, Some, drop, length, length-drop, slice_get, ap, sym}
+use Rattle.std.proofs.Common.{◌∙◌, arith, rules}
 use Rattle.gix_commitgraph.specs.Graph.{graph_commits}
+use Rattle.gix_commitgraph.specs.GraphRemaining.{graph_commits_left}
 use Rattle.graph_layer.specs.Commit.{layer_and_position}
 use Rattle.commitgraph_c.proofs.BlockRoom.{next_told, last_told, only_told, block_told}
 use Rattle.commitgraph_c.proofs.Written.{item_at, items_after}
-use Rattle.commitgraph_c.proofs.blocks.write_block.Goals.{Left-loop-place, else-loop-place-test, then-loop-place-test+in_default}
+use Rattle.commitgraph_c.proofs.blocks.write_block.Goals.{In-Some, Left-loop-place}
+use Rattle.commitgraph_c.proofs.blocks.write_block.Goals.{else-loop-place-test, then-loop-place-test+in_default}
 use Rattle.commitgraph_c.proofs.blocks.write_block.Goals as goal
+
+-- The iterator gives the commit at the place, and those after it are left.
+module _ (c : In-Some) where
+  given : drop c.loop-place.place (drop c.args.first (graph_commits c.args.graph.now))
+      ≡ layer_and_position c.in-Some.commit ∷ graph_commits_left c.next.new.self
+  given = sym c.loop-place.invariant.1 ∙ c.in-Some.ensures.steps
+
+  here : slice_get (drop c.args.first (graph_commits c.args.graph.now)) c.loop-place.place
+      ≡ Some (layer_and_position c.in-Some.commit)
+  here = item_at (drop c.args.first (graph_commits c.args.graph.now)) c.loop-place.place _ _ given
+
+  after : graph_commits_left c.next.new.self
+      ≡ drop (c.loop-place.place + 1) (drop c.args.first (graph_commits c.args.graph.now))
+  after = items_after (drop c.args.first (graph_commits c.args.graph.now)) c.loop-place.place _ _ given
 
 pub returns-then-told-room : goal.returns-then-told-room
 returns-then-told-room c =
-    let all = graph_commits c.args.graph.now in
-    let place = c.loop-place.place in
-    let commit = layer_and_position c.in-Some.commit in
-    let commits = drop c.args.first all in
-    let left = sym c.loop-place.invariant.1 ∙ c.in-Some.ensures.steps in
     let same : length c.loop-place.out ≡ length c.args.out.now = c.loop-place.auto.out in
     rw c.saturating_add.ensures
-    (last_told commits c.args.answers.now c.args.out.now place c.loop-place.used c.loop-place.answers
-    c.loop-place.out commit c.write_parents-told.result c.write_parents-told.new.out
-    (item_at commits place commit _ left) (omega arith) c.loop-place.invariant.0
+    (last_told (here (goal.at.returns-then-told-room c).In-Some) (omega arith) c.loop-place.invariant.0
     c.write_parents-told.ensures (omega (arith, same)))
 
 pub loop-place-preserved : goal.loop-place-preserved
 loop-place-preserved c =
-    let all = graph_commits c.args.graph.now in
-    let place = c.loop-place.place in
-    let commit = layer_and_position c.in-Some.commit in
-    let commits = drop c.args.first all in
-    let left = sym c.loop-place.invariant.1 ∙ c.in-Some.ensures.steps in
+    let in_some = (goal.at.loop-place-preserved c).In-Some in
     let same : length c.loop-place.out ≡ length c.args.out.now = c.loop-place.auto.out in
     let few : length c.args.out.now < 2 ^ 64 - 1 = search rules in (
-      next_told commits c.args.answers.now c.args.out.now place c.loop-place.used c.loop-place.answers
-          c.loop-place.out commit c.write_parents-told.result c.write_parents-told.new.out
-          (item_at commits place commit _ left) (omega arith) few c.loop-place.invariant.0
-          c.write_parents-told.ensures (omega (arith, same)),
-      items_after commits place commit _ left,
+      next_told (here in_some) (omega arith) c.loop-place.invariant.0 c.write_parents-told.ensures few (omega (arith, same)),
+      after in_some,
     )
 
 pub loop-place-preserved-in-loop-place : goal.loop-place-preserved-in-loop-place
 loop-place-preserved-in-loop-place c =
-    let all = graph_commits c.args.graph.now in
-    let place = c.loop-place.place in
-    let commit = layer_and_position c.in-Some.commit in
-    let commits = drop c.args.first all in
-    let left = sym c.loop-place.invariant.1 ∙ c.in-Some.ensures.steps in
+    let in_some = (goal.at.loop-place-preserved-in-loop-place c).In-Some in
     let same : length c.loop-place.out ≡ length c.args.out.now = c.loop-place.auto.out in
     let few : length c.args.out.now < 2 ^ 64 - 1 = search rules in
     let edges = c.parent_edges.ensures in
     let only = c.in-GraphPosition-None in (
-      only_told commits c.args.answers.now c.args.out.now place c.loop-place.used c.loop-place.answers c.loop-place.out commit
-          only.pos (item_at commits place commit _ left) (omega arith) few c.loop-place.invariant.0
-          (omega (arith, same, c.if-used-out.true)) (sym edges.first ∙ only.is-0) (sym edges.second ∙ only.is-1),
-      items_after commits place commit _ left,
+      only_told (here in_some) (omega arith) c.loop-place.invariant.0 few (omega (arith, same, c.if-used-out.true))
+          (sym edges.first ∙ only.is-0) (sym edges.second ∙ only.is-1),
+      after in_some,
     )
 
 -- as many commits as are left
@@ -71,8 +69,6 @@ told c = elim c.loop-place-test.branch [
 
 pub returns : goal.returns
 returns c =
-    let commits = drop c.args.first (graph_commits c.args.graph.now) in
     let few : length c.args.out.now < 2 ^ 64 = search rules in
     rw (← told c)
-    (block_told commits c.args.answers.now c.args.out.now c.loop-place.place c.loop-place.used c.loop-place.answers
-    c.loop-place.out c.loop-place.invariant.0 few (λ free. omega (arith, free, left c, told c)) (omega (arith, left c, told c)))
+    (block_told c.loop-place.invariant.0 few (λ free. omega (arith, free, left c, told c)) (omega (arith, left c, told c)))

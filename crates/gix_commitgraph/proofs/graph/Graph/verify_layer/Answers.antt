@@ -6,10 +6,13 @@ use Rattle.graph_format.specs.StoredHistory.{history_of}
 use Rattle.graph_layer.specs.Remaining.{commits_left}
 use Rattle.graph_format.specs.Layer.{positions_from}
 use Rattle.graph_format.proofs.PointLemmas.{ran_out}
+use Rattle.gix_commitgraph.specs.InGraph.{InGraph}
 use Rattle.gix_commitgraph.proofs.history.HistoryLemmas.{node_at}
 use Rattle.gix_commitgraph.proofs.layers.LayerSpanLemmas.{span-commit, span-stop, take-next, take-fits, parents-told}
-use Rattle.gix_commitgraph.proofs.check.LayerCheckLemmas.{turn, place-none, refused_by_bases, reached_first, stops_at_commit}
-use Rattle.gix_commitgraph.proofs.check.LayerCheckLemmas.{reached_next, layer_passed}
+use Rattle.gix_commitgraph.proofs.check.LayerCheckLemmas.{IsTurn, turn, place-none, refused_by_bases, reached_first}
+use Rattle.gix_commitgraph.proofs.check.LayerCheckLemmas.{stops_at_commit, reached_next, layer_passed}
+use Rattle.gix_commitgraph.proofs.graph.Graph.verify_layer.Given.{Over}
+use Rattle.gix_commitgraph.proofs.graph.Graph.verify_layer.Goals.{After-position-layer_pos}
 use Rattle.gix_commitgraph.proofs.graph.Graph.verify_layer.Goals as goal
 
 pub returns-in_err-check_bases-clause-agrees : goal.returns-in_err-check_bases-clause-agrees
@@ -34,96 +37,93 @@ loop-commit-init g c = record {
   batch = λ not_first. absurd (not_first (omega arith));
 }
 
+-- The commit is the next of the layer.
+module _ (g : Over) (c : After-position-layer_pos g) where
+  this : IsTurn c.args.span c.in-Some-commit.commit (length c.loop-commit.yielded)
+      (c.args.span.start + c.position-layer_pos.result.0) (commits_left c.next.new.self)
+  this =
+      turn c.args.span c.in-Some-commit.commit (length c.loop-commit.yielded)
+      (c.args.span.start + c.position-layer_pos.result.0) _ _ _ c.loop-commit.invariant.left c.in-Some-commit.ensures.steps
+      c.position-layer_pos.ensures.value refl
+
+  place : c.position-layer_pos.result.0 ≡ length c.loop-commit.yielded
+  place = omega (arith, c.position-layer_pos.ensures.value, this.pos)
+
+  stands : InGraph c.args.self.now (c.args.span.start + c.position-layer_pos.result.0) c.in-Some-commit.commit
+  stands = span-commit c.args.self.now c.args.span c.in-Some-commit.commit _ c.requires.span this.in_span
+
 pub gathered-gathered-requires-clause-within : goal.gathered-gathered-requires-clause-within
 gathered-gathered-requires-clause-within g c =
-    let this =
-    turn c.args.span c.in-Some-commit.commit (length c.loop-commit.yielded) (c.args.span.start + c.position-layer_pos.result.0) _
-    _ _ c.loop-commit.invariant.left c.in-Some-commit.ensures.steps c.position-layer_pos.ensures.value refl in
-    omega (arith, c.position-layer_pos.ensures.value, this.pos, this.below)
+    let turn = this g (goal.at.gathered-gathered-requires-clause-within g c).After-position-layer_pos in
+    omega (arith, c.position-layer_pos.ensures.value, turn.pos, turn.below)
 
 pub gathered-gathered-requires-clause-before : goal.gathered-gathered-requires-clause-before
 gathered-gathered-requires-clause-before g c =
-    let this =
-    turn c.args.span c.in-Some-commit.commit (length c.loop-commit.yielded) (c.args.span.start + c.position-layer_pos.result.0) _
-    _ _ c.loop-commit.invariant.left c.in-Some-commit.ensures.steps c.position-layer_pos.ensures.value refl in
-    let place : c.position-layer_pos.result.0 ≡ length c.loop-commit.yielded =
-    omega (arith, c.position-layer_pos.ensures.value, this.pos) in
-    rw place c.loop-commit.invariant.batch
+    rw (place g (goal.at.gathered-gathered-requires-clause-before g c).After-position-layer_pos) c.loop-commit.invariant.batch
 
 pub overflow_add-pos : goal.overflow_add-pos
 overflow_add-pos g c =
-    let this =
-    turn c.args.span c.in-Some-commit.commit (length c.loop-commit.yielded) (c.args.span.start + c.position-layer_pos.result.0) _
-    _ _ c.loop-commit.invariant.left c.in-Some-commit.ensures.steps c.position-layer_pos.ensures.value refl in
-    omega (arith, this.below, this.pos, c.position-layer_pos.ensures.value, span-stop c.args.self.now c.args.span c.requires.span)
+    let turn = this g (goal.at.overflow_add-pos g c).After-position-layer_pos in
+    omega (arith, turn.below, turn.pos, c.position-layer_pos.ensures.value, span-stop c.args.self.now c.args.span c.requires.span)
 
 pub verify_commit-requires : goal.verify_commit-requires
 verify_commit-requires g c κs =
-    let this =
-    turn c.args.span c.in-Some-commit.commit (length c.loop-commit.yielded) (c.args.span.start + c.position-layer_pos.result.0) _
-    _ _ c.loop-commit.invariant.left c.in-Some-commit.ensures.steps c.position-layer_pos.ensures.value refl in
-    let stands = span-commit c.args.self.now c.args.span c.in-Some-commit.commit _ c.requires.span this.in_span in
+    let after = (goal.at.verify_commit-requires g c).After-position-layer_pos in
+    let in_span = (this g after).in_span in
+    let in_graph = stands g after in
     let known = rw c.position-layer_pos.ensures.value at c.gathered-gathered.ensures.result in
-    (search rules, (c.requires.span, (this.in_span, (known, (c.requires.below, λ state. c.requires.callable state _ _ stands)))))
+    (search rules, (c.requires.span, (in_span, (known, (c.requires.below, λ state. c.requires.callable state _ _ in_graph)))))
 
 pub returns-in_err-parents-clause-agrees : goal.returns-in_err-parents-clause-agrees
 returns-in_err-parents-clause-agrees g c =
-    let this =
-    turn c.args.span c.in-Some-commit.commit (length c.loop-commit.yielded) (c.args.span.start + c.position-layer_pos.result.0) _
-    _ _ c.loop-commit.invariant.left c.in-Some-commit.ensures.steps c.position-layer_pos.ensures.value refl in
+    let turn = this g (goal.at.returns-in_err-parents-clause-agrees g c).After-position-layer_pos in
     let handed = err_from_is_err_and c.from_residual-in_err-parents.result c.from_residual-in_err-parents.ensures.1 in
     rw (handed.1, handed.2)
     (stops_at_commit g.F.FnMut c.args.options c.args.self.now c.args.span _ (length c.loop-commit.yielded) c.in-Some-commit.commit
-    this.pos this.below _ _ c.loop-commit.invariant.reached _ c.in_err-parents.ensures.agrees)
+    turn.pos turn.below _ _ c.loop-commit.invariant.reached _ c.in_err-parents.ensures.agrees)
 
 pub add-requires : goal.add-requires
 add-requires g c =
-    let this =
-    turn c.args.span c.in-Some-commit.commit (length c.loop-commit.yielded) (c.args.span.start + c.position-layer_pos.result.0) _
-    _ _ c.loop-commit.invariant.left c.in-Some-commit.ensures.steps c.position-layer_pos.ensures.value refl in (
+    let turn = this g (goal.at.add-requires g c).After-position-layer_pos in (
       take (c.args.span.start + length c.loop-commit.yielded) (history_of c.args.self.now),
       c.loop-commit.invariant.statistics,
-      take-fits c.args.self.now c.args.span (length c.loop-commit.yielded) c.requires.span this.below,
+      take-fits c.args.self.now c.args.span (length c.loop-commit.yielded) c.requires.span turn.below,
     )
 
 pub returns-in_err-add-clause-agrees : goal.returns-in_err-add-clause-agrees
 returns-in_err-add-clause-agrees g c =
-    let this =
-    turn c.args.span c.in-Some-commit.commit (length c.loop-commit.yielded) (c.args.span.start + c.position-layer_pos.result.0) _
-    _ _ c.loop-commit.invariant.left c.in-Some-commit.ensures.steps c.position-layer_pos.ensures.value refl in
+    let turn = this g (goal.at.returns-in_err-add-clause-agrees g c).After-position-layer_pos in
     let next =
     reached_next g.F.FnMut c.args.options c.args.self.now c.args.span _ (length c.loop-commit.yielded) c.in-Some-commit.commit
-    this.pos this.below _ _ c.loop-commit.invariant.reached c.in_ok-parents.ensures.agrees in
+    turn.pos turn.below _ _ c.loop-commit.invariant.reached c.in_ok-parents.ensures.agrees in
     let no_memory = err_from_is_err_and c.from_residual-in_err-add.result c.from_residual-in_err-add.ensures.1 in
     rw (no_memory.1, no_memory.2) (ran_out _ _ _ _ _ next)
 
 pub loop-commit-preserved : goal.loop-commit-preserved
 loop-commit-preserved g c =
-    let this =
-    turn c.args.span c.in-Some-commit.commit (length c.loop-commit.yielded) (c.args.span.start + c.position-layer_pos.result.0) _
-    _ _ c.loop-commit.invariant.left c.in-Some-commit.ensures.steps c.position-layer_pos.ensures.value refl in
-    let place : c.position-layer_pos.result.0 ≡ length c.loop-commit.yielded =
-    omega (arith, c.position-layer_pos.ensures.value, this.pos) in
+    let after = (goal.at.loop-commit-preserved g c).After-position-layer_pos in
+    let turn = this g after in
+    let pos = place g after in
+    let in_graph = stands g after in
     let more : length (c.loop-commit.yielded ++ c.in-Some-commit.commit ∷ []) ≡ length c.loop-commit.yielded + 1 =
     length_push c.loop-commit.yielded c.in-Some-commit.commit in
-    let stands = span-commit c.args.self.now c.args.span c.in-Some-commit.commit _ c.requires.span this.in_span in
     let next =
     reached_next g.F.FnMut c.args.options c.args.self.now c.args.span _ (length c.loop-commit.yielded) c.in-Some-commit.commit
-    this.pos this.below _ _ c.loop-commit.invariant.reached c.in_ok-parents.ensures.agrees in
+    turn.pos turn.below _ _ c.loop-commit.invariant.reached c.in_ok-parents.ensures.agrees in
     let added =
     c.in_ok-add.ensures _ (node_at (layer_and_position c.in-Some-commit.commit)) c.loop-commit.invariant.statistics
     c.generation.ensures
-    (parents-told c.args.self.now c.args.span c.in-Some-commit.commit _ _ c.requires.span stands
+    (parents-told c.args.self.now c.args.span c.in-Some-commit.commit _ _ c.requires.span in_graph
     c.in_ok-parents.ensures.parents) in
     let seen =
-    take-next c.args.self.now c.args.span c.in-Some-commit.commit (length c.loop-commit.yielded) _ _ c.requires.span stands
-    (omega (arith, c.position-layer_pos.ensures.value, this.pos)) more in
+    take-next c.args.self.now c.args.span c.in-Some-commit.commit (length c.loop-commit.yielded) _ _ c.requires.span in_graph
+    (omega (arith, pos)) more in
     record {
-      left = this.left ∙ ap (positions_from c.args.span.file.now) (sym more);
-      within = omega (arith, more, this.below);
+      left = turn.left ∙ ap (positions_from c.args.span.file.now) (sym more);
+      within = omega (arith, more, turn.below);
       reached = rw more next;
       statistics = rw seen added;
-      batch = rw more (rw (← place) c.gathered-gathered.ensures.after);
+      batch = rw more (rw (← pos) c.gathered-gathered.ensures.after);
     }
 
 pub returns-clause-agrees : goal.returns-clause-agrees
