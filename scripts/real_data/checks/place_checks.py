@@ -49,7 +49,8 @@ class Place:
 
 
 def check_all(installed, results, folder, new):
-    """The checks for both kinds of hash."""
+    """The checks for both kinds of hash. All may write where files of a moment are made."""
+    os.chmod(installed.clone.temporary, 0o777)
     for kind in ("sha1", "sha256"):
         origin = new(kind, "kinds, the origin.git")
         origin.add(shapes.diamonds(4))
