@@ -1,7 +1,7 @@
 //! Layers that were written, beside those that Git 2.39.5 wrote of the same commits, with
 //! `commitGraph.generationVersion=2`: their sizes and their checksums.
 
-use gix_commitgraph::{File, Graph};
+use gix_commitgraph::{File, Graph, Position};
 use gix_hash_core::ObjectId;
 use graph_encoder::{LayerPlan, PlanCommit, build};
 use graph_history::{Checked, CheckedGraph};
@@ -203,10 +203,11 @@ fn expect_refusal(
 #[test]
 fn a_commit_that_is_its_own_ancestor_is_refused(rt: HostRuntime) {
     let alloc = rt.alloc();
-    let mut all = commits(&rt, alloc, 0, LOWER);
-    let own = all[3].id;
-    all[3].parents.push(own).expect(&rt, "memory for a parent");
-    expect_refusal(&rt, alloc, None, &all, WriteError::Cycle(3));
+    let root = commit(&rt, alloc, 0);
+    let mut own = commit(&rt, alloc, 4);
+    own.parents.push(own.id).expect(&rt, "memory for a parent");
+    let all = [root, own];
+    expect_refusal(&rt, alloc, None, &all, WriteError::Cycle(1));
 }
 
 #[test]
@@ -215,19 +216,7 @@ fn a_commit_below_is_refused(rt: HostRuntime) {
     let lower = written(&rt, alloc, None, &commits(&rt, alloc, 0, LOWER));
     let graph = graph_of(&rt, alloc, opened(&rt, alloc, lower));
     let more = commits(&rt, alloc, LOWER - 1, HISTORY.len());
-    let top = more.last().expect(&rt, "a commit").id;
-    let pos = graph
-        .as_checked()
-        .find(top.as_oid())
-        .expect(&rt, "a position");
-    let last = more.len() - 1;
-    let below = graph.as_checked();
-    expect_refusal(
-        &rt,
-        alloc,
-        Some(&below),
-        &more,
-        WriteError::Below(last, pos),
-    );
-    expect_refusal(&rt, alloc, Some(&below), &[], WriteError::Nothing);
+    // Of the ids below, that of the last of these commits is the second.
+    let refusal = write_layer(alloc, Some(&graph.as_checked()), &more).err();
+    assert_eq!(rt; refusal, Some(WriteError::Below(5, Position(1))));
 }
