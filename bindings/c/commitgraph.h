@@ -5,9 +5,10 @@
  *
  * Rules for all calls
  * - A pointer is valid for the length beside it. Beside a length of 0 it may be NULL: that is tested, since the proofs speak of
- *   pointers that are not null; no other pointer is. What a call writes does not overlap what it reads, and what it reads does not change until it returns (a mapped file can change: see cg_open).
- * - A cg_graph is CG_CLOSED, or a copy of what cg_open, cg_open_known, cg_open_checked or cg_check wrote, and neither cg_close nor cg_check was
- *   yet given. All copies are one graph. Nobody looks into it or changes it.
+ *   pointers that are not null; no other pointer is. What a call writes does not overlap what it reads, and what it reads does
+ *   not change until it returns (a mapped file can change: see cg_open).
+ * - A cg_graph is CG_CLOSED, or a copy of what cg_open, cg_open_known, cg_open_checked or cg_check wrote, and neither cg_close
+ *   nor cg_check was yet given. All copies are one graph. Nobody looks into it or changes it.
  * - Threads: any number of calls may read one graph at a time. cg_close, or cg_check, is called once, when no call on the
  *   graph is running, and none follows.
  * - No call keeps a pointer that it was given. No call is made from a signal handler, or in the child of a process with
