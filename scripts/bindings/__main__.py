@@ -542,7 +542,7 @@ def installed(compilers, scratch, graphs):
         found.symlink_to(prefix)
         for_go = {"PKG_CONFIG_PATH": str(found / "lib/pkgconfig"), "GOCACHE": str(scratch / "go-built"), "GOFLAGS": "-mod=mod"}
         done = run("go", "test", "-count=1", cwd=package, env={**at, **for_go})
-        expect("Go: tests", done.returncode == 0 and done.stdout.startswith("ok"), done)
+        expect("Go: tests", done.returncode == 0 and done.stdout.startswith("PASS\nok"), done)
     if compilers and present("cmake", "the installed library by CMake"):
         by_cmake(compilers[0], prefix, scratch, graphs["sha1"][0], ids[-1])
 
