@@ -65,13 +65,14 @@ IN_PYTHON = re.compile(r"^    ([A-Z]\w+) = (\d+)$", re.MULTILINE)
 IN_PYTHON_SAID = re.compile(r'^    Code\.(\w+): "(.+)",$', re.MULTILINE)
 IN_SPECS = re.compile(
     r"^(?:\w+_code \S.* = |refusal_of \S.* = refusal_in_\w+ |told_\w+_fault \(.* = without_\w+ |told_mismatch .* = (?:matched_code |record \{ code = ))(\d+)\b"
-    r"|^(?:out_of_memory|closed_graph|not_checked|no_such_position|path_not_utf8|no_dates|more_parents) = (\d+)$",
+    r"|^(?:out_of_memory|closed_graph|not_checked|no_such_position|path_not_utf8|no_dates|more_parents|path_wanted) = (\d+)$",
     re.MULTILINE,
 )
 NEVER = 309
 """The number of an error of a processor, which no check of the library has."""
 
 GROUPS = {
+    20: re.compile(r"^\| `refused open ([1-4])\b", re.MULTILINE),
     100: ROWS["file"],
     150: ROWS["chunk"],
     200: ROWS["graph"],
@@ -107,5 +108,5 @@ def wrong_codes(texts):
     if defined_ != numbers - {0}:
         yield "%s and %s differ in %s" % (HEADER, LIBRARY, sorted(defined_ ^ (numbers - {0})))
     told = {base + int(row) for base, rows in GROUPS.items() for row in rows.findall(texts[REFUSALS])} - MEMORY
-    if told != {number for number in numbers if number > 100}:
-        yield "%s and %s differ in %s" % (HEADER, REFUSALS, sorted(told ^ {number for number in numbers if number > 100}))
+    if told != {number for number in numbers if number > 20}:
+        yield "%s and %s differ in %s" % (HEADER, REFUSALS, sorted(told ^ {number for number in numbers if number > 20}))

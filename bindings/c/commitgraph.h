@@ -4,10 +4,11 @@
  * return, for all bytes of files and all numbers, if the caller keeps the rules here. Nothing checks that a caller does.
  *
  * Rules for all calls
- * - A pointer is valid for the length beside it and is not null, also where the length is 0. What a call writes does not
- *   overlap what it reads, and what it reads does not change until it returns (a mapped file can change: see cg_open).
- * - A cg_graph is CG_CLOSED, or a copy of what cg_open, cg_open_checked or cg_check wrote, and neither cg_close nor cg_check was
- *   yet given. All copies are one graph. Nobody looks into it or changes it.
+ * - A pointer is valid for the length beside it. Beside a length of 0 it may be NULL: that is tested, since the proofs speak of
+ *   pointers that are not null; no other pointer is. What a call writes does not overlap what it reads, and what it reads does
+ *   not change until it returns (a mapped file can change: see cg_open).
+ * - A cg_graph is CG_CLOSED, or a copy of what cg_open, cg_open_known, cg_open_checked or cg_check wrote, and neither cg_close
+ *   nor cg_check was yet given. All copies are one graph. Nobody looks into it or changes it.
  * - Threads: any number of calls may read one graph at a time. cg_close, or cg_check, is called once, when no call on the
  *   graph is running, and none follows.
  * - No call keeps a pointer that it was given. No call is made from a signal handler, or in the child of a process with
@@ -49,6 +50,13 @@ enum cg_code {
     CG_PATH_NOT_UTF8 = 5,
     CG_NO_DATES = 6,
     CG_MORE_PARENTS = 7,
+    CG_PATH_WANTED = 8,
+
+    /* Nothing is opened at a path: "open N" in docs/REFUSALS.md. */
+    CG_OPEN_NOTHING_FOUND = 21,
+    CG_OPEN_NOT_OPENED = 22,
+    CG_OPEN_READ_FAILED = 23,
+    CG_OPEN_CHAIN_NOT_TEXT = 24,
 
     /* The bytes of a layer are refused: "file N" in docs/REFUSALS.md. */
     CG_FILE_TOO_SHORT = 101,
@@ -169,6 +177,50 @@ typedef struct cg_error { uint32_t code; uint64_t layer; } cg_error;
  * so. A mapped file that gets shorter meanwhile ends the program by SIGBUS, as any read of it does; who fears a change reads the
  * file instead. */
 cg_error cg_open(const cg_file *files, size_t count, cg_graph *out);
+
+/* What cg_open_known is to open. */
+enum cg_place { CG_ANYTHING = 0, CG_FILE = 1, CG_CHAIN_FOLDER = 2, CG_INFO_FOLDER = 3 };
+
+/* What stands at a path: nothing, a file that was read, a folder; or a file that could not be opened, of which a read failed, or
+ * for whose bytes there is no memory. */
+enum cg_standing { CG_NOTHING = 0, CG_READ = 1, CG_FOLDER = 2, CG_UNOPENED = 3, CG_UNREAD = 4, CG_NO_MEMORY = 5 };
+
+/* What a caller knows of a path: `kind` is one of cg_standing, and the bytes are those of a file that was read, else none. */
+typedef struct cg_known {
+    const char *path; size_t path_len; const uint8_t *bytes; size_t len; uint32_t kind;
+} cg_known;
+
+/* Why no graph was opened at a path. `code` is
+ *   CG_OK                     where one was opened;
+ *   CG_PATH_NOT_UTF8          where the path is not UTF-8;
+ *   CG_PATH_WANTED            where it has to be known what stands at one more path: the call is made again then;
+ *   CG_OPEN_NOTHING_FOUND     where neither a file nor a folder is at the path: from CG_ANYTHING alone;
+ *   CG_OPEN_NOT_OPENED        where a file that is to be read is not there, or CG_UNOPENED;
+ *   CG_OPEN_READ_FAILED       where it is CG_UNREAD;
+ *   CG_OPEN_CHAIN_NOT_TEXT    where line `layer` of the chain file, counted from 0, is not UTF-8;
+ *   101 to 199                where the file of `layer` is no layer;
+ *   201 to 299                where the layers make no graph, as in cg_error;
+ *   CG_OUT_OF_MEMORY          where memory ran out, or a file that is to be read is CG_NO_MEMORY: no other file is tried then.
+ * `layer` is 0 elsewhere. `length` is that of the path that is told: the one that is wanted, or that of the file that was to be
+ * read last; 0 where none was. */
+typedef struct cg_path_error { uint32_t code; uint64_t layer, length; } cg_path_error;
+
+/* Opens the graph at a path, as the programs do, of what the caller knows of paths: who has none of them learns by CG_PATH_WANTED
+ * which one comes next, looks what stands there, adds it and asks again. `what` is one of cg_place:
+ *   CG_FILE            the file at the path, as the only layer;
+ *   CG_CHAIN_FOLDER    the layers that the lines of its file commit-graph-chain name;
+ *   CG_INFO_FOLDER     in most repositories .git/objects/info: its file commit-graph, or where that is not opened the chain in its
+ *                      folder commit-graphs. Where neither is, the error is that of the chain;
+ *   CG_ANYTHING        and any other number: a file, a folder with a file commit-graph-chain, or an info folder.
+ * A path that is wanted begins with the path that is asked for, and follows it after a slash; of the empty path it stands alone. So
+ * who looks below a folder of their own may ask for the empty path, and the folder's need not be UTF-8. Of two that are known of
+ * one path the first counts. What is known of paths that nothing asks for is not looked at: since the layers before a wanted one
+ * are opened at each call, a caller does well to add all layers of a chain at once (cg_chain_line).
+ *
+ * On CG_OK *out is the graph, which is the caller's to close, and which no check has seen: see cg_check; the bytes are copied. Else
+ * *out is left as it was, and `file` gets the path that is told, as much of it as there is room for. */
+cg_path_error cg_open_known(const char *path, size_t path_len, uint32_t what, const cg_known *known, size_t count,
+                            char *file, size_t file_len, cg_graph *out);
 
 /* Opens the graph and checks it, as cg_verify does. *verdict is always written, and has the code of the error: on CG_OK the
  * statistics, and then `counts` is written as by cg_verify; on 301 to 399 the fault; elsewhere code and layer alone. Only such a
@@ -392,6 +444,11 @@ static inline const char *cg_strerror(uint32_t code) {
     case CG_PATH_NOT_UTF8: return "the path of a layer is not UTF-8";
     case CG_NO_DATES: return "a layer has no corrected dates";
     case CG_MORE_PARENTS: return "the commit has more parents than there is room for";
+    case CG_PATH_WANTED: return "it has to be known what stands at one more path";
+    case CG_OPEN_NOTHING_FOUND: return "no file or folder is at the path";
+    case CG_OPEN_NOT_OPENED: return "a file is not there or may not be read";
+    case CG_OPEN_READ_FAILED: return "reading a file failed";
+    case CG_OPEN_CHAIN_NOT_TEXT: return "a line of the chain file is not UTF-8";
     case CG_FILE_TOO_SHORT: return "the file has fewer than 1100 bytes: often it is truncated";
     case CG_FILE_SIGNATURE: return "the bytes do not begin with `CGPH`";
     case CG_FILE_VERSION: return "another version than 1";

@@ -31,6 +31,11 @@ class Code(enum.IntEnum):
     PATH_NOT_UTF8 = 5
     NO_DATES = 6
     MORE_PARENTS = 7
+    PATH_WANTED = 8
+    OPEN_NOTHING_FOUND = 21
+    OPEN_NOT_OPENED = 22
+    OPEN_READ_FAILED = 23
+    OPEN_CHAIN_NOT_TEXT = 24
     FILE_TOO_SHORT = 101
     FILE_SIGNATURE = 102
     FILE_VERSION = 103
@@ -105,6 +110,11 @@ SENTENCES = {
     Code.PATH_NOT_UTF8: "the path of a layer is not UTF-8",
     Code.NO_DATES: "a layer has no corrected dates",
     Code.MORE_PARENTS: "the commit has more parents than there is room for",
+    Code.PATH_WANTED: "it has to be known what stands at one more path",
+    Code.OPEN_NOTHING_FOUND: "no file or folder is at the path",
+    Code.OPEN_NOT_OPENED: "a file is not there or may not be read",
+    Code.OPEN_READ_FAILED: "reading a file failed",
+    Code.OPEN_CHAIN_NOT_TEXT: "a line of the chain file is not UTF-8",
     Code.FILE_TOO_SHORT: "the file has fewer than 1100 bytes: often it is truncated",
     Code.FILE_SIGNATURE: "the bytes do not begin with `CGPH`",
     Code.FILE_VERSION: "another version than 1",

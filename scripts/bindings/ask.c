@@ -6,6 +6,7 @@
 #include <stdio.h>
 #include <stdlib.h>
 #include <string.h>
+#include <sys/stat.h>
 
 static uint8_t *read_all(const char *path, size_t *len) {
     FILE *file = fopen(path, "rb");
@@ -414,6 +415,65 @@ static bool same_checked(const cg_file *files, size_t files_count, cg_graph grap
     return cg_close(checked) == !code && good && verdict.called == (code ? 0 : found.called);
 }
 
+/* What stands at a path. */
+static cg_known look(const char *path, size_t len) {
+    cg_known known = { path, len, NULL_BYTES, 0, CG_NOTHING };
+    struct stat status;
+    if (stat(path, &status)) return known;
+    uint8_t *bytes = S_ISDIR(status.st_mode) ? NULL : read_all(path, &known.len);
+    known.kind = bytes ? CG_READ : S_ISDIR(status.st_mode) ? CG_FOLDER : CG_UNOPENED;
+    if (bytes) known.bytes = bytes;
+    return known;
+}
+
+/* Opens the graph at a path, by as many calls as there are paths that are wanted. */
+static cg_path_error open_path(const char *path, size_t len, uint32_t what, char *file, cg_graph *out) {
+    static char names[2 * LAYERS][PATH + 1];
+    static cg_known known[2 * LAYERS];
+    size_t count = 0;
+    cg_path_error told = cg_open_known(path, len, what, known, count, file, PATH, out);
+    for (; told.code == CG_PATH_WANTED && count < 2 * LAYERS; told = cg_open_known(path, len, what, known, count, file, PATH, out)) {
+        if (told.layer || told.length > PATH) exit(9);
+        memcpy(names[count], file, told.length);
+        names[count][told.length] = 0;
+        known[count] = look(names[count], told.length);
+        count++;
+    }
+    for (size_t i = 0; i < count; i++)
+        if (known[i].kind == CG_READ) free((void *)known[i].bytes);
+    return told;
+}
+
+/* Whether the graph at a path is opened as the graph of its bytes was; or the same error is told. */
+static bool same_at(const char *path, size_t len, uint32_t what, cg_error error, cg_graph graph) {
+    static char file[PATH];
+    cg_graph opened = CG_CLOSED;
+    cg_path_error told = open_path(path, len, what, file, &opened);
+    if (told.code) return told.code == error.code && told.layer == error.layer && told.length >= len && !memcmp(file, path, len) && !opened.opened;
+    bool good = !error.code && !told.layer && !told.length && same_layers(opened, graph) && unchecked_answers(opened);
+    return cg_close(opened) && good;
+}
+
+/* What is told where nothing stands at a path, where a folder stands in the place of a file, and where a file was not read. */
+static bool nothing_at(const char *path, size_t len) {
+    static char file[PATH], none[PATH];
+    cg_graph opened = CG_CLOSED;
+    size_t longer = (size_t)snprintf(none, PATH, "%.*s/none", (int)len, path);
+    cg_known unread = { none, longer, NULL_BYTES, 0, CG_UNREAD }, lacking = { none, longer, NULL_BYTES, 0, CG_NO_MEMORY };
+    cg_path_error told = open_path(none, longer, CG_ANYTHING, file, &opened);
+    if (told.code != CG_OPEN_NOTHING_FOUND || told.layer) return false;
+    told = open_path(none, longer, CG_FILE, file, &opened);
+    if (told.code != CG_OPEN_NOT_OPENED || told.length != longer || memcmp(file, none, longer)) return false;
+    if (open_path("/", 1, CG_FILE, file, &opened).code != CG_OPEN_NOT_OPENED || file[0] != '/') return false;
+    file[3] = 'z';
+    told = cg_open_known(none, longer, CG_FILE, &unread, 1, file, 3, &opened);
+    if (told.code != CG_OPEN_READ_FAILED || told.length != longer || memcmp(file, none, 3) || file[3] != 'z') return false;
+    if (cg_open_known(none, longer, CG_ANYTHING, &lacking, 1, file, 3, &opened).code != CG_OUT_OF_MEMORY) return false;
+    told = cg_open_known(none, longer, CG_ANYTHING, NULL, 0, NULL, 0, &opened);
+    if (told.code != CG_PATH_WANTED || told.length != longer || told.layer) return false;
+    return cg_open_known("\xff", 1, CG_ANYTHING, NULL, 0, NULL, 0, &opened).code == CG_PATH_NOT_UTF8 && !opened.opened;
+}
+
 /* The lines of a file, each after its length. */
 static int lines(const char *path) {
     size_t len, start = 0;
@@ -461,6 +521,10 @@ int main(int argc, char **argv) {
     bool asks = strchr("ab", argv[2][0]) || !strcmp(argv[2], "parents");
     cg_error error = asks ? cg_open_checked(files, count, false, &verdict, counts, 1, &graph) : cg_open(files, count, &graph);
     if (!error.code && !same_checked(files, count, graph)) return 9;
+    size_t path = chain ? (size_t)(chain - argv[1]) : strlen(argv[1]);
+    for (uint32_t what = CG_ANYTHING, step = chain ? CG_CHAIN_FOLDER : CG_FILE; error.code < 300 && what <= step; what += step)
+        if (!same_at(argv[1], path, what, error, graph)) return 9;
+    if (!nothing_at(argv[1], path)) return 9;
     while (count) free((void *)files[--count].bytes);
     if (asks && verdict.code != error.code) return 9;
     if (error.code > 300 && error.code < 400) return not_right(verdict);

@@ -10,6 +10,9 @@
 SIZE(cg_graph, 16); AT(cg_graph, address, 0); AT(cg_graph, opened, 8);
 SIZE(cg_file, 32); AT(cg_file, bytes, 0); AT(cg_file, len, 8); AT(cg_file, path, 16); AT(cg_file, path_len, 24);
 SIZE(cg_error, 16); AT(cg_error, code, 0); AT(cg_error, layer, 8);
+SIZE(cg_known, 40); AT(cg_known, path, 0); AT(cg_known, path_len, 8); AT(cg_known, bytes, 16); AT(cg_known, len, 24);
+AT(cg_known, kind, 32);
+SIZE(cg_path_error, 24); AT(cg_path_error, code, 0); AT(cg_path_error, layer, 8); AT(cg_path_error, length, 16);
 SIZE(cg_layer_info, 16); AT(cg_layer_info, first, 0); AT(cg_layer_info, num_commits, 4); AT(cg_layer_info, bases, 8);
 AT(cg_layer_info, hash, 12);
 SIZE(cg_commit, 16); AT(cg_commit, time, 0); AT(cg_commit, generation, 8);
@@ -128,6 +131,10 @@ int main(int argc, char **argv) {
     uint32_t count = cg_num_commits(checked);
     for (uint32_t pos = 0; pos < count * count; pos++) print_queries(checked, pos / count, pos % count);
     if (!count) print_queries(graph, 0, 1);
+    char file[4] = { 'a', 'a', 'a', 'a' };
+    cg_known known = { "no", 2, (const uint8_t *)"", 0, CG_NOTHING };
+    cg_path_error missing = cg_open_known("no", 2, CG_FILE, &known, 1, file, 3, &graph);
+    PRINT("missing", missing.code, missing.layer, missing.length, N(file[1]), N(file[2]));
     cg_line line = cg_chain_line((const uint8_t *)"abc\r\nd", 6, 0);
     PRINT("line", N(line.found), line.end, line.next);
     cg_close(graph);

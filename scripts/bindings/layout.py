@@ -57,6 +57,7 @@ class History:
             for second, other in enumerate(self.ids):
                 yield ["asked", first, second]
                 yield from self.answers(one, self.reached(one), other, self.reached(other))
+        yield ["missing", 22, 0, 2, ord("o"), ord("a")]
         yield ["line", 1, 3, 5]
 
     def answers(self, first, one, other, two):

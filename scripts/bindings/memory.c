@@ -73,6 +73,15 @@ static outcome open_graph(void) {
     return opening(error, opened);
 }
 
+/* The lowest layer alone, by its path. */
+static outcome open_known(void) {
+    cg_graph opened = { files, false };
+    const char *path = (const char *)files[0].path;
+    cg_known known = { path, files[0].path_len, files[0].bytes, files[0].len, CG_READ };
+    cg_path_error told = cg_open_known(path, known.path_len, CG_FILE, &known, 1, (char *)out, sizeof out, &opened);
+    return opening((cg_error){ told.code, told.layer }, opened);
+}
+
 /* The check of a graph that is opened before, without refusals. */
 static outcome check_graph(void) {
     cg_graph opened = CG_CLOSED, checked = { files, false };
@@ -205,6 +214,7 @@ int main(int argc, char **argv) {
     to = position_of(argv[2]);
     printf("open %ld\n", refusals("open", open_graph));
     printf("open_checked %ld\n", refusals("open_checked", open_checked));
+    printf("open_known %ld\n", refusals("open_known", open_known));
     printf("check %ld\n", refusals("check", check_graph));
     printf("verify %ld\n", refusals("verify", verify));
     printf("walk %ld\n", refusals("walk", walk));

@@ -14,7 +14,11 @@ static uint32_t opened(void) {
     cg_graph own = CG_CLOSED, other = CG_CLOSED, checked = CG_CLOSED;
     cg_verdict verdict;
     cg_count counts[1];
-    cg_error error = cg_open(&file, 1, &own), told = cg_open(&file, 1, &other);
+    const char *path = (const char *)file.path;
+    cg_known known = { path, file.path_len, file.bytes, file.len, CG_READ };
+    cg_error error = cg_open(&file, 1, &own);
+    char room[1];
+    cg_path_error told = cg_open_known(path, file.path_len, CG_ANYTHING, &known, 1, room, 1, &other);
     uint32_t count = cg_num_commits(own) + cg_check(other, true, &verdict, counts, 1, &checked) + cg_num_commits(checked);
     cg_close(own);
     cg_close(checked);

@@ -1,7 +1,7 @@
 //! Graphs that a check has found right, and what they alone answer.
 
 use crate::error::fault_of;
-use crate::open::{open_at, open_chain, open_file, open_info};
+use crate::open::{open, Place};
 use crate::room::{collected, positions_of, room_for};
 use crate::verify::{outcome_of, ROOM};
 use crate::{codes, sys, Graph, OpenError, Outcome, PairError, Position, QueryError, VerifyOptions};
@@ -23,23 +23,23 @@ impl Checked {
 
     /// Opens the graph at a path, as [`Graph::at`] does, and checks it for what the options ask.
     pub fn at_with(path: impl AsRef<Path>, options: VerifyOptions) -> Result<Checked, OpenError> {
-        open_at(path.as_ref(), |layers| Checked::of_bytes_with(layers, options))
+        Checked::of_graph(open(path.as_ref(), Place::Anything)?, options)
     }
 
     /// Opens the graph of one file, and checks it for what the options ask.
     pub fn from_file(path: impl AsRef<Path>, options: VerifyOptions) -> Result<Checked, OpenError> {
-        open_file(path.as_ref(), |layers| Checked::of_bytes_with(layers, options))
+        Checked::of_graph(open(path.as_ref(), Place::File)?, options)
     }
 
     /// Opens the graph of an info folder, as [`Graph::from_info_dir`] does, and checks it for what the options ask. Where the
     /// file opens and the check refuses it, the chain is not tried.
     pub fn from_info_dir(path: impl AsRef<Path>, options: VerifyOptions) -> Result<Checked, OpenError> {
-        open_info(path.as_ref(), |layers| Checked::of_bytes_with(layers, options))
+        Checked::of_graph(open(path.as_ref(), Place::InfoFolder)?, options)
     }
 
     /// Opens the graph of a folder with a file `commit-graph-chain`, and checks it for what the options ask.
     pub fn from_commit_graphs_dir(path: impl AsRef<Path>, options: VerifyOptions) -> Result<Checked, OpenError> {
-        open_chain(path.as_ref(), |layers| Checked::of_bytes_with(layers, options))
+        Checked::of_graph(open(path.as_ref(), Place::ChainFolder)?, options)
     }
 
     /// The right graph of layers whose bytes are at hand, each with the path of its file, the lowest first. They are copied.

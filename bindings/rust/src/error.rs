@@ -5,6 +5,10 @@ use std::collections::TryReserveError;
 use std::fmt;
 use std::path::PathBuf;
 
+/// What the system says where a path names nothing, and where a part of it that should be a folder is none.
+const NO_SUCH_ENTRY: i32 = 2;
+const NO_FOLDER: i32 = 20;
+
 /// What is said where there is no memory.
 const OUT_OF_MEMORY: &str = "memory ran out";
 
@@ -56,17 +60,19 @@ impl OpenError {
         matches!(self, OpenError::Check(_) | OpenError::OutOfMemory)
     }
 
-    /// Whether a file is not there.
+    /// Whether a file is not there, or what should be its folder is none.
     fn is_missing(&self) -> bool {
-        matches!(self, OpenError::Io { error, .. } if error.kind() == std::io::ErrorKind::NotFound)
+        matches!(self, OpenError::Io { error, .. } if matches!(error.raw_os_error(), Some(NO_SUCH_ENTRY | NO_FOLDER)))
     }
 
     /// Why neither the file of an info folder nor its chain was opened, by why each was not.
     pub(crate) fn of_both(file: OpenError, chain: OpenError) -> OpenError {
-        match (file.is_missing(), chain.is_settled(), chain.is_missing()) {
-            (true, ..) | (_, true, _) => chain,
-            (.., true) => file,
-            _ => OpenError::Neither { file: Box::new(file), chain: Box::new(chain) },
+        if file.is_missing() || file.is_settled() || chain.is_settled() {
+            chain
+        } else if chain.is_missing() {
+            file
+        } else {
+            OpenError::Neither { file: Box::new(file), chain: Box::new(chain) }
         }
     }
 }

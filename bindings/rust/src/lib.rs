@@ -39,7 +39,8 @@ pub use error::{Mismatch, VerifyError};
 pub use file_error::{FileError, GraphError};
 pub use id::{IdError, ObjectId};
 pub use layer::{Kind, Layer};
-use open::{open_at, open_chain, open_file, open_info};
+pub use open::chain_lines;
+use open::{open, Place};
 use room::collected;
 use std::fmt;
 use std::iter::FusedIterator;
@@ -88,23 +89,23 @@ impl fmt::Debug for Graph {
 impl Graph {
     /// Opens the graph at a path: a file, a folder with a chain, or an info folder.
     pub fn at(path: impl AsRef<Path>) -> Result<Graph, OpenError> {
-        open_at(path.as_ref(), Graph::of_bytes)
+        open(path.as_ref(), Place::Anything)
     }
 
     /// Opens the graph of one file.
     pub fn from_file(path: impl AsRef<Path>) -> Result<Graph, OpenError> {
-        open_file(path.as_ref(), Graph::of_bytes)
+        open(path.as_ref(), Place::File)
     }
 
     /// Opens the graph of an info folder: its file `commit-graph`, or where that is not there or is refused, the chain in its
     /// folder `commit-graphs`.
     pub fn from_info_dir(path: impl AsRef<Path>) -> Result<Graph, OpenError> {
-        open_info(path.as_ref(), Graph::of_bytes)
+        open(path.as_ref(), Place::InfoFolder)
     }
 
     /// Opens the graph of a folder with a file `commit-graph-chain`.
     pub fn from_commit_graphs_dir(path: impl AsRef<Path>) -> Result<Graph, OpenError> {
-        open_chain(path.as_ref(), Graph::of_bytes)
+        open(path.as_ref(), Place::ChainFolder)
     }
 
     /// The graph of layers whose bytes are at hand, each with the path of its file, the lowest first. They are copied.

@@ -1,77 +1,179 @@
-//! What stands at a path: the bytes of its layers, and the paths of their files.
+//! What stands at a path: the library says what it has to know of paths, and opens the graph.
 
-use crate::{sys, OpenError};
-use std::io::ErrorKind;
-use std::path::Path;
+use crate::room::collected;
+use crate::{codes, sys, FileError, Graph, GraphError, OpenError};
+use std::collections::TryReserveError;
+use std::ffi::OsStr;
+use std::fs::File;
+use std::io::{self, ErrorKind, Read};
+use std::os::unix::ffi::OsStrExt;
+use std::path::{Path, PathBuf};
 
-/// The bytes of each layer, and the path of its file, the lowest first.
-type Layers = Vec<(Vec<u8>, String)>;
-
-/// Opens what stands at a path: a file, a folder with a chain, or an info folder.
-pub(crate) fn open_at<T>(
-    path: &Path,
-    open: impl Fn(&[(&[u8], &str)]) -> Result<T, OpenError>,
-) -> Result<T, OpenError> {
-    if path.is_file() {
-        open_file(path, open)
-    } else if path.join("commit-graph-chain").is_file() {
-        open_chain(path, open)
-    } else {
-        open_info(path, open)
-    }
+/// What is to be opened, by its number in `commitgraph.h`.
+#[derive(Clone, Copy, PartialEq, Eq)]
+pub(crate) enum Place {
+    /// What stands there: a file, a folder with a chain, or an info folder.
+    Anything = 0,
+    /// A file.
+    File = 1,
+    /// A folder with a chain.
+    ChainFolder = 2,
+    /// An info folder: its file, or where that is not there or is refused, the chain in it.
+    InfoFolder = 3,
 }
 
-/// Opens the file of an info folder, or where it is not there or is refused, the chain in it.
-pub(crate) fn open_info<T>(
-    path: &Path,
-    open: impl Fn(&[(&[u8], &str)]) -> Result<T, OpenError>,
-) -> Result<T, OpenError> {
-    match open_file(&path.join("commit-graph"), &open) {
-        Err(error) if !error.is_settled() => open_chain(&path.join("commit-graphs"), &open)
-            .map_err(|refusal| OpenError::of_both(error, refusal)),
-        answer => answer,
-    }
+/// What stands at a path, by its number in `commitgraph.h`; and why a file was not read.
+enum Standing {
+    Nothing(io::Error),
+    File(Vec<u8>),
+    Folder,
+    NotOpened(io::Error),
+    NotRead(io::Error),
+    NoMemory,
 }
 
-/// Opens a file, as the only layer.
-pub(crate) fn open_file<T>(
-    path: &Path,
-    open: impl Fn(&[(&[u8], &str)]) -> Result<T, OpenError>,
-) -> Result<T, OpenError> {
-    open(&[(&read(path)?, &path.to_string_lossy())])
+/// A path that the library has asked for, and what stands there.
+struct Known {
+    path: Vec<u8>,
+    standing: Standing,
 }
 
-/// Opens the layers that the chain file of a folder names.
-pub(crate) fn open_chain<T>(
-    path: &Path,
-    open: impl Fn(&[(&[u8], &str)]) -> Result<T, OpenError>,
-) -> Result<T, OpenError> {
-    let layers = layers_of(path)?;
-    let lent: Vec<_> = layers.iter().map(|(bytes, path)| (&bytes[..], &path[..])).collect();
-    open(&lent)
-}
-
-fn layers_of(path: &Path) -> Result<Layers, OpenError> {
-    let chain = path.join("commit-graph-chain");
-    let text = read(&chain)?;
-    let layer = |(line, name)| {
-        let name = std::str::from_utf8(name).map_err(|_| OpenError::ChainLine { path: chain.clone(), line })?;
-        let layer = path.join(format!("graph-{name}.graph"));
-        Ok((read(&layer)?, layer.to_string_lossy().into_owned()))
-    };
-    lines(&text).enumerate().map(layer).collect()
-}
-
-/// Reads a file. That there is no memory for it says nothing of the file.
-fn read(path: &Path) -> Result<Vec<u8>, OpenError> {
-    std::fs::read(path).map_err(|error| match error.kind() {
-        ErrorKind::OutOfMemory => OpenError::OutOfMemory,
-        _ => OpenError::Io { path: path.to_owned(), error },
+/// Opens what stands at a path. Where it is refused, the refusal of an info folder's file is not hidden by that of its chain.
+pub(crate) fn open(path: &Path, place: Place) -> Result<Graph, OpenError> {
+    open_alone(path, place).map_err(|error| {
+        let may_be_info = !error.is_settled() && matches!(place, Place::Anything | Place::InfoFolder);
+        match may_be_info.then(|| open_alone(&path.join("commit-graph"), Place::File)) {
+            Some(Err(file)) => OpenError::of_both(file, error),
+            _ => error,
+        }
     })
 }
 
-/// The lines of a chain file.
-fn lines(text: &[u8]) -> impl Iterator<Item = &[u8]> {
+/// Opens what stands at a path, by as many calls as there are paths that the library asks for. A path that is no text is the root
+/// of those.
+fn open_alone(path: &Path, place: Place) -> Result<Graph, OpenError> {
+    let (root, asked) = path.to_str().map_or((path, ""), |text| (Path::new(""), text));
+    let mut known: Vec<Known> = Vec::new();
+    loop {
+        let mut raw = sys::CLOSED;
+        let mut file = [0; ROOM];
+        let lent = collected(known.iter().map(Known::lent)).map_err(|_| OpenError::OutOfMemory)?;
+        // SAFETY: each pointer and length are those of a slice or an array, none is null, and `raw` is CG_CLOSED.
+        let told = unsafe {
+            let (count, out) = (lent.len(), &mut raw);
+            sys::cg_open_known(asked.as_ptr(), asked.len(), place as u32, lent.as_ptr(), count, file.as_mut_ptr(), ROOM, out)
+        };
+        let file = &file[..ROOM.min(told.length as usize)];
+        match told.code {
+            codes::OK => return Ok(Graph::of_raw(raw)),
+            codes::PATH_WANTED if told.length as usize <= ROOM => learn(&mut known, root, file).map_err(|_| OpenError::OutOfMemory)?,
+            _ => return Err(refusal(&told, path, root, file, known)),
+        }
+    }
+}
+
+/// For a path of so many bytes there is room. The system opens no longer ones.
+const ROOM: usize = 4096;
+
+/// Looks what stands at a path; and, so that no layer is opened once for each one above it, at those that a chain file names.
+fn learn(known: &mut Vec<Known>, root: &Path, path: &[u8]) -> Result<(), TryReserveError> {
+    let found = Known { path: path.to_vec(), standing: Standing::at(&whole(root, path)) };
+    let folder = path.strip_suffix(b"commit-graph-chain");
+    let mut layers = Vec::new();
+    if let (Some(folder), Standing::File(text)) = (folder, &found.standing) {
+        for line in chain_lines(text) {
+            let path = [folder, b"graph-", line, b".graph"].concat();
+            layers.try_reserve(1)?;
+            layers.push(Known { standing: Standing::at(&whole(root, &path)), path });
+        }
+    }
+    known.try_reserve(layers.len() + 1)?;
+    known.push(found);
+    known.extend(layers);
+    Ok(())
+}
+
+/// A path that the library names, from the root on.
+fn whole(root: &Path, path: &[u8]) -> PathBuf {
+    match (root.as_os_str().is_empty(), path) {
+        (false, []) => root.to_owned(),
+        _ => root.join(OsStr::from_bytes(path)),
+    }
+}
+
+impl Standing {
+    /// What stands at a path. A file is read whole.
+    fn at(path: &Path) -> Standing {
+        match std::fs::metadata(path) {
+            Ok(told) if told.is_dir() => Standing::Folder,
+            Ok(_) => File::open(path).map_or_else(Standing::NotOpened, Standing::of),
+            Err(error) if error.kind() == ErrorKind::OutOfMemory => Standing::NoMemory,
+            Err(error) => Standing::Nothing(error),
+        }
+    }
+
+    /// What an open file has. That there is no memory for it says nothing of the file.
+    fn of(mut file: File) -> Standing {
+        let mut bytes = Vec::new();
+        let expected = file.metadata().map_or(0, |told| told.len());
+        if bytes.try_reserve_exact(usize::try_from(expected).unwrap_or(usize::MAX)).is_err() {
+            return Standing::NoMemory;
+        }
+        match file.read_to_end(&mut bytes) {
+            Ok(_) => Standing::File(bytes),
+            Err(error) if error.kind() == ErrorKind::OutOfMemory => Standing::NoMemory,
+            Err(error) => Standing::NotRead(error),
+        }
+    }
+}
+
+impl Known {
+    /// What the library is told of it.
+    fn lent(&self) -> sys::Known {
+        let (bytes, kind) = match &self.standing {
+            Standing::Nothing(_) => (&[][..], 0),
+            Standing::File(bytes) => (&bytes[..], 1),
+            Standing::Folder => (&[][..], 2),
+            Standing::NotOpened(_) => (&[][..], 3),
+            Standing::NotRead(_) => (&[][..], 4),
+            Standing::NoMemory => (&[][..], 5),
+        };
+        sys::Known { path: self.path.as_ptr(), path_len: self.path.len(), bytes: bytes.as_ptr(), len: bytes.len(), kind }
+    }
+}
+
+/// Why no graph was opened at a path; the file was the last that was to be read.
+fn refusal(told: &sys::PathError, path: &Path, root: &Path, file: &[u8], known: Vec<Known>) -> OpenError {
+    let layer = told.layer as usize;
+    let whole = whole(root, file);
+    let nothing = || io::Error::from(ErrorKind::NotFound);
+    match told.code {
+        codes::OUT_OF_MEMORY => OpenError::OutOfMemory,
+        codes::OPEN_NOTHING_FOUND => OpenError::Io { path: path.to_owned(), error: nothing() },
+        codes::OPEN_CHAIN_NOT_TEXT => OpenError::ChainLine { path: whole.with_file_name("commit-graph-chain"), line: layer },
+        code => match (FileError::of(code), GraphError::of(code, layer)) {
+            (Some(error), _) => OpenError::Layer { layer, path: whole, error },
+            (_, Some(error)) => OpenError::Graph(error),
+            _ => OpenError::Io { error: said_of(known, file).unwrap_or_else(nothing), path: whole },
+        },
+    }
+}
+
+/// What the system said of a file that was not read.
+fn said_of(known: Vec<Known>, path: &[u8]) -> Option<io::Error> {
+    match known.into_iter().find(|it| it.path == path)?.standing {
+        Standing::Nothing(error) | Standing::NotOpened(error) | Standing::NotRead(error) => Some(error),
+        Standing::Folder => Some(io::Error::from_raw_os_error(IS_FOLDER)),
+        Standing::File(_) | Standing::NoMemory => None,
+    }
+}
+
+/// What the system says where a folder is read as a file.
+const IS_FOLDER: i32 = 21;
+
+/// The lines of a chain file, `commit-graph-chain`, each of which names a layer, from the lowest on: the line L is the layer of
+/// the file `graph-L.graph` in the same folder.
+pub fn chain_lines(text: &[u8]) -> impl Iterator<Item = &[u8]> {
     let mut start = 0;
     std::iter::from_fn(move || {
         // SAFETY: the pointer and the length are those of a slice.

@@ -27,6 +27,24 @@ pub struct Error {
 }
 
 #[repr(C)]
+#[derive(Clone, Copy)]
+pub struct Known {
+    pub path: *const u8,
+    pub path_len: usize,
+    pub bytes: *const u8,
+    pub len: usize,
+    pub kind: u32,
+}
+
+#[repr(C)]
+#[derive(Clone, Copy)]
+pub struct PathError {
+    pub code: u32,
+    pub layer: u64,
+    pub length: u64,
+}
+
+#[repr(C)]
 #[derive(Clone, Copy, Default)]
 pub struct Layer {
     pub first: u32,
@@ -164,6 +182,16 @@ extern "C" {
         counts_len: usize,
         out: *mut Graph,
     ) -> Error;
+    pub fn cg_open_known(
+        path: *const u8,
+        path_len: usize,
+        what: u32,
+        known: *const Known,
+        count: usize,
+        file: *mut u8,
+        file_len: usize,
+        out: *mut Graph,
+    ) -> PathError;
     pub fn cg_check(
         graph: Graph,
         distinct_ids: bool,
@@ -241,6 +269,8 @@ mod layout {
     laid_out!(Graph, 16, address 0, opened 8);
     laid_out!(File, 32, bytes 0, len 8, path 16, path_len 24);
     laid_out!(Error, 16, code 0, layer 8);
+    laid_out!(Known, 40, path 0, path_len 8, bytes 16, len 24, kind 32);
+    laid_out!(PathError, 24, code 0, layer 8, length 16);
     laid_out!(Layer, 16, first 0, num_commits 4, bases 8, hash 12);
     laid_out!(Commit, 16, time 0, generation 8);
     laid_out!(ParentCount, 16, code 0, count 8);

@@ -2,7 +2,7 @@
 
 mod made;
 
-use commitgraph::{Checked, Commit, Fault, FileError, Graph, GraphError, IdError, ObjectId, OpenError, PairError, Position, ProbeError};
+use commitgraph::{Checked, Commit, Fault, FileError, Graph, GraphError, IdError, Kind, ObjectId, OpenError, PairError, Position, ProbeError};
 use commitgraph::{DatesError, LayerFault, Mismatch, QueryError, VerifyError, VerifyOptions};
 use made::{git, long_lists, made};
 use std::error::Error;
@@ -147,6 +147,34 @@ fn what_is_refused_is_told() {
     let missing = Graph::from_file("no/such/file").unwrap_err();
     assert_eq!(missing.to_string(), "cannot read no/such/file");
     assert!(missing.source().is_some_and(|source| source.is::<std::io::Error>()) && refused(&[]).source().is_none());
+}
+
+#[test]
+fn an_open_graph_is_checked_as_at_its_path() {
+    let options = VerifyOptions { distinct_ids: true };
+    let wanted = Checked::at_with(&made().chain, options).unwrap();
+    let checked = Checked::of_graph(Graph::at(&made().chain).unwrap(), options).unwrap();
+    assert_eq!((checked.outcome(), checked.options()), (wanted.outcome(), options));
+    assert_eq!(Checked::try_from(Graph::at(&made().file).unwrap()).unwrap().options(), VerifyOptions::default());
+    let refused = Checked::try_from(Graph::at(&made().faulty).unwrap()).unwrap_err();
+    assert!(matches!(refused, OpenError::Check(Fault::Generation { .. })), "{refused}");
+}
+
+#[test]
+fn the_layers_are_the_files_of_the_chain() {
+    let folder = &made().chain;
+    let names = fs::read(folder.join("commit-graph-chain")).unwrap();
+    let names: Vec<_> = commitgraph::chain_lines(&names).map(|line| String::from_utf8(line.to_vec()).unwrap()).collect();
+    let graph = Graph::at(folder).unwrap();
+    let layers: Vec<_> = graph.layers().collect();
+    assert_eq!((layers.len(), graph.object_hash()), (names.len(), Kind::Sha1));
+    let mut first = 0;
+    for (number, layer) in layers.iter().enumerate() {
+        assert_eq!((layer.first(), layer.checksum().to_string()), (Position(first), names[number].clone()));
+        assert!(layer.base_ids().map(|id| id.to_string()).eq(names[..number].iter().cloned()));
+        first += layer.num_commits();
+    }
+    assert!(first == graph.num_commits() && graph.layer(layers.len()).is_none());
 }
 
 #[test]

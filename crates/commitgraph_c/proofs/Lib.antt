@@ -1,4 +1,5 @@
 mod AsBox
+mod AtPath
 mod BlockRoom
 mod Called
 mod DateRoom

@@ -138,3 +138,20 @@ pub no_place : (xs : List Position) (i : ℕ) (d : Position) (room : List ℕ) �
 no_place xs i d room lt past =
     sym (past_the_room (numbers_of (take i xs)) (get_or xs i d).0 room (subst (λ k. length room ≤ k) (sym (so_far xs i lt)) past))
     ∙ ap (λ ns. written ns room) (sym (more xs i d lt))
+
+-- a number at a place is written there
+pub next_number : (xs : List ℕ) (i d : ℕ) (room : List ℕ) → i < length xs → i < length room
+    → set (written (take i xs) room) i (get_or xs i d) ≡ written (take (i + 1) xs) room
+next_number xs i d room lt fits =
+    let so_far = first_places xs i (omega (arith, lt)) in
+    ap (λ k. set (written (take i xs) room) k (get_or xs i d)) (sym so_far)
+    ∙ one_more (take i xs) (get_or xs i d) room (subst (λ k. k < length room) (sym so_far) fits)
+    ∙ ap (λ ns. written ns room) (sym (take_more xs i d lt))
+
+-- or there is no place for it
+pub no_place_for : (xs : List ℕ) (i d : ℕ) (room : List ℕ) → i < length xs → length room ≤ i
+    → written (take i xs) room ≡ written (take (i + 1) xs) room
+no_place_for xs i d room lt past =
+    let so_far = first_places xs i (omega (arith, lt)) in
+    sym (past_the_room (take i xs) (get_or xs i d) room (subst (λ k. length room ≤ k) (sym so_far) past))
+    ∙ ap (λ ns. written ns room) (sym (take_more xs i d lt))

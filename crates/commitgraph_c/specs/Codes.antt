@@ -10,6 +10,8 @@ use Rattle.graph_format.specs.declared.fault.CommitFault.{CommitFault}
 use Rattle.graph_format.specs.declared.fault.CommitFault.TheVariants as commit
 use Rattle.graph_format.specs.declared.fault.LayerFault.{LayerFault}
 use Rattle.graph_format.specs.declared.fault.LayerFault.TheVariants as layer
+use Rattle.graph_layer.specs.declared.opening.error.OpenError.{OpenError}
+use Rattle.graph_layer.specs.declared.opening.error.OpenError.TheVariants as opening
 use Rattle.graph_format.specs.declared.parents.ParentError.{ParentError}
 use Rattle.graph_format.specs.declared.parents.ParentError.TheVariants as parent
 
@@ -33,6 +35,9 @@ no_dates = 6
 
 abbrev pub more_parents : ℕ
 more_parents = 7
+
+abbrev pub path_wanted : ℕ
+path_wanted = 8
 
 abbrev pub chunk_code : ChunkError → ℕ
 chunk_code chunk.NoChunks = 151
@@ -70,6 +75,15 @@ graph_code graph.NoFiles = 201
 graph_code (graph.TooManyCommits sum) = 202
 graph_code (graph.HashMismatch layer) = 203
 graph_code graph.OutOfMemory = out_of_memory
+
+abbrev pub open_code : OpenError → ℕ
+open_code opening.NothingFound = 21
+open_code opening.NotOpened = 22
+open_code opening.Device = 23
+open_code (opening.ChainNotText line) = 24
+open_code (opening.Layer layer error) = file_code error
+open_code (opening.Graph error) = graph_code error
+open_code opening.OutOfMemory = out_of_memory
 
 abbrev pub layer_code : LayerFault → ℕ
 layer_code layer.Checksum = 341

@@ -1,4 +1,5 @@
 pub mod Answers
+pub mod AtPath
 pub mod Blocks
 pub mod Codes
 pub mod Files

@@ -2,9 +2,10 @@
 
 ghost use Rattle.std.specs.Prelude.{◌≡◌};
 ghost use Rattle.commitgraph_c.specs.Codes.{chunk_code, commit_code, fan_byte, file_code};
-ghost use Rattle.commitgraph_c.specs.Codes.{graph_code, layer_code, parent_code};
+ghost use Rattle.commitgraph_c.specs.Codes.{graph_code, layer_code, open_code, parent_code};
 
 use gix_chunk_core::ChunkError;
+use gix_commitgraph::opening::OpenError;
 use gix_commitgraph::verify::{CommitFault, LayerFault};
 use gix_commitgraph::{FileError, GraphError};
 use graph_format::parents::ParentError;
@@ -22,6 +23,8 @@ pub const PATH_NOT_UTF8: u32 = 5;
 pub const NO_DATES: u32 = 6;
 
 pub const MORE_PARENTS: u32 = 7;
+
+pub const PATH_WANTED: u32 = 8;
 
 /// Why the table of chunks is refused.
 pub fn chunk_code(error: &ChunkError) -> u32
@@ -75,6 +78,21 @@ pub fn graph_code(error: &GraphError) -> u32
         GraphError::TooManyCommits(_) => 202,
         GraphError::HashMismatch { .. } => 203,
         GraphError::OutOfMemory => OUT_OF_MEMORY,
+    }
+}
+
+/// Why no graph was opened at a path.
+pub fn open_code(error: &OpenError) -> u32
+    ensures { result ≡ open_code error.now }
+{
+    match error {
+        OpenError::NothingFound => 21,
+        OpenError::NotOpened => 22,
+        OpenError::Device => 23,
+        OpenError::ChainNotText { .. } => 24,
+        OpenError::Layer { error, .. } => file_code(error),
+        OpenError::Graph(error) => graph_code(error),
+        OpenError::OutOfMemory => OUT_OF_MEMORY,
     }
 }
 

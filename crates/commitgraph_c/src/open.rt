@@ -195,7 +195,7 @@ fn write_stats(opened: &Opened, verdict: &mut CgVerdict, counts: &mut [CgCount])
 }
 
 /// A graph in a block of its own, if there is memory for one.
-fn boxed(alloc: Global, opened: Opened) -> Result<Box<Opened>, CgError>
+pub(crate) fn boxed(alloc: Global, opened: Opened) -> Result<Box<Opened>, CgError>
     ensures same { IfOk result (λ graph. graph.value ≡ opened) }
     ensures refused { IfErr result (λ error. error ≡ told_graph GraphError.OutOfMemory) }
 {
