@@ -53,6 +53,7 @@ sys.path.insert(0, os.path.dirname(os.path.dirname(os.path.abspath(__file__))))
 
 from checks import (
     ancestor_checks,
+    ask_checks,
     base_checks,
     case_checks,
     cgraph_checks,
@@ -122,6 +123,7 @@ def check_kind(paths, object_format):
         further_checks.check_all((histories, asker), results, new)
         object_checks.check_all(histories, results, new)
         show_checks.check_all(histories, results, new)
+        ask_checks.check_all((program, histories), results, new)
         damaged_checks.check_all((histories, asker), results, new)
     return results, differences, LINES
 

@@ -21,6 +21,7 @@ named_alone help version name (command.MergeBase path first others) is = let e =
 named_alone help version name (command.MergeBaseIds path first others) is = let e = is.0 in cc
 named_alone help version name (command.Check path) is = let e = is in cc
 named_alone help version name (command.Show path) is = let e = is in cc
+named_alone help version name (command.Ask path) is = let e = is in cc
 named_alone help version name (command.Ids path None) is = let e = is in cc
 named_alone help version name (command.Ids path (Some range)) is = let e = is.2 in cc
 named_alone help version name (command.Objects path None) is = let e = is in cc
@@ -28,7 +29,7 @@ named_alone help version name (command.Objects path (Some range)) is = let e = i
 
 -- a name that asks with a path
 pub named_with_path : (help version name path : List ℕ) (asked : Command) → AskAfterName help version (name ∷ path ∷ []) asked
-    → (name ≡ codes "check") ⊎ (name ≡ codes "show") ⊎ (name ≡ codes "ids") ⊎ (name ≡ codes "objects")
+    → (name ≡ codes "check") ⊎ (name ≡ codes "show") ⊎ (name ≡ codes "ask") ⊎ (name ≡ codes "ids") ⊎ (name ≡ codes "objects")
 named_with_path help version name path (command.Help text) is = elim is.0 [ inl e ↦ cc | inr e ↦ cc ]
 named_with_path help version name path (command.Version text) is = let e = is.0 in cc
 named_with_path help version name path (command.IsAncestor at first second) is = let e = is in cc
@@ -37,9 +38,10 @@ named_with_path help version name path (command.MergeBase at first others) is = 
 named_with_path help version name path (command.MergeBaseIds at first others) is = let e = is.0 in cc
 named_with_path help version name path (command.Check at) is = let e = is in inl cc
 named_with_path help version name path (command.Show at) is = let e = is in inr (inl cc)
-named_with_path help version name path (command.Ids at None) is = let e = is in inr (inr (inl cc))
+named_with_path help version name path (command.Ask at) is = let e = is in inr (inr (inl cc))
+named_with_path help version name path (command.Ids at None) is = let e = is in inr (inr (inr (inl cc)))
 named_with_path help version name path (command.Ids at (Some range)) is = let e = is.2 in cc
-named_with_path help version name path (command.Objects at None) is = let e = is in inr (inr (inr cc))
+named_with_path help version name path (command.Objects at None) is = let e = is in inr (inr (inr (inr cc)))
 named_with_path help version name path (command.Objects at (Some range)) is = let e = is.2 in cc
 
 some_of : {A : Type 0} (xs : List A) → (xs ≡ [] → ⊥) → 1 ≤ length xs
@@ -77,6 +79,7 @@ named_with_ids help version name path first others (command.MergeBaseIds at one 
     inr (inr (inr cc, as_many others more.now rest is.1))
 named_with_ids help version name path first others (command.Check at) is = let e = is in cc
 named_with_ids help version name path first others (command.Show at) is = let e = is in cc
+named_with_ids help version name path first others (command.Ask at) is = let e = is in cc
 named_with_ids help version name path first others (command.Ids at None) is = let e = is in cc
 named_with_ids help version name path first others (command.Ids at (Some range)) is =
     let e = is.2 in let rest : map string_bytes others ≡ is.1 ∷ [] = cc in
@@ -98,6 +101,7 @@ none_asked help version (command.MergeBase path first others) is = let e = is.0 
 none_asked help version (command.MergeBaseIds path first others) is = let e = is.0 in cc
 none_asked help version (command.Check path) is = let e = is in cc
 none_asked help version (command.Show path) is = let e = is in cc
+none_asked help version (command.Ask path) is = let e = is in cc
 none_asked help version (command.Ids path None) is = let e = is in cc
 none_asked help version (command.Ids path (Some range)) is = let e = is.2 in cc
 none_asked help version (command.Objects path None) is = let e = is in cc

@@ -11,6 +11,7 @@ use Rattle.graph_commands.specs.WrittenAnswer.{WritesAnswer}
 use Rattle.show_commands.specs.Show.{MayShow, show_text, show_status}
 use Rattle.object_commands.specs.CommitIds.{MayListIds, ids_text, ids_status}
 use Rattle.object_commands.specs.ComparedObjects.{MayCompareObjects, objects_text, objects_status}
+use Rattle.question_commands.specs.Asking.{MayAsk, ask_text, ask_status}
 use Rattle.history_commands.specs.Check.{MayFindInAll, check_text, check_status}
 use Rattle.history_commands.specs.IsAncestor.{IsTold, is_ancestor_text, is_ancestor_status}
 use Rattle.history_commands.specs.MergeBases.{MayCompare, merge_base_text, merge_base_ids_text, merge_base_status}
@@ -33,6 +34,7 @@ AskAfterName help version words (command.MergeBaseIds path first others) =
     (words ≡ codes "merge-base-ids" ∷ path.now ∷ first.now ∷ map string_bytes others.now) × (others.now ≢ [])
 AskAfterName help version words (command.Check path) = words ≡ codes "check" ∷ path.now ∷ []
 AskAfterName help version words (command.Show path) = words ≡ codes "show" ∷ path.now ∷ []
+AskAfterName help version words (command.Ask path) = words ≡ codes "ask" ∷ path.now ∷ []
 AskAfterName help version words (command.Ids path None) = words ≡ codes "ids" ∷ path.now ∷ []
 AskAfterName help version words (command.Ids path (Some range)) =
     (from to : List ℕ) × (words ≡ codes "ids" ∷ path.now ∷ from ∷ to ∷ []) × SpellsRange from to range
@@ -50,8 +52,9 @@ abbrev pub TellsOfItself : List ℕ → Option (List ℕ) → Option (List ℕ) 
 TellsOfItself text old new status = Appends old new (text ⧺ newline) × (status ≡ 0)
 
 -- an answer that the command may give is written, with its status: help and version leave the folder alone; each other command
--- answers of what the opener may answer at its path, while the count of failures goes from `before` to `after`. `objects`
--- answers of what the input has left before and after, where that is known; none of the others asks for it
+-- answers of what the opener may answer at its path, while the count of failures goes from `before` to `after`; `ask` of what it
+-- may answer in several calls, one after another. `objects` and `ask` answer of what the input has left before and after, where
+-- that is known; none of the others asks for it
 abbrev pub HistorytoolMayWrite : Command → Option (List ℕ) → Option (List ℕ) → Type 0
     → (List ℕ → ℕ → ℕ → Result (List Layer) OpenError → Type 0) → ℕ → ℕ → Option (List ℕ) → Option (List ℕ) → ℕ → Type 0
 HistorytoolMayWrite (command.Help text) input unread IsLeftAlone MayOpenAt before after old new status =
@@ -74,6 +77,8 @@ HistorytoolMayWrite (command.Check path) input unread IsLeftAlone MayOpenAt befo
     WritesAnswer check_text check_status (MayFindInAll (MayOpenAt path.now before after)) old new status
 HistorytoolMayWrite (command.Show path) input unread IsLeftAlone MayOpenAt before after old new status =
     WritesAnswer show_text show_status (MayShow (MayOpenAt path.now before after)) old new status
+HistorytoolMayWrite (command.Ask path) input unread IsLeftAlone MayOpenAt before after old new status =
+    WritesAnswer ask_text ask_status (MayAsk (MayOpenAt path.now) before after input unread) old new status
 HistorytoolMayWrite (command.Ids path range) input unread IsLeftAlone MayOpenAt before after old new status =
     WritesAnswer ids_text ids_status (MayListIds range (MayOpenAt path.now before after)) old new status
 HistorytoolMayWrite (command.Objects path range) input unread IsLeftAlone MayOpenAt before after old new status =

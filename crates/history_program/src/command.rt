@@ -16,6 +16,7 @@ use history_commands::run::{
     run_check, run_is_ancestor, run_merge_base, run_merge_base_ids, run_walk,
 };
 use object_commands::{PositionRange, run_ids, run_objects};
+use question_commands::asking::run_ask;
 use show_commands::run::run_show;
 use std::alloc::Global;
 use std::io::{Read, Write};
@@ -76,6 +77,11 @@ pub enum Command<'a> {
     },
     /// The layers of the graph are to be shown, and whether the whole is right.
     Show {
+        /// The path of the graph.
+        path: &'a str,
+    },
+    /// The questions that the input has are to be answered from the graph.
+    Ask {
         /// The path of the graph.
         path: &'a str,
     },
@@ -150,6 +156,7 @@ impl<'a> Command<'a> {
         match name {
             "check" => Some(Command::Check { path }),
             "show" => Some(Command::Show { path }),
+            "ask" => Some(Command::Ask { path }),
             "ids" => Some(Command::Ids { path, range: None }),
             "objects" => Some(Command::Objects { path, range: None }),
             _ => None,
@@ -306,6 +313,7 @@ impl Run for Command<'_> {
             } => run_merge_base_ids(alloc, folder, path, first, others, output),
             Command::Check { path } => run_check(alloc, folder, path, output),
             Command::Show { path } => run_show(alloc, folder, path, output),
+            Command::Ask { path } => run_ask(alloc, input, folder, path, output),
             Command::Ids { path, range } => run_ids(alloc, folder, path, range, output),
             Command::Objects { path, range } => {
                 run_objects(alloc, input, folder, path, range, output)

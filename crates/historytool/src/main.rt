@@ -17,11 +17,11 @@ use std::{env, io};
 
 const USAGE: &str = "usage: historytool is-ancestor PATH HEX HEX | walk PATH HEX HEX \
     | merge-base PATH HEX HEX.. | merge-base-ids PATH HEX HEX.. | check PATH \
-    | show PATH | ids PATH [FROM TO] | objects PATH [FROM TO] | --help | --version";
+    | show PATH | ask PATH | ids PATH [FROM TO] | objects PATH [FROM TO] | --help | --version";
 
 const HELP: &str = "usage: historytool is-ancestor PATH HEX HEX | walk PATH HEX HEX \
     | merge-base PATH HEX HEX.. | merge-base-ids PATH HEX HEX.. | check PATH \
-    | show PATH | ids PATH [FROM TO] | objects PATH [FROM TO] | --help | --version\n\
+    | show PATH | ask PATH | ids PATH [FROM TO] | objects PATH [FROM TO] | --help | --version\n\
     \n\
     PATH is a commit-graph file, a folder with a chain of them, or an info folder.\n\
     HEX is the id of a commit in hexadecimal.\n\
@@ -39,15 +39,20 @@ const HELP: &str = "usage: historytool is-ancestor PATH HEX HEX | walk PATH HEX 
     \x20               filter, once both were found right; or the first thing that is\n\
     \x20               wrong\n\
     show            what each layer says of itself, and whether the whole is right\n\
+    ask             ok commits and their number, once the graph was found right; then\n\
+    \x20               an answer for each line of standard input: find HEX,\n\
+    \x20               is-ancestor HEX HEX, walk HEX HEX, merge-base HEX HEX..,\n\
+    \x20               parents HEX, or reload, which opens PATH anew. An empty line\n\
+    \x20               ends each\n\
     ids             the ids of the commits, a line for each, or of those at the\n\
     \x20               positions from FROM up to and without TO, which count from 0\n\
     objects         how many of these commits are those on standard input, which\n\
     \x20               git cat-file --batch writes for their ids; or the first\n\
     \x20               thing that is wrong\n\
     \n\
-    The exit status is 0 for yes, a walk, merge bases, ids or a graph that is\n\
-    right, 1 for any other answer, and 2 for wrong words, a text that is no id or\n\
-    a failed write.";
+    The exit status is 0 for yes, a walk, merge bases, ids, a graph that is right\n\
+    or questions that were answered, 1 for any other answer, and 2 for wrong\n\
+    words, a text that is no id or a failed write.";
 
 const VERSION: &str = "historytool 0.1.0, proved with rattle-kit-13f logic dac8208d650f15bf";
 

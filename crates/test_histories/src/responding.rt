@@ -29,6 +29,8 @@ const ROWS: &[(&[&str], u8, &str, &str)] = &[
     (&["merge-base-ids", "file", CS, ONES], 0, ONES_LINE, ""),
     (&["check", "nowhere"], 1, "refused open 1\n", ""),
     (&["show", "nowhere"], 1, "refused open 1\n", ""),
+    (&["ask", "nowhere"], 1, "refused open 1\n", ""),
+    (&["ask", "file"], 0, "ok commits 5\n\n", ""),
     (&["ids", "nowhere"], 1, "refused open 1\n", ""),
     (&["ids", "file", "0", "1"], 0, ONES_LINE, ""),
     (
