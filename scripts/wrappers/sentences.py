@@ -26,6 +26,7 @@ def check_all(results):
         check_unknown(results, clone, rows)
         check_no_id(results, clone, rows)
         check_other_line(results, clone)
+        check_cut_short(results, clone)
         results.check("sentences, nothing is left over", clone.left_over())
 
 
@@ -78,3 +79,13 @@ def check_no_id(results, clone, rows):
 def check_other_line(results, clone):
     """A line that no row has is passed on with its status, and nothing is said of it."""
     results.check("a line of no row", right(ask(clone, "refused nothing 3", "verify"), "refused nothing 3", "verify", []))
+
+
+def check_cut_short(results, clone):
+    """Where the questions could not all be read, standard error says so, and passes on where they were."""
+    lines = "ok commits 4\n\nyes\n\n"
+    err = "historytool: the questions were not all answered: the last line says why\n"
+    for end, status, said in (("refused read 2\n", 1, err), ("", 0, "")):
+        clone.put_program("historytool", "printf '%s'\nexit %d\n" % ((lines + end).replace("\n", "\\n"), status))
+        answer = clone.run(["historytool", "ask", "."])
+        results.check("questions, status %d" % status, exactly(answer, status, lines + end, said))
