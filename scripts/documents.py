@@ -15,6 +15,9 @@ ANY_NAME = re.compile(r"\b[A-Z]+\b")
 """A name in capitals within a path, as in crates/NAME/src, stands for any name."""
 
 MODULES = (".py", ".rs")
+FOUND_BY_NAME = re.compile(r"scripts/real_data/checks/\w+_checks\.py")
+"""Modules that another one finds by what stands in their folder."""
+
 KNOWN_TO_GIT = (".gitignore",)
 CODE = re.compile(r"[A-Za-z_]\w*(::\w+)*")
 LINK = re.compile(r"\]\(([^)#:]+)\)")
@@ -34,7 +37,9 @@ DEFINED = re.compile(r"\bpub (?:record |data )?(\w+)")
 LAWS = re.compile(r"`(?:(\w+)::)?(law(?:::\w+)*)`" + LISTED)
 """A law or a module of laws, by its path, and others of the same module."""
 
-EDIT_FILE = re.compile(r"^crates/(\w+)/(?:edits|must-fail)/(?:\w+/)?([^/]*)\.edit$")
+EDIT_FILE = re.compile(r"^crates/(\w+)/(?:edits|must-fail)/(\w+/)?([^/]*)\.edit$")
+"""An edit: its crate, the folder within those of the edits, and its name. A name of the folder, `run/`, names all in it."""
+
 TEST = re.compile(r"#\[test\]\s+(?:#\[.*\]\s+)*fn (\w+)")
 CELL_END = re.compile(r" \|(?= |$)")
 EDITS, TESTS = "Edits", "Tests"
@@ -56,7 +61,7 @@ def missing_paths(texts):
 def unnamed_files(texts):
     """The files outside of the crates that no other of these names: a module by its name alone, and a command by its path."""
     ours = {path: text for path, text in texts.items() if not path.startswith("crates/")}
-    for path in ours:
+    for path in filter(lambda path: not FOUND_BY_NAME.fullmatch(path), ours):
         stem, ending = os.path.splitext(os.path.basename(path))
         name = path if not ending else stem if ending in MODULES else stem + ending
         word = re.compile(r"(?<![\w-])%s(?![\w-])" % re.escape(name))
@@ -81,7 +86,7 @@ def is_end(name, paths):
 
 def missing_edits(texts):
     """The places in the columns of edits that name none of their crate."""
-    edits = {found.groups() for found in map(EDIT_FILE.match, texts) if found}
+    edits = {(crate, name) for crate, *names in (found.groups() for found in map(EDIT_FILE.match, texts) if found) for name in names}
     for place, crate, column, name in quotations(texts, code_documents(texts)):
         if column == EDITS and (crate, name) not in edits:
             yield "%s names %s" % (place, name)
@@ -151,16 +156,25 @@ def unnamed_laws(texts):
 
 
 def unnamed_edits(texts):
-    """The edits that the README of their crate does not name."""
-    return unnamed_there(texts, {path: [found.group(2)] for path in texts for found in [EDIT_FILE.match(path)] if found})
+    """The edits that the README of their crate names neither by themselves nor by their folder."""
+    known = names_by_crate(texts)
+    for path, found in sorted((path, EDIT_FILE.match(path)) for path in texts if EDIT_FILE.match(path)):
+        crate, *names = found.groups()
+        if known.get(crate, set()).isdisjoint(names):
+            yield "%s has %s" % (path, names[-1])
 
 
 def unnamed_there(texts, names):
     """Those names, by their files, that the README of the file's crate does not have."""
-    known = {README.fullmatch(path).group(1): known_names(texts, [path]) for path in filter(README.fullmatch, texts)}
+    known = names_by_crate(texts)
     for path in sorted(filter(names.get, names)):
         there = known.get(path.split("/")[1], ())
         yield from ("%s has %s" % (path, name) for name in names[path] if name not in there)
+
+
+def names_by_crate(texts):
+    """The names that the README of each crate has."""
+    return {README.fullmatch(path).group(1): known_names(texts, [path]) for path in filter(README.fullmatch, texts)}
 
 
 def unnamed_tests(texts):

@@ -1,6 +1,8 @@
 """Checks `graphtool` and `historytool` on real data: commit-graphs that the installed Git writes, and damaged ones.
 
-usage: python3 scripts/real_data GRAPHTOOL HISTORYTOOL TEST_FILTERS [every-value]
+usage: python3 scripts/real_data GRAPHTOOL HISTORYTOOL TEST_FILTERS [every-value] [NAME..]
+
+NAME is a file of the folder `checks`, such as show_checks; without one, all are run that have checks:
 
 - `list`: the listing of each layer, and the refusal of damaged ones.
 - `verify`: what it counts in each file and chain, and what it finds wrong with damaged ones, beside
@@ -41,122 +43,84 @@ usage: python3 scripts/real_data GRAPHTOOL HISTORYTOOL TEST_FILTERS [every-value
 What an answer has to be is made from Git's own words, `git rev-list --parents` and `git cat-file`,
 with Git's use of commit-graphs off; the generations are counted up from the parents. Each comparison
 is a check and has a line; the last line is `N passed, M failed`.
+
+A file `checks/..._checks.py` is found by its name. Its function `check_kind` is called for each kind of hash, and
+`check_all` once, in a folder of their own, with what their parameters name: see `run_part`.
 """
 
+import glob
+import importlib
+import inspect
 import os
 import sys
 import tempfile
 from concurrent.futures import ProcessPoolExecutor
 from functools import partial
 
-sys.path.insert(0, os.path.dirname(os.path.dirname(os.path.abspath(__file__))))
+HERE = os.path.dirname(os.path.abspath(__file__))
+sys.path.insert(0, os.path.dirname(HERE))
 
-from checks import (
-    ancestor_checks,
-    ask_checks,
-    base_checks,
-    case_checks,
-    cgraph_checks,
-    cycle_checks,
-    damaged_checks,
-    date_checks,
-    disk_checks,
-    distinct_checks,
-    further_checks,
-    large_checks,
-    list_checks,
-    object_checks,
-    path_checks,
-    place_checks,
-    question_checks,
-    race_checks,
-    random_checks,
-    repeated_checks,
-    row_checks,
-    show_checks,
-    surroundings_checks,
-    sweep_checks,
-    verify_checks,
-    word_checks,
-)
+from checks import rows
 from checks.program import LINES, FilterProgram, HistoryProgram, Program
 from expected.differences import Differences
 from histories.repository import ID_LENGTH, Repository
 from results import Results
 
+PARTS = [*(("check_kind", kind) for kind in ID_LENGTH), ("check_all", None)]
+"""The functions that are called, each with the kind of hash for which it is called, if it is for one."""
 
-def main(path, history_path, filter_path, every_value=False):
-    """Runs all checks on the programs at these paths, and answers the exit status."""
-    paths = [os.path.abspath(it) for it in (path, history_path, filter_path)]
-    results, differences = Results(), Differences()
+
+def main(paths, every_value, names):
+    """Runs all checks, or those of some files, on the programs at these paths, and answers the exit status."""
+    given = [os.path.abspath(path) for path in paths], every_value
+    results, differences, chosen = Results(), Differences(), names or all_names()
+    parts = [(name, *part) for part in PARTS for name in chosen if has(name, part[0])]
     with ProcessPoolExecutor() as pool:
-        of_kinds = [pool.submit(check_kind, paths, object_format) for object_format in ID_LENGTH]
-        of_places = pool.submit(check_places, paths)
-        check_others(paths, results, every_value)
-        results.add(of_places.result())
-        for of_kind in of_kinds:
-            counted, seen, lines = of_kind.result()
+        for part in [pool.submit(run_part, *given, *part) for part in parts]:
+            counted, seen, lines = part.result()
             results.add(counted)
             differences.add(seen)
             LINES.update(lines)
-    differences.check(results)
-    row_checks.check_all(results)
+    idle = sorted(set(chosen).difference(part[0] for part in parts))
+    results.check("each file has checks", "none in %s" % ", ".join(idle) if idle else None)
+    if not names:
+        differences.check(results)
+        rows.check_rows(results)
     return results.finish()
 
 
-def check_kind(paths, object_format):
-    """The checks of graphs with one kind of hash, in a process of their own: their results, where Git's verdict differs,
-    and the first lines of all answers.
+def all_names():
+    """The names of the files with checks."""
+    return sorted(os.path.basename(path)[:-3] for path in glob.glob(os.path.join(HERE, "checks", "*_checks.py")))
+
+
+def has(name, function):
+    """Whether a file has a function of this name."""
+    return hasattr(importlib.import_module("checks." + name), function)
+
+
+def run_part(paths, every_value, name, function, kind):
+    """Calls a function of a file, in a process of its own: the results, where Git's verdict differs, and the first lines of all
+    answers. A new repository comes from a function `new` of its name, or of its kind of hash and its name.
     """
     program, histories, asker = Program(paths[0]), HistoryProgram(paths[1]), FilterProgram(paths[2])
     results, differences = Results(), Differences()
-    with tempfile.TemporaryDirectory() as folder:
-        new = partial(new_repository, folder, object_format)
-        list_checks.check_all(program, results, new)
-        verify_checks.check_all(program, results, new, differences)
-        path_checks.check_all(program, results, new, differences)
-        ancestor_checks.check_all((program, histories), results, new)
-        base_checks.check_long(histories, results, new)
-        repeated_checks.check_all((program, histories), results, new)
-        distinct_checks.check_all(program, results, new, differences)
-        disk_checks.check_all((program, histories), results, new, differences)
-        further_checks.check_all((histories, asker), results, new)
-        object_checks.check_all(histories, results, new)
-        show_checks.check_all(histories, results, new)
-        ask_checks.check_all((program, histories), results, new)
-        damaged_checks.check_all((histories, asker), results, new)
-    return results, differences, LINES
-
-
-def check_places(paths):
-    """The checks of `git cgraph` in repositories of many kinds, and of what happens to files, in a process of their own."""
-    results = Results()
+    check = getattr(importlib.import_module("checks." + name), function)
     with tempfile.TemporaryDirectory() as folder:
         os.chmod(folder, 0o755)
-        installed = cgraph_checks.Installed(os.path.join(folder, "installed"), (Program(paths[0]), HistoryProgram(paths[1])))
-        case_checks.check_all(installed, results, partial(new_repository, folder))
-        place_checks.check_all(installed, results, os.path.join(folder, "kinds"), partial(new_repository, folder))
-    return results
-
-
-def check_others(paths, results, every_value):
-    """The checks that are not of one kind of hash."""
-    program, histories = Program(paths[0]), HistoryProgram(paths[1])
-    word_checks.check_all(program, results)
-    question_checks.check_all(histories, results)
-    surroundings_checks.check_all(program, results)
-    sweep_checks.check_all(program, results, every_value)
-    with tempfile.TemporaryDirectory() as folder:
-        cgraph_checks.check_all((program, histories), results, folder, partial(new_repository, folder))
-        race_checks.check_all((program, histories), results, os.path.join(folder, "races"), partial(new_repository, folder))
-        object_checks.check_told((program, histories), results, os.path.join(folder, "commits"), partial(new_repository, folder))
-        repeated_checks.check_told((program, histories), results, folder, partial(new_repository, folder))
-        further_checks.check_shared_list(histories, results, folder)
-        date_checks.check_all(histories, results, folder)
-    with tempfile.TemporaryDirectory() as folder:
-        large_checks.check_all((program, histories), results, folder)
-    cycle_checks.check_all(histories, results)
-    random_checks.check_all(histories, results)
+        given = {
+            "program": program,
+            "histories": histories,
+            "programs": (program, histories),
+            "asker": asker,
+            "results": results,
+            "differences": differences,
+            "folder": folder,
+            "new": partial(new_repository, folder, *([kind] if kind else [])),
+            "every_value": every_value,
+        }
+        check(**{parameter: given[parameter] for parameter in inspect.signature(check).parameters if parameter in given})
+    return results, differences, LINES
 
 
 def new_repository(folder, object_format, name):
@@ -165,6 +129,7 @@ def new_repository(folder, object_format, name):
 
 
 if __name__ == "__main__":
-    if sys.argv[4:] not in ([], ["every-value"]) or len(sys.argv) < 4:
+    if len(sys.argv) < 4:
         sys.exit(__doc__)
-    sys.exit(main(*sys.argv[1:4], every_value=len(sys.argv) == 5))
+    EVERY_VALUE = sys.argv[4:5] == ["every-value"]
+    sys.exit(main(sys.argv[1:4], EVERY_VALUE, sys.argv[4 + EVERY_VALUE :]))

@@ -21,7 +21,7 @@ LINE = 12
 """So many commits has a line of which each pair is asked for."""
 
 
-def check_all(programs, results, new):
+def check_kind(programs, results, new):
     """The checks of walks to ancestors by both programs; a new repository comes from a function of its name."""
     check_line(programs, results, new("ancestors in a line"))
     check_file(programs, results, new("ancestors in a file"))
@@ -97,7 +97,7 @@ def check_pairs(programs, results, repository, name, walks):
     pairs = list(itertools.product(walks.words, repeat=2))
     runs = [(lambda pair=pair: answer(pair), lambda answers, pair=pair: complaint(pair, answers)) for pair in pairs]
     check_runs(results, "%s, ancestor, is-ancestor and walk, each pair of %s" % (repository.object_format, name), runs)
-    base_checks.check_all(histories, results, repository, name, walks)
+    base_checks.check_bases(histories, results, repository, name, walks)
 
 
 def check_id_in_two_layers(programs, results, repository):

@@ -13,7 +13,7 @@ NO_QUESTIONS = ["", "nonsense", "is-ancestor", "find 00", "parents x", "walk  a"
 """Lines that ask nothing: the last has more than a megabyte."""
 
 
-def check_all(programs, results, new):
+def check_kind(programs, results, new):
     """The checks of the program; a new repository comes from a function of its name."""
     histories = programs[1]
     repository = new("questions")

@@ -28,7 +28,7 @@ SIZES = ((2, 300), (3, 20), (4, 20), (5, 20))
 """How many commits of a long history are asked for at once, and how often. There are four such histories."""
 
 
-def check_all(histories, results, repository, name, walks):
+def check_bases(histories, results, repository, name, walks):
     """What is said of some commits of a graph; and of ids that are not in it."""
     path, place, choice = repository.info_path(), walks.place, random.Random(25)
     commits = sorted(place)
@@ -41,7 +41,7 @@ def check_all(histories, results, repository, name, walks):
             results.check("%s, %s, id %d of %s is not there" % (repository.object_format, word, number, name), unknown)
 
 
-def check_long(histories, results, new):
+def check_kind(histories, results, new):
     """What is said of long histories, each in a single file and in a chain; where times are in disorder, in the second."""
     for name, disorder in (("topics", 0), ("topics in disorder", 0.02)):
         repository, ids, layers = new(name), [], []

@@ -10,6 +10,7 @@ import tempfile
 from functools import partial
 from typing import Callable, NamedTuple
 
+from checks.cgraph_checks import Installed
 from histories import shapes
 from histories.repository import read_bytes, write_bytes
 from wrappers.clone import run
@@ -197,8 +198,9 @@ class Place:
         return run(command, self.variables, cwd=self.repository.folder)
 
 
-def check_all(installed, results, new):
+def check_all(programs, results, folder, new):
     """Each case in repositories of both kinds of hash. All may write where files of a moment are made."""
+    installed = Installed(os.path.join(folder, "installed"), programs)
     os.chmod(installed.clone.temporary, 0o777)
     for kind in ("sha1", "sha256"):
         for cases, is_chain in ((ON_FILE, False), (ON_CHAIN, True)):

@@ -7,7 +7,7 @@ what they answer without.
 import itertools
 import os
 
-from checks import filter_checks
+from checks import filter_runs
 from checks.further_checks import Change, add_changes, complaint_of
 from damage import trees
 from damage.layer import big_endian, contents, with_chunks
@@ -32,9 +32,8 @@ BOTH = "dates commits 5\nfilters commits 5\n"
 """What is told of dates and filters that are right."""
 
 
-def check_all(programs, results, new):
+def check_kind(histories, asker, results, new):
     """The checks of damaged graphs; a new repository comes from a function of its name."""
-    histories, asker = programs
     check_one_layer(histories, asker, results, new("further, damaged"))
     check_two_layers(histories, results, new("further, damaged layers"))
 
@@ -43,7 +42,7 @@ def check_one_layer(histories, asker, results, repository):
     """A file of five commits with something else in its further chunks."""
     add_changes(repository, FIVE)
     layer = repository.new_graph("--changed-paths")
-    filter_checks.check_all(asker, results, repository, "five commits", [layer])
+    filter_runs.check_filters(asker, results, repository, "five commits", [layer])
     rows = [(name, said, [edits]) for name, said, edits in damages(layer, repository.object_format)]
     check_rows(histories, results, repository, [layer], rows)
 

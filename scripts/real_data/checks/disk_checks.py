@@ -16,7 +16,7 @@ LAYER_SIZE = 5
 """The number of commits in each layer of the chain that is damaged."""
 
 
-def check_all(programs, results, new, differences):
+def check_kind(programs, results, new, differences):
     """The checks of damaged folders; a new repository comes from a function of its name."""
     program = programs[0]
     repository = new("wrong folders")

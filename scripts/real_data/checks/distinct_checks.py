@@ -15,7 +15,7 @@ LAYER_SIZE = 5
 LAYERS = 4
 
 
-def check_all(program, results, new, differences):
+def check_kind(program, results, new, differences):
     """The checks of chains of layers; a new repository comes from a function of its name."""
     repository = new("distinct ids")
     chain, text = right_chain(repository)

@@ -5,7 +5,7 @@ import itertools
 import os
 from collections import Counter
 
-from checks import filter_checks
+from checks import filter_runs
 from checks.program import processor_seconds
 from damage.built import NO_PARENT, TOP_BIT
 from damage.layer import big_endian, with_chunks
@@ -23,9 +23,9 @@ SHORT = 4
 """A check of that file takes no longer than so many seconds of processor."""
 
 
-def check_all(programs, results, new):
+def check_kind(histories, asker, results, new):
     """The checks of further chunks; a new repository comes from a function of its name."""
-    histories, _ = programs
+    programs = histories, asker
     check_times(histories, results, new("further, times"))
     check_chain(programs, results, new("further, a chain"))
     check_filters(programs, results, new("further, filters"))
@@ -64,12 +64,12 @@ def check_chain(programs, results, repository):
         filters = size * ((number + 1) // 2) or None
         check_right(histories, results, repository, "%d layers" % (number + 1), not last, filters)
         layers = [layer for _, layer in repository.chain()]
-        filter_checks.check_all(asker, results, repository, "%d layers" % len(layers), layers)
+        filter_runs.check_filters(asker, results, repository, "%d layers" % len(layers), layers)
     for more, filters in ((["--max-new-filters=2"], size * 2 + 2), ([], len(history))):
         name = "layers merged, with filters of %d" % filters
         repository.write_graph("--split=replace", "--changed-paths", *more)
         check_right(histories, results, repository, name, True, filters)
-        filter_checks.check_all(asker, results, repository, name, [layer for _, layer in repository.chain()])
+        filter_runs.check_filters(asker, results, repository, name, [layer for _, layer in repository.chain()])
 
 
 class Change:
@@ -122,12 +122,12 @@ def check_filters(programs, results, repository):
         repository.write_graph("--changed-paths", "--max-new-filters=%d" % most)
         name = "filters, at most %d new ones" % most
         check_right(histories, results, repository, name, True, computed)
-        filter_checks.check_all(asker, results, repository, name, [read_bytes(repository.graph_path())])
+        filter_runs.check_filters(asker, results, repository, name, [read_bytes(repository.graph_path())])
     for version in (1, 2):
         name = "filters of version %d, where Git writes them" % version
         layer = repository.new_graph("--changed-paths", filter_version=version)
         check_right(histories, results, repository, name, True, count)
-        filter_checks.check_all(asker, results, repository, name, [layer])
+        filter_runs.check_filters(asker, results, repository, name, [layer])
 
 
 def check_long_time(histories, results, repository):
@@ -142,7 +142,7 @@ def check_long_time(histories, results, repository):
     results.check(title + ", what Git says without the graph and with it", complaint_of((True, False), seen))
 
 
-def check_shared_list(histories, results, folder):
+def check_all(histories, results, folder):
     """A file of many commits that all have one long list of parents: to go over it for each would take very long."""
     path = os.path.join(folder, "shared")
     write_bytes(path, shared_list(SHARED))

@@ -12,7 +12,7 @@ from expected.listing import listing
 from histories import shapes
 
 
-def check_all(program, results, new):
+def check_kind(program, results, new):
     """The checks of all that `list` reads; a new repository comes from a function of its name."""
     check_empty(new("empty"), results)
     for name, history in shapes.ALL.items():

@@ -41,7 +41,7 @@ def knows_objects(histories):
     return b"objects PATH" in histories.run(stdin=subprocess.DEVNULL).err
 
 
-def check_all(histories, results, new):
+def check_kind(histories, results, new):
     """The checks of one kind of hash; a new repository comes from a function of its name."""
     if not knows_objects(histories):
         print("left out, since the program has no such command: objects")
@@ -348,11 +348,10 @@ def git_there(folder, *words, stdin=b""):
     return subprocess.run(["git", *words], env=surroundings, input=stdin, capture_output=True, check=False)
 
 
-def check_told(programs, results, folder, new):
+def check_all(programs, results, folder, new):
     """What `git cgraph verify --objects` says of right repositories, and of those with something wrong."""
     if not knows_objects(programs[1]):
         return
-    os.mkdir(folder)
     check_fixtures(programs[1], results, os.path.join(folder, "fixtures"))
     installed = Installed(os.path.join(folder, "installed"), programs)
     for kind in DIGITS:

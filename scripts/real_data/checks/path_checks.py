@@ -21,7 +21,7 @@ NO_IDS = {
 """Words that are no ids, and the number of the refusal: of their length, or of a digit."""
 
 
-def check_all(program, results, new, differences):
+def check_kind(program, results, new, differences):
     """The checks of names of graphs; a new repository comes from a function of its name."""
     check_file(program, results, new(NAME))
     for name, history, size in (

@@ -8,6 +8,7 @@ import shutil
 from functools import partial
 
 from checks.case_checks import DENIED, NOBODY
+from checks.cgraph_checks import Installed
 from histories import shapes
 from histories.repository import read_bytes, write_bytes
 from wrappers.clone import run
@@ -48,8 +49,9 @@ class Place:
         return self.run("git", "cgraph", *words, **streams)
 
 
-def check_all(installed, results, folder, new):
+def check_all(programs, results, folder, new):
     """The checks for both kinds of hash. All may write where files of a moment are made."""
+    installed = Installed(os.path.join(folder, "installed"), programs)
     os.chmod(installed.clone.temporary, 0o777)
     for kind in ("sha1", "sha256"):
         origin = new(kind, "kinds, the origin.git")

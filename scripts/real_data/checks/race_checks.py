@@ -30,7 +30,6 @@ class Writer(threading.Thread):
 
 def check_all(programs, results, folder, new, runs=100):
     """So many runs of `verify`, and a part of that of each other command."""
-    os.mkdir(folder)
     installed = Installed(os.path.join(folder, "installed"), programs)
     repository = new("sha1", "written anew")
     ids = repository.add(shapes.diamonds(30))

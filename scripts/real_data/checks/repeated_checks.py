@@ -95,7 +95,7 @@ class Repeated:
         return is_walk and len(ids) == self.steps[first][second] + 1
 
 
-def check_all(programs, results, new):
+def check_kind(programs, results, new):
     """The checks of a chain, which are the same for each kind of hash."""
     repository = new("commits in several layers")
     graph, ids = laid_out(repository)
@@ -165,7 +165,7 @@ def kind_of_bases(found, bases):
     return NO_BASE if not found else MORE if found > bases else OTHER
 
 
-def check_told(programs, results, folder, new):
+def check_all(programs, results, folder, new):
     """What `git cgraph` says beside its answers of such a chain, and of Git's own chain of the same commits."""
     os.mkdir(os.path.join(folder, "told"))
     installed = Installed(os.path.join(folder, "told", "installed"), programs)

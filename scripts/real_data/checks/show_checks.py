@@ -15,7 +15,7 @@ from wrappers.json_answers import difference
 PERSON = ("-c", "user.name=A", "-c", "user.email=a@example.com")
 
 
-def check_all(histories, results, new):
+def check_kind(histories, results, new):
     """The checks of the program; a new repository comes from a function of its name."""
     check_files(histories, results, new("shown"))
     check_chain(histories, results, new("shown, a chain"))

@@ -21,7 +21,7 @@ MOST_FINDS = 60
 """Of a file with more commits, some alone are looked up."""
 
 
-def check_all(program, results, new, differences):
+def check_kind(program, results, new, differences):
     """The checks of single files; a new repository comes from a function of its name."""
     for name, history in shapes.ALL.items():
         check_history(program, results, new("verified " + name), name, history, differences)

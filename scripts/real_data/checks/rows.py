@@ -14,7 +14,7 @@ ELSEWHERE = {None, "When there is no answer", "What Git refuses besides"}
 """Sections with rows of no line, of lines on standard error and of lines of `git cgraph`, which scripts/wrappers has."""
 
 
-def check_all(results):
+def check_rows(results):
     """The checks of all rows, once all else was run."""
     rows = refusals.read_rows()
     without = [line for command, line in LINES if refusals.row_of(rows, line, command) is None]

@@ -16,7 +16,7 @@ FORMS = (("version 1 of a machine whose bytes are unsigned", 1), ("version 2", 2
 """What Git of another machine, or a later one, writes in place of the filters: its name, and the version of the hash."""
 
 
-def check_all(asker, results, repository, name, layers):
+def check_filters(asker, results, repository, name, layers):
     """The checks of the filters of a graph that Git wrote, of which these are the layers, the lowest first."""
     kind, words = repository.object_format, repository.words()
     changes = {commit: repository.changed_paths(commit, said.parents) for commit, said in words.items()}
