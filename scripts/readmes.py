@@ -1,5 +1,6 @@
 """The README of each crate, which has its promises, and docs/DEFINITIONS.md, which leads to them."""
 
+import fnmatch
 import re
 
 from documents import LINK, QUOTED, README, used_crates
@@ -44,8 +45,12 @@ def too_long_guides(texts):
 
 
 def wrong_grounds(texts):
-    """The crates whose README does not name exactly the crates that they stand on, as crates.txt has them."""
+    """The crates whose README does not name exactly the crates that they stand on, as crates.txt has them: each by its name, or
+    by a form, such as `*_commands`.
+    """
     for crate, uses in used_crates(texts["crates.txt"]).items():
         said = STANDS_ON.search(texts.get("crates/%s/README.md" % crate, ""))
-        if not said or sorted(QUOTED.findall(said.group(1))) != sorted(uses):
+        names = QUOTED.findall(said.group(1)) if said else []
+        named = {use for name in names for use in fnmatch.filter(uses, name) or [name]}
+        if not said or named != set(uses):
             yield crate
