@@ -1,36 +1,20 @@
 # Makes the fields of a JSON object of the lines by which a command answers, for `git cgraph --json`:
 #
-#     awk -v of=verify -f scripts/json.awk -f scripts/fields.awk
+#     FIELDS=scripts/fields awk -v of=verify -f scripts/json.awk -f scripts/fields.awk
 #
-# `of` is the command, and the lines are those of docs/PROGRAMS.md; those of `show` are the ones that scripts/show.sh makes of
-# them, with paths that are texts of JSON already. For `list` they become whole objects: `before` is how many commits the
-# layers below have, and `layer` is the number of this one. `-v of=text` makes a text of JSON of the variable TEXT of the
-# surroundings. Every number and every id is one that stands in a line, but the position of a commit in a listing, which
-# counts over all layers here.
+# `of` is the command, and the lines are those of docs/PROGRAMS.md. The table scripts/fields, whose path the surroundings have
+# as FIELDS, says what they become. The lines of `show` are the ones that scripts/show.sh makes of them, with paths that are
+# texts of JSON already. Those of `list` become whole objects: `before` is how many commits the layers below have, and
+# `layer` is the number of this one. `-v of=text` makes a text of JSON of the variable TEXT of the surroundings. Every number
+# and every id is one that stands in a line, but the position of a commit in a listing, which counts over all layers here.
 
 BEGIN {
     if (of == "text") {
         printf "%s", text_of(ENVIRON["TEXT"])
         exit
     }
-    is_check = of == "verify" || of == "check" || of == "distinct"
+    read_rows(ENVIRON["FIELDS"])
 }
-
-is_check && $1 == "ok" { printf ",\"commits\":%s,\"longest\":%s", $3, number_or_null($5); next }
-is_check && $1 == "parents" { printf "%s\"%s\":%s", (parents++ ? "," : ",\"parents\":{"), $2, $4; next }
-is_check { end_parents(); printf ",\"%s\":%s", $1, number_or_null($NF); next }
-
-of == "find" && $1 == "position" { printf ",\"position\":%s,\"generation\":%s,\"time\":%s", $2, $4, $6; next }
-of == "find" { printf ",\"position\":null"; next }
-
-of == "is-ancestor" { printf ",\"is_ancestor\":%s", truth($1); next }
-
-of == "walk" && $1 == "none" { printf ",\"walk\":null"; next }
-of == "walk" { printf "%s\"%s\"", (ids++ ? "," : ",\"walk\":["), $1; next }
-
-of == "merge-base" && $1 == "none" { next }
-of == "merge-base" && $1 == "base" { printf "%s{\"id\":\"%s\",\"position\":%s}", (bases++ ? "," : ",\"merge_bases\":["), $3, $2; next }
-of == "merge-base" { end_bases(); for (at = 1; at < NF; at += 2) printf ",\"%s\":%s", $at, $(at + 1); next }
 
 of == "show" && $1 == "layer" { printf "%s", (layers++ ? "},{" : ",\"layers\":[{"); show_layer(); next }
 of == "show" && $1 == "checksum" { printf ",\"checksum\":\"%s\"", $2; next }
@@ -43,10 +27,62 @@ of == "list" && $1 == "layer" { begin_layer(); next }
 of == "list" && $1 == "base" { bases = bases (bases == "" ? "" : ",") "\"" $2 "\""; if (--awaited == 0) end_layer(); next }
 of == "list" { list_commit(); next }
 
-END {
-    if (is_check) end_parents()
-    if (of == "walk" && ids) printf "]"
-    if (of == "merge-base") end_bases()
+{ for (row = 1; row <= rows; row++) if (fits(row)) { make_fields(row); next } }
+
+END { end_open() }
+
+# Reads the rows of the command: `lines` and `made` have the words of each, and how many there are.
+function read_rows(table,    row, halves, words, count, at) {
+    while ((getline row < table) > 0) {
+        if (row ~ /^#/ || split(row, halves, " : ") != 2) continue
+        count = split(halves[1], words, " ")
+        if (!index("," words[1] ",", "," of ",")) continue
+        lines[++rows, 0] = count - 1
+        for (at = 2; at <= count; at++) lines[rows, at - 1] = words[at]
+        made[rows, 0] = split(halves[2], words, " ")
+        for (at = 1; at <= made[rows, 0]; at++) made[rows, at] = words[at]
+    }
+    close(table)
+}
+
+# Whether a row is that of the line.
+function fits(row,    at) {
+    if (NF != lines[row, 0]) return 0
+    for (at = 1; at <= NF; at++) if (lines[row, at] != "*" && lines[row, at] != $at) return 0
+    return 1
+}
+
+# Writes what a row makes of the line. A list or an object stays open for further values until another field comes.
+function make_fields(row,    at, text, name, rest) {
+    for (at = 1; at <= made[row, 0]; at++) {
+        text = filled(made[row, at])
+        match(text, /[={[]/)
+        name = substr(text, 1, RSTART - 1)
+        rest = substr(text, RSTART)
+        if (rest ~ /^=/ || name != opened) {
+            end_open()
+            printf ",\"%s\":%s", name, rest ~ /^=/ ? substr(rest, 2) : substr(rest, 1, 1)
+        }
+        if (rest ~ /^=/) continue
+        opened = name
+        closing = substr(rest, 2, 1)
+        if (length(rest) > 3) printf "%s%s", (values++ ? "," : ""), substr(rest, 4)
+    }
+}
+
+function end_open() {
+    if (opened != "") printf "%s", closing
+    opened = ""
+    values = 0
+}
+
+# A text with the words of the line in the place of $1 to $9.
+function filled(text,    out) {
+    while (match(text, /\$[1-9]/)) {
+        out = out substr(text, 1, RSTART - 1) number_or_null($(substr(text, RSTART + 1, 1)))
+        text = substr(text, RSTART + 2)
+    }
+    return out text
 }
 
 function number_or_null(word) {
@@ -55,16 +91,6 @@ function number_or_null(word) {
 
 function truth(word) {
     return word == "yes" ? "true" : "false"
-}
-
-# Ends the object with how many commits have so many parents. Without commits it is empty.
-function end_parents() {
-    if (!ended++) printf "%s}", (parents ? "" : ",\"parents\":{")
-}
-
-# Ends the list of the merge bases, which is empty where there are none.
-function end_bases() {
-    if (!ended++) printf "%s]", (bases ? "" : ",\"merge_bases\":[")
 }
 
 function show_layer() {

@@ -8,7 +8,7 @@
 
 # Fields of an object, or objects, of the lines of a command.
 fields_of() {
-    LC_ALL=C awk -v of="$1" -v before="${listed:-0}" -v layer="${number:-0}" \
+    FIELDS=$top/scripts/fields LC_ALL=C awk -v of="$1" -v before="${listed:-0}" -v layer="${number:-0}" \
         -f "$top/scripts/json.awk" -f "$top/scripts/fields.awk"
 }
 

@@ -1,40 +1,75 @@
 """Checks `git cgraph --json`: each answer is read by Python's own reader, and its values are those of the plain answer.
 
-The values of a plain answer are read here by another way than scripts/fields.awk goes, so that `scripts/real_data` uses them too.
+The table scripts/fields is read here by another way than scripts/fields.awk goes, so that `scripts/real_data` compares any
+answer. What it makes of some answers stands in ANSWERS, by the manual; and the manual names each field of the table.
 """
 
 import json
 import os
+import re
 import shutil
 import tempfile
 
 import refusals
-from wrappers.clone import Clone, exactly
+from wrappers.clone import TOP, Clone, exactly
 from wrappers.questions import ODD_NAME, SHELLS, WORDS, ask, git, make_repository
 from wrappers.sentences import examples
+from wrappers.tools import read
 
 AWKS = (["mawk"], ["gawk"], ["gawk", "--posix"], ["original-awk"], ["busybox", "awk"])
 
 ANSWERS = {
-    "verify": (
-        "ok commits 4 longest 2\nparents 0 commits 1\nparents 1 commits 2\nparents 2 commits 1\n",
-        "ok commits 0 longest 0\n",
-        "ok commits 4294967295 longest none\nparents 1 commits 4294967295\n",
-    ),
-    "distinct": ("ok commits 1 longest 0\nparents 0 commits 1\n",),
-    "check": (
-        "ok commits 2 longest 1\nparents 0 commits 1\nparents 1 commits 1\ndates commits 2\nfilters commits 0\n",
-        "ok commits 0 longest 0\ndates none\nfilters none\n",
-    ),
-    "find": ("position 2 generation 3 time 17179869183\n", "none\n"),
-    "is-ancestor": ("yes\n", "no\n"),
-    "walk": ("%s\n%s\n" % ("ab" * 20, "cd" * 20), "%s\n" % ("0" * 64), "none\n"),
-    "merge-base": (
-        "base 28 %s\nbase 1073741824 %s\nahead 3 behind 12\nvisits 41\n" % ("0f" * 20, "ab" * 32),
-        "none\nahead 0 behind 4294967295\nvisits 0\n",
-    ),
+    "verify": {
+        "ok commits 4 longest 2\nparents 0 commits 1\nparents 1 commits 2\nparents 2 commits 1\n": {
+            "commits": 4,
+            "longest": 2,
+            "parents": {"0": 1, "1": 2, "2": 1},
+        },
+        "ok commits 0 longest 0\n": {"commits": 0, "longest": 0, "parents": {}},
+        "ok commits 4294967295 longest none\nparents 1 commits 4294967295\n": {
+            "commits": 4294967295,
+            "longest": None,
+            "parents": {"1": 4294967295},
+        },
+    },
+    "distinct": {"ok commits 1 longest 0\nparents 0 commits 1\n": {"commits": 1, "longest": 0, "parents": {"0": 1}}},
+    "check": {
+        "ok commits 2 longest 1\nparents 0 commits 1\nparents 1 commits 1\ndates commits 2\nfilters commits 0\n": {
+            "commits": 2,
+            "longest": 1,
+            "parents": {"0": 1, "1": 1},
+            "dates": 2,
+            "filters": 0,
+        },
+        "ok commits 0 longest 0\ndates none\nfilters none\n": {
+            "commits": 0,
+            "longest": 0,
+            "parents": {},
+            "dates": None,
+            "filters": None,
+        },
+    },
+    "find": {
+        "position 2 generation 3 time 17179869183\n": {"position": 2, "generation": 3, "time": 17179869183},
+        "none\n": {"position": None},
+    },
+    "is-ancestor": {"yes\n": {"is_ancestor": True}, "no\n": {"is_ancestor": False}},
+    "walk": {
+        "%s\n%s\n" % ("ab" * 20, "cd" * 20): {"walk": ["ab" * 20, "cd" * 20]},
+        "%s\n" % ("0" * 64): {"walk": ["0" * 64]},
+        "none\n": {"walk": None},
+    },
+    "merge-base": {
+        "base 28 %s\nbase 1073741824 %s\nahead 3 behind 12\nvisits 41\n" % ("0f" * 20, "ab" * 32): {
+            "merge_bases": [{"id": "0f" * 20, "position": 28}, {"id": "ab" * 32, "position": 1073741824}],
+            "ahead": 3,
+            "behind": 12,
+            "visits": 41,
+        },
+        "none\nahead 0 behind 4294967295\nvisits 0\n": {"merge_bases": [], "ahead": 0, "behind": 4294967295, "visits": 0},
+    },
 }
-"""What a program answers; of `merge-base` that is with `--verbose`."""
+"""What a program answers, and the fields that the manual names for it; of `merge-base` that is with `--verbose`."""
 
 LISTED = (
     "layer sha1 bases 0 commits 2\n0 %s %s 3 1700000300 -\n1 %s %s 4 0 0,0,0\n" % (("ab" * 20,) * 4),
@@ -54,6 +89,7 @@ MISSING = object()
 
 def check_all(results):
     """The checks, in a repository with a name of all kinds of letters."""
+    check_named(results)
     with tempfile.TemporaryDirectory() as folder:
         clone = Clone(folder)
         repository = make_repository(clone, os.path.join(folder.encode(), ODD_NAME.replace(b"\xff", "\u00e9\u20ac\U0001f600\x01\t".encode())))
@@ -72,6 +108,16 @@ def check_all(results):
         check_failures(results, clone, repository)
         check_bytes(results, clone, make_repository(clone, os.path.join(folder.encode(), ODD_NAME)))
         results.check("git cgraph --json, nothing is left over", clone.left_over())
+
+
+def check_named(results):
+    """The manual names the fields of each command in its item."""
+    section = re.search(r"## Answers for programs\n(.*?)\n## ", read("docs", "MANUAL.md"), re.DOTALL).group(1)
+    items = {word: item for item in section.split("\n- ") for word in re.findall(r"`([^`]*)`", item.partition(":")[0])}
+    for commands, *_, made in ROWS:
+        for name in re.findall(r"(?:^| )(\w+)(?=[={[])", " ".join(made)):
+            lacking = [command for command in commands.split(",") if "`%s`" % name not in items.get(command, "")]
+            results.check("the manual names %s of %s" % (name, commands), "not of %s" % lacking if lacking else None)
 
 
 def put_awk(clone, words):
@@ -105,23 +151,49 @@ def refused(word):
 
 def fields_of(command, text):
     """The fields that the lines of a plain answer stand for: for `merge-base` those with `--verbose`."""
-    words = [line.split() for line in text.splitlines()]
-    if command in ("verify", "distinct", "check"):
-        fields = {"commits": int(words[0][2]), "longest": number_or_none(words[0][4])}
-        fields["parents"] = {row[1]: int(row[3]) for row in words if row[0] == "parents"}
-        return {**fields, **{row[0]: number_or_none(row[-1]) for row in words[1:] if row[0] != "parents"}}
-    if command == "find":
-        return {"position": None} if words == [["none"]] else pairs_of(words[0])
-    if command == "is-ancestor":
-        return {"is_ancestor": words == [["yes"]]}
-    if command == "walk":
-        return {"walk": None if words == [["none"]] else [row[0] for row in words]}
-    if command == "merge-base":
-        bases = [{"id": row[2], "position": int(row[1])} for row in words if row[0] == "base"]
-        return {"merge_bases": bases, **pairs_of(words[-2]), **pairs_of(words[-1])}
     if command == "show":
         return shown_fields(text)
-    raise ValueError(command)
+    fields = {}
+    for words in map(str.split, text.splitlines()):
+        for part in made_of(command, words):
+            name, form, value = re.fullmatch(r"([^={[]*)(\[\]|\{\}|)=?(.*)", part).groups()
+            if form == "[]":
+                fields.setdefault(name, []).extend(json.loads("[%s]" % value))
+            elif form == "{}":
+                fields.setdefault(name, {}).update(json.loads("{%s}" % value))
+            else:
+                fields[name] = json.loads(value)
+    return fields
+
+
+def made_of(command, words):
+    """What the table scripts/fields makes of a line of a command."""
+    for commands, *pattern, _, made in ROWS:
+        if command in commands.split(",") and len(pattern) == len(words) and all(map(fits, pattern, words)):
+            for part in made:
+                yield re.sub(r"\$([1-9])", lambda at: word_or_null(words[int(at.group(1)) - 1]), part)
+            return
+    raise ValueError("%s, %s" % (command, words))
+
+
+def word_or_null(word):
+    """A word, or null for the one that says that there is no number."""
+    return "null" if word == "none" else word
+
+
+def fits(pattern, word):
+    """Whether a word is that of a row."""
+    return pattern in ("*", word)
+
+
+def read_rows():
+    """The rows of the table: the commands, the words of a line, a colon, and what becomes of it."""
+    with open(os.path.join(TOP, "scripts", "fields"), encoding="utf-8") as file:
+        halves = [line.split(" : ") for line in file if not line.startswith("#")]
+    return [[*line.split(), ":", made.split()] for line, made in halves]
+
+
+ROWS = read_rows()
 
 
 def number_or_none(word):
@@ -224,11 +296,13 @@ def check_answers(results, clone, repository, awk):
     for word, texts in ANSWERS.items():
         program, revisions = WORDS[word]
         head = head_of(clone, repository, word, revisions)
-        for text in texts:
+        for text, fields in texts.items():
             clone.put_program(program, "printf '%s'\nexit %d\n" % (text.replace("\n", "\\n"), text.startswith("no")))
             plain = ask(clone, [word, *(["-v"] if word == "merge-base" else []), *revisions], repository)
             answer = ask(clone, [word, "--json", *revisions], repository)
-            complaint = complaint_of(answer, plain, fields_of(word, text), head)
+            complaint = complaint_of(answer, plain, fields, head)
+            if fields_of(word, text) != fields:
+                complaint = "by the table it is %r" % fields_of(word, text)
             if plain.out != text:
                 complaint = "plain it is %r" % (plain,)
             results.check("git cgraph %s --json by %s, answered %r" % (word, awk, text), complaint)
