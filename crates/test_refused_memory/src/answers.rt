@@ -1,6 +1,6 @@
 //! Makes a call, and writes what it answered.
 
-use crate::calls::{Call, Command, HistoryCommand, ObjectCommand, Opener, Query};
+use crate::calls::{Call, Command, Opener, Query};
 use crate::long::Long;
 use crate::stage::Stage;
 use gix_commitgraph::file::Commit;
@@ -9,16 +9,13 @@ use gix_commitgraph::verify::VerifyOptions;
 use gix_commitgraph::{File, Graph, at};
 use graph_chunks::dates::CorrectedDates;
 use graph_chunks::filters::GraphFilters;
+use graph_commands::program::Run;
 use graph_commands::run::{run_ancestor, run_distinct, run_find, run_list, run_verify};
 use graph_folder::folder::{Folder, Memory};
 use graph_history::{Checked, Comparer, Comparison, Reached};
 use graph_objects::check_objects;
 use graph_vectors::build;
-use history_commands::run::{
-    run_check, run_is_ancestor, run_merge_base, run_merge_base_ids, run_walk,
-};
-use object_commands::{run_ids, run_objects};
-use show_commands::run::run_show;
+use history_program::command::{Command as HistoryCommand, Texts};
 use std::alloc::{AllocError, Global};
 use std::convert::Infallible;
 use std::io::Write;
@@ -43,8 +40,7 @@ pub fn make(rt: &HostRuntime, alloc: Global, call: Call, stage: &mut Stage) -> i
         Call::Filters => filters(rt, alloc, &stage.graphs.dated),
         Call::CheckObjects => compare(rt, alloc, &stage.long),
         Call::Run(command) => run(rt, alloc, command, stage),
-        Call::RunHistory(command) => run_history(rt, alloc, command, stage),
-        Call::RunObjects(command) => run_of_objects(rt, alloc, command, stage),
+        Call::Historytool => run_history(rt, alloc, stage),
         Call::Open(opener) => open(rt, alloc, opener, stage),
         Call::OpenLayer => open_layer(rt, alloc),
     }
@@ -224,40 +220,18 @@ fn run(rt: &HostRuntime, alloc: Global, command: Command, stage: &mut Stage) -> 
     io::writer(rt).write_all(out)
 }
 
-fn run_history(
-    rt: &HostRuntime,
-    alloc: Global,
-    command: HistoryCommand,
-    stage: &mut Stage,
-) -> io::Result<()> {
+/// Runs the command of `historytool` that the words ask for.
+fn run_history(rt: &HostRuntime, alloc: Global, stage: &mut Stage) -> io::Result<()> {
     let (memory, out) = (&mut stage.folders.memory, &mut stage.folders.out);
-    let others = &stage.folders.others;
-    let answer = match command {
-        HistoryCommand::IsAncestor => run_is_ancestor(alloc, memory, "chain", FIRST, SECOND, out),
-        HistoryCommand::Walk => run_walk(alloc, memory, "chain", SECOND, FIRST, out),
-        HistoryCommand::MergeBase => run_merge_base(alloc, memory, "chain", FIRST, others, out),
-        HistoryCommand::MergeBaseIds => {
-            run_merge_base_ids(alloc, memory, "chain", FIRST, others, out)
-        }
-        HistoryCommand::Check => run_check(alloc, memory, "dated", out),
-        HistoryCommand::Show => run_show(alloc, memory, "dated", out),
+    let texts = Texts {
+        help: "help",
+        version: "version",
     };
-    println!(rt; "{answer:?}")?;
-    io::writer(rt).write_all(out)
-}
-
-fn run_of_objects(
-    rt: &HostRuntime,
-    alloc: Global,
-    command: ObjectCommand,
-    stage: &mut Stage,
-) -> io::Result<()> {
-    let (memory, out) = (&mut stage.folders.memory, &mut stage.folders.out);
+    let Some(command) = HistoryCommand::from_words(&stage.folders.words, texts) else {
+        return println!(rt; "no such command");
+    };
     let mut stream = stage.long.stream.as_slice();
-    let answer = match command {
-        ObjectCommand::Ids => run_ids(alloc, memory, "chain", None, out),
-        ObjectCommand::Objects => run_objects(alloc, &mut stream, memory, "long", None, out),
-    };
+    let answer = command.run(alloc, &mut stream, memory, out);
     println!(rt; "{answer:?}")?;
     io::writer(rt).write_all(out)
 }
@@ -266,7 +240,7 @@ fn run_of_objects(
 const FIRST: &str = "0101010101010101010101010101010101010101";
 
 /// The id of the second.
-pub const SECOND: &str = "0202020202020202020202020202020202020202";
+const SECOND: &str = "0202020202020202020202020202020202020202";
 
 /// Opens by a path in memory, or on disk.
 fn open(rt: &HostRuntime, alloc: Global, opener: Opener, stage: &mut Stage) -> io::Result<()> {

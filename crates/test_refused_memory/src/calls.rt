@@ -16,8 +16,8 @@ pub enum Call {
     Filters,
     CheckObjects,
     Run(Command),
-    RunHistory(HistoryCommand),
-    RunObjects(ObjectCommand),
+    /// The command of `historytool` that the words of the stage ask for.
+    Historytool,
     Open(Opener),
     OpenLayer,
 }
@@ -41,24 +41,6 @@ pub enum Command {
     Distinct,
     Find,
     Ancestor,
-}
-
-/// A command of `historytool`.
-#[derive(Clone, Copy)]
-pub enum HistoryCommand {
-    IsAncestor,
-    Walk,
-    MergeBase,
-    MergeBaseIds,
-    Check,
-    Show,
-}
-
-/// A command that holds a graph against its commits.
-#[derive(Clone, Copy)]
-pub enum ObjectCommand {
-    Ids,
-    Objects,
 }
 
 /// A way to open a graph, in memory or on disk.
@@ -104,23 +86,6 @@ const CALLS: &[(&str, Call)] = &[
     ("run_distinct", Call::Run(Command::Distinct)),
     ("run_find", Call::Run(Command::Find)),
     ("run_ancestor", Call::Run(Command::Ancestor)),
-    (
-        "run_is_ancestor",
-        Call::RunHistory(HistoryCommand::IsAncestor),
-    ),
-    ("run_walk", Call::RunHistory(HistoryCommand::Walk)),
-    (
-        "run_merge_base",
-        Call::RunHistory(HistoryCommand::MergeBase),
-    ),
-    (
-        "run_merge_base_ids",
-        Call::RunHistory(HistoryCommand::MergeBaseIds),
-    ),
-    ("run_check", Call::RunHistory(HistoryCommand::Check)),
-    ("run_show", Call::RunHistory(HistoryCommand::Show)),
-    ("run_ids", Call::RunObjects(ObjectCommand::Ids)),
-    ("run_objects", Call::RunObjects(ObjectCommand::Objects)),
     ("open_file_in", Call::Open(Opener::FileIn)),
     ("open_chain_dir_in", Call::Open(Opener::ChainDirIn)),
     ("open_info_dir_in", Call::Open(Opener::InfoDirIn)),
@@ -144,8 +109,12 @@ const CALLS: &[(&str, Call)] = &[
 ];
 
 impl Call {
-    /// The call of this name, if there is one.
+    /// The call of this name, if there is one. The words of a command line are the name of a command
+    /// of `historytool`.
     pub fn named(name: &[u8]) -> Option<Call> {
+        if name.starts_with(b"historytool ") {
+            return Some(Call::Historytool);
+        }
         let (_, call) = CALLS.iter().find(|(known, _)| known.as_bytes() == name)?;
         Some(*call)
     }

@@ -28,7 +28,7 @@ fn main(rt: HostRuntime) -> std::io::Result<()> {
     let Some(call) = Call::named(name) else {
         return println!(rt; "no such call");
     };
-    match Stage::new(&rt, rt.alloc()) {
+    match Stage::new(&rt, rt.alloc(), name) {
         Ok(mut stage) => make_after(&rt, call, rest.len(), &mut stage),
         Err(_) => println!(rt; "refused before the call"),
     }

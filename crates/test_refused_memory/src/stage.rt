@@ -1,6 +1,5 @@
 //! What the calls need: plans, bytes, layers and graphs, and folders in memory and on disk.
 
-use crate::answers::SECOND;
 use crate::further::with_chunks;
 use crate::long::Long;
 use anyhow::{Result, ensure};
@@ -12,6 +11,11 @@ use graph_vectors::{LayerPlan, Row, build, plan_of_rows};
 use std::alloc::{AllocError, Global};
 use std::rt::Files;
 use std::{fs, slice};
+
+/// The most words of a line, and the most bytes of a word.
+const MOST_WORDS: usize = 6;
+
+const LONGEST_WORD: usize = 64;
 
 /// What stands ready before a call, in few parts: a proof goes over all that is dropped where one
 /// of them fails.
@@ -64,21 +68,22 @@ pub struct Folders {
     /// `chain`, `info` and `damaged`: that of the chain, an info folder with the chain, and one
     /// with a damaged file beside the chain.
     pub memory: Memory,
-    /// The id of the chain's second commit.
-    pub others: Vec<String>,
+    /// The words of the first line of the input.
+    pub words: Vec<String>,
     /// Room for what is written.
     pub out: Vec<u8>,
 }
 
 impl Stage {
-    /// The same each time. The folder `disk` is an info folder with the chain, and `f` a file.
-    pub fn new<R: Files + Alloc>(rt: &R, alloc: Global) -> Result<Stage> {
+    /// The same each time, but for the words, which those of a line are. The folder `disk` is an
+    /// info folder with the chain, and `f` a file.
+    pub fn new<R: Files + Alloc>(rt: &R, alloc: Global, line: &[u8]) -> Result<Stage> {
         put_on_disk(rt, alloc)?;
         let long = Long::new(alloc)?;
         Ok(Stage {
             single: Single::new(alloc)?,
             graphs: Graphs::new(alloc)?,
-            folders: Folders::new(alloc, &long)?,
+            folders: Folders::new(alloc, &long, line)?,
             long,
         })
     }
@@ -120,10 +125,10 @@ impl Chain {
 }
 
 impl Folders {
-    fn new(alloc: Global, long: &Long) -> Result<Folders> {
+    fn new(alloc: Global, long: &Long, line: &[u8]) -> Result<Folders> {
         Ok(Folders {
             memory: memory(alloc, long)?,
-            others: others(alloc)?,
+            words: words(alloc, line)?,
             out: Vec::with_capacity(alloc, 4096)?,
         })
     }
@@ -241,8 +246,19 @@ fn dated(alloc: Global) -> Result<Graph> {
     Ok(Graph::new(alloc, layers(alloc, slice::from_ref(&file))?)?)
 }
 
-fn others(alloc: Global) -> Result<Vec<String>> {
-    Ok(vec![in alloc; String::from_str(alloc, SECOND)?]?)
+/// The words of a line, apart by one space each. So many texts are made of any line that each call
+/// has the same room.
+fn words(alloc: Global, line: &[u8]) -> Result<Vec<String>> {
+    let line = str::from_utf8(line)?;
+    let mut parts = line.split(' ');
+    let mut words = Vec::with_capacity(alloc, MOST_WORDS)?;
+    for _ in 0..MOST_WORDS {
+        let mut word = String::with_capacity(alloc, LONGEST_WORD)?;
+        word.push_str(parts.next().unwrap_or(""))?;
+        words.push(word)?;
+    }
+    words.truncate(line.split(' ').count());
+    Ok(words)
 }
 
 /// The name of a layer's file in its folder, and the line of the chain file.
