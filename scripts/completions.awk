@@ -1,10 +1,11 @@
 # Makes the completion of `git cgraph` for a shell, of the table of commands and the options in the manual:
 #
+#     awk -v shell=bash -f scripts/completions.awk scripts/commands docs/MANUAL.md >git-cgraph
 #     awk -v shell=zsh  -f scripts/completions.awk scripts/commands docs/MANUAL.md >_git-cgraph
 #     awk -v shell=fish -f scripts/completions.awk scripts/commands docs/MANUAL.md >git-cgraph.fish
 #
-# The first belongs into a folder of zsh's `fpath`, and the second into one of `fish_complete_path`. That for bash is
-# scripts/git-cgraph.bash.
+# bash reads the first with `source`, after Git's own completion, which finds it also in share/bash-completion/completions. The
+# second belongs into a folder of zsh's `fpath`, and the third into one of `fish_complete_path`.
 
 # The commands that `git cgraph` has.
 FILENAME ~ /commands$/ {
@@ -26,7 +27,8 @@ is_options && /^  / { sub(/^ +/, ""); item = item " " $0; next }
 
 END {
     end_item()
-    if (shell == "zsh") write_zsh()
+    if (shell == "bash") write_bash()
+    else if (shell == "zsh") write_zsh()
     else write_fish()
 }
 
@@ -77,6 +79,29 @@ function quoted(text) {
     if (shell == "zsh") gsub(/'/, "'\\''", text)
     else gsub(/'/, "\\'", text)
     return "'" text "'"
+}
+
+function write_bash(    at, all, with_commits, shared, own, with_folder) {
+    for (at = 1; at <= count; at++) {
+        all = all " " commands[at]
+        if (takes_commits[commands[at]]) with_commits = with_commits " | " commands[at] ",*"
+    }
+    for (at = 1; at <= options; at++) {
+        if (takes[at] == "<folder>") with_folder = with_folder " | " name[at]
+        if (name[at] !~ /^--/ && name[at] != others[at]) continue
+        if (is_for[at] == "") shared = shared " " name[at]
+        else own[is_for[at]] = own[is_for[at]] " " name[at]
+    }
+    print "# Completion of `git cgraph` for bash, which Git's own completion finds by the name of this function.\n"
+    printf "_git_cgraph() {\n    local commands=%s options=%s\n", quoted(substr(all, 2)), quoted(substr(shared, 2))
+    print "    local command\n    command=$(__git_find_on_cmdline \"$commands\")\n    case $prev in"
+    printf "    %s)\n        compopt -o filenames 2>/dev/null\n", substr(with_folder, 4)
+    print "        mapfile -t COMPREPLY < <(compgen -d -- \"$cur\")\n        return\n        ;;\n    esac\n    case $command,$cur in"
+    for (at = 1; at <= count; at++)
+        if (commands[at] in own) printf "    %s,-*) __gitcomp \"%s $options\" ;;\n", commands[at], substr(own[commands[at]], 2)
+    print "    *,-*) __gitcomp \"$options\" ;;\n    ,*) __gitcomp \"$commands\" ;;"
+    printf "    %s) __git_complete_refs ;;\n    esac\n}\n\n", substr(with_commits, 4)
+    print "if declare -F __git_complete >/dev/null; then\n    __git_complete git-cgraph _git_cgraph\nfi"
 }
 
 function write_zsh(    at) {

@@ -15,7 +15,6 @@ COPIED = (
     *("scripts/answers.sh", "scripts/usage.sh", "scripts/repository.sh", "scripts/cures.sh", "scripts/commands"),
     *("scripts/json.sh", "scripts/progress.sh", "scripts/objects.sh", "scripts/show.sh"),
     *("scripts/json.awk", "scripts/fields", "scripts/fields.awk", "scripts/explain.awk", "scripts/manual.awk", "scripts/alternates.awk"),
-    "scripts/git-cgraph.bash",
     *("scripts/install", "scripts/program", "scripts/library", "scripts/package", "bindings/c/commitgraph.h"),
     *("bindings/c/commitgraph.pc", "bindings/c/commitgraph.3", "bindings/c/commitgraph-config.cmake"),
     "bindings/c/commitgraph-config-version.cmake",

@@ -2,10 +2,11 @@
 
 import os
 import shutil
+import subprocess
 import tempfile
 
 import version
-from wrappers.clone import PROGRAMS, Clone, exactly, run
+from wrappers.clone import PROGRAMS, TOP, Clone, exactly, run
 from wrappers.questions import make_repository
 from wrappers.table import commands, usage
 from wrappers.tools import read, usage_of
@@ -152,7 +153,9 @@ def check_completion(results, clone, repository):
     if not theirs or not shutil.which("bash"):
         print("left out, since there is no completion of Git's for bash: that of git cgraph")
         return
-    ours = os.path.join(clone.folder, "scripts", "git-cgraph.bash")
+    ours = os.path.join(clone.folder, "completion")
+    made = 'awk -v shell=bash -f scripts/completions.awk scripts/commands docs/MANUAL.md >"$1"'
+    subprocess.run(["sh", "-c", made, "sh", ours], cwd=TOP, check=True)
     for words, offered in {
         ("ver",): {"verify"},
         ("",): {command.word for command in commands() if command.by_git},
