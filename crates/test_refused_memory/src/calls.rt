@@ -109,8 +109,7 @@ const CALLS: &[(&str, Call)] = &[
 ];
 
 impl Call {
-    /// The call of this name, if there is one. The words of a command line are the name of a command
-    /// of `historytool`.
+    /// The call of this name, if there is one. The name of a command of `historytool` is its words.
     pub fn named(name: &[u8]) -> Option<Call> {
         if name.starts_with(b"historytool ") {
             return Some(Call::Historytool);
