@@ -259,6 +259,9 @@ def refused_and_shared(name, compiler, archive, scratch, graphs):
             expect(f"{title}: each allocation is refused in turn", calls.pop("reading", None) == "0", done)
             expect(f"{title}: each call that allocates is refused", calls and all(int(n) > 0 for n in calls.values()), done)
             expect(f"{title}: many pairs are searched with one memory", calls.get("one_pair") == calls.get("three_pairs"), done)
+        apart, alike = (run(program, "check", "-", *real.fronted(scratch / compiler, kind, it)) for it in (b"\x11\x22", b"\x11\x11"))
+        counts = [int(done.stdout.split()[1]) if done.returncode == 0 else 0 for done in (apart, alike)]
+        expect(f"{name}, {kind}: whole ids are sorted only where fronts are alike", 0 < counts[0] < counts[1], (apart, alike))
     graph, _ = graphs["sha1"]
     for tool, flags, words in (("", ["-fsanitize=thread"], []), ("valgrind", [], HELGRIND)):
         program = scratch / compiler / "threads"

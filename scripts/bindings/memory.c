@@ -1,6 +1,7 @@
 /* memory ID ID FILE..: over the layers of these files, makes each call that allocates again and again, and refuses one later
  * allocation of it each time. It has to answer the code for memory, to leave no block and to write nothing, but the
- * verdict's code. It is linked with --wrap for malloc, realloc and free. */
+ * verdict's code. It is linked with --wrap for malloc, realloc and free. With `check` in place of the first id it does
+ * so with the check of distinct ids alone. */
 #include "commitgraph.h"
 #include <stdio.h>
 #include <stdlib.h>
@@ -210,6 +211,11 @@ int main(int argc, char **argv) {
         fclose(input);
     }
     if (cg_open_checked(files, layers, false, &verdict, counts, 8, &graph).code) return 3;
+    if (!strcmp(argv[1], "check")) {
+        printf("verify %ld\n", refusals("verify", verify));
+        cg_close(graph);
+        return blocks;
+    }
     from = position_of(argv[1]);
     to = position_of(argv[2]);
     printf("open %ld\n", refusals("open", open_graph));

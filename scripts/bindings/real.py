@@ -5,12 +5,12 @@ import sys
 
 sys.path.insert(0, str(pathlib.Path(__file__).resolve().parent.parent / "real_data"))
 
-from damage import forms, mutations, wrong_commits, wrong_layout
+from damage import built, forms, mutations, wrong_commits, wrong_layout
 from damage.layer import sealed
 from damage.original import Original
 from expected.listing import listing
 from histories import shapes
-from histories.repository import Repository
+from histories.repository import ID_LENGTH, Repository
 
 CHAINS = {
     "a chain of 3 layers": (shapes.octopus(3, 4, 2)[:12], 4),
@@ -41,6 +41,17 @@ def graphs(folder, kind):
 
 def some(ids):
     return ids[:: 1 + len(ids) // MOST_IDS]
+
+
+def fronted(folder, kind, fronts):
+    """The files of two layers of one commit each. The first eight bytes of their ids are these, and the others differ."""
+    size, paths, checksums = ID_LENGTH[kind], [], []
+    for number, front in enumerate(fronts):
+        commit = built.Commit(bytes([front]) * 8 + bytes([number + 1]) * (size - 8), (), 1)
+        paths.append(folder / f"{kind} front {number}")
+        paths[-1].write_bytes(built.file_of(kind, [commit], checksums))
+        checksums.append(paths[-1].read_bytes()[-size:])
+    return paths
 
 
 @functools.lru_cache(maxsize=None)

@@ -114,7 +114,25 @@ def check_kind(programs, results, new):
     kinds = {word: set() for word in KINDS}
     check_runs(results, title + ", questions", list(questions(histories, repository, graph, kinds)))
     results.check(title + ", which answers are Git's", None if kinds == KINDS else "they are %r" % kinds)
+    check_hints(results, title, repository, graph)
     check_line_ends(program, results, new("a chain with other line ends"))
+
+
+def check_hints(results, title, repository, graph):
+    """Where no walk leads from a commit to another, and Git's answer is that one does, the other stands twice: that is the
+    id which docs/REFUSALS.md names beside the answer."""
+    pairs = permutations(sorted(set(graph.ids)), 2)
+    missed = [it for it in pairs if repository.reaches(*it) and kind_of_pair(graph, *it) == NO_WALK]
+    for command, line, asked in (("is-ancestor", "no", (1, 0)), ("walk", "none", (0, 1))):
+        advice = refusals.row_of(refusals.read_rows(), line, command).to_do
+        named = [place for place, word in zip(asked, ("first", "second")) if "the %s id may stand" % word in advice]
+        right = named and missed and all(graph.ids.count(pair[place]) > 1 for pair in missed for place in named)
+        results.check("%s, the id that stands twice, %s" % (title, command), None if right else "the advice is %r" % advice)
+
+
+def kind_of_pair(graph, first, second):
+    """How the answer whether a commit leads to another compares with that of Git, which says yes."""
+    return kind_of_walk(graph.ids.index(second) in graph.steps[graph.ids.index(first)], True)
 
 
 def laid_out(repository):
