@@ -118,7 +118,8 @@ module _ (layers : List Layer) (commits : List NewCommit) (new : NewLayer) (is_n
       ) in (
         omega (arith, inside_p, size),
         omega (arith, inside_q, size),
-        subst (λ (ps : List ℕ). Contains ps (start_on_top + q)) (sym (parents-of-new layers commits new is_new p inside_p)) contains,
+        subst (λ (ps : List ℕ). Contains ps (start_on_top + q)) (sym (parents-of-new layers commits new is_new p inside_p))
+            contains,
       )
 
   -- a walk along ids is one along positions

@@ -134,7 +134,8 @@ module _ (layers : List Layer) (commits : List NewCommit) where
   refused-empty e few own false is last = cc
   refused-empty e few own true is last =
       let empty : length commits ≡ 0 = eqb-true (length commits) 0 is in
-      refused-later (Some e) own (nothing-left (twice_at commits) empty) (nothing-left (below_at (graph_ids layers) commits) empty)
+      refused-later (Some e) own (nothing-left (twice_at commits) empty)
+      (nothing-left (below_at (graph_ids layers) commits) empty)
       (le-ltb MAX_COMMITS (total layers + length commits) (omega (arith, few, empty)))
       (refused-nothing true (Some e) (nothing-left (parent_at (graph_ids layers) commits) empty) is last)
 

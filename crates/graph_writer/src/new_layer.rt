@@ -74,7 +74,7 @@ impl NewLayer {
     }
 }
 
-/// Refuses commits for what needs no memory to be seen: one that is wrong by itself, or none at all.
+/// Refuses commits for what needs no memory to be seen: one is wrong by itself, or there are none.
 fn check_alone(below: Option<&Checked<'_>>, commits: &[NewCommit]) -> Result<(), WriteError>
     ensures { Reports result (plain_refusal (layers_of_below below.entry) commits.now) }
 {

@@ -4,8 +4,9 @@ ghost use Rattle.std.specs.Prelude.{◌≡◌, ◌<◌, ◌≤◌, ℕ, List, If
 ghost use Rattle.graph_walks.specs.Dates.{AreRight};
 ghost use Rattle.graph_walks.specs.Generations.{AreLocal};
 ghost use Rattle.graph_walks.specs.History.{Node};
-ghost use Rattle.graph_levels.specs.OnTop.{FitTogether, HasOnTop, HasLevelGenerations};
-ghost use Rattle.graph_levels.specs.OnTop.{HasLevelDates, AreClosedBelow, HasNoCycleOnTop, level_at};
+ghost use Rattle.graph_levels.specs.OnTop.{AreClosedBelow, FitTogether, HasLevelDates};
+ghost use Rattle.graph_levels.specs.OnTop.{HasLevelGenerations, HasNoCycleOnTop, HasOnTop};
+ghost use Rattle.graph_levels.specs.OnTop.{level_at};
 ghost use Rattle.graph_levels.specs.ParentLists.{commit_count};
 ghost use Rattle.graph_writer.specs.NewCommits.{layers_of_below};
 ghost use Rattle.graph_writer.specs.OwnLevels.{MayHaveNoLevels};
