@@ -28,13 +28,13 @@ use Rattle.graph_writer.proofs.KnownSteps.{get-back}
 abbrev root : Node
 root = record { generation = 0; parents = [] }
 
-root-parents : (n : ℕ) (rest : List Node) (p : ℕ) → p < n → parents_at (replicate n root ++ rest) p ≡ []
+pub root-parents : (n : ℕ) (rest : List Node) (p : ℕ) → p < n → parents_at (replicate n root ++ rest) p ≡ []
 root-parents zero rest p lt = absurd (omega arith)
 root-parents (suc n) rest zero lt = refl
 root-parents (suc n) rest (suc p) lt = root-parents n rest p (omega arith)
 
 module _ (layers : List Layer) (commits : List NewCommit) (new : NewLayer) (is_new : IsNewLayer layers commits new) where
-  abbrev base : ℕ
+  abbrev pub base : ℕ
   base = total layers
 
   abbrev node : ℕ → Node
@@ -44,7 +44,7 @@ module _ (layers : List Layer) (commits : List NewCommit) (new : NewLayer) (is_n
   abbrev above : List Node
   above = map node (range_with_len 0 (commit_count new.parents))
 
-  abbrev plain : List Node
+  abbrev pub plain : List Node
   plain = replicate base root ++ above
 
   size-below : length (replicate base root) ≡ base
@@ -57,10 +57,10 @@ module _ (layers : List Layer) (commits : List NewCommit) (new : NewLayer) (is_n
       ∙ get-map-range node 0 (commit_count new.parents) p (omega (arith, is_new.listed))
       ∙ ap (λ (n : ℕ). Some (node n)) (omega arith)
 
-  parents-of-new : (p : ℕ) → p < length commits → parents_at plain (base + p) ≡ parent_list new.parents p
+  pub parents-of-new : (p : ℕ) → p < length commits → parents_at plain (base + p) ≡ parent_list new.parents p
   parents-of-new p lt = ap (λ (o : Option Node). option_map_or (λ (n : Node). n.parents) o []) (node-at p lt)
 
-  size-plain : length plain ≡ base + length commits
+  pub size-plain : length plain ≡ base + length commits
   size-plain =
       omega (
         arith,
@@ -70,7 +70,7 @@ module _ (layers : List Layer) (commits : List NewCommit) (new : NewLayer) (is_n
         is_new.listed,
       )
 
-  plain-on-top : HasOnTop plain base new.parents
+  pub plain-on-top : HasOnTop plain base new.parents
   plain-on-top = record {
     as_many = omega (arith, size-plain, is_new.listed);
     own = λ i lt. parents-of-new i (omega (arith, is_new.listed));
@@ -99,7 +99,7 @@ module _ (layers : List Layer) (commits : List NewCommit) (new : NewLayer) (is_n
             ∙ ap (λ (x : List ℕ). Some x) id,
       )
 
-  id-at-position : (q : ℕ) → base ≤ q → slice_get (graph_ids layers ++ ids_in_order commits new.order.items) q
+  pub id-at-position : (q : ℕ) → base ≤ q → slice_get (graph_ids layers ++ ids_in_order commits new.order.items) q
       ≡ slice_get (ids_in_order commits new.order.items) (q - base)
   id-at-position q le =
       let sum : length (graph_ids layers) + (q - base) ≡ q = omega (arith, (counted layers).ids) in

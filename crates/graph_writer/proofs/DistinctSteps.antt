@@ -13,7 +13,7 @@ use Rattle.graph_writer.proofs.NewIdSteps.{scan-misses}
 abbrev pub HoldOnce : List (List ℕ) → Type 0
 HoldOnce ids = (p q : ℕ) (id : List ℕ) → slice_get ids p ≡ Some id → slice_get ids q ≡ Some id → p ≡ q
 
-ascending-once : (ids : List (List ℕ)) → AreAscending ids → HoldOnce ids
+pub ascending-once : (ids : List (List ℕ)) → AreAscending ids → HoldOnce ids
 ascending-once ids ascending p q id at_p at_q =
     ⊎_elim
     (λ (before : p < q). absurd (not-less_itself id (ascending-less ids p q id id ascending at_p at_q before)))

@@ -5,6 +5,7 @@ use Rattle.std.specs.Prelude.{IfSome, IfNone}
 use Rattle.std.proofs.lemmas.List.{length-map, get_or_default}
 use Rattle.std.proofs.lemmas.List.Elements.{All-map}
 use Rattle.std.proofs.lemmas.Option.{slice_get-map, get_or_from_slice_get, none-some}
+use Rattle.gix_chunk_core.proofs.FirstFaultLemmas.{first_below-none, option_or-none}
 use Rattle.graph_walks.specs.Dates.{number_at, AreRight}
 use Rattle.graph_walks.specs.History.{generation_at}
 use Rattle.graph_format.specs.Layer.{Layer, IsOpened}
@@ -13,6 +14,7 @@ use Rattle.gix_commitgraph.specs.Graph.{IsGraph, total}
 use Rattle.gix_commitgraph.specs.Sound.{Sound}
 use Rattle.gix_commitgraph.proofs.history.HistoryLemmas.{length-history}
 use Rattle.gix_commitgraph.proofs.lookup.ElementLemmas.{some-place}
+use Rattle.graph_chunks.specs.GraphDates.{graph_dates_refusal, reading_fault, wrong_date}
 use Rattle.graph_chunks.specs.GraphStoredDates.{HasDates, times_of, dates_of}
 use Rattle.graph_chunks.proofs.StoredDateLemmas.{length-dates_of}
 use Rattle.graph_levels.specs.OnTop.{FitTogether, level_at, no_level}
@@ -57,6 +59,12 @@ fit-together layers commits new is_new none known below times timed = record {
   dates = below.early;
 }
 
+none-to-refuse : graph_dates_refusal [] ≡ None
+unfolding graph_dates_refusal
+none-to-refuse =
+    option_or-none _ _ (first_below-none (reading_fault []))
+    (first_below-none (wrong_date (history_of []) (times_of []) (dates_of [])))
+
 -- without a graph below
 pub no-levels : (known : LevelsBelow) → known.levels.items ≡ [] → known.have_dates ≡ true → AreLevelsBelow [] known
 no-levels known empty dated =
@@ -86,6 +94,7 @@ no-levels known empty dated =
         };
         dates = λ p lt. absurd (omega arith);
       };
+      accepted = λ stored. none-to-refuse;
       have_none = λ off. cc;
     }
 
@@ -97,8 +106,8 @@ pub graph-levels : (layers : List Layer) (known : LevelsBelow) (dates : Option (
     → known.have_dates ≡ is_some dates → IfSome dates (λ _. All HasDates layers) → IfNone dates (¬ All HasDates layers)
     → IfSome dates (λ found. found ≡ dates_of layers)
     → IfSome dates (λ found. AreRight (history_of layers) (times_of layers) found)
-    → AreLevelsBelow layers known
-graph-levels layers known None sound graph many generations dates dated some none stored right = record {
+    → IfSome dates (λ _. graph_dates_refusal layers ≡ None) → AreLevelsBelow layers known
+graph-levels layers known None sound graph many generations dates dated some none stored right accepted = record {
   sound = sound;
   opened = graph.opened;
   alike = graph.makes.alike;
@@ -111,9 +120,10 @@ graph-levels layers known None sound graph many generations dates dated some non
       get_or_default known.levels.items k no_level d lt in
       subst (λ (level : Level). level.date < 2 ^ 63) same (omega (arith, date));
   have_dates = λ on. cc;
+  accepted = λ all. absurd (none all);
   have_none = λ _. none;
 }
-graph-levels layers known (Some found) sound graph many generations dates dated some none stored right = record {
+graph-levels layers known (Some found) sound graph many generations dates dated some none stored right accepted = record {
   sound = sound;
   opened = graph.opened;
   alike = graph.makes.alike;
@@ -131,5 +141,6 @@ graph-levels layers known (Some found) sound graph many generations dates dated 
     right = subst (AreRight (history_of layers) (times_of layers)) stored right;
     dates = λ p lt. ap (λ (ds : List ℕ). number_at ds p) (sym stored) ∙ dates p lt;
   };
+  accepted = λ _. accepted;
   have_none = λ off. cc;
 }

@@ -14,8 +14,11 @@ pub mod AcceptedSteps
 pub mod RightSteps
 pub mod DateSteps
 pub mod DistinctSteps
+pub mod SumSteps
+pub mod WordSteps
 pub mod PlanSteps
 pub mod CycleSteps
+pub mod AcyclicSteps
 pub mod ReasonSteps
 pub mod FitSteps
 pub mod WriteSteps

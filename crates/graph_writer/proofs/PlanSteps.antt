@@ -26,11 +26,12 @@ use Rattle.graph_writer.specs.LevelsBelow.{AreLevelsBelow}
 use Rattle.graph_writer.specs.NewLayers.{IsNewLayer}
 use Rattle.graph_writer.specs.PlannedCommits.{IsPlanOf}
 use Rattle.graph_writer.specs.WriteRefusal.{new_layer_refusal, kind_to_write, is_of_kind}
-use Rattle.graph_writer.specs.WritingRefusal.{lists_of, word_count}
+use Rattle.graph_writer.specs.WritingRefusal.{word_count}
 use Rattle.graph_writer.specs.declared.commit.NewCommit.{NewCommit}
 use Rattle.graph_writer.specs.declared.levels_below.LevelsBelow.{LevelsBelow}
 use Rattle.graph_writer.specs.declared.new_layer.NewLayer.{NewLayer}
 use Rattle.graph_writer.proofs.AcceptedSteps.{accepted, few}
+use Rattle.graph_writer.proofs.WordSteps.{lists_of, same-words}
 use Rattle.graph_writer.proofs.WrittenSteps.{planned-at}
 
 -- the layers below are of the kind that is written
@@ -69,17 +70,18 @@ module _ (layers : List Layer) (commits : List NewCommit) (new : NewLayer) (is_n
       (get-map-range (parent_list new.parents) 0 (commit_count new.parents) p (omega (arith, is_new.listed))
       ∙ ap (λ (n : ℕ). Some (parent_list new.parents n)) (omega arith))))
 
-  pub all-words : length (all_extra_words plan.commits.items) ≡ word_count new
+  pub all-words : length (all_extra_words plan.commits.items) ≡ word_count commits
   unfolding all_extra_words
   all-words =
       ap length (lists-words plan.commits.items ∙ ap (flat_map extra_words) planned-lists)
+      ∙ same-words layers commits new is_new
 
   module _ (none : new_layer_refusal layers commits ≡ None) (known : LevelsBelow) (below : AreLevelsBelow layers known)
       (kind : plan.kind ≡ kind_to_write layers commits) (bases : plan.bases.items ≡ map (λ l. l.checksum) layers)
       (fits : length layers ≤ 255) (leveled : length own ≡ commit_count new.parents)
       (capped : (p : ℕ) → p < length own → (level_at own p).generation ≤ GENERATION_NUMBER_MAX)
       (offsets : IfSome (offsets_of plan) (AreOffsets (length plan.commits.items)))
-      (words : word_count new < 2 ^ 31) where
+      (words : word_count commits < 2 ^ 31) where
     of-kind : (id : List ℕ) → is_of_kind (kind_to_write layers commits) id ≡ true → length id ≡ id_len plan.kind
     of-kind id is = eqb-true (length id) (id_len (kind_to_write layers commits)) is ∙ ap id_len (sym kind)
 

@@ -24,3 +24,7 @@ pub record IsOwnAncestor (commits : List NewCommit) (i : ℕ) : Type 0 where
   pub first : slice_get walk 0 ≡ Some i
   pub last : slice_get walk (length walk - 1) ≡ Some i
   pub long : 2 ≤ length walk
+
+-- No commit is its own proper ancestor.
+abbrev pub HaveNoCycle : List NewCommit → Type 0
+HaveNoCycle commits = (i : ℕ) → ¬ IsOwnAncestor commits i

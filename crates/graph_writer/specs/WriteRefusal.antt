@@ -2,7 +2,7 @@
 -- ("CHUNK DATA" of gitformat-commit-graph: ids and trees of one kind, 34 bits of time, each id once).
 use Rattle.std.specs.Prelude.{◌≡◌, ◌==◌, ◌&&◌, ◌⊎◌, ℕ, ◌^◌, not, Bool, List, [], ◌∷◌, length, take, slice_get, nat_le, nat_lt}
 use Rattle.std.specs.Prelude.{◌+◌, if◌then◌else◌}
-use Rattle.std.specs.Prelude.{Option, Some, option_map, is_none, position}
+use Rattle.std.specs.Prelude.{Option, Some, None, option_map, is_none, position}
 use Rattle.std.specs.List.{list_all}
 use Rattle.std.specs.Option.{option_and_then, option_map_or}
 use Rattle.gix_chunk_core.specs.FirstFault.{◌when◌, ◌otherwise◌, first_below}
@@ -79,6 +79,14 @@ new_layer_refusal layers commits =
     otherwise first_below (parent_at (graph_ids layers) commits) (length commits)
     otherwise error.Nothing when length commits == 0
 
--- the errors that may be answered: the first condition that refuses; or out of memory
+-- what refuses commits that no memory is needed to see: what one of them says by itself, or that there are none
+unfoldable pub plain_refusal : List Layer → List NewCommit → Option WriteError
+plain_refusal layers commits =
+    first_below (own_refusal_at (kind_to_write layers commits) commits) (length commits)
+    otherwise error.Nothing when length commits == 0
+
+-- the errors that may be answered: the first condition that refuses; or out of memory, but only where there are commits and each
+-- is right by itself, since ids are compared once they stand in memory
 abbrev pub MayRefuseNewLayer : List Layer → List NewCommit → WriteError → Type 0
-MayRefuseNewLayer layers commits fault = (fault ≡ error.OutOfMemory) ⊎ (new_layer_refusal layers commits ≡ Some fault)
+MayRefuseNewLayer layers commits fault =
+    (new_layer_refusal layers commits ≡ Some fault) ⊎ ((fault ≡ error.OutOfMemory) × (plain_refusal layers commits ≡ None))

@@ -7,8 +7,7 @@ ghost use Rattle.graph_format.specs.StoredHistory.{history_of};
 ghost use Rattle.gix_commitgraph.specs.Graph.{total};
 ghost use Rattle.graph_levels.specs.OnTop.{level_at};
 ghost use Rattle.graph_writer.specs.NewCommits.{layers_of_below};
-ghost use Rattle.graph_writer.specs.WritingRefusal.{MayRefuseDatesBelow};
-ghost use Rattle.graph_writer.specs.LevelsBelow.{AreLevelsBelow};
+ghost use Rattle.graph_writer.specs.LevelsBelow.{AreLevelsBelow, MayRefuseDatesBelow};
 
 use crate::commit::WriteError;
 use gix_commitgraph::Position;

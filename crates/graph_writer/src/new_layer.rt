@@ -9,7 +9,7 @@ ghost use Rattle.graph_format.specs.declared.TheConstants as limits;
 ghost use Rattle.graph_levels.specs.ParentLists.{commit_count, parent_list};
 ghost use Rattle.graph_writer.specs.NewCommits.{layers_of_below};
 ghost use Rattle.graph_writer.specs.WriteRefusal.{kind_to_write, below_at, new_layer_refusal};
-ghost use Rattle.graph_writer.specs.WriteRefusal.{MayRefuseNewLayer};
+ghost use Rattle.graph_writer.specs.WriteRefusal.{plain_refusal, MayRefuseNewLayer};
 ghost use Rattle.graph_writer.specs.declared.order.Place.{Place};
 
 use crate::below::check_new;
@@ -40,8 +40,8 @@ impl NewLayer {
     ///
     /// # Errors
     ///
-    /// The first of [`WriteError`] that holds, in their order; `OutOfMemory` where an allocation
-    /// failed.
+    /// The first of [`WriteError`] that holds, in their order. `OutOfMemory` comes only where there
+    /// are commits and each is right by itself: ids are compared once they stand in memory.
     pub fn of(
         alloc: Global,
         below: Option<&Checked<'_>>,
@@ -53,10 +53,10 @@ impl NewLayer {
         ensures refusal { IfErr result
             (MayRefuseNewLayer (layers_of_below below.entry) commits.now) }
     {
-        check_each(kind_to_write(below, commits), commits)?;
+        let start = number_below(below);
+        check_alone(below, commits)?;
         let numbers = numbers_of(alloc, commits)?;
         check_all_new(below, commits)?;
-        let start = number_below(below);
         if commits.len() > MAX_COMMITS as usize - start as usize {
             return Err(WriteError::TooManyCommits);
         }
@@ -70,11 +70,19 @@ impl NewLayer {
             ranks: &ranks,
         };
         let parents = known.resolve(alloc)?;
-        if commits.is_empty() {
-            return Err(WriteError::Nothing);
-        }
         Ok(in_order(alloc, &places, &parents)?)
     }
+}
+
+/// Refuses commits for what needs no memory to be seen: one is wrong by itself, or there are none.
+fn check_alone(below: Option<&Checked<'_>>, commits: &[NewCommit]) -> Result<(), WriteError>
+    ensures { Reports result (plain_refusal (layers_of_below below.entry) commits.now) }
+{
+    check_each(kind_to_write(below, commits), commits)?;
+    if commits.is_empty() {
+        return Err(WriteError::Nothing);
+    }
+    Ok(())
 }
 
 /// The kind of hash of the layer.

@@ -4,12 +4,13 @@ ghost use Rattle.std.specs.Prelude.{◌≡◌, ◌<◌, ◌≤◌, ℕ, List, If
 ghost use Rattle.graph_walks.specs.Dates.{AreRight};
 ghost use Rattle.graph_walks.specs.Generations.{AreLocal};
 ghost use Rattle.graph_walks.specs.History.{Node};
-ghost use Rattle.graph_levels.specs.OnTop.{FitTogether, HasOnTop, HasLevelGenerations};
-ghost use Rattle.graph_levels.specs.OnTop.{HasLevelDates, level_at};
+ghost use Rattle.graph_levels.specs.OnTop.{AreClosedBelow, FitTogether, HasLevelDates};
+ghost use Rattle.graph_levels.specs.OnTop.{HasLevelGenerations, HasNoCycleOnTop, HasOnTop};
+ghost use Rattle.graph_levels.specs.OnTop.{level_at};
 ghost use Rattle.graph_levels.specs.ParentLists.{commit_count};
 ghost use Rattle.graph_writer.specs.NewCommits.{layers_of_below};
 ghost use Rattle.graph_writer.specs.OwnLevels.{MayHaveNoLevels};
-ghost use Rattle.graph_writer.specs.WritingRefusal.{MayRefuseWriting};
+ghost use Rattle.graph_writer.specs.WritingRefusal.{AreAccepted, MayRefuseWriting};
 ghost use Rattle.graph_writer.specs.WrittenLayers.{IsWritten};
 
 use crate::commit::{NewCommit, WriteError};
@@ -31,8 +32,9 @@ const MOST_BELOW: usize = 255;
 ///
 /// # Errors
 ///
-/// The first of [`WriteError`] that holds, in their order; `OutOfMemory` where an allocation
-/// failed.
+/// The first of [`WriteError`] that holds, in their order. `OutOfMemory` comes only where there are
+/// commits and each is right by itself: ids are compared once they stand in memory.
+#[tactic(auto, using(crate::proofs::RefusalSteps::memory_laws))]
 pub fn write_layer(
     alloc: Global,
     below: Option<&Checked<'_>>,
@@ -40,6 +42,8 @@ pub fn write_layer(
 ) -> Result<Vec<u8>, WriteError>
     ensures written { IfOk result (λ bytes.
         IsWritten (layers_of_below below.entry) commits.now bytes.items) }
+    ensures accepted { IfOk result (λ _.
+        AreAccepted (layers_of_below below.entry) commits.now) }
     ensures refusal { IfErr result (MayRefuseWriting (layers_of_below below.entry) commits.now) }
 {
     let new = NewLayer::of(alloc, below, commits)?;
@@ -81,6 +85,10 @@ fn own_levels(
         → HasOnTop history (length below.now) new.now.parents
         → HasLevelDates history all dates below.now own.items times.now
         → AreRight history all dates) }
+    ensures acyclic { IfOk result (λ _. (history : List Node)
+        → HasOnTop history (length below.now) new.now.parents
+        → AreClosedBelow history (length below.now)
+        → HasNoCycleOnTop history (length below.now)) }
     ensures refusal { IfErr result (MayHaveNoLevels (length below.now) new.now) }
 {
     match levels(alloc, below, &new.parents, times) {

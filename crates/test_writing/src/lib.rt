@@ -2,6 +2,10 @@
 #![tactic(auto)]
 
 #[cfg(test)]
+mod made;
+#[cfg(test)]
 mod new_layers;
+#[cfg(test)]
+mod refusals;
 #[cfg(test)]
 mod written;

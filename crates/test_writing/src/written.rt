@@ -1,19 +1,20 @@
 //! Layers that were written, beside those that Git 2.39.5 wrote of the same commits, with
 //! `commitGraph.generationVersion=2`: their sizes and their checksums.
 
-use gix_commitgraph::{File, Graph, Position};
+use crate::made::{graph_of, graph_of_root, opened};
 use gix_hash_core::ObjectId;
-use graph_encoder::{LayerPlan, PlanCommit, build};
-use graph_history::{Checked, CheckedGraph};
-use graph_writer::{NewCommit, WriteError, write_layer};
+use graph_history::Checked;
+use graph_writer::{NewCommit, write_layer};
 use std::alloc::Global;
 use std::process::Abort;
 
 /// A commit of Git: its id, its parents by their places in the history, and its time.
 type Made = (&'static str, &'static [usize], u64);
 
-/// The root tree of all of them.
+/// The root tree of all of them: the empty one, by SHA-1 and by SHA-256.
 const TREE: &str = "4b825dc642cb6eb9a060e54bf8d69288fbee4904";
+
+const TREE_BY_SHA256: &str = "6ef19b41225c5369f1c104d45d8d85efa9b057b53b14b4b9b939dd74decc5321";
 
 /// Merges of two to five parents, two roots and one apart, times out of order, and offsets of dates
 /// past 31 bits.
@@ -53,6 +54,30 @@ const HISTORY: &[Made] = &[
     ("3b7c0ba71f02f6968f3933e695c3116b6a34d2e9", &[], 1),
 ];
 
+/// A merge of three parents, in a repository of SHA-256.
+const HISTORY_BY_SHA256: &[Made] = &[
+    (
+        "6223a0845613c4d37067a201effecb9ebc79f969f5f706ac7a9a3d5d9027ce18",
+        &[],
+        1500000000,
+    ),
+    (
+        "14342b21b0b182b10df0658dff81feff0a272b9327770d9329774bf606480fcc",
+        &[0],
+        1400000000,
+    ),
+    (
+        "8b0f94e7f6644e3c18f52683c3e77a8b4b9ab5112b59ec71d9ea8e31cd5bd14f",
+        &[0],
+        1500000001,
+    ),
+    (
+        "17f4d323e5b02be3298c74108a4b749b76ea8447f4426a197151bfded00447cb",
+        &[0, 1, 2],
+        1500000002,
+    ),
+];
+
 /// The first commits of the history that one layer has, where there are two.
 const LOWER: usize = 8;
 
@@ -61,19 +86,19 @@ fn id(rt: &impl Abort, text: &str) -> ObjectId {
     ObjectId::from_hex(text.as_bytes()).expect(rt, "an id")
 }
 
-/// The commit at a place of the history.
-fn commit(rt: &impl Abort, alloc: Global, place: usize) -> NewCommit {
-    let (own, listed, time) = *HISTORY.get(place).expect(rt, "a commit");
+/// The commit at a place of a history.
+fn commit(rt: &impl Abort, alloc: Global, history: &[Made], tree: &str, place: usize) -> NewCommit {
+    let (own, listed, time) = *history.get(place).expect(rt, "a commit");
     let mut parents = Vec::new(alloc);
     for place in listed {
-        let (parent, _, _) = *HISTORY.get(*place).expect(rt, "a parent");
+        let (parent, _, _) = *history.get(*place).expect(rt, "a parent");
         parents
             .push(id(rt, parent))
             .expect(rt, "memory for a parent");
     }
     NewCommit {
         id: id(rt, own),
-        tree: id(rt, TREE),
+        tree: id(rt, tree),
         parents,
         time,
     }
@@ -83,7 +108,7 @@ fn commit(rt: &impl Abort, alloc: Global, place: usize) -> NewCommit {
 fn commits(rt: &impl Abort, alloc: Global, from: usize, to: usize) -> Vec<NewCommit> {
     let mut all = Vec::new(alloc);
     for place in (from..to).rev() {
-        all.push(commit(rt, alloc, place))
+        all.push(commit(rt, alloc, HISTORY, TREE, place))
             .expect(rt, "memory for commits");
     }
     all
@@ -108,19 +133,6 @@ fn expect_file(rt: &impl Abort, bytes: &[u8], size: usize, checksum: &str) {
     );
 }
 
-/// The file with these bytes, of no name.
-fn opened(rt: &impl Abort, alloc: Global, bytes: Vec<u8>) -> File {
-    File::new(alloc, bytes, String::new(alloc)).expect(rt, "a file")
-}
-
-/// The graph of one file, checked.
-fn graph_of(rt: &impl Abort, alloc: Global, file: File) -> CheckedGraph {
-    let mut files = Vec::new(alloc);
-    files.push(file).expect(rt, "memory for a file");
-    let graph = Graph::new(alloc, files).expect(rt, "a graph");
-    CheckedGraph::new(alloc, graph).expect(rt, "a right graph")
-}
-
 #[test]
 fn a_file_is_as_git_writes_it(rt: HostRuntime) {
     let alloc = rt.alloc();
@@ -137,6 +149,23 @@ fn a_file_is_as_git_writes_it(rt: HostRuntime) {
         &whole,
         2000,
         "f72c03845ab9bc83333e27640c9c3ba248d804e1",
+    );
+}
+
+#[test]
+fn a_file_of_sha256_is_as_git_writes_it(rt: HostRuntime) {
+    let alloc = rt.alloc();
+    let history = HISTORY_BY_SHA256;
+    let mut all = Vec::new(alloc);
+    for place in (0..history.len()).rev() {
+        all.push(commit(&rt, alloc, history, TREE_BY_SHA256, place))
+            .expect(&rt, "memory for commits");
+    }
+    expect_file(
+        &rt,
+        &written(&rt, alloc, None, &all),
+        1480,
+        "a8ab93a0104a3afcf30dfc954a50f2a5a31b0d33c43ecb7d7818067971acb200",
     );
 }
 
@@ -159,27 +188,11 @@ fn a_layer_of_a_chain_is_as_git_writes_it(rt: HostRuntime) {
     assert_eq!(rt; graph.as_checked().num_commits() as usize, HISTORY.len());
 }
 
-/// A graph of the first commit, without corrected dates.
-fn graph_without_dates(rt: &impl Abort, alloc: Global) -> CheckedGraph {
-    let root = id(rt, HISTORY[0].0);
-    let mut plan = LayerPlan::new(alloc, root.as_oid().kind(), &[]).expect(rt, "memory");
-    let commit = PlanCommit {
-        id: root,
-        tree: id(rt, TREE),
-        parents: Vec::new(alloc),
-        generation: 1,
-        time: HISTORY[0].2,
-    };
-    plan.commits.push(commit).expect(rt, "memory for a commit");
-    assert!(rt; plan.is_buildable());
-    let bytes = build(alloc, &plan).expect(rt, "memory for a file");
-    graph_of(rt, alloc, opened(rt, alloc, bytes))
-}
-
 #[test]
 fn dates_follow_those_below(rt: HostRuntime) {
     let alloc = rt.alloc();
-    let graph = graph_without_dates(&rt, alloc);
+    let root = commit(&rt, alloc, HISTORY, TREE, 0);
+    let graph = graph_of_root(&rt, alloc, &root, None);
     let more = commits(&rt, alloc, 1, LOWER);
     let bytes = written(&rt, alloc, Some(&graph.as_checked()), &more);
     let layer = opened(&rt, alloc, bytes);
@@ -187,36 +200,4 @@ fn dates_follow_those_below(rt: HostRuntime) {
     assert!(rt; layer.chunk(*b"EDGE").is_some());
     let dated = written(&rt, alloc, None, &commits(&rt, alloc, 0, LOWER));
     assert!(rt; opened(&rt, alloc, dated).chunk(*b"GDO2").is_some());
-}
-
-/// Asserts why no layer is written of commits.
-fn expect_refusal(
-    rt: &impl Abort,
-    alloc: Global,
-    below: Option<&Checked<'_>>,
-    commits: &[NewCommit],
-    want: WriteError,
-) {
-    assert_eq!(rt; write_layer(alloc, below, commits).err(), Some(want));
-}
-
-#[test]
-fn a_commit_that_is_its_own_ancestor_is_refused(rt: HostRuntime) {
-    let alloc = rt.alloc();
-    let root = commit(&rt, alloc, 0);
-    let mut own = commit(&rt, alloc, 4);
-    own.parents.push(own.id).expect(&rt, "memory for a parent");
-    let all = [root, own];
-    expect_refusal(&rt, alloc, None, &all, WriteError::Cycle(1));
-}
-
-#[test]
-fn a_commit_below_is_refused(rt: HostRuntime) {
-    let alloc = rt.alloc();
-    let lower = written(&rt, alloc, None, &commits(&rt, alloc, 0, LOWER));
-    let graph = graph_of(&rt, alloc, opened(&rt, alloc, lower));
-    let more = commits(&rt, alloc, LOWER - 1, HISTORY.len());
-    // Of the ids below, that of the last of these commits is the second.
-    let refusal = write_layer(alloc, Some(&graph.as_checked()), &more).err();
-    assert_eq!(rt; refusal, Some(WriteError::Below(5, Position(1))));
 }

@@ -1,5 +1,5 @@
 use Rattle.std.proofs.Common.{◌≡◌, ◌<◌, ◌≤◌, ◌^◌, ℕ, true, false, List, Option, Some, None, IsSomeAnd, map, length}
-use Rattle.std.proofs.Common.{get_or, slice_get, inr}
+use Rattle.std.proofs.Common.{get_or, slice_get}
 use Rattle.std.proofs.Common.{option_map, sym, ap, ◌∙◌, subst, ⊎_elim, arith}
 use Rattle.std.specs.Prelude.{IfSome, IfNone, MatchOption}
 use Rattle.std.proofs.lemmas.Bool.{cases_lt}
@@ -10,19 +10,28 @@ use Rattle.graph_walks.specs.Generations.{AreLocal}
 use Rattle.graph_walks.specs.History.{Node}
 use Rattle.graph_format.specs.Layer.{Layer}
 use Rattle.graph_encoder.specs.DateOffsets.{offsets_of}
-use Rattle.graph_encoder.specs.Plan.{AreOffsets}
+use Rattle.graph_encoder.specs.Plan.{IsPlan, AreOffsets}
 use Rattle.graph_encoder.specs.declared.plan.LayerPlan.{LayerPlan}
 use Rattle.graph_levels.specs.OnTop.{FitTogether, HasOnTop, HasLevelGenerations, HasLevelDates, level_at}
+use Rattle.graph_levels.specs.OnTop.{AreClosedBelow, HasNoCycleOnTop}
 use Rattle.graph_levels.specs.ParentLists.{parent_list}
 use Rattle.graph_levels.specs.declared.level.Level.{Level}
+use Rattle.graph_writer.specs.Cycles.{HaveNoCycle}
+use Rattle.graph_writer.specs.LevelsBelow.{AreLevelsBelow}
 use Rattle.graph_writer.specs.NewCommits.{layers_of_below, new_times}
+use Rattle.graph_writer.specs.NewLayers.{IsNewLayer}
 use Rattle.graph_writer.specs.OwnLevels.{MayHaveNoLevels}
 use Rattle.graph_writer.specs.PlannedCommits.{IsPlanOf, AreOffsetsOf}
+use Rattle.graph_writer.specs.WriteRefusal.{new_layer_refusal}
 use Rattle.graph_writer.specs.WritingRefusal.{word_count}
 use Rattle.graph_writer.specs.declared.commit.NewCommit.{NewCommit}
+use Rattle.graph_writer.specs.declared.levels_below.LevelsBelow.{LevelsBelow}
+use Rattle.graph_writer.specs.declared.new_layer.NewLayer.{NewLayer}
+use Rattle.graph_writer.proofs.AcyclicSteps.{acyclic}
 use Rattle.graph_writer.proofs.FitSteps.{fit-together}
-use Rattle.graph_writer.proofs.PlanSteps.{is-plan}
-use Rattle.graph_writer.proofs.ReasonSteps.{refused-new, refused-levels}
+use Rattle.graph_writer.proofs.PlanSteps.{all-words, is-plan}
+use Rattle.graph_writer.proofs.ReasonSteps.{refused-new, refused-dates, refused-levels, refused-layers}
+use Rattle.graph_writer.proofs.ReasonSteps.{refused-edges}
 use Rattle.graph_writer.proofs.WriteSteps.{HasOffsets, written}
 use Rattle.graph_writer.proofs.write.write_layer.Goals as goal
 
@@ -43,6 +52,25 @@ returns-in_err-new-clause-refusal c =
     rw (handed.1, handed.2)
     (refused-new (layers_of_below c.args.below) c.args.commits.now _ c.in_err-new.ensures.refusal)
 
+-- levels leave no cycle
+no-cycle-left : (layers : List Layer) (commits : List NewCommit) (new : NewLayer) → IsNewLayer layers commits new
+    → new_layer_refusal layers commits ≡ None → (known : LevelsBelow) → AreLevelsBelow layers known → (read : List Level)
+    → read ≡ known.levels.items
+    → ((h : List Node) → HasOnTop h (length read) new.parents → AreClosedBelow h (length read) → HasNoCycleOnTop h (length read))
+    → HaveNoCycle commits
+no-cycle-left layers commits new is_new none known below read same h =
+    acyclic layers commits new is_new none
+    (subst
+    (λ (n : ℕ). (h : List Node) → HasOnTop h n new.parents → AreClosedBelow h n → HasNoCycleOnTop h n)
+    (ap length same ∙ below.as_many) h)
+
+pub returns-in_err-known-clause-refusal : goal.returns-in_err-known-clause-refusal
+returns-in_err-known-clause-refusal c =
+    let handed = err_from_is_err_and c.from_residual-in_err-known.result c.from_residual-in_err-known.ensures.1 in
+    rw (handed.1, handed.2)
+    (refused-dates (layers_of_below c.args.below) c.args.commits.now c.in_ok-new.ensures.accepted _
+    c.in_err-known.ensures.refusal)
+
 pub own_levels-requires-clause-fits : goal.own_levels-requires-clause-fits
 own_levels-requires-clause-fits c =
     subst (λ (ls : List Level). FitTogether ls c.in_ok-new.new.parents c.deref-3.result.now) (sym c.deref-2.ensures.value)
@@ -57,9 +85,23 @@ returns-in_err-own-clause-refusal c =
     let handed = err_from_is_err_and c.from_residual-in_err-own.result c.from_residual-in_err-own.ensures.1 in
     let base = ap length c.deref-2.ensures.value ∙ c.in_ok-known.ensures.levels.as_many in
     rw (handed.1, handed.2)
-    (refused-levels (layers_of_below c.args.below) c.args.commits.now c.in_ok-new.ensures.accepted c.in_ok-new.new
-    c.in_ok-new.ensures.layer _
+    (refused-levels (layers_of_below c.args.below) c.args.commits.now c.in_ok-new.ensures.accepted
+    c.in_ok-known.ensures.levels.accepted c.in_ok-new.new c.in_ok-new.ensures.layer _
     (subst (λ (n : ℕ). MayHaveNoLevels n c.in_ok-new.new c.in_err-own.field-0.0) base c.in_err-own.ensures.refusal))
+
+pub returns-then-len-gt-MOST_BELOW-clause-refusal : goal.returns-then-len-gt-MOST_BELOW-clause-refusal
+returns-then-len-gt-MOST_BELOW-clause-refusal c =
+    let layers : List Layer = layers_of_below c.args.below in
+    refused-layers layers c.args.commits.now c.in_ok-new.ensures.accepted c.in_ok-known.ensures.levels.accepted
+    (no-cycle-left layers c.args.commits.now c.in_ok-new.new c.in_ok-new.ensures.layer c.in_ok-new.ensures.accepted
+    c.in_ok-known.known c.in_ok-known.ensures.levels c.deref-2.result.now c.deref-2.ensures.value c.in_ok-own.ensures.acyclic)
+    (omega (
+      arith,
+      c.if-len-gt-MOST_BELOW.true,
+      c.len.ensures,
+      ap length c.in_ok-checksums_below.ensures,
+      length-map layers (λ (l : Layer). l.checksum),
+    ))
 
 pub returns-then-not-is_buildable-clause-refusal : goal.returns-then-not-is_buildable-clause-refusal
 returns-then-not-is_buildable-clause-refusal c =
@@ -89,29 +131,32 @@ returns-then-not-is_buildable-clause-refusal c =
     ∙ sym c.in_ok-new.ensures.layer.listed
     ∙ sym c.in_ok-own.ensures.len
     ∙ sym (ap length c.deref-6.ensures.value) in
-    let bound : 2 ^ 31 ≤ word_count new =
-    ⊎_elim
-    (λ (less : word_count new < 2 ^ 31).
-    let yes_it_is : c.is_buildable.result ≡ true =
-    c.is_buildable.ensures.1
-    (is-plan layers commits new c.in_ok-new.ensures.layer own plan c.in_ok-planned_commits.ensures.as_many planned
-    c.in_ok-new.ensures.accepted c.in_ok-known.known c.in_ok-known.ensures.levels c.kind_to_write.ensures
-    c.in_ok-checksums_below.ensures
-    (omega (
+    let few : length layers ≤ 255 =
+    omega (
       arith,
       c.if-len-gt-MOST_BELOW.false,
       c.len.ensures,
       ap length c.in_ok-checksums_below.ensures,
       length-map layers (λ (l : Layer). l.checksum),
-    ))
-    c.in_ok-own.ensures.len (λ p lt. (c.in_ok-own.ensures.bounds p lt).0)
+    ) in
+    let bound : 2 ^ 31 ≤ word_count commits =
+    ⊎_elim
+    (λ (less : word_count commits < 2 ^ 31).
+    let yes_it_is : c.is_buildable.result ≡ true =
+    c.is_buildable.ensures.1
+    (is-plan layers commits new c.in_ok-new.ensures.layer own plan c.in_ok-planned_commits.ensures.as_many planned
+    c.in_ok-new.ensures.accepted c.in_ok-known.known c.in_ok-known.ensures.levels c.kind_to_write.ensures
+    c.in_ok-checksums_below.ensures few c.in_ok-own.ensures.len (λ p lt. (c.in_ok-own.ensures.bounds p lt).0)
     (offsets-fit (offsets_of plan) _ _ c.deref-5.result.now c.deref-6.result.now (length plan.commits.items) size match_offsets)
     less) in
     let no_it_is : c.is_buildable.result ≡ false = c.if-not-is_buildable.true in
     absurd (cc))
-    (λ (many : 2 ^ 31 ≤ word_count new). many)
-    (cases_lt (word_count new) (2 ^ 31)) in
-    inr (inr (c.in_ok-new.ensures.accepted, (new, c.in_ok-new.ensures.layer, bound)))
+    (λ (many : 2 ^ 31 ≤ word_count commits). many)
+    (cases_lt (word_count commits) (2 ^ 31)) in
+    refused-edges layers commits c.in_ok-new.ensures.accepted c.in_ok-known.ensures.levels.accepted
+    (no-cycle-left layers commits c.in_ok-new.new c.in_ok-new.ensures.layer c.in_ok-new.ensures.accepted
+    c.in_ok-known.known c.in_ok-known.ensures.levels c.deref-2.result.now c.deref-2.ensures.value c.in_ok-own.ensures.acyclic)
+    few bound
 
 pub returns-clause-written : goal.returns-clause-written
 returns-clause-written c path =
@@ -164,3 +209,42 @@ returns-clause-written c path =
           ))
           c.in_ok-planned_commits.ensures.as_many planned has c.in_ok-build.field-0.items path found.0 found.1 found.2,
     )
+
+pub returns-clause-accepted : goal.returns-clause-accepted
+returns-clause-accepted c =
+    let layers : List Layer = layers_of_below c.args.below in
+    let commits : List NewCommit = c.args.commits.now in
+    let new = c.in_ok-new.new in
+    let own : List Level = c.in_ok-own.own.items in
+    let plan : LayerPlan = record {
+      kind = c.kind_to_write.result;
+      bases = c.in_ok-checksums_below.field-0;
+      commits = c.in_ok-planned_commits.field-0;
+      date_offsets = c.in_ok-offsets_of.field-0;
+    } in
+    let planned =
+    subst (λ (ls : List Level). (p i : ℕ) (commit : NewCommit) → slice_get new.order.items p ≡ Some i
+    → slice_get commits i ≡ Some commit
+    → IsSomeAnd (slice_get plan.commits.items p) (IsPlanOf commit (parent_list new.parents p) (level_at ls p).generation))
+    c.deref-4.ensures.value c.in_ok-planned_commits.ensures.each in
+    let is : IsPlan plan = c.is_buildable.ensures.0 c.if-not-is_buildable.false in
+    record {
+      new = c.in_ok-new.ensures.accepted;
+      dates = c.in_ok-known.ensures.levels.accepted;
+      acyclic =
+          no-cycle-left layers commits new c.in_ok-new.ensures.layer c.in_ok-new.ensures.accepted
+          c.in_ok-known.known c.in_ok-known.ensures.levels c.deref-2.result.now c.deref-2.ensures.value
+          c.in_ok-own.ensures.acyclic;
+      layers_below = omega (
+        arith,
+        c.if-len-gt-MOST_BELOW.false,
+        c.len.ensures,
+        ap length c.in_ok-checksums_below.ensures,
+        length-map layers (λ (l : Layer). l.checksum),
+      );
+      edges = omega (
+        arith,
+        is.few_words,
+        all-words layers commits new c.in_ok-new.ensures.layer own plan c.in_ok-planned_commits.ensures.as_many planned,
+      );
+    }

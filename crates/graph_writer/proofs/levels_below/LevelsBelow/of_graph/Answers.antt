@@ -1,8 +1,9 @@
-use Rattle.std.proofs.Common.{◌≡◌, List, All, subst}
+use Rattle.std.proofs.Common.{◌≡◌, List, All, None, subst}
 use Rattle.std.specs.Prelude.{IfSome, IfNone}
 use Rattle.graph_walks.specs.Dates.{AreRight}
 use Rattle.graph_format.specs.Layer.{Layer}
 use Rattle.graph_format.specs.StoredHistory.{history_of}
+use Rattle.graph_chunks.specs.GraphDates.{graph_dates_refusal}
 use Rattle.graph_chunks.specs.GraphStoredDates.{HasDates, times_of, dates_of}
 use Rattle.graph_writer.proofs.FitSteps.{graph-levels}
 use Rattle.graph_writer.proofs.levels_below.LevelsBelow.of_graph.Goals as goal
@@ -17,3 +18,4 @@ returns-clause-levels c =
     (subst (λ (g : List Layer). IfNone dates (¬ All HasDates g)) same c.in-Ok.ensures.none)
     (subst (λ (g : List Layer). IfSome dates (λ found. found ≡ dates_of g)) same c.in-Ok.ensures.stored)
     (subst (λ (g : List Layer). IfSome dates (λ found. AreRight (history_of g) (times_of g) found)) same c.in-Ok.ensures.right)
+    (subst (λ (g : List Layer). IfSome dates (λ _. graph_dates_refusal g ≡ None)) same c.in-Ok.ensures.accepted)

@@ -1,67 +1,59 @@
-use Rattle.std.proofs.Common.{◌≡◌, ◌==◌, ◌+◌, ◌<◌, ◌≤◌, ℕ, true, false, List, Some, None, All, inl, inr, length, slice_get}
+use Rattle.std.proofs.Common.{◌≡◌, ◌==◌, ◌+◌, ◌<◌, ◌≤◌, ℕ, false, List, Some, None, All, inl, inr, length, slice_get}
 use Rattle.std.proofs.Common.{get_or}
 use Rattle.std.proofs.Common.{refl, sym, ap, ◌∙◌, subst, arith}
 use Rattle.std.proofs.lemmas.Bool.{lt-ltb, le-ltb}
 use Rattle.std.proofs.lemmas.Result.{err_from_is_err_and}
-use Rattle.gix_chunk_core.specs.FirstFault.{first_below}
 use Rattle.gix_commitgraph.specs.Graph.{total}
-use Rattle.gix_hash_core.specs.declared.kind.Kind.{Kind}
 use Rattle.graph_format.specs.Layer.{Layer}
 use Rattle.graph_format.specs.declared.TheConstants.{MAX_COMMITS}
 use Rattle.graph_levels.specs.ParentLists.{parent_list}
 use Rattle.graph_writer.specs.NewCommits.{layers_of_below}
 use Rattle.graph_writer.specs.SortedPlaces.{HasPlaceAt, sorted_ids}
-use Rattle.graph_writer.specs.WriteRefusal.{own_refusal_at}
-use Rattle.graph_writer.specs.declared.commit.WriteError.TheVariants as error
 use Rattle.graph_writer.specs.declared.order.Place.{Place}
 use Rattle.graph_writer.proofs.NewLayerSteps.{new-layer, numbers_in, ranks-hold}
-use Rattle.graph_writer.proofs.RefusalSteps.{own_fault, refused-own, refused-twice, refused-below, refused-many, refused-later}
-use Rattle.graph_writer.proofs.RefusalSteps.{refused-parent, refused-nothing}
+use Rattle.graph_writer.proofs.RefusalSteps.{own_fault, refused-plain, refused-twice, refused-below, refused-many, refused-later}
+use Rattle.graph_writer.proofs.RefusalSteps.{refused-parent, refused-nothing, plain-own, plain-some}
 use Rattle.graph_writer.proofs.new_layer.NewLayer.of.Goals as goal
 
-pub returns-in_err-check_each-clause-refusal : goal.returns-in_err-check_each-clause-refusal
-returns-in_err-check_each-clause-refusal c =
+pub returns-in_err-check_alone-clause-refusal : goal.returns-in_err-check_alone-clause-refusal
+returns-in_err-check_alone-clause-refusal c =
     let layers : List Layer = layers_of_below c.args.below in
-    let commits = c.args.commits.now in
     let handed = err_from_is_err_and c.from_residual.result c.from_residual.ensures.1 in
     rw (handed.1, handed.2)
-    (inr
-    (refused-own layers commits _
-    (ap (λ (kind : Kind). first_below (own_refusal_at kind commits) (length commits)) (sym c.kind_to_write.ensures)
-    ∙ c.in_err-check_each.ensures)))
+    (inl
+    (refused-plain layers c.args.commits.now _
+    (omega (arith, c.number_below-start.ensures.commits, c.number_below-start.ensures.few))
+    c.in_err-check_alone.ensures))
 
 pub returns-in_err-numbers-clause-refusal : goal.returns-in_err-numbers-clause-refusal
 returns-in_err-numbers-clause-refusal c =
     let layers : List Layer = layers_of_below c.args.below in
     let commits = c.args.commits.now in
-    let own : own_fault layers commits ≡ None =
-    ap (λ (kind : Kind). first_below (own_refusal_at kind commits) (length commits)) (sym c.kind_to_write.ensures)
-    ∙ c.in_ok-check_each.ensures in
+    let own : own_fault layers commits ≡ None = plain-own layers commits c.in_ok-check_alone.ensures in
     let handed = err_from_is_err_and c.from_residual-in_err-numbers.result c.from_residual-in_err-numbers.ensures.1 in
     rw (handed.1, handed.2)
-    (elim c.in_err-numbers.ensures.twice [ inl memory ↦ inl memory | inr is ↦ inr (refused-twice layers commits _ own is) ])
+    (elim c.in_err-numbers.ensures.twice [
+      | inl memory ↦ inr (memory, c.in_ok-check_alone.ensures)
+      | inr is ↦ inl (refused-twice layers commits _ own is)
+    ])
 
 pub returns-in_err-check_all_new-clause-refusal : goal.returns-in_err-check_all_new-clause-refusal
 returns-in_err-check_all_new-clause-refusal c =
     let layers : List Layer = layers_of_below c.args.below in
     let commits = c.args.commits.now in
-    let own : own_fault layers commits ≡ None =
-    ap (λ (kind : Kind). first_below (own_refusal_at kind commits) (length commits)) (sym c.kind_to_write.ensures)
-    ∙ c.in_ok-check_each.ensures in
+    let own : own_fault layers commits ≡ None = plain-own layers commits c.in_ok-check_alone.ensures in
     let handed = err_from_is_err_and c.from_residual-in_err-check_all_new.result c.from_residual-in_err-check_all_new.ensures.1 in
     rw (handed.1, handed.2)
-    (inr (refused-below layers commits _ own c.in_ok-numbers.ensures.once c.in_err-check_all_new.ensures))
+    (inl (refused-below layers commits _ own c.in_ok-numbers.ensures.once c.in_err-check_all_new.ensures))
 
 pub returns-then-commits-start-clause-refusal : goal.returns-then-commits-start-clause-refusal
 returns-then-commits-start-clause-refusal c =
     let layers : List Layer = layers_of_below c.args.below in
     let commits = c.args.commits.now in
-    let own : own_fault layers commits ≡ None =
-    ap (λ (kind : Kind). first_below (own_refusal_at kind commits) (length commits)) (sym c.kind_to_write.ensures)
-    ∙ c.in_ok-check_each.ensures in
+    let own : own_fault layers commits ≡ None = plain-own layers commits c.in_ok-check_alone.ensures in
     let many : MAX_COMMITS < total layers + length commits =
     omega (arith, c.if-commits-start.true, c.number_below-start.ensures.commits, c.number_below-start.ensures.few) in
-    inr
+    inl
     (refused-many layers commits own c.in_ok-numbers.ensures.once c.in_ok-check_all_new.ensures
     (lt-ltb MAX_COMMITS (total layers + length commits) many))
 
@@ -75,35 +67,18 @@ pub returns-in_err-parents-clause-refusal : goal.returns-in_err-parents-clause-r
 returns-in_err-parents-clause-refusal c =
     let layers : List Layer = layers_of_below c.args.below in
     let commits = c.args.commits.now in
-    let own : own_fault layers commits ≡ None =
-    ap (λ (kind : Kind). first_below (own_refusal_at kind commits) (length commits)) (sym c.kind_to_write.ensures)
-    ∙ c.in_ok-check_each.ensures in
+    let own : own_fault layers commits ≡ None = plain-own layers commits c.in_ok-check_alone.ensures in
     let few : total layers + length commits ≤ MAX_COMMITS =
     omega (arith, c.if-commits-start.false, c.number_below-start.ensures.commits, c.number_below-start.ensures.few) in
     let handed = err_from_is_err_and c.from_residual-in_err-parents.result c.from_residual-in_err-parents.ensures.1 in
     rw (handed.1, handed.2)
     (elim c.in_err-parents.ensures.unknown [
-      | inl memory ↦ inl memory
+      | inl memory ↦ inr (memory, c.in_ok-check_alone.ensures)
       | inr is ↦
-          inr
+          inl
           (refused-later layers commits (Some _) own c.in_ok-numbers.ensures.once c.in_ok-check_all_new.ensures
           (le-ltb MAX_COMMITS (total layers + length commits) few) (refused-parent layers commits _ is))
     ])
-
-pub returns-then-is_empty-clause-refusal : goal.returns-then-is_empty-clause-refusal
-returns-then-is_empty-clause-refusal c =
-    let layers : List Layer = layers_of_below c.args.below in
-    let commits = c.args.commits.now in
-    let own : own_fault layers commits ≡ None =
-    ap (λ (kind : Kind). first_below (own_refusal_at kind commits) (length commits)) (sym c.kind_to_write.ensures)
-    ∙ c.in_ok-check_each.ensures in
-    let few : total layers + length commits ≤ MAX_COMMITS =
-    omega (arith, c.if-commits-start.false, c.number_below-start.ensures.commits, c.number_below-start.ensures.few) in
-    let none : (length commits == 0) ≡ true = sym c.is_empty.ensures ∙ c.if-is_empty.true in
-    inr
-    (refused-later layers commits (Some error.Nothing) own c.in_ok-numbers.ensures.once c.in_ok-check_all_new.ensures
-    (le-ltb MAX_COMMITS (total layers + length commits) few)
-    (refused-nothing layers commits true (Some error.Nothing) c.in_ok-parents.ensures.found none refl))
 
 pub in_order-requires : goal.in_order-requires
 in_order-requires c p place at =
@@ -138,12 +113,10 @@ pub returns-clause-accepted : goal.returns-clause-accepted
 returns-clause-accepted c =
     let layers : List Layer = layers_of_below c.args.below in
     let commits = c.args.commits.now in
-    let own : own_fault layers commits ≡ None =
-    ap (λ (kind : Kind). first_below (own_refusal_at kind commits) (length commits)) (sym c.kind_to_write.ensures)
-    ∙ c.in_ok-check_each.ensures in
+    let own : own_fault layers commits ≡ None = plain-own layers commits c.in_ok-check_alone.ensures in
     let few : total layers + length commits ≤ MAX_COMMITS =
     omega (arith, c.if-commits-start.false, c.number_below-start.ensures.commits, c.number_below-start.ensures.few) in
-    let some : (length commits == 0) ≡ false = sym c.is_empty.ensures ∙ c.if-is_empty.false in
+    let some : (length commits == 0) ≡ false = plain-some layers commits c.in_ok-check_alone.ensures in
     refused-later layers commits None own c.in_ok-numbers.ensures.once c.in_ok-check_all_new.ensures
     (le-ltb MAX_COMMITS (total layers + length commits) few)
     (refused-nothing layers commits false None c.in_ok-parents.ensures.found some refl)

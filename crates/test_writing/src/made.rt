@@ -1,0 +1,68 @@
+//! Commits and graphs for the tests.
+
+use gix_commitgraph::{File, Graph};
+use gix_hash_core::ObjectId;
+use graph_encoder::{LayerPlan, PlanCommit, build};
+use graph_history::CheckedGraph;
+use graph_writer::NewCommit;
+use std::alloc::Global;
+use std::process::Abort;
+
+/// The id whose bytes are all this one.
+pub(crate) fn id(byte: u8) -> ObjectId {
+    ObjectId::from([byte; 20])
+}
+
+/// A commit with this id and these parents. Where an allocation fails, the process aborts.
+pub(crate) fn commit(rt: &impl Abort, alloc: Global, byte: u8, parents: &[u8]) -> NewCommit {
+    let mut ids = Vec::new(alloc);
+    for parent in parents {
+        ids.push(id(*parent)).expect(rt, "memory for a parent");
+    }
+    NewCommit {
+        id: id(byte),
+        tree: id(0xee),
+        parents: ids,
+        time: 1000,
+    }
+}
+
+/// The file with these bytes, of no name.
+pub(crate) fn opened(rt: &impl Abort, alloc: Global, bytes: Vec<u8>) -> File {
+    File::new(alloc, bytes, String::new(alloc)).expect(rt, "a file")
+}
+
+/// The graph of one file, checked.
+pub(crate) fn graph_of(rt: &impl Abort, alloc: Global, file: File) -> CheckedGraph {
+    let mut files = Vec::new(alloc);
+    files.push(file).expect(rt, "memory for a file");
+    let graph = Graph::new(alloc, files).expect(rt, "a graph");
+    CheckedGraph::new(alloc, graph).expect(rt, "a right graph")
+}
+
+/// A graph of one commit without parents, whose date is so many seconds past its time, if it has
+/// one.
+pub(crate) fn graph_of_root(
+    rt: &impl Abort,
+    alloc: Global,
+    root: &NewCommit,
+    offset: Option<u64>,
+) -> CheckedGraph {
+    let mut plan = LayerPlan::new(alloc, root.id.as_oid().kind(), &[]).expect(rt, "memory");
+    let commit = PlanCommit {
+        id: root.id,
+        tree: root.tree,
+        parents: Vec::new(alloc),
+        generation: 1,
+        time: root.time,
+    };
+    plan.commits.push(commit).expect(rt, "memory for a commit");
+    if let Some(seconds) = offset {
+        let mut offsets = Vec::new(alloc);
+        offsets.push(seconds).expect(rt, "memory for an offset");
+        plan.date_offsets = Some(offsets);
+    }
+    assert!(rt; plan.is_buildable());
+    let bytes = build(alloc, &plan).expect(rt, "memory for a file");
+    graph_of(rt, alloc, opened(rt, alloc, bytes))
+}
