@@ -51,6 +51,7 @@ enum cg_code {
     CG_NO_DATES = 6,
     CG_MORE_PARENTS = 7,
     CG_PATH_WANTED = 8,
+    CG_NO_SUCH_LAYER = 9,
 
     /* Nothing is opened at a path: "open N" in docs/REFUSALS.md. */
     CG_OPEN_NOTHING_FOUND = 21,
@@ -332,6 +333,25 @@ typedef struct cg_count { uint32_t parents, commits; } cg_count;
  * nothing. */
 uint32_t cg_verify(cg_graph graph, bool distinct_ids, cg_verdict *out, cg_count *counts, size_t counts_len);
 
+/* What a check found in a layer. `code` is
+ *   CG_OK               where it is right alone: `num_commits` is the number of its commits, the generation numbers are those
+ *                       from `min_generation` to `max_generation`, both 0 of no commits, and `max_parents` is the greatest number
+ *                       of parents;
+ *   341 to 343          where the layer has a fault, and CG_CHECK_FAN at the byte `byte`;
+ *   351 to 353          where the commit at `position` has one, which counts from 0 in the layer;
+ *   361 to 364          where its parents cannot be decoded;
+ *   CG_OUT_OF_MEMORY;
+ *   CG_NO_SUCH_LAYER    where there is no such layer; and CG_CLOSED_GRAPH.
+ * The first fault is told. What is not named is 0. */
+typedef struct cg_layer_verdict {
+    uint32_t code, num_commits, min_generation, max_generation, max_parents, position, byte;
+} cg_layer_verdict;
+
+/* Checks a layer, which counts from the lowest, as a file of its own: its checksum, its file's name, its fan, its ids, its trees, and
+ * that its parents can be decoded. What it says of the layers below it is not looked at, and neither are its generation numbers.
+ * Answers the verdict's code, and *out is always written. */
+uint32_t cg_verify_layer(cg_graph graph, uint64_t layer, cg_layer_verdict *out);
+
 /* A search for a walk. `code` is
  *   CG_CLOSED_GRAPH; else
  *   CG_NOT_CHECKED         where the graph is none that cg_open_checked or cg_check has handed out; else
@@ -445,6 +465,7 @@ static inline const char *cg_strerror(uint32_t code) {
     case CG_NO_DATES: return "a layer has no corrected dates";
     case CG_MORE_PARENTS: return "the commit has more parents than there is room for";
     case CG_PATH_WANTED: return "it has to be known what stands at one more path";
+    case CG_NO_SUCH_LAYER: return "the graph has no such layer";
     case CG_OPEN_NOTHING_FOUND: return "no file or folder is at the path";
     case CG_OPEN_NOT_OPENED: return "a file is not there or may not be read";
     case CG_OPEN_READ_FAILED: return "reading a file failed";

@@ -32,6 +32,7 @@ class Code(enum.IntEnum):
     NO_DATES = 6
     MORE_PARENTS = 7
     PATH_WANTED = 8
+    NO_SUCH_LAYER = 9
     OPEN_NOTHING_FOUND = 21
     OPEN_NOT_OPENED = 22
     OPEN_READ_FAILED = 23
@@ -111,6 +112,7 @@ SENTENCES = {
     Code.NO_DATES: "a layer has no corrected dates",
     Code.MORE_PARENTS: "the commit has more parents than there is room for",
     Code.PATH_WANTED: "it has to be known what stands at one more path",
+    Code.NO_SUCH_LAYER: "the graph has no such layer",
     Code.OPEN_NOTHING_FOUND: "no file or folder is at the path",
     Code.OPEN_NOT_OPENED: "a file is not there or may not be read",
     Code.OPEN_READ_FAILED: "reading a file failed",

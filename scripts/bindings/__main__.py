@@ -12,6 +12,7 @@ proved the crates which the library uses.
 import chunked
 import concurrent.futures
 import functools
+import gix
 import large
 import layout
 import os
@@ -297,6 +298,7 @@ def fields(name, compiler, archive, scratch):
         told = [row for row in rows if row[0] == "commit"][verdict[4]]
         expect(f"{name}: each field, {fault}", ["verdict", *verdict] in rows and told[3:] == parents + parents, rows)
         expect(f"{name}: refused, {fault}", ["checked", verdict[0], 0, 0, 0] in rows, rows)
+        alone_as_told(f"{name}: {fault}", rows, verdict)
     for fault, data, dates in layout.date_faults(graph.read_bytes(), history):
         file.write_bytes(data)
         rows, _ = layout.without_visits(run(program, file).stdout.splitlines())
@@ -308,8 +310,17 @@ def fields(name, compiler, archive, scratch):
             path.write_bytes(data)
         rows, _ = layout.without_visits(run(program, *files).stdout.splitlines())
         expect(f"{name}: each field, {fault}", rows[0] == ["error", *error] and rows[1] == ["verdict", *verdict], rows)
+        alone_as_told(f"{name}: {fault}", rows, verdict)
         told = [row[1:] for row in rows if row[0] == "layer"]
         expect(f"{name}: layers, {fault}", told == (layout.layers_of(layers) if error[0] == 0 else []), told)
+
+
+def alone_as_told(name, rows, verdict):
+    """What is told of layers alone: the fault of one that the verdict names; else that all are right."""
+    alone, layers = ([row[1:] for row in rows if row[0] == word] for word in ("alone", "layer"))
+    at, wanted = layout.alone(verdict, layers) or (None, None)
+    others = [row for number, row in enumerate(alone) if number != at]
+    expect(f"{name}, each layer alone", all(row[0] == 0 for row in others) and (at is None or alone[at] == wanted), alone)
 
 
 def many_commits(compiler, archive, scratch):
@@ -449,6 +460,31 @@ def rust(environment, archive, scratch, graphs):
         same_as_program(f"Rust, {kind}, chain", built / "ask", where / ".git/objects/info/commit-graphs", commits)
     same_as_real("Rust", built / "ask", scratch, folders=True)
     same_chunks("Rust", built / "ask", scratch, folders=True)
+    names_of_the_original(crate / "gix-commitgraph", environment, scratch)
+
+
+def names_of_the_original(crate, environment, scratch):
+    """The crate with the names of `gix-commitgraph`, over the graphs of scripts/real_data: beside `graphtool`, and beside the original,
+    or what it answered once."""
+    done, program = gix.build(crate, environment)
+    expect("gix-commitgraph: each public item", done.returncode == 0, done)
+    done, original = gix.build_original(crate, environment, scratch)
+    expect("gix-commitgraph: each public item of the original", done is None or done.returncode == 0, done)
+    known, unknown = gix.recorded(), 0
+    for kind in KINDS if GRAPHTOOL else ():
+        for title, graph, ids in [*real.graphs(scratch / "real", kind), *real.damaged(scratch / "real", kind)]:
+            for words, good, detail in gix.beside_graphtool(program, graph, ids, told_by_program, listed_by_program):
+                expect(f"gix-commitgraph, {title}: {words}", good, detail)
+            path = gix.opened(graph)
+            listed = listed_by_program(path).stdout if path.is_file() else ""
+            if gix.is_excused(title, listed, told_by_program("verify", path).stdout):
+                continue
+            key, answers = gix.digest_of(program, graph, ids)
+            wanted = gix.digest_of(original, graph, ids)[1] if original else known.get(key)
+            unknown += wanted is None
+            expect(f"gix-commitgraph, {title}: as the original", wanted in (None, answers), graph)
+    if unknown:
+        print(f"gix-commitgraph: {unknown} graphs are left out, since no answer of the original was recorded for their bytes")
 
 
 def c(compiler, archive, scratch, graphs):

@@ -59,10 +59,30 @@ static int not_right(cg_verdict v) {
     return 1;
 }
 
+/* Whether the check of each layer alone agrees with that of the graph, which comes to a fault of a layer or of its commits first. */
+static bool layers_agree(cg_graph graph, cg_verdict v) {
+    cg_layer_info layer;
+    cg_layer_verdict alone;
+    uint64_t number = 0;
+    uint32_t commits = 0;
+    for (; cg_layer(graph, number, &layer); number++, commits += layer.num_commits) {
+        if (cg_verify_layer(graph, number, &alone) != alone.code) return false;
+        bool here = v.code <= CG_CHECK_FAN ? v.layer == number : v.position >= commits && v.position - commits < layer.num_commits;
+        if (v.code == CG_OK && (alone.code || alone.num_commits != layer.num_commits || alone.position || alone.byte)) return false;
+        if (v.code == CG_OK && (alone.min_generation > alone.max_generation || alone.max_generation > v.longest + 1)) return false;
+        if (v.code < CG_CHECK_CHECKSUM || !here) continue;
+        if (alone.code != v.code || alone.num_commits || alone.min_generation || alone.max_generation || alone.max_parents) return false;
+        if (alone.position != (v.position ? v.position - commits : 0) || alone.byte != v.other) return false;
+    }
+    return cg_verify_layer(graph, number, &alone) == CG_NO_SUCH_LAYER && alone.code == CG_NO_SUCH_LAYER && !alone.num_commits;
+}
+
 static int check(cg_graph graph, bool distinct) {
     cg_verdict v;
     cg_count counts[ROOM];
-    if (cg_verify(graph, distinct, &v, counts, ROOM)) return not_right(v);
+    uint32_t code = cg_verify(graph, distinct, &v, counts, ROOM);
+    if (!distinct && (v.has_longest || v.code) && !layers_agree(graph, v)) return 9;
+    if (code) return not_right(v);
     printf("ok commits %" PRIu32 " longest ", v.num_commits);
     if (v.has_longest) printf("%" PRIu32 "\n", v.longest);
     else puts("none");
@@ -285,7 +305,9 @@ static bool closed_answers(void) {
     cg_pair pair = { 0, 0 };
     uint64_t date = 7;
     cg_layer_info layer = { .first = 7 };
+    cg_layer_verdict alone = { .byte = 7 };
     cg_graph none = CG_CLOSED;
+    if (cg_verify_layer(CG_CLOSED, 0, &alone) != CG_CLOSED_GRAPH || alone.code != CG_CLOSED_GRAPH || alone.byte) return false;
     if (cg_close(CG_CLOSED) || cg_num_layers(CG_CLOSED) || cg_layer(CG_CLOSED, 0, &layer) || layer.first != 7) return false;
     if (cg_layer_checksum(CG_CLOSED, 0, id, 20) || cg_base_id_at(CG_CLOSED, 0, 0, id, 20)) return false;
     if (cg_check(CG_CLOSED, true, &verdict, &count, 1, &none) != CG_CLOSED_GRAPH || verdict.code != CG_CLOSED_GRAPH) return false;

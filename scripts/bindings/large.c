@@ -182,6 +182,7 @@ static void opened_and_checked(const cg_file *file, cg_graph graph) {
     cg_graph opened = CG_CLOSED, checked = CG_CLOSED;
     cg_layer_info layer;
     cg_verdict found, verdict;
+    cg_layer_verdict alone;
     cg_count counts[KINDS];
     uint8_t id[LEN];
     cg_known known = { "a", 1, file->bytes, file->len, CG_READ };
@@ -191,6 +192,9 @@ static void opened_and_checked(const cg_file *file, cg_graph graph) {
     uint32_t code = cg_verify(graph, true, &found, counts, KINDS);
     agree(cg_check(opened, true, &verdict, counts, KINDS, &checked) == code && verdict.longest == found.longest);
     agree(cg_num_commits(checked) == (code ? 0 : layer.num_commits));
+    agree(cg_verify_layer(graph, 0, &alone) == alone.code && cg_verify_layer(graph, 1, &alone) == CG_NO_SUCH_LAYER);
+    if (!code) agree(!cg_verify_layer(graph, 0, &alone) && alone.num_commits == layer.num_commits);
+    if (!code) agree(alone.min_generation == 1 && alone.max_generation == found.longest + 1 && alone.max_parents);
     cg_close(checked);
 }
 

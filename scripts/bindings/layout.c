@@ -15,6 +15,9 @@ AT(cg_known, kind, 32);
 SIZE(cg_path_error, 24); AT(cg_path_error, code, 0); AT(cg_path_error, layer, 8); AT(cg_path_error, length, 16);
 SIZE(cg_layer_info, 16); AT(cg_layer_info, first, 0); AT(cg_layer_info, num_commits, 4); AT(cg_layer_info, bases, 8);
 AT(cg_layer_info, hash, 12);
+SIZE(cg_layer_verdict, 28); AT(cg_layer_verdict, code, 0); AT(cg_layer_verdict, num_commits, 4);
+AT(cg_layer_verdict, min_generation, 8); AT(cg_layer_verdict, max_generation, 12); AT(cg_layer_verdict, max_parents, 16);
+AT(cg_layer_verdict, position, 20); AT(cg_layer_verdict, byte, 24);
 SIZE(cg_commit, 16); AT(cg_commit, time, 0); AT(cg_commit, generation, 8);
 SIZE(cg_parent_count, 16); AT(cg_parent_count, code, 0); AT(cg_parent_count, count, 8);
 SIZE(cg_block, 16); AT(cg_block, commits, 0); AT(cg_block, length, 8);
@@ -60,7 +63,13 @@ static void print_check(cg_graph graph) {
 static void print_layers(cg_graph graph) {
     cg_layer_info layer;
     memset(&layer, OTHER, sizeof layer);
-    for (uint64_t i = 0; cg_layer(graph, i, &layer); i++) PRINT("layer", layer.first, layer.num_commits, layer.bases, layer.hash);
+    for (uint64_t i = 0; cg_layer(graph, i, &layer); i++) {
+        cg_layer_verdict v;
+        memset(&v, OTHER, sizeof v);
+        cg_verify_layer(graph, i, &v);
+        PRINT("layer", layer.first, layer.num_commits, layer.bases, layer.hash);
+        PRINT("alone", v.code, v.num_commits, v.min_generation, v.max_generation, v.max_parents, v.position, v.byte);
+    }
 }
 
 /* What is answered of each commit, and of all. */

@@ -34,7 +34,7 @@ class History:
         return 999999999 + self.generation(commit)
 
     def verdict(self):
-        longest = max(map(self.generation, self.ids)) - 1
+        longest = longest_of(self) - 1
         kinds = len(set(map(len, self.parents.values())))
         return [0, len(self.ids), longest, 1, 0, 0, len(self.ids), 0, 0, kinds]
 
@@ -45,6 +45,7 @@ class History:
         counts = collections.Counter(map(len, self.parents.values()))
         yield from (["count", *count] for count in sorted(counts.items()))
         yield ["layer", 0, len(self.ids), 0, 1]
+        yield ["alone", 0, len(self.ids), 1, longest_of(self), max(map(len, self.parents.values())), 0, 0]
         yield ["block", len(self.ids), sum(map(len, self.parents.values()))]
         for commit in self.ids:
             parents = len(self.parents[commit])
@@ -68,6 +69,20 @@ class History:
         yield ["leads", 0, int(other in one)]
         yield ["answered", 4, 2, int(other in one), int(first in two), 0xAA]
         yield ["bases", 0, len(set(one) - set(two)), len(set(two) - set(one)), len(common - below)]
+
+
+def longest_of(history):
+    """The number of commits of the longest walk."""
+    return max(map(history.generation, history.ids))
+
+
+def alone(verdict, layers):
+    """What is told of layers alone by their check, where the verdict on their graph names a fault of one: else `None`."""
+    code, position, other, layer = verdict[0], verdict[4], verdict[5], verdict[7]
+    if not 341 <= code <= 364:
+        return None
+    at = layer if code <= 343 else max(number for number, told in enumerate(layers) if told[0] <= position)
+    return at, [code, 0, 0, 0, 0, position - layers[at][0] if code > 343 else 0, other]
 
 
 def without_visits(lines):

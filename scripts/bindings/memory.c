@@ -111,6 +111,15 @@ static outcome verify(void) {
     return found == NO_MEMORY && !unwritten(counts, sizeof counts) ? WRONG : found;
 }
 
+/* The check of the highest layer: where memory ran out nothing is told but that. */
+static outcome verify_layer(void) {
+    cg_layer_verdict told;
+    memset(&told, OTHER, sizeof told);
+    outcome found = outcome_of(cg_verify_layer(graph, cg_num_layers(graph) - 1, &told));
+    bool silent = !told.num_commits && !told.min_generation && !told.max_generation && !told.max_parents;
+    return found == NO_MEMORY && (!silent || told.position || told.byte) ? WRONG : found;
+}
+
 static outcome walk(void) {
     memset(out, OTHER, sizeof out);
     outcome found = outcome_of(cg_ancestor_walk(graph, from, to, out, ROOM).code);
@@ -223,6 +232,7 @@ int main(int argc, char **argv) {
     printf("open_known %ld\n", refusals("open_known", open_known));
     printf("check %ld\n", refusals("check", check_graph));
     printf("verify %ld\n", refusals("verify", verify));
+    printf("verify_layer %ld\n", refusals("verify_layer", verify_layer));
     printf("walk %ld\n", refusals("walk", walk));
     printf("ancestor %ld\n", refusals("ancestor", ancestor));
     printf("ancestors %ld\n", refusals("ancestors", ancestors));

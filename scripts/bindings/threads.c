@@ -35,9 +35,11 @@ static uint64_t sum(void) {
     cg_count counts[ROOM];
     uint64_t dates[ROOM];
     cg_layer_info layer = { 0, 0, 0, 0 };
+    cg_layer_verdict alone = { 0, 0, 0, 0, 0, 0, 0 };
     uint8_t checksum[32];
     all += cg_num_layers(graph) + cg_layer(graph, 0, &layer) + layer.num_commits;
     all += cg_layer_checksum(graph, 0, checksum, cg_id_len(graph)) + checksum[0] + cg_base_id_at(graph, 0, 0, checksum, 20);
+    all += cg_verify_layer(graph, 0, &alone) + alone.max_parents;
     for (uint32_t pos = 0; pos < count; pos++) {
         uint8_t id[32];
         size_t len = cg_id_at(graph, pos, id, cg_id_len(graph));

@@ -1,6 +1,8 @@
 //! The layers of a graph.
 
-use crate::{sys, Graph, ObjectId, Position};
+use crate::error::fault_of;
+use crate::{codes, sys, Graph, ObjectId, Position, VerifyError};
+use std::convert::Infallible;
 use std::iter::FusedIterator;
 
 /// A kind of hash.
@@ -19,6 +21,20 @@ pub struct Layer<'g> {
     graph: &'g Graph,
     number: u64,
     told: sys::Layer,
+}
+
+/// The statistics of a layer.
+#[derive(Clone, Copy, Debug, PartialEq, Eq)]
+#[non_exhaustive]
+pub struct LayerOutcome {
+    /// The number of its commits.
+    pub num_commits: u32,
+    /// The least generation number, 0 where there is no commit.
+    pub min_generation: u32,
+    /// The greatest generation number, 0 where there is no commit.
+    pub max_generation: u32,
+    /// The greatest number of parents of a commit.
+    pub max_parents: u32,
 }
 
 impl std::fmt::Debug for Layer<'_> {
@@ -44,6 +60,30 @@ impl<'g> Layer<'g> {
             // SAFETY: `raw` is open, and the pointer and the length are those of an array.
             unsafe { sys::cg_layer_checksum(self.graph.raw, self.number, out, len) }
         })
+    }
+
+    /// Checks the layer alone: its checksum, its file's name, its fan, its ids and trees, and that its parents can be decoded. What
+    /// it says of the layers below it is not looked at, and neither are generation numbers.
+    ///
+    /// # Errors
+    ///
+    /// The first fault, or `OutOfMemory`.
+    pub fn verify(&self) -> Result<LayerOutcome, VerifyError<Infallible>> {
+        let mut told = sys::LayerVerdict::default();
+        // SAFETY: `raw` is open, and the pointer is that of a value.
+        let code = unsafe { sys::cg_verify_layer(self.graph.raw, self.number, &mut told) };
+        let position = self.told.first + told.position;
+        let verdict = sys::Verdict { code, position, other: told.byte, layer: self.number, ..sys::Verdict::default() };
+        match code {
+            codes::OK => Ok(LayerOutcome {
+                num_commits: told.num_commits,
+                min_generation: told.min_generation,
+                max_generation: told.max_generation,
+                max_parents: told.max_parents,
+            }),
+            codes::OUT_OF_MEMORY => Err(VerifyError::OutOfMemory),
+            _ => Err(VerifyError::Fault(fault_of(&verdict))),
+        }
     }
 
     /// The checksums of the layers below it, as its file has them. Whether they are right, a check says.

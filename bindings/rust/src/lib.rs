@@ -38,9 +38,9 @@ pub use error::{CommitFault, DatesError, Fault, LayerFault, OpenError, PairError
 pub use error::{Mismatch, VerifyError};
 pub use file_error::{FileError, GraphError};
 pub use id::{IdError, ObjectId};
-pub use layer::{Kind, Layer};
-pub use open::chain_lines;
-use open::{open, Place};
+pub use layer::{Kind, Layer, LayerOutcome};
+use open::open;
+pub use open::{chain_lines, LayerFile, Place};
 use room::collected;
 use std::fmt;
 use std::iter::FusedIterator;
@@ -106,6 +106,11 @@ impl Graph {
     /// Opens the graph of a folder with a file `commit-graph-chain`.
     pub fn from_commit_graphs_dir(path: impl AsRef<Path>) -> Result<Graph, OpenError> {
         open(path.as_ref(), Place::ChainFolder)
+    }
+
+    /// Opens the graph of what a path is taken for, and hands out the files that were read for its layers too, the lowest first.
+    pub fn open_with_files(path: impl AsRef<Path>, place: Place) -> Result<(Graph, Vec<LayerFile>), OpenError> {
+        open::with_files(path.as_ref(), place)
     }
 
     /// The graph of layers whose bytes are at hand, each with the path of its file, the lowest first. They are copied.

@@ -9,9 +9,9 @@ use std::io::{self, ErrorKind, Read};
 use std::os::unix::ffi::OsStrExt;
 use std::path::{Path, PathBuf};
 
-/// What is to be opened, by its number in `commitgraph.h`.
-#[derive(Clone, Copy, PartialEq, Eq)]
-pub(crate) enum Place {
+/// What a path is taken for.
+#[derive(Clone, Copy, Debug, PartialEq, Eq)]
+pub enum Place {
     /// What stands there: a file, a folder with a chain, or an info folder.
     Anything = 0,
     /// A file.
@@ -20,6 +20,15 @@ pub(crate) enum Place {
     ChainFolder = 2,
     /// An info folder: its file, or where that is not there or is refused, the chain in it.
     InfoFolder = 3,
+}
+
+/// The file of a layer, as it was read.
+#[derive(Clone, Debug)]
+pub struct LayerFile {
+    /// Its path.
+    pub path: PathBuf,
+    /// Its bytes.
+    pub bytes: Vec<u8>,
 }
 
 /// What stands at a path, by its number in `commitgraph.h`; and why a file was not read.
@@ -40,6 +49,42 @@ struct Known {
 
 /// Opens what stands at a path. Where it is refused, the refusal of an info folder's file is not hidden by that of its chain.
 pub(crate) fn open(path: &Path, place: Place) -> Result<Graph, OpenError> {
+    opened(path, place).map(|(graph, _)| graph)
+}
+
+/// The same, with the files of the layers.
+pub(crate) fn with_files(path: &Path, place: Place) -> Result<(Graph, Vec<LayerFile>), OpenError> {
+    let (graph, known) = opened(path, place)?;
+    let root = path.to_str().map_or(path, |_| Path::new(""));
+    let files = files_of(known, path.to_str().unwrap_or("").as_bytes()).map_err(|_| OpenError::OutOfMemory)?;
+    let whole = |(path, bytes): (Vec<u8>, _)| LayerFile { path: whole(root, &path), bytes };
+    Ok((graph, collected(files.into_iter().map(whole)).map_err(|_| OpenError::OutOfMemory)?))
+}
+
+/// Of what is known where a graph was opened, the files of its layers, each with its path: those that the lines of a chain file
+/// name, which stand behind it, since it is asked for only where the chain is opened; else the one file.
+fn files_of(known: Vec<Known>, asked: &[u8]) -> Result<Vec<(Vec<u8>, Vec<u8>)>, TryReserveError> {
+    let chain = known.iter().position(|it| it.path != asked && it.is_read() && it.path.ends_with(CHAIN_FILE));
+    let is_file = |it: &Known| it.path == asked || it.path.ends_with(FILE);
+    let read = |it: Known| match it.standing {
+        Standing::File(bytes) => Some((it.path, bytes)),
+        _ => None,
+    };
+    let mut files = Vec::new();
+    files.try_reserve_exact(known.len())?;
+    match chain {
+        Some(chain) => files.extend(known.into_iter().skip(chain + 1).filter_map(read)),
+        None => files.extend(known.into_iter().filter(is_file).filter_map(read).take(1)),
+    }
+    Ok(files)
+}
+
+/// The names of the files in an info folder and in a folder with a chain.
+const FILE: &[u8] = b"commit-graph";
+const CHAIN_FILE: &[u8] = b"commit-graph-chain";
+
+/// What is opened, and what was read for it.
+fn opened(path: &Path, place: Place) -> Result<(Graph, Vec<Known>), OpenError> {
     open_alone(path, place).map_err(|error| {
         let may_be_info = !error.is_settled() && matches!(place, Place::Anything | Place::InfoFolder);
         match may_be_info.then(|| open_alone(&path.join("commit-graph"), Place::File)) {
@@ -51,7 +96,7 @@ pub(crate) fn open(path: &Path, place: Place) -> Result<Graph, OpenError> {
 
 /// Opens what stands at a path, by as many calls as there are paths that the library asks for. A path that is no text is the root
 /// of those.
-fn open_alone(path: &Path, place: Place) -> Result<Graph, OpenError> {
+fn open_alone(path: &Path, place: Place) -> Result<(Graph, Vec<Known>), OpenError> {
     let (root, asked) = path.to_str().map_or((path, ""), |text| (Path::new(""), text));
     let mut known: Vec<Known> = Vec::new();
     loop {
@@ -65,7 +110,7 @@ fn open_alone(path: &Path, place: Place) -> Result<Graph, OpenError> {
         };
         let file = &file[..ROOM.min(told.length as usize)];
         match told.code {
-            codes::OK => return Ok(Graph::of_raw(raw)),
+            codes::OK => return Ok((Graph::of_raw(raw), known)),
             codes::PATH_WANTED if told.length as usize <= ROOM => learn(&mut known, root, file).map_err(|_| OpenError::OutOfMemory)?,
             _ => return Err(refusal(&told, path, root, file, known)),
         }
@@ -78,7 +123,7 @@ const ROOM: usize = 4096;
 /// Looks what stands at a path; and, so that no layer is opened once for each one above it, at those that a chain file names.
 fn learn(known: &mut Vec<Known>, root: &Path, path: &[u8]) -> Result<(), TryReserveError> {
     let found = Known { path: path.to_vec(), standing: Standing::at(&whole(root, path)) };
-    let folder = path.strip_suffix(b"commit-graph-chain");
+    let folder = path.strip_suffix(CHAIN_FILE);
     let mut layers = Vec::new();
     if let (Some(folder), Standing::File(text)) = (folder, &found.standing) {
         for line in chain_lines(text) {
@@ -128,6 +173,11 @@ impl Standing {
 }
 
 impl Known {
+    /// Whether it is a file that was read.
+    fn is_read(&self) -> bool {
+        matches!(self.standing, Standing::File(_))
+    }
+
     /// What the library is told of it.
     fn lent(&self) -> sys::Known {
         let (bytes, kind) = match &self.standing {

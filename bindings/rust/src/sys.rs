@@ -55,6 +55,18 @@ pub struct Layer {
 
 #[repr(C)]
 #[derive(Clone, Copy, Default)]
+pub struct LayerVerdict {
+    pub code: u32,
+    pub num_commits: u32,
+    pub min_generation: u32,
+    pub max_generation: u32,
+    pub max_parents: u32,
+    pub position: u32,
+    pub byte: u32,
+}
+
+#[repr(C)]
+#[derive(Clone, Copy, Default)]
 pub struct Commit {
     pub time: u64,
     pub generation: u32,
@@ -203,6 +215,7 @@ extern "C" {
     pub fn cg_close(graph: Graph) -> bool;
     pub fn cg_num_layers(graph: Graph) -> u64;
     pub fn cg_layer(graph: Graph, layer: u64, out: *mut Layer) -> bool;
+    pub fn cg_verify_layer(graph: Graph, layer: u64, out: *mut LayerVerdict) -> u32;
     pub fn cg_layer_checksum(graph: Graph, layer: u64, out: *mut u8, len: usize) -> usize;
     pub fn cg_base_id_at(graph: Graph, layer: u64, index: u64, out: *mut u8, len: usize) -> usize;
     pub fn cg_num_commits(graph: Graph) -> u32;
@@ -272,6 +285,8 @@ mod layout {
     laid_out!(Known, 40, path 0, path_len 8, bytes 16, len 24, kind 32);
     laid_out!(PathError, 24, code 0, layer 8, length 16);
     laid_out!(Layer, 16, first 0, num_commits 4, bases 8, hash 12);
+    laid_out!(LayerVerdict, 28, code 0, num_commits 4, min_generation 8, max_generation 12, max_parents 16);
+    laid_out!(LayerVerdict, 28, position 20, byte 24);
     laid_out!(Commit, 16, time 0, generation 8);
     laid_out!(ParentCount, 16, code 0, count 8);
     laid_out!(Block, 16, commits 0, length 8);

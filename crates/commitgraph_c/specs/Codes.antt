@@ -39,6 +39,9 @@ more_parents = 7
 abbrev pub path_wanted : ℕ
 path_wanted = 8
 
+abbrev pub no_such_layer : ℕ
+no_such_layer = 9
+
 abbrev pub chunk_code : ChunkError → ℕ
 chunk_code chunk.NoChunks = 151
 chunk_code chunk.TableTooSmall = 152

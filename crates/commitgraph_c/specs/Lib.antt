@@ -6,6 +6,7 @@ pub mod Files
 pub mod FirstLine
 pub mod FirstParents
 pub mod Held
+pub mod LayerVerdict
 pub mod Layers
 pub mod Many
 pub mod Matched

@@ -26,6 +26,8 @@ pub const MORE_PARENTS: u32 = 7;
 
 pub const PATH_WANTED: u32 = 8;
 
+pub const NO_SUCH_LAYER: u32 = 9;
+
 /// Why the table of chunks is refused.
 pub fn chunk_code(error: &ChunkError) -> u32
     ensures { result ≡ chunk_code error.now }

@@ -105,7 +105,7 @@ pub extern "C" fn cg_base_id_at(graph: CgGraph, layer: u64, index: u64, out: &mu
 }
 
 /// The file of a layer, if there is such a layer.
-fn file_of(graph: &Graph, layer: u64) -> Option<&File>
+pub(crate) fn file_of(graph: &Graph, layer: u64) -> Option<&File>
     ensures { option_map (λ file. file.now) result ≡ slice_get graph.now layer }
 {
     let files = graph.layers();

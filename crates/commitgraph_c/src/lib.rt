@@ -14,6 +14,7 @@ mod dates;
 mod first_parents;
 mod handle;
 mod known;
+mod layer_check;
 mod layers;
 mod matched;
 mod open;
