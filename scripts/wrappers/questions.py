@@ -20,7 +20,7 @@ ODD_REF = "odd';$(id)\"&|<>`\u00e9!#%"
 ECHO = "printf '<%s>' \"$@\"\npwd -P >&2\n"
 """A program that writes its words, and says in which folder it is."""
 
-USAGE = "usage: git cgraph [<options>] verify | check | distinct | show | list\n   or: git cgraph [<options>] verify [--all-checks] "
+USAGE = "usage: " + "\n   or: ".join(re.findall(r"^    (git cgraph \[<options>\] .*)$", read("docs", "MANUAL.md"), re.MULTILINE)[:2])
 REVISIONS = ("HEAD", "HEAD~1", "HEAD")
 WORDS = {
     command.word: (command.program, REVISIONS[: command.least() + command.takes_more()])
