@@ -63,7 +63,15 @@ static seen iterate(cg_graph graph) {
     return found;
 }
 
-/* The same in blocks. */
+/* The first parent of each commit. */
+static seen firsts(cg_graph graph) {
+    seen found = { 0, 0 };
+    for (uint32_t pos = 0, first, end = cg_num_commits(graph); pos < end; pos++)
+        if (cg_first_parents(graph, pos, &first, 1).count) add(&found, first);
+    return found;
+}
+
+/* All parents in blocks. */
 static seen blocks(cg_graph graph) {
     static cg_parent_count answers[PLACES];
     static uint32_t parents[2 * PLACES];
@@ -125,24 +133,24 @@ static uint32_t position(cg_graph graph, const uint8_t *id) {
     return pos;
 }
 
-/* Walks between pairs of commits; and whether there is one, by a call each, and for all in one call. */
+/* Walks between pairs of commits, from the first to the second; and whether there is one, by a call each, and for all in one call. */
 static void queries(const char *layers, const char *kind, cg_graph graph, bytes ids) {
     static uint32_t walk[1 << 20];
     static cg_pair pairs[PLACES];
     static uint8_t found[PLACES];
     size_t count = 0;
     for (size_t at = 0; at + 2 * ID_LEN <= ids.len && count < PLACES; at += 2 * ID_LEN)
-        pairs[count++] = (cg_pair){ position(graph, ids.bytes + at), position(graph, ids.bytes + at + ID_LEN) };
+        pairs[count++] = (cg_pair){ position(graph, ids.bytes + at + ID_LEN), position(graph, ids.bytes + at) };
     uint64_t walks = 0, commits = 0, visits = 0, yes = 0, start = now();
     for (size_t i = 0; i < count; i++) {
-        cg_reached reached = cg_ancestor_walk(graph, pairs[i].from, pairs[i].to, walk, 1 << 20);
+        cg_reached reached = cg_ancestor_walk(graph, pairs[i].descendant, pairs[i].ancestor, walk, 1 << 20);
         visits += reached.visits;
         walks += reached.length > 0;
         commits += reached.length;
     }
     printf("%s-%s-walk %" PRIu64 " %" PRIu64 " %" PRIu64 " %" PRIu64 "\n", layers, kind, now() - start, walks, commits, visits);
     start = now();
-    for (size_t i = 0; i < count; i++) yes += cg_is_ancestor(graph, pairs[i].from, pairs[i].to).found;
+    for (size_t i = 0; i < count; i++) yes += cg_is_ancestor(graph, pairs[i].ancestor, pairs[i].descendant).found;
     printf("%s-%s-yes %" PRIu64 " %" PRIu64 " 0\n", layers, kind, now() - start, yes);
     start = now();
     if (cg_are_ancestors(graph, pairs, count, found, count).answered != count) exit(1);
@@ -174,6 +182,8 @@ static void measure(const char *name, const inputs *in, char **paths, size_t cou
     report(name, "absent", start, lookups(graph, in->absent));
     start = now();
     report(name, "iterate", start, iterate(graph));
+    start = now();
+    report(name, "first", start, firsts(graph));
     start = now();
     report(name, "blocks", start, blocks(graph));
     start = now();

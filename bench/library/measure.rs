@@ -55,6 +55,16 @@ fn iterate(graph: &Graph) -> Seen {
     seen
 }
 
+fn firsts(graph: &Graph) -> Seen {
+    let mut seen = Seen::default();
+    for pos in 0..graph.num_commits() {
+        if let Some(first) = graph.commit_at(Position(pos)).parent1().unwrap() {
+            seen.add(first.0);
+        }
+    }
+    seen
+}
+
 fn blocks(graph: &Graph) -> Seen {
     let mut seen = Seen::default();
     for block in graph.parent_blocks() {
@@ -107,23 +117,23 @@ fn calls(graph: &Graph) -> Seen {
     seen
 }
 
-/// Walks between pairs of commits; and whether there is one, by a call each, and for all in one call.
+/// Walks between pairs of commits, from the first to the second; and whether there is one, by a call each, and for all in one call.
 fn queries(layers: &str, kind: &str, graph: &Checked, ids: &[u8]) {
     let position = |id: &[u8]| graph.graph().lookup(id).unwrap();
-    let pair = |ids: &[u8]| (position(&ids[..ID_LEN]), position(&ids[ID_LEN..]));
+    let pair = |ids: &[u8]| (position(&ids[ID_LEN..]), position(&ids[..ID_LEN]));
     let pairs: Vec<_> = ids.chunks_exact(2 * ID_LEN).map(pair).collect();
     let (mut walks, mut commits, mut visits, mut yes) = (0, 0, 0, 0);
     let start = Instant::now();
-    for &(from, to) in &pairs {
-        let reached = graph.ancestor_walk(from, to).unwrap();
+    for &(ancestor, descendant) in &pairs {
+        let reached = graph.ancestor_walk(descendant, ancestor).unwrap();
         visits += u64::from(reached.visits);
         walks += u64::from(reached.walk.is_some());
         commits += reached.walk.map_or(0, |walk| walk.len() as u64);
     }
     println!("{layers}-{kind}-walk {} {walks} {commits} {visits}", start.elapsed().as_nanos());
     let start = Instant::now();
-    for &(from, to) in &pairs {
-        yes += u64::from(graph.is_ancestor(from, to).unwrap());
+    for &(ancestor, descendant) in &pairs {
+        yes += u64::from(graph.is_ancestor(ancestor, descendant).unwrap());
     }
     println!("{layers}-{kind}-yes {} {yes} 0", start.elapsed().as_nanos());
     let start = Instant::now();
@@ -151,6 +161,7 @@ fn measure(layers: &str, inputs: &Inputs, paths: &[String]) {
     pass("present", &|| lookups(&graph, &inputs.present));
     pass("absent", &|| lookups(&graph, &inputs.absent));
     pass("iterate", &|| iterate(&graph));
+    pass("first", &|| firsts(&graph));
     pass("blocks", &|| blocks(&graph));
     pass("records", &|| records(&graph));
     pass("commit_at", &|| jumps(&graph, &inputs.positions));

@@ -416,7 +416,7 @@ def checked_by_program(folder):
 def rust_tests(crate, environment):
     """The tests of the Rust crate, and that of its threads under ThreadSanitizer, where a toolchain can."""
     done = run("cargo", "test", "--quiet", "--offline", cwd=crate, env=environment)
-    expect("Rust: tests", done.returncode == 0 and "19 passed" in done.stdout and "4 threads read" in done.stdout, done)
+    expect("Rust: tests", done.returncode == 0 and "21 passed" in done.stdout and "4 threads read" in done.stdout, done)
     command = ["cargo", "+nightly", "test", "--quiet", "--offline", "--test", "threads", "--target", "x86_64-unknown-linux-gnu"]
     at = {**environment, "RUSTFLAGS": SANITIZED}
     if run(*command, "--no-run", cwd=crate, env=at).returncode:

@@ -3,7 +3,7 @@ answers beside those of `graphtool` and of the original.
 
 The original is compiled where GIX_COMMITGRAPH names a folder with the sources of the crates `gix-commitgraph`, `gix-hash` and
 `memmap2`, and of those that they need, as `cargo vendor` lays them out. Where it is not there, what it answered once is compared,
-by the digests in `gix_answers`: `python3 scripts/bindings/gix.py ORIGINAL` writes them, with the program built with the original.
+by the digests in `gix_answers.txt`: `python3 scripts/bindings/gix.py ORIGINAL` writes them, with the program built with the original.
 """
 import hashlib
 import os
@@ -14,7 +14,7 @@ import subprocess
 import sys
 import tempfile
 
-RECORD = pathlib.Path(__file__).resolve().parent / "gix_answers"
+RECORD = pathlib.Path(__file__).resolve().parent / "gix_answers.txt"
 HEAD = """# What `gix-commitgraph` 0.41.0 answers to `examples/every_item.rs` over the graphs of scripts/real_data, made by Git 2.39.5: for each a
 # digest of the bytes of its files, and one of the answers.
 """
@@ -70,7 +70,7 @@ def asked(graph, ids):
     """What is asked of a graph: each command with its words."""
     path = opened(graph)
     files = sorted(path.glob("*.graph")) if path.is_dir() else [path]
-    yield from ((command, path) for command in ("verify", "openers"))
+    yield from ((command, path) for command in ("verify", "openers", "walk"))
     yield from ((command, file) for file in files for command in ("list", "items"))
     yield from (("find", path, commit) for commit in ids)
 

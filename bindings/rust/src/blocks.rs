@@ -1,12 +1,13 @@
 //! What is said of many commits, read by one call for many of them.
 
-use crate::room::{collected, room_for};
+use crate::commit::FEW;
+use crate::room::{collected, reserved};
 use crate::{codes, sys, Graph, ParentError, Position};
 use std::collections::TryReserveError;
 use std::iter::FusedIterator;
 
 /// Of so many commits one call tells.
-const BLOCK: usize = 256;
+const BLOCK: usize = 1024;
 
 /// What the record of a commit says, but for its ids and its parents.
 #[derive(Clone, Copy, Debug, PartialEq, Eq)]
@@ -21,6 +22,7 @@ pub struct Record {
 pub struct ParentBlock {
     first: Position,
     pub(crate) answers: Vec<sys::ParentCount>,
+    /// Those of all, and as many more as a commit with few has, so that these may be read together.
     pub(crate) parents: Vec<Position>,
 }
 
@@ -52,12 +54,16 @@ impl ParentBlock {
 
     /// The parents of each commit, in the order of the commits; or why they cannot be decoded, or not all of them. Where there is
     /// no memory for a block, it is one commit, of which that is told.
+    #[inline]
     pub fn iter(&self) -> impl ExactSizeIterator<Item = Result<&[Position], ParentError>> + FusedIterator {
         let mut rest = &self.parents[..];
         self.told().iter().map(move |answer| {
             let (parents, later) = rest.split_at(answer.count as usize);
             rest = later;
-            ParentError::of(answer.code).map_or(Ok(parents), Err)
+            match answer.code {
+                codes::OK => Ok(parents),
+                code => Err(ParentError::of_fault(code)),
+            }
         })
     }
 
@@ -110,12 +116,10 @@ impl Graph {
     /// The parents of some commits from a position on, in the room of a block; and where they end since those of the next commit do
     /// not fit, the room that all of them take.
     pub(crate) fn parents_within(&self, first: Position) -> Result<(ParentBlock, Option<usize>), TryReserveError> {
-        let mut answers = room_for(sys::ParentCount::default(), BLOCK)?;
-        let mut parents = room_for(Position(0), 2 * BLOCK)?;
-        let block = self.write_block(first, &mut answers, &mut parents);
-        let wanted = (block.length > parents.len() as u64).then_some(block.length as usize);
-        answers.truncate(block.commits as usize - usize::from(wanted.is_some()));
-        Ok((ParentBlock { first, answers, parents }, wanted))
+        let (mut block, length) = self.block_in(first, BLOCK, 2 * BLOCK)?;
+        let wanted = (length > 2 * BLOCK).then_some(length);
+        block.answers.truncate(block.answers.len() - usize::from(wanted.is_some()));
+        Ok((block, wanted))
     }
 
     /// The parents of some commits from a position on, or `None` where no commit is left.
@@ -128,17 +132,26 @@ impl Graph {
     fn whole_from(&self, first: Position) -> Result<ParentBlock, TryReserveError> {
         let (mut block, wanted) = self.parents_within(first)?;
         if let (true, Some(length)) = (block.answers.is_empty(), wanted) {
-            block.answers = room_for(sys::ParentCount::default(), 1)?;
-            block.parents = room_for(Position(0), length)?;
-            self.write_block(first, &mut block.answers, &mut block.parents);
+            (block, _) = self.block_in(first, 1, length)?;
         }
         Ok(block)
     }
 
-    /// Writes the parents of some commits from a position on, as `cg_parents_from` does.
-    fn write_block(&self, first: Position, answers: &mut [sys::ParentCount], parents: &mut [Position]) -> sys::Block {
-        let (told, room) = (answers.as_mut_ptr(), parents.as_mut_ptr().cast());
-        // SAFETY: `raw` is open, each pointer and length are those of a slice, and a position is one number.
-        unsafe { sys::cg_parents_from(self.raw, first.0, told, answers.len(), room, parents.len()) }
+    /// The parents of some commits from a position on, for at most so many of which there is room, and so many parents; and how many
+    /// parents these have.
+    fn block_in(&self, first: Position, commits: usize, room: usize) -> Result<(ParentBlock, usize), TryReserveError> {
+        let mut answers: Vec<sys::ParentCount> = reserved(commits)?;
+        let mut parents: Vec<Position> = reserved(room + FEW)?;
+        let (told, out) = (answers.as_mut_ptr(), parents.as_mut_ptr());
+        // SAFETY: `raw` is open, each pointer has room for as many items, which need hold nothing, and a position is one number.
+        let block = unsafe { sys::cg_parents_from(self.raw, first.0, told, commits, out.cast(), room) };
+        let length = block.length as usize;
+        // SAFETY: so many answers and so many positions were written.
+        unsafe {
+            answers.set_len(block.commits as usize);
+            parents.set_len(length.min(room));
+        }
+        parents.extend([Position(0); FEW]);
+        Ok((ParentBlock { first, answers, parents }, length))
     }
 }

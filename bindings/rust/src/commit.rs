@@ -95,6 +95,7 @@ impl<'g> Commit<'g> {
     }
 
     /// The position of its first parent, if it has one. No other parent is read.
+    #[inline]
     pub fn parent1(&self) -> Result<Option<Position>, ParentError> {
         if let Some(few) = self.known {
             return Ok((few.count > 0).then_some(few.positions[0]));
@@ -102,7 +103,8 @@ impl<'g> Commit<'g> {
         let mut first = [Position(0)];
         let told = write_first_parents(self.graph, self.pos, &mut first);
         match told.count {
-            0 => ParentError::of(told.code).map_or(Ok(None), Err),
+            0 if told.code == codes::OK => Ok(None),
+            0 => Err(ParentError::of_fault(told.code)),
             _ => Ok(Some(first[0])),
         }
     }
@@ -143,6 +145,7 @@ impl<'g> Commit<'g> {
 }
 
 /// The parents of the commit at a position, of which a few are read.
+#[inline]
 fn read_parents(graph: &Graph, pos: Position) -> Parents<'_> {
     let mut positions = [Position(0); FEW];
     let told = write_first_parents(graph, pos, &mut positions);
@@ -157,6 +160,7 @@ fn none() -> IntoIter<Position> {
 }
 
 /// Writes the positions of the first parents of the commit at a position, as many as there is room for.
+#[inline]
 fn write_first_parents(graph: &Graph, pos: Position, out: &mut [Position]) -> sys::ParentCount {
     // SAFETY: `raw` is open, the pointer and the length are those of a slice, and a position is one number.
     unsafe { sys::cg_first_parents(graph.raw, pos.0, out.as_mut_ptr().cast(), out.len()) }

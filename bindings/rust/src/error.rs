@@ -586,6 +586,12 @@ pub enum ParentError {
 }
 
 impl ParentError {
+    /// The error with a number that is one of these.
+    #[cold]
+    pub(crate) fn of_fault(code: u32) -> ParentError {
+        ParentError::of(code).expect("the number of a fault")
+    }
+
     #[inline]
     pub(crate) fn of(code: u32) -> Option<ParentError> {
         match code {

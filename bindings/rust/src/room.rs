@@ -3,18 +3,23 @@
 use crate::Position;
 use std::collections::TryReserveError;
 
-/// So many of an item, if there is memory for them.
-pub(crate) fn room_for<T: Clone>(item: T, len: usize) -> Result<Vec<T>, TryReserveError> {
+/// Room for so many items, if there is memory for them.
+pub(crate) fn reserved<T>(len: usize) -> Result<Vec<T>, TryReserveError> {
     let mut room = Vec::new();
     room.try_reserve_exact(len)?;
+    Ok(room)
+}
+
+/// So many of an item, if there is memory for them.
+pub(crate) fn room_for<T: Clone>(item: T, len: usize) -> Result<Vec<T>, TryReserveError> {
+    let mut room = reserved(len)?;
     room.resize(len, item);
     Ok(room)
 }
 
 /// The items of an iterator that knows how many they are, if there is memory for them.
 pub(crate) fn collected<T>(items: impl ExactSizeIterator<Item = T>) -> Result<Vec<T>, TryReserveError> {
-    let mut room = Vec::new();
-    room.try_reserve_exact(items.len())?;
+    let mut room = reserved(items.len())?;
     room.extend(items);
     Ok(room)
 }

@@ -3,7 +3,7 @@
 mod made;
 
 use commitgraph::{Checked, Commit, Fault, FileError, Graph, GraphError, IdError, Kind, ObjectId, OpenError, PairError, Position, ProbeError};
-use commitgraph::{DatesError, LayerFault, Mismatch, QueryError, VerifyError, VerifyOptions};
+use commitgraph::{DatesError, LayerFault, Mismatch, Place, QueryError, VerifyError, VerifyOptions};
 use made::{git, long_lists, made};
 use std::error::Error;
 use std::ffi::OsStr;
@@ -287,4 +287,50 @@ fn commits_that_share_one_long_list_are_gone_over_quickly() {
     let some: usize = graph.iter_commits().map(|commit| commit.iter_parents().take(3).count()).sum();
     assert_eq!((firsts, some), (20_000, 60_000));
     assert!(start.elapsed() < std::time::Duration::from_secs(2), "{:?}", start.elapsed());
+}
+
+#[test]
+fn the_files_of_the_layers_are_handed_out() {
+    let (file, folder) = (&made().file, &made().chain);
+    let places = [
+        (file.as_path(), Place::Anything),
+        (file, Place::File),
+        (file.parent().unwrap(), Place::InfoFolder),
+        (file.parent().unwrap(), Place::Anything),
+        (folder, Place::ChainFolder),
+        (folder, Place::Anything),
+        (folder.parent().unwrap(), Place::InfoFolder),
+    ];
+    for (path, place) in places {
+        let (graph, files) = Graph::open_with_files(path, place).unwrap();
+        assert_eq!(files.len(), graph.num_layers());
+        for (layer, file) in graph.layers().zip(&files) {
+            assert_eq!(fs::read(&file.path).unwrap(), file.bytes);
+            assert!(file.bytes.ends_with(layer.checksum().as_bytes()));
+        }
+    }
+    let again = file.with_file_name("commit-graph-chain");
+    fs::copy(file, &again).unwrap();
+    let (_, files) = Graph::open_with_files(&again, Place::File).unwrap();
+    fs::remove_file(&again).unwrap();
+    assert_eq!((files.len(), &files[0].path), (1, &again));
+}
+
+#[test]
+fn a_layer_is_checked_alone() {
+    let graph = Graph::at(&made().chain).unwrap();
+    for layer in graph.layers() {
+        let (first, last) = (layer.first().0, layer.first().0 + layer.num_commits());
+        let numbers = || (first..last).map(|pos| graph.commit_at(Position(pos)).generation());
+        let parents = (first..last).map(|pos| graph.commit_at(Position(pos)).parents().unwrap().len() as u32);
+        let told = layer.verify().unwrap();
+        assert_eq!((told.num_commits, told.max_parents), (layer.num_commits(), parents.max().unwrap()));
+        assert_eq!((told.min_generation, told.max_generation), (numbers().min().unwrap(), numbers().max().unwrap()));
+    }
+    let wrong_generation = Graph::at(&made().faulty).unwrap();
+    assert!(wrong_generation.layer(0).unwrap().verify().is_ok());
+    let mut bytes = fs::read(&made().file).unwrap();
+    *bytes.last_mut().unwrap() ^= 1;
+    let told = Graph::of_bytes(&[(&bytes, "")]).unwrap().layer(0).unwrap().verify();
+    assert_eq!(told, Err(VerifyError::Fault(Fault::Layer { layer: 0, fault: LayerFault::Checksum })));
 }

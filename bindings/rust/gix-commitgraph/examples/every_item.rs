@@ -21,9 +21,10 @@ fn main() -> ExitCode {
         ["verify", path] => verify(Path::new(path)),
         ["find", path, id] => find(Path::new(path), id),
         ["items", path] => items(Path::new(path)),
+        ["walk", path] => walk(Path::new(path)),
         ["openers", path] => Some(openers(Path::new(path))),
         _ => {
-            eprintln!("usage: every_item list | verify | items | openers PATH, or find PATH ID");
+            eprintln!("usage: every_item list | verify | items | walk | openers PATH, or find PATH ID");
             return ExitCode::from(2);
         }
     };
@@ -45,8 +46,12 @@ fn signatures() {
     let _: fn(&Graph) -> Kind = Graph::object_hash;
     let _: fn(&Graph) -> u32 = Graph::num_commits;
     answers_of_paths([Graph::at, Graph::from_file, Graph::from_info_dir, Graph::from_commit_graphs_dir]);
+    let _ = [shared::<File>, shared::<Graph>, shared::<file::Commit<'static>>, shared::<file::commit::Parents<'static>>];
     let _: [u32; 3] = [GENERATION_NUMBER_INFINITY, GENERATION_NUMBER_MAX, MAX_COMMITS];
 }
+
+/// What any thread may have, and many at a time.
+fn shared<T: Send + Sync>() {}
 
 fn answers_of_paths<E: Debug>(_: [fn(&Path) -> Result<Graph, E>; 4]) {}
 
@@ -83,6 +88,22 @@ fn verify(path: &Path) -> Answer {
 
 fn checked(graph: &Graph) -> Option<verify::Outcome> {
     graph.verify_integrity(|_| Ok::<_, std::fmt::Error>(())).ok()
+}
+
+/// The commits of a graph in their order, and that a position past the last is none.
+fn walk(path: &Path) -> Answer {
+    let graph = at(path).ok()?;
+    let ids: Vec<&oid> = graph.iter_ids().collect();
+    let mut lines = String::new();
+    for (number, commit) in graph.iter_commits().enumerate() {
+        let pos = Position(number as u32);
+        assert!(graph.id_at(pos) == commit.id() && ids[number] == commit.id() && graph.commit_at(pos) == commit);
+        lines += &format!("{pos} is {}", line(commit));
+    }
+    std::panic::set_hook(Box::new(|_| {}));
+    let past = Position(graph.num_commits());
+    let panicked = std::panic::catch_unwind(std::panic::AssertUnwindSafe(|| graph.commit_at(past).generation())).is_err();
+    Some(format!("{lines}{} commits, {panicked}\n", ids.len()))
 }
 
 /// The line of `graphtool find`.
