@@ -1,4 +1,4 @@
-//! Bytes that were read and not yet looked at.
+//! Bytes of a stream that were read and not yet looked at.
 
 ghost use Rattle.std.specs.Prelude.{◌≡◌, ◌↔◌, ◌<◌, ◌≤◌, ◌+◌, [], drop, length, vec_capacity};
 ghost use Rattle.std.specs.Prelude.{IsTrue, IfOk, IfErr, OnOk, false};
@@ -16,7 +16,7 @@ pub(crate) const PIECE: usize = 64 * 1024;
 
 /// Bytes that a reader gave and that were not looked at yet. A contract sees them as a list.
 #[derive(Drop)]
-pub(crate) struct Buffer {
+pub struct Buffer {
     bytes: Vec<u8>,
     // where the bytes begin that were not looked at
     start: usize,
@@ -37,7 +37,7 @@ impl Model for Buffer {
 
 impl Buffer {
     /// No bytes, with room for two pieces. `AllocError` comes where there is no memory for that.
-    pub(crate) fn new(alloc: Global) -> Result<Buffer, AllocError>
+    pub fn new(alloc: Global) -> Result<Buffer, AllocError>
         ensures { IfOk result (λ buffer. buffer ≡ []) }
     {
         Ok(Buffer {
@@ -48,14 +48,14 @@ impl Buffer {
     }
 
     /// The bytes.
-    pub(crate) fn bytes(&self) -> &[u8]
+    pub fn bytes(&self) -> &[u8]
         ensures { result.now ≡ self.now }
     {
         &self.bytes[self.start..]
     }
 
     /// Takes bytes away from the front.
-    pub(crate) fn consume(&mut self, count: usize)
+    pub fn consume(&mut self, count: usize)
         requires { count ≤ length self.old }
         ensures { self.new ≡ drop count self.old }
     {
@@ -81,7 +81,7 @@ impl Buffer {
     /// answers whether they do. What is there and what the reader has left, together, stay the
     /// same, unless an error comes: `Device` where a read failed, and `OutOfMemory` where there is
     /// no memory for what was read.
-    pub(crate) fn fill<R: Read>(
+    pub fn fill<R: Read>(
         &mut self,
         reader: &mut R,
         place: usize,

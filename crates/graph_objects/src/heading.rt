@@ -2,7 +2,7 @@
 
 /// What a line says behind the id.
 #[derive(Clone, Copy, Debug, PartialEq, Eq)]
-pub(crate) enum Heading {
+pub enum Heading {
     /// The object is not there.
     Missing,
     /// It is a commit of this size.

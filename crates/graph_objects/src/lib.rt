@@ -8,12 +8,12 @@ ghost use Rattle.graph_objects.specs.Matching.{MatchesAt};
 ghost use Rattle.graph_objects.specs.Mismatches.{MismatchesAt};
 
 mod ahead;
-mod buffer;
+pub mod buffer;
 mod commit;
 mod error;
-mod heading;
+pub mod heading;
 pub mod law;
-mod line;
+pub mod line;
 mod parents;
 mod stream;
 

@@ -1,4 +1,4 @@
-//! Reading the line before the contents.
+//! Reading the line of an entry, which stands before the contents.
 
 ghost use Rattle.std.specs.Prelude.{◌≡◌, ◌≢◌, ◌↔◌, ◌<◌, ◌^◌, ◌++◌, ℕ, List, IsTrue, take};
 ghost use Rattle.std.specs.Prelude.{IfSome, MatchOption, MatchResult, Some, codes, decimal};
@@ -19,10 +19,10 @@ use std::str;
 
 /// How many bytes the longest line has, its line feed among them: the digits of an id, a type and
 /// a size.
-pub(crate) const LINE: usize = 64 + 8 + 20 + 1;
+pub const LINE: usize = 64 + 8 + 20 + 1;
 
 /// Where the first line ends, if it is no longer than the longest.
-pub(crate) fn line_end(bytes: &[u8]) -> Option<usize>
+pub fn line_end(bytes: &[u8]) -> Option<usize>
     ensures { MatchOption result (HasNoFeed (take longest_line bytes.now))
         (IsLineEnd bytes.now) }
 {
@@ -67,8 +67,8 @@ fn own_size(id: oid<'_>, digits: &[u8], heading: Heading) -> Option<u64>
     }
 }
 
-/// What a line says behind the id, if it is of a right form.
-fn heading_of(tail: &[u8]) -> Option<Heading>
+/// What a line says behind the id, if it is of a right form: `tail` is what stands there.
+pub fn heading_of(tail: &[u8]) -> Option<Heading>
     ensures { MatchOption result ((heading : told.Heading) → ¬ IsTail tail.now heading)
         (IsTail tail.now) }
 {
@@ -137,7 +137,7 @@ fn is_decimal(number: u64, text: &[u8]) -> bool
 }
 
 /// Whether the text is of lower-case hexadecimal digits.
-fn are_digits(text: &[u8]) -> bool
+pub fn are_digits(text: &[u8]) -> bool
     ensures { IsTrue result ↔ AllPass is_lower_digit text.now }
 {
     text.iter()
@@ -145,7 +145,7 @@ fn are_digits(text: &[u8]) -> bool
 }
 
 /// Whether the text is the id in lower-case digits.
-fn spells(text: &[u8], id: oid<'_>) -> bool
+pub fn spells(text: &[u8], id: oid<'_>) -> bool
     ensures { IsTrue result ↔ (text.now ≡ encode_lower (oid_bytes id.entry)) }
 {
     let mut digits = [0u8; 64];

@@ -1,0 +1,4 @@
+pub mod LineSteps
+pub mod EntrySteps
+pub mod StreamSteps
+pub mod RunSteps

@@ -1,0 +1,4 @@
+pub mod NewStream
+pub mod NewEntries
+pub mod WriteRefusalLines
+pub mod WrittenCommits
