@@ -1,53 +1,67 @@
-use crate::fixtures::compare_text;
+//! Folders in memory and on disk, readers that give few bytes at a time or fail, and lines.
+//!
+//! The helpers take any folder and have no contract, so that no test's proof goes over the contract
+//! of a disk.
+
+use crate::host::Host;
 use graph_folder::folder::{Disk, Folder, Memory, ReadError, read_all};
 use graph_folder::lines::Lines;
+use graph_vectors::Source;
 use std::alloc::Global;
-use std::io::{ErrorKind, Read};
+use std::cell::Cell;
+use std::fs;
 use std::process::Abort;
-use std::{fs, io};
+use std::rt::Files;
 
-/// A reader that gives at most so many bytes a read, and whose read of this number fails.
-#[derive(Drop)]
-struct Source<'a> {
-    rest: &'a [u8],
-    most: usize,
-    fails_at: Option<usize>,
-    reads: usize,
-}
-
-impl Read for Source<'_> {
-    fn read(&mut self, buf: &mut [u8]) -> io::Result<usize> {
-        let read = self.reads;
-        self.reads = read.saturating_add(1);
-        if self.fails_at == Some(read) {
-            return Err(io::Error::from(ErrorKind::OutOfMemory));
-        }
-        let most = self.most.min(buf.len());
-        self.rest.read(&mut buf[..most])
+/// So many bytes, which repeat the numbers from 0 to 250.
+fn numbers(rt: &impl Abort, alloc: Global, len: usize) -> Vec<u8> {
+    let mut bytes = Vec::new(alloc);
+    for at in 0..len {
+        bytes.push((at % 251) as u8).expect(rt, "memory for a file");
     }
+    bytes
 }
 
-fn reader(rest: &[u8], most: usize, fails_at: Option<usize>) -> Source<'_> {
-    Source {
-        rest,
-        most,
-        fails_at,
-        reads: 0,
+/// Writes a file of so many bytes, and answers them.
+fn write_file<R: Files + Abort>(rt: &R, alloc: Global, path: &str, len: usize) -> Vec<u8> {
+    let bytes = numbers(rt, alloc, len);
+    fs::write(rt, path, bytes.as_slice()).expect(rt, "a file");
+    bytes
+}
+
+/// A number of bytes, how many of them a read gives at most, and how many reads take them all: one
+/// for each piece, of 64 KiB at most, and one that finds the end.
+const PIECES: &[(usize, usize, usize)] = &[
+    (10, 1, 11),
+    (10, 3, 5),
+    (10, 10, 2),
+    (10, 11, 2),
+    (0, usize::MAX, 1),
+    (1, usize::MAX, 2),
+    (65_536, usize::MAX, 2),
+    (65_537, usize::MAX, 3),
+    (196_608, usize::MAX, 4),
+    (196_609, usize::MAX, 5),
+];
+
+/// Compares what a reader gives in all, and how often it is read. Then each of its reads fails in
+/// turn.
+fn compare_pieces(rt: &impl Abort, alloc: Global, rows: &[(usize, usize, usize)]) {
+    for (len, most, reads) in rows {
+        let bytes = numbers(rt, alloc, *len);
+        let mut reader = Source::new(&bytes, *most, None);
+        let read = read_all(alloc, &mut reader).ok().expect(rt, "all bytes");
+        assert!(rt; read.as_slice() == bytes.as_slice() && reader.reads == *reads);
+        for fails_at in 0..*reads {
+            let failed = read_all(alloc, &mut Source::new(&bytes, *most, Some(fails_at)));
+            assert!(rt; failed.err() == Some(ReadError::Device));
+        }
     }
 }
 
 #[test]
-fn reads_to_the_end(rt: HostRuntime) {
-    let alloc = rt.alloc();
-    let text = b"ten bytes.".as_slice();
-    for most in [1, 3, 10, 11] {
-        let read = read_all(alloc, &mut reader(text, most, None)).expect(&rt, "all bytes");
-        assert!(rt; read.as_slice() == text);
-    }
-    for read in 0..=4 {
-        let failed = read_all(alloc, &mut reader(text, 3, Some(read)));
-        assert!(rt; matches!(failed, Err(ReadError::Device)));
-    }
+fn reads_to_the_end_in_pieces_of_64_kib(rt: HostRuntime) {
+    compare_pieces(&rt, rt.alloc(), PIECES);
 }
 
 /// Texts, with their lines.
@@ -62,110 +76,137 @@ const TEXTS: &[(&[u8], &[&[u8]])] = &[
     (b"a\rb\n\n", &[b"a\rb", b""]),
 ];
 
-#[test]
-fn cuts_lines(rt: HostRuntime) {
-    for (text, want) in TEXTS {
+/// Compares the lines of texts.
+fn compare_lines(rt: &impl Abort, rows: &[(&[u8], &[&[u8]])]) {
+    for (text, want) in rows {
         let mut lines = Lines::new(text);
         for line in *want {
             assert!(rt; lines.next() == Some(*line));
         }
         assert!(rt; lines.next().is_none());
-        assert!(rt; lines.next().is_none());
     }
+}
+
+#[test]
+fn cuts_lines(rt: HostRuntime) {
+    compare_lines(&rt, TEXTS);
+}
+
+/// Paths, and whether a file and whether a folder stands there.
+type Kinds<'a> = &'a [(&'a str, bool, bool)];
+
+/// Compares what stands in a folder.
+fn compare_kinds<T: Folder>(rt: &impl Abort, alloc: Global, folder: &mut T, rows: Kinds<'_>) {
+    for (path, file, dir) in rows {
+        let is_file = folder.is_file(alloc, path).expect(rt, "memory");
+        let is_dir = folder.is_dir(alloc, path).expect(rt, "memory");
+        assert!(rt; is_file == *file && is_dir == *dir);
+    }
+}
+
+/// Paths, the bytes that a read of each answers or why it answers none, and how many reads of the
+/// folder failed up to then.
+type Reads<'a> = &'a [(&'a str, Result<&'a [u8], ReadError>, u64)];
+
+/// Compares what the reads of a folder answer.
+fn compare_reads<T: Folder>(rt: &impl Abort, alloc: Global, folder: &mut T, rows: Reads<'_>) {
+    for (path, want, failures) in rows {
+        let is_wanted = match (&folder.read(alloc, path), want) {
+            (Ok(bytes), Ok(want)) => bytes.as_slice() == *want,
+            (Err(error), Err(want)) => error == want,
+            _ => false,
+        };
+        assert!(rt; is_wanted && folder.failures() == *failures);
+    }
+}
+
+/// A file: its path, its bytes, and the length that the host says.
+#[derive(Clone, Copy)]
+struct Stored<'a> {
+    path: &'a str,
+    bytes: &'a [u8],
+    len: usize,
+}
+
+/// Whether a part of a file has its bytes from `start` on, `len` of them or all that are left.
+fn has_part<T: Folder>(
+    alloc: Global,
+    folder: &mut T,
+    file: &Stored<'_>,
+    (start, len): (usize, usize),
+) -> bool {
+    let Ok(Some(part)) = folder.read_part(alloc, file.path, start as u64, len) else {
+        return false;
+    };
+    let first = start.min(file.bytes.len());
+    let end = first.saturating_add(len).min(file.bytes.len());
+    file.bytes.get(first..end) == Some(part.bytes.as_slice()) && part.file_len == file.len as u64
+}
+
+/// Whether a folder answers no part of a file.
+fn has_no_part<T: Folder>(
+    alloc: Global,
+    folder: &mut T,
+    path: &str,
+    (start, len): (usize, usize),
+) -> bool {
+    matches!(&folder.read_part(alloc, path, start as u64, len), Ok(None))
+}
+
+const IN_MEMORY: Kinds<'static> = &[
+    ("a", false, true),
+    ("a/b", true, false),
+    ("a/", false, false),
+    ("", false, false),
+];
+
+/// The third of these reads fails.
+const READ_IN_MEMORY: Reads<'static> = &[
+    ("a/b", Ok(b"new"), 0),
+    ("a", Err(ReadError::NotOpened), 0),
+    ("a/b", Err(ReadError::Device), 1),
+    ("c", Err(ReadError::NotOpened), 1),
+    ("a/b", Ok(b"new"), 1),
+];
+
+const NEW: &Stored<'static> = &Stored {
+    path: "a/b",
+    bytes: b"new",
+    len: 3,
+};
+
+/// Compares parts of a file in memory. The fourth part that is asked for fails.
+fn compare_parts_in_memory(rt: &impl Abort, alloc: Global, memory: &mut Memory) {
+    memory.fail_read(3);
+    for part in [(0, 2), (1, 9), (usize::MAX, 1)] {
+        assert!(rt; has_part(alloc, memory, NEW, part));
+    }
+    let failed = memory.read_part(alloc, NEW.path, 0, 1).err();
+    assert!(rt; failed == Some(ReadError::Device) && memory.failures() == 1);
+    assert!(rt; memory.read_part(alloc, "c", 0, 1).err() == Some(ReadError::NotOpened));
 }
 
 /// A folder `a` in memory with the file `a/b`, which was put twice.
 fn old_and_new(rt: &impl Abort, alloc: Global) -> Memory {
     let mut memory = Memory::new(alloc);
-    let path = String::from_str(alloc, "a").expect(rt, "memory for a path");
-    memory.put_dir(path).expect(rt, "memory for a folder");
+    let path = String::from_str(alloc, "a").expect(rt, "memory");
+    memory.put_dir(path).expect(rt, "memory");
     for text in [b"old", b"new"] {
-        let path = String::from_str(alloc, "a/b").expect(rt, "memory for a path");
-        let text = text.to_vec(alloc).expect(rt, "memory for a file");
-        memory.put_file(path, text).expect(rt, "memory for a file");
+        let path = String::from_str(alloc, "a/b").expect(rt, "memory");
+        let text = text.to_vec(alloc).expect(rt, "memory");
+        memory.put_file(path, text).expect(rt, "memory");
     }
     memory
 }
 
-/// Asserts whether a file and whether a folder stands at a path.
-fn expect_kind<T: Folder>(
-    rt: &impl Abort,
-    alloc: Global,
-    folder: &mut T,
-    path: &str,
-    (is_file, is_dir): (bool, bool),
-) {
-    let file = folder.is_file(alloc, path).expect(rt, "an answer");
-    assert!(rt; file == is_file);
-    let dir = folder.is_dir(alloc, path).expect(rt, "an answer");
-    assert!(rt; dir == is_dir);
-}
-
-/// Asserts what a read of the folder answers, and how many reads failed so far.
-fn expect_read(
-    rt: &impl Abort,
-    alloc: Global,
-    memory: &mut Memory,
-    path: &str,
-    (want, failures): (Result<&[u8], ReadError>, u64),
-) {
-    match (memory.read(alloc, path), want) {
-        (Ok(bytes), Ok(want)) => assert!(rt; bytes.as_slice() == want),
-        (Err(error), Err(want)) => assert!(rt; error == want, "{path}"),
-        _ => panic!(rt; "{path}"),
-    }
-    assert!(rt; memory.failures() == failures);
-}
-
 #[test]
 fn keeps_files_in_memory(rt: HostRuntime) {
-    let alloc = rt.alloc();
-    let mut memory = old_and_new(&rt, alloc);
-    expect_kind(&rt, alloc, &mut memory, "a", (false, true));
-    expect_kind(&rt, alloc, &mut memory, "a/b", (true, false));
-    expect_kind(&rt, alloc, &mut memory, "a/", (false, false));
-    expect_kind(&rt, alloc, &mut memory, "", (false, false));
+    let mut memory = old_and_new(&rt, rt.alloc());
+    compare_kinds(&rt, rt.alloc(), &mut memory, IN_MEMORY);
     memory.fail_read(0);
     memory.fail_read(2);
-    expect_read(&rt, alloc, &mut memory, "a/b", (Ok(b"new"), 0));
-    expect_read(&rt, alloc, &mut memory, "a", (Err(ReadError::NotOpened), 0));
-    expect_read(&rt, alloc, &mut memory, "a/b", (Err(ReadError::Device), 1));
-    expect_read(&rt, alloc, &mut memory, "c", (Err(ReadError::NotOpened), 1));
-    expect_read(&rt, alloc, &mut memory, "a/b", (Ok(b"new"), 1));
-}
-
-/// Asserts which bytes of a file a part has, and the length of the file.
-fn expect_part<T: Folder>(
-    rt: &impl Abort,
-    alloc: Global,
-    folder: &mut T,
-    (path, start, len): (&str, u64, usize),
-    (bytes, file_len): (&[u8], u64),
-) {
-    let part = folder.read_part(alloc, path, start, len);
-    let part = part.expect(rt, "a read").expect(rt, "a part");
-    assert!(rt; part.bytes.as_slice() == bytes, "{path} from {start}");
-    assert!(rt; part.file_len == file_len);
-}
-
-#[test]
-fn reads_parts_of_files(rt: HostRuntime) {
-    let alloc = rt.alloc();
-    let mut memory = old_and_new(&rt, alloc);
-    expect_part(&rt, alloc, &mut memory, ("a/b", 0, 2), (b"ne", 3));
-    expect_part(&rt, alloc, &mut memory, ("a/b", 1, 9), (b"ew", 3));
-    expect_part(&rt, alloc, &mut memory, ("a/b", u64::MAX, 1), (b"", 3));
-    memory.fail_read(0);
-    for error in [ReadError::Device, ReadError::NotOpened] {
-        let path = if error == ReadError::Device {
-            "a/b"
-        } else {
-            "c"
-        };
-        let answer = memory.read_part(alloc, path, 0, 1);
-        assert!(rt; answer.is_err_and(|e| e == error), "{path}");
-    }
-    assert!(rt; memory.failures() == 1);
+    compare_reads(&rt, rt.alloc(), &mut memory, READ_IN_MEMORY);
+    compare_parts_in_memory(&rt, rt.alloc(), &mut old_and_new(&rt, rt.alloc()));
 }
 
 const FOLDER: &str = "graph_folder_test";
@@ -174,57 +215,220 @@ const FILE: &str = "graph_folder_test/file";
 
 const MISSING: &str = "graph_folder_test/missing";
 
-/// So many bytes, which repeat the numbers from 0 to 250.
-fn numbers(rt: &impl Abort, alloc: Global, len: u32) -> Vec<u8> {
-    let mut bytes = Vec::new(alloc);
-    for i in 0..len {
-        bytes.push((i % 251) as u8).expect(rt, "memory for a file");
+const ON_DISK: Kinds<'static> = &[
+    (FOLDER, false, true),
+    (FILE, true, false),
+    (MISSING, false, false),
+];
+
+const READ_ON_DISK: Reads<'static> = &[
+    (FILE, Ok(&[0, 1]), 0),
+    (FOLDER, Err(ReadError::NotOpened), 0),
+    (MISSING, Err(ReadError::NotOpened), 0),
+];
+
+/// Compares the folder on disk. A file of each of some lengths is written over the one before it,
+/// the last of two bytes.
+fn compare_folder<R: Files + Abort, T: Folder>(rt: &R, alloc: Global, disk: &mut T) {
+    for len in [0, 1, 3_000_000, 2] {
+        let bytes = write_file(rt, alloc, FILE, len);
+        compare_reads(rt, alloc, disk, &[(FILE, Ok(&bytes), 0)]);
     }
-    bytes
+    compare_kinds(rt, alloc, disk, ON_DISK);
+    compare_reads(rt, alloc, disk, READ_ON_DISK);
+    assert!(rt; has_no_part(alloc, disk, FOLDER, (0, 1)));
+    assert!(rt; has_no_part(alloc, disk, MISSING, (0, 1)));
 }
 
 #[test]
 fn reads_from_disk(rt: HostRuntime) {
-    let alloc = rt.alloc();
     let _ = fs::remove_dir_all(&rt, FOLDER);
     fs::create_dir(&rt, FOLDER).expect(&rt, "a folder");
-    let mut disk = Disk::new(&rt);
-    // Each file is written over the one before it.
-    for len in [0u32, 1, 3_000_000, 2] {
-        let bytes = numbers(&rt, alloc, len);
-        fs::write(&rt, FILE, bytes.as_slice()).expect(&rt, "a file");
-        let read = disk.read(alloc, FILE).expect(&rt, "a file");
-        assert!(rt; read.as_slice() == bytes.as_slice(), "{len} bytes");
-    }
-    expect_part(&rt, alloc, &mut disk, (FILE, 1, 5), (&[1], 2));
-    for path in [FOLDER, MISSING] {
-        let answer = disk.read_part(alloc, path, 0, 1);
-        assert!(rt; matches!(answer, Ok(None)), "{path}");
-    }
-    expect_kind(&rt, alloc, &mut disk, FOLDER, (false, true));
-    expect_kind(&rt, alloc, &mut disk, FILE, (true, false));
-    expect_kind(&rt, alloc, &mut disk, MISSING, (false, false));
-    for path in [FOLDER, MISSING] {
-        let answer = disk.read(alloc, path);
-        assert!(rt; matches!(answer, Err(ReadError::NotOpened)));
-    }
-    assert!(rt; disk.failures() == 0);
+    compare_folder(&rt, rt.alloc(), &mut Disk::new(&rt));
     fs::remove_dir_all(&rt, FOLDER).expect(&rt, "no folder");
 }
 
-/// Errors, with their names.
-const ERRORS: &[(ReadError, &str)] = &[
-    (ReadError::NotOpened, "NotOpened"),
-    (ReadError::Device, "Device"),
-    (ReadError::OutOfMemory, "OutOfMemory"),
-];
+/// What a host does to a file: how many bytes the file has and how many the host says, how many of
+/// them a read gives at most, and the number of the read that fails.
+#[derive(Clone, Copy)]
+struct Treated {
+    len: usize,
+    told: usize,
+    most: usize,
+    fails_at: Option<usize>,
+}
+
+/// What is compared of such a file: parts with these beginnings and lengths, what lies past the end
+/// of its bytes, or which reads fail.
+enum Compared<'a> {
+    Parts(&'a [usize], &'a [usize]),
+    EarlyEnd,
+    Failures,
+}
+
+/// Compares parts of a file, and how many reads each took: as many as give its bytes, so a part of
+/// any length is read at once where a read gives all that is asked for.
+fn compare_parts<T: Folder>(
+    rt: &impl Abort,
+    alloc: Global,
+    folder: &mut T,
+    file: &Stored<'_>,
+    reads: &Cell<usize>,
+    most: usize,
+    starts: &[usize],
+    lens: &[usize],
+) {
+    assert!(rt; most > 0);
+    for start in starts {
+        for len in lens {
+            reads.set(0);
+            assert!(rt; has_part(alloc, folder, file, (*start, *len)));
+            let count = file.len.saturating_sub(*start).min(*len);
+            assert!(rt; reads.get() == count.div_ceil(most));
+        }
+    }
+    compare_reads(rt, alloc, folder, &[(file.path, Ok(file.bytes), 0)]);
+}
+
+/// Compares parts of a file of 50 bytes of which the host says that it has 60.
+fn compare_early_end<T: Folder>(rt: &impl Abort, alloc: Global, folder: &mut T, file: &Stored<'_>) {
+    for part in [(0, 51), (0, 60), (40, 11), (49, 2), (50, 1), (59, 1)] {
+        assert!(rt; has_no_part(alloc, folder, file.path, part));
+    }
+    assert!(rt; has_part(alloc, folder, file, (40, 10)));
+}
+
+/// Compares which reads of a folder fail where the host fails the one of this number, and how many
+/// failures are counted. A part of nine bytes takes three reads of at most four, and the whole file
+/// of twenty takes five, and one that finds its end.
+fn compare_failures<T: Folder>(
+    rt: &impl Abort,
+    alloc: Global,
+    folder: &mut T,
+    file: &Stored<'_>,
+    reads: &Cell<usize>,
+    fails_at: Option<usize>,
+) {
+    let fails_at = fails_at.unwrap_or(usize::MAX);
+    let part = folder.read_part(alloc, file.path, 3, 9);
+    assert!(rt; (part.err() == Some(ReadError::Device)) == (fails_at < 3));
+    assert!(rt; folder.failures() == u64::from(fails_at < 3));
+    reads.set(0);
+    let whole = folder.read(alloc, file.path);
+    assert!(rt; (whole.err() == Some(ReadError::Device)) == (fails_at < 6));
+    assert!(rt; folder.failures() == u64::from(fails_at < 3) + u64::from(fails_at < 6));
+}
+
+/// Writes a file, of which such a host says what it says of one that is as long as that, and
+/// compares its reads. The files have names that begin with this one.
+fn compare_treated<R: Files + Abort>(
+    rt: &R,
+    alloc: Global,
+    path: &str,
+    treated: &Treated,
+    compared: &Compared<'_>,
+) {
+    let measured = format!(in alloc; "{path}_measured").expect(rt, "memory");
+    let _ = write_file(rt, alloc, &measured, treated.told);
+    let bytes = write_file(rt, alloc, path, treated.len);
+    let file = Stored {
+        path,
+        bytes: &bytes,
+        len: treated.told,
+    };
+    let reads = Cell::new(0);
+    let host = Host {
+        below: rt,
+        most: treated.most,
+        fails_at: treated.fails_at,
+        measured: &measured,
+        reads: &reads,
+    };
+    let mut disk = Disk::new(&host);
+    match compared {
+        Compared::Parts(starts, lens) => {
+            let most = treated.most;
+            compare_parts(rt, alloc, &mut disk, &file, &reads, most, starts, lens);
+        }
+        Compared::EarlyEnd => compare_early_end(rt, alloc, &mut disk, &file),
+        Compared::Failures => {
+            compare_failures(rt, alloc, &mut disk, &file, &reads, treated.fails_at);
+        }
+    }
+    fs::remove_file(rt, &measured).expect(rt, "no file");
+    fs::remove_file(rt, path).expect(rt, "no file");
+}
+
+/// A file that is read whole pieces at a time.
+const LONG: &Treated = &Treated {
+    len: 200_003,
+    told: 200_003,
+    most: usize::MAX,
+    fails_at: None,
+};
+
+/// Parts about its end and about the ends of pieces of 64 KiB, and past its end.
+const LONG_PARTS: &Compared<'static> = &Compared::Parts(
+    &[
+        0,
+        1,
+        65_535,
+        65_536,
+        65_537,
+        131_072,
+        199_999,
+        200_002,
+        200_003,
+        200_004,
+        1 << 40,
+    ],
+    &[0, 1, 65_535, 65_536, 65_537, 131_073, 300_000],
+);
+
+const SHORT_PARTS: &Compared<'static> = &Compared::Parts(
+    &[0, 5, 299, 300],
+    &[1, 5, 9, 40, 100, 300],
+);
 
 #[test]
-fn tells_errors_by_their_names(rt: HostRuntime) {
-    for (error, want) in ERRORS {
-        let text = error.to_string(rt.alloc()).expect(&rt, "memory for a text");
-        compare_text(&rt, text.as_str(), want);
-        let text = format!(in rt.alloc(); "{error:?}").expect(&rt, "memory for a text");
-        compare_text(&rt, text.as_str(), want);
+fn parts_on_disk_are_the_files_bytes(rt: HostRuntime) {
+    let path = "graph_folder_parts";
+    compare_treated(&rt, rt.alloc(), path, LONG, LONG_PARTS);
+    for most in [1, 7] {
+        let treated = Treated {
+            len: 300,
+            told: 300,
+            most,
+            fails_at: None,
+        };
+        compare_treated(&rt, rt.alloc(), path, &treated, SHORT_PARTS);
+    }
+}
+
+#[test]
+fn a_file_that_ends_early_has_no_part_past_its_end(rt: HostRuntime) {
+    for most in [1, 100] {
+        let treated = Treated {
+            len: 50,
+            told: 60,
+            most,
+            fails_at: None,
+        };
+        let path = "graph_folder_early_end";
+        compare_treated(&rt, rt.alloc(), path, &treated, &Compared::EarlyEnd);
+    }
+}
+
+#[test]
+fn each_failed_read_of_a_file_is_told_and_counted(rt: HostRuntime) {
+    for read in 0..=6 {
+        let treated = Treated {
+            len: 20,
+            told: 20,
+            most: 4,
+            fails_at: Some(read),
+        };
+        let path = "graph_folder_failed_reads";
+        compare_treated(&rt, rt.alloc(), path, &treated, &Compared::Failures);
     }
 }

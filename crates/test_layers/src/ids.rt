@@ -1,5 +1,7 @@
-use crate::fixtures::compare_text;
+use crate::fixtures::compare_texts;
 use gix_hash_core::{IdError, Kind, ObjectId, digest, oid};
+use graph_format::{Position, file};
+use std::alloc::Global;
 use std::hash::{DefaultHasher, Hash, Hasher};
 use std::process::Abort;
 
@@ -23,80 +25,85 @@ const DIGESTS: &[(Kind, &[u8], &str)] = &[
     ),
 ];
 
-#[test]
-fn digests_are_the_published_ones(rt: HostRuntime) {
-    for (kind, message, want) in DIGESTS {
+/// Compares the digests of messages, as they are and as they are written and read.
+fn compare_digests(rt: &impl Abort, alloc: Global, rows: &[(Kind, &[u8], &str)]) {
+    for (kind, message, want) in rows {
         let id = digest(*kind, message);
-        let text = id.to_string(rt.alloc()).expect(&rt, "memory for an id");
-        compare_text(&rt, text.as_str(), want);
-        let text = id
-            .as_oid()
-            .to_string(rt.alloc())
-            .expect(&rt, "memory for an id");
-        compare_text(&rt, text.as_str(), want);
-        let read = ObjectId::from_hex(want.as_bytes()).expect(&rt, "an id");
-        assert!(rt; read == id);
+        compare_texts(rt, alloc, &[(id, *want)]);
+        compare_texts(rt, alloc, &[(id.as_oid(), *want)]);
+        assert!(rt; ObjectId::from_hex(want.as_bytes()) == Ok(id));
     }
 }
 
-/// Texts that are no ids.
-const NO_IDS: &[(&[u8], IdError)] = &[
-    (b"", IdError::Length),
-    (&[b'g'; 39], IdError::Length),
-    (&[b'g'; 41], IdError::Length),
-    (&[b'a'; 63], IdError::Length),
-    (&[b'g'; 64], IdError::Digit),
+#[test]
+fn digests_are_the_published_ones(rt: HostRuntime) {
+    compare_digests(&rt, rt.alloc(), DIGESTS);
+}
+
+/// Texts, with the bytes of the ids that they spell, or why they spell none.
+const SPELLED: &[(&[u8], Result<&[u8], IdError>)] = &[
+    (b"", Err(IdError::Length)),
+    (&[b'g'; 39], Err(IdError::Length)),
+    (&[b'g'; 41], Err(IdError::Length)),
+    (&[b'a'; 63], Err(IdError::Length)),
+    (&[b'g'; 64], Err(IdError::Digit)),
+    (
+        b"aaaaaaaaaaaaaaaaaaaaaaaaaaaaaaaaaaaaaaag",
+        Err(IdError::Digit),
+    ),
+    (&[b'A'; 40], Ok(&[0xaa; 20])),
+    (
+        b"Baaaaaaaaaaaaaaaaaaaaaaaaaaaaaaaaaaaaaaa",
+        Ok(b"\xba\xaa\xaa\xaa\xaa\xaa\xaa\xaa\xaa\xaa\xaa\xaa\xaa\xaa\xaa\xaa\xaa\xaa\xaa\xaa"),
+    ),
+    (&[b'a'; 64], Ok(&[0xaa; 32])),
 ];
+
+/// Compares the ids that texts spell.
+fn compare_spelled(rt: &impl Abort, rows: &[(&[u8], Result<&[u8], IdError>)]) {
+    for (text, want) in rows {
+        let is_wanted = match (ObjectId::from_hex(text), want) {
+            (Ok(id), Ok(bytes)) => id.as_oid().as_bytes() == *bytes,
+            (Err(error), Err(want)) => error == *want,
+            _ => false,
+        };
+        assert!(rt; is_wanted);
+    }
+}
 
 #[test]
 fn reads_hexadecimal(rt: HostRuntime) {
-    for (text, want) in NO_IDS {
-        assert!(rt; ObjectId::from_hex(text).err() == Some(*want));
-    }
-    let mut bad_end = [b'a'; 40];
-    bad_end[39] = b'g';
-    assert!(rt; matches!(ObjectId::from_hex(&bad_end), Err(IdError::Digit)));
-    let id = ObjectId::from_hex(&[b'A'; 40]).expect(&rt, "an id");
-    assert!(rt; id == ObjectId::from([0xaa; 20]));
-    let mut both_cases = [b'a'; 64];
-    both_cases[0] = b'B';
-    let mut bytes = [0xaa; 32];
-    bytes[0] = 0xba;
-    let id = ObjectId::from_hex(&both_cases).expect(&rt, "an id");
-    assert!(rt; id == ObjectId::from(bytes));
+    compare_spelled(&rt, SPELLED);
 }
 
-/// Asserts what there is to be read of an id of these bytes.
-fn expect_id(rt: &impl Abort, bytes: &[u8], kind: Kind) {
-    let id = oid::try_from_bytes(bytes).expect(rt, "an id");
-    assert!(rt; id.kind() == kind);
-    assert!(rt; id.as_bytes() == bytes);
-    assert!(rt; id.as_bytes().len() == kind.len_in_bytes());
-    assert!(rt; id.first_byte() == 0x11);
-    assert!(rt; !id.is_null());
-    assert!(rt; id.to_owned().as_oid() == id);
-}
+/// Kinds of hash with their numbers, and ids of theirs.
+const IDS: &[(Kind, u8, &[u8])] = &[(Kind::Sha1, 1, &[0x11; 20]), (Kind::Sha256, 2, &[0x11; 32])];
 
-#[test]
-fn reads_ids(rt: HostRuntime) {
-    for length in [0, 19, 21, 31, 33] {
-        assert!(rt; oid::try_from_bytes(&[0; 40][..length]).is_none());
-    }
-    expect_id(&rt, &[0x11; 20], Kind::Sha1);
-    expect_id(&rt, &[0x11; 32], Kind::Sha256);
-    for kind in [Kind::Sha1, Kind::Sha256] {
-        assert!(rt; kind.null().as_oid().is_null());
-        assert!(rt; kind.null() == ObjectId::null(kind));
+/// Compares what there is to be read of kinds and of ids.
+fn compare_ids(rt: &impl Abort, rows: &[(Kind, u8, &[u8])]) {
+    for (kind, number, bytes) in rows {
+        assert!(rt; Kind::try_from(*number) == Ok(*kind) && kind.len_in_bytes() == bytes.len());
+        assert!(rt; kind.null().as_oid().is_null() && kind.null() == ObjectId::null(*kind));
+        let id = oid::try_from_bytes(bytes).expect(rt, "an id");
+        assert!(rt; id.kind() == *kind && id.as_bytes() == *bytes && id.first_byte() == 0x11);
+        assert!(rt; !id.is_null() && id.to_owned().as_oid() == id);
     }
 }
 
-#[test]
-fn names_kinds(rt: HostRuntime) {
-    assert!(rt; Kind::try_from(1) == Ok(Kind::Sha1));
-    assert!(rt; Kind::try_from(2) == Ok(Kind::Sha256));
-    assert!(rt; Kind::try_from(0) == Err(0));
-    assert!(rt; Kind::try_from(3) == Err(3));
+/// Compares what is no kind and no id.
+fn compare_others(rt: &impl Abort, lengths: &[usize]) {
+    assert!(rt; Kind::try_from(0) == Err(0) && Kind::try_from(3) == Err(3));
     assert!(rt; Kind::shortest() == Kind::Sha1);
+    for length in lengths {
+        let bytes: &[u8] = [0; 40].get(..*length).unwrap_or(&[]);
+        assert!(rt; oid::try_from_bytes(bytes).is_none());
+    }
+}
+
+#[test]
+fn reads_kinds_and_ids(rt: HostRuntime) {
+    compare_ids(&rt, IDS);
+    compare_others(&rt, &[0, 19, 21, 31, 33]);
 }
 
 fn hash_of<T: Hash>(value: &T) -> u64 {
@@ -105,38 +112,31 @@ fn hash_of<T: Hash>(value: &T) -> u64 {
     state.finish()
 }
 
-#[test]
-fn compares_bytes(rt: HostRuntime) {
-    let low = ObjectId::from([0x11; 20]);
-    let longer = ObjectId::from([0x11; 32]);
-    let high = ObjectId::from([0x12; 20]);
-    let rows = [(low, longer), (longer, high), (Kind::Sha1.null(), low)];
-    for (first, second) in rows {
-        assert!(rt; first < second);
-        assert!(rt; first.as_oid() < second.as_oid());
-        assert!(rt; first != second);
-        assert!(rt; first.as_oid() != second.as_oid());
-        assert!(rt; hash_of(&first) == hash_of(&first.as_oid()));
+/// Compares values with those after them, which are to be greater.
+fn compare_ascending<T: Ord + Hash>(rt: &impl Abort, values: &[T]) {
+    for (at, value) in values.iter().enumerate() {
+        assert!(rt; *value == *value);
+        for later in &values[at + 1..] {
+            assert!(rt; value < later && value != later && hash_of(value) != hash_of(later));
+        }
     }
 }
 
-/// Errors, with their names as they are displayed and as they are debugged.
-const ERRORS: &[(IdError, &str)] = &[
-    (IdError::Length, "Length Length"),
-    (IdError::Digit, "Digit Digit"),
-];
-
 #[test]
-fn writes_debug_texts(rt: HostRuntime) {
-    let id = Kind::Sha1.null();
-    let want = "Sha1(0000000000000000000000000000000000000000)";
-    let text = format!(in rt.alloc(); "{id:?}").expect(&rt, "memory for an id");
-    compare_text(&rt, text.as_str(), want);
-    let id = id.as_oid();
-    let text = format!(in rt.alloc(); "{id:?}").expect(&rt, "memory for an id");
-    compare_text(&rt, text.as_str(), want);
-    for (error, want) in ERRORS {
-        let text = format!(in rt.alloc(); "{error} {error:?}").expect(&rt, "memory for a name");
-        compare_text(&rt, text.as_str(), want);
-    }
+fn ids_and_positions_have_an_order(rt: HostRuntime) {
+    let ids = [
+        Kind::Sha1.null(),
+        ObjectId::from([0x11; 20]),
+        ObjectId::from([0x11; 32]),
+        ObjectId::from([0x12; 20]),
+    ];
+    compare_ascending(&rt, &ids);
+    let [null, low, longer, high] = &ids;
+    compare_ascending(
+        &rt,
+        &[null.as_oid(), low.as_oid(), longer.as_oid(), high.as_oid()],
+    );
+    assert!(rt; hash_of(low) == hash_of(&low.as_oid()));
+    compare_ascending(&rt, &[Position(1), Position(3), Position(256)]);
+    compare_ascending(&rt, &[file::Position(3), file::Position(256)]);
 }

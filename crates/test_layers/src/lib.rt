@@ -7,15 +7,9 @@
 #[cfg(test)]
 mod building;
 #[cfg(test)]
-mod checking;
-#[cfg(test)]
 mod chunk_tables;
 #[cfg(test)]
 mod commits;
-#[cfg(test)]
-mod dated;
-#[cfg(test)]
-mod disks;
 #[cfg(test)]
 mod fixtures;
 #[cfg(test)]
@@ -28,8 +22,6 @@ mod ids;
 mod lookups;
 #[cfg(test)]
 mod opening;
-#[cfg(test)]
-mod parents;
 #[cfg(test)]
 mod texts;
 #[cfg(test)]

@@ -1,11 +1,11 @@
-use crate::fixtures::{opened, try_open};
+use crate::fixtures::{damaged_diamond, opened, try_open};
 use gix_chunk_core::ChunkError;
 use gix_hash_core::Kind;
 use graph_format::error::FileError;
 use graph_vectors::refused::{
     ENTRIES, MISSING_CHUNKS, REFUSED_HEADERS, Refused, THREE, WRONG_BASES, WRONG_SIZES,
 };
-use graph_vectors::{END, Entry, file_of_parts, file_of_zeros, words};
+use graph_vectors::{END, Entry, file_of_zeros};
 use std::alloc::Global;
 use std::process::Abort;
 
@@ -21,68 +21,6 @@ fn compare(rt: &impl Abort, alloc: Global, rows: &[Refused]) {
         let bytes = file_of_zeros(alloc, header, entries, *zeros).expect(rt, "memory");
         compare_refusal(rt, alloc, bytes, want);
     }
-}
-
-/// A header, the entries of a table, the number of bytes 0 after it, and the kind of hash.
-type Empty = (&'static [u8; 8], &'static [Entry], usize, Kind);
-
-/// Opens files without commits, and compares their kinds.
-fn compare_empty(rt: &impl Abort, alloc: Global, rows: &[Empty]) {
-    for (header, entries, zeros, kind) in rows {
-        let bytes = file_of_zeros(alloc, header, entries, *zeros).expect(rt, "memory");
-        let file = opened(rt, alloc, bytes, "");
-        assert!(rt; file.num_commits() == 0 && file.object_hash() == *kind);
-        assert!(rt; file.iter_commits().next().is_none());
-    }
-}
-
-const LEAST: &[Empty] = &[
-    (THREE, ENTRIES, 1044, Kind::Sha1),
-    (b"CGPH\x01\x02\x03\x00", ENTRIES, 1056, Kind::Sha256),
-];
-
-#[test]
-fn the_least_files(rt: HostRuntime) {
-    let short = vec![in rt.alloc(); 0; 1099].expect(&rt, "memory");
-    compare_refusal(&rt, rt.alloc(), short, &FileError::TooSmall);
-    compare_empty(&rt, rt.alloc(), LEAST);
-}
-
-const MORE_CHUNKS: &[Empty] = &[
-    (
-        b"CGPH\x01\x01\x04\x00",
-        &[
-            (b"OIDF", 68),
-            (b"OIDL", 1092),
-            (b"CDAT", 1092),
-            (b"XTRA", 1092),
-            (END, 1100),
-        ],
-        1052,
-        Kind::Sha1,
-    ),
-    (
-        b"CGPH\x01\x01\x04\x00",
-        &[
-            (b"OIDF", 68),
-            (b"OIDL", 1092),
-            (b"CDAT", 1092),
-            (b"EDGE", 1092),
-            (END, 1092),
-        ],
-        1044,
-        Kind::Sha1,
-    ),
-];
-
-#[test]
-fn chunks_that_may_stand_there(rt: HostRuntime) {
-    compare_empty(&rt, rt.alloc(), MORE_CHUNKS);
-}
-
-#[test]
-fn refused_headers(rt: HostRuntime) {
-    compare(&rt, rt.alloc(), REFUSED_HEADERS);
 }
 
 const DAMAGED_TABLES: &[Refused] = &[
@@ -125,33 +63,67 @@ const DAMAGED_TABLES: &[Refused] = &[
 ];
 
 #[test]
-fn damaged_chunk_tables(rt: HostRuntime) {
+fn files_are_refused_for_their_first_fault(rt: HostRuntime) {
+    compare(&rt, rt.alloc(), REFUSED_HEADERS);
     compare(&rt, rt.alloc(), DAMAGED_TABLES);
-}
-
-#[test]
-fn chunks_that_are_missing(rt: HostRuntime) {
     compare(&rt, rt.alloc(), MISSING_CHUNKS);
-}
-
-#[test]
-fn chunks_of_a_wrong_size(rt: HostRuntime) {
     compare(&rt, rt.alloc(), WRONG_SIZES);
-}
-
-#[test]
-fn base_ids_of_a_wrong_size(rt: HostRuntime) {
     compare(&rt, rt.alloc(), WRONG_BASES);
+    let short = vec![in rt.alloc(); 0; 1099].expect(&rt, "memory");
+    compare_refusal(&rt, rt.alloc(), short, &FileError::TooSmall);
+    // two ids begin with the byte 4, and none with 0 to 5
+    let falling = damaged_diamond(&rt, rt.alloc(), (72, b"\0\0\0\x02"));
+    compare_refusal(&rt, rt.alloc(), falling, &FileError::FanFalls { at: 5 });
+}
+
+/// A header, the entries of a table, the number of bytes 0 after it, and the kind of hash.
+type Empty = (&'static [u8; 8], &'static [Entry], usize, Kind);
+
+/// The header of a SHA-1 file of four chunks.
+const FOUR: &[u8; 8] = b"CGPH\x01\x01\x04\x00";
+
+/// Files without commits: the least of either kind, one with an unknown chunk, and one with an
+/// empty extra edge list.
+const EMPTY: &[Empty] = &[
+    (THREE, ENTRIES, 1044, Kind::Sha1),
+    (b"CGPH\x01\x02\x03\x00", ENTRIES, 1056, Kind::Sha256),
+    (
+        FOUR,
+        &[
+            (b"OIDF", 68),
+            (b"OIDL", 1092),
+            (b"CDAT", 1092),
+            (b"XTRA", 1092),
+            (END, 1100),
+        ],
+        1052,
+        Kind::Sha1,
+    ),
+    (
+        FOUR,
+        &[
+            (b"OIDF", 68),
+            (b"OIDL", 1092),
+            (b"CDAT", 1092),
+            (b"EDGE", 1092),
+            (END, 1092),
+        ],
+        1044,
+        Kind::Sha1,
+    ),
+];
+
+/// Opens files without commits, and compares their kinds.
+fn compare_empty(rt: &impl Abort, alloc: Global, rows: &[Empty]) {
+    for (header, entries, zeros, kind) in rows {
+        let bytes = file_of_zeros(alloc, header, entries, *zeros).expect(rt, "memory");
+        let file = opened(rt, alloc, bytes, "");
+        assert!(rt; file.num_commits() == 0 && file.object_hash() == *kind);
+        assert!(rt; file.iter_commits().next().is_none());
+    }
 }
 
 #[test]
-fn a_falling_fan(rt: HostRuntime) {
-    let mut fan = [2; 256];
-    fan[..4].copy_from_slice(&[0; 4]);
-    fan[5] = 1;
-    let fan = words(rt.alloc(), &fan).expect(&rt, "memory");
-    let entries = [(b"OIDF", 56), (b"OIDL", 1080), (b"CDAT", 1120), (END, 1192)];
-    let bytes = file_of_parts(rt.alloc(), THREE, &entries, &[&fan, &[0; 132]]);
-    let bytes = bytes.expect(&rt, "memory");
-    compare_refusal(&rt, rt.alloc(), bytes, &FileError::FanFalls { at: 5 });
+fn the_least_files_open(rt: HostRuntime) {
+    compare_empty(&rt, rt.alloc(), EMPTY);
 }

@@ -1,15 +1,15 @@
-use crate::fixtures::{compare_text, compare_texts, layer, opened};
+//! The texts of errors, of faults and of positions.
+
+use crate::fixtures::{compare_debug, compare_texts};
 use gix_chunk_core::ChunkError;
+use gix_hash_core::{IdError, Kind};
+use graph_folder::folder::ReadError;
 use graph_format::error::{FileError, GraphError};
 use graph_format::fault::{CommitFault, LayerFault};
 use graph_format::parents::ParentError;
 use graph_format::{Position, file};
-use graph_layer::file::verify::TraverseError;
+use graph_layer::file::verify::{ChecksumMismatch, TraverseError};
 use graph_layer::opening::OpenError;
-use std::alloc::Global;
-use std::collections::{BTreeSet, HashSet};
-use std::hash::Hash;
-use std::process::Abort;
 
 const FILE_ERRORS: &[(FileError, &str)] = &[
     (FileError::TooSmall, "TooSmall"),
@@ -34,71 +34,38 @@ const FILE_ERRORS: &[(FileError, &str)] = &[
     (FileError::OutOfMemory, "OutOfMemory"),
 ];
 
+const CHUNK_ERRORS: &[(ChunkError, &str)] = &[
+    (ChunkError::NoChunks, "NoChunks"),
+    (ChunkError::TableTooSmall, "TableTooSmall"),
+    (ChunkError::EarlyEnd { entry: 2 }, "EarlyEnd"),
+    (ChunkError::Duplicate { id: *b"ABCD" }, "Duplicate"),
+    (ChunkError::OutOfFile { entry: 2 }, "OutOfFile"),
+    (ChunkError::Falling { entry: 2 }, "Falling"),
+    (ChunkError::NoEnd { id: *b"ABCD" }, "NoEnd"),
+];
+
+const PARENT_ERRORS: &[(ParentError, &str)] = &[
+    (ParentError::SecondWithoutFirst, "SecondWithoutFirst"),
+    (ParentError::FirstIsEdgeIndex, "FirstIsEdgeIndex"),
+    (ParentError::NoEdgeList, "NoEdgeList"),
+    (ParentError::EdgeOverflow, "EdgeOverflow"),
+];
+
+const ID_ERRORS: &[(IdError, &str)] = &[(IdError::Length, "Length"), (IdError::Digit, "Digit")];
+
+const READ_ERRORS: &[(ReadError, &str)] = &[
+    (ReadError::NotOpened, "NotOpened"),
+    (ReadError::Device, "Device"),
+    (ReadError::OutOfMemory, "OutOfMemory"),
+];
+
 #[test]
-fn errors_are_their_names(rt: HostRuntime) {
+fn errors_of_bytes_are_their_names(rt: HostRuntime) {
     compare_texts(&rt, rt.alloc(), FILE_ERRORS);
-}
-
-#[test]
-fn positions_are_padded_numbers(rt: HostRuntime) {
-    let (in_graph, in_layer) = (Position(42), file::Position(7));
-    let text = format!(in rt.alloc();
-        "{in_graph}|{in_graph:>5}|{in_graph:*<4}|{in_layer}|{in_layer:03}"
-    );
-    let text = text.expect(&rt, "memory");
-    compare_text(&rt, text.as_str(), "42|   42|42**|7|007");
-    let text = format!(in rt.alloc(); "{in_graph:?} {in_layer:?}").expect(&rt, "memory");
-    compare_text(&rt, text.as_str(), "Position(42) Position(7)");
-}
-
-#[test]
-fn a_file_shows_its_path(rt: HostRuntime) {
-    let bytes = layer(&rt, rt.alloc(), &[]);
-    let file = opened(&rt, rt.alloc(), bytes, "a \"graph\"");
-    let want = r#"File(""a \"graph\""")"#;
-    let text = format!(in rt.alloc(); "{file:?}").expect(&rt, "memory");
-    compare_text(&rt, text.as_str(), want);
-    let text = format!(in rt.alloc(); "{file:#?}").expect(&rt, "memory");
-    compare_text(&rt, text.as_str(), want);
-}
-
-/// The values in order, each once, as a set by hash tells them apart.
-fn sorted_set<T: Ord + Hash + Copy>(rt: &impl Abort, alloc: Global, values: &[T]) -> Vec<T> {
-    let mut set = HashSet::new(alloc);
-    let mut sorted = Vec::new(alloc);
-    for value in values {
-        if set.insert(*value).expect(rt, "memory") {
-            sorted.push(*value).expect(rt, "memory");
-        }
-    }
-    sorted.sort().expect(rt, "memory");
-    sorted
-}
-
-/// Whether a set by order has these values, in this order.
-fn are_in_set<T: Ord + Copy>(rt: &impl Abort, alloc: Global, values: &[T], want: &[T]) -> bool {
-    let mut set = BTreeSet::new(alloc);
-    for value in values {
-        set.insert(*value).expect(rt, "memory");
-    }
-    set.iter().eq(want.iter())
-}
-
-/// Compares the values in order, each once, with these.
-fn compare_sets<T: Ord + Hash + Copy>(rt: &impl Abort, alloc: Global, values: &[T], want: &[T]) {
-    let sorted = sorted_set(rt, alloc, values);
-    assert!(rt; sorted.as_slice() == want);
-    assert!(rt; are_in_set(rt, alloc, values, want));
-}
-
-#[test]
-fn positions_are_sorted_and_put_into_sets(rt: HostRuntime) {
-    let in_graph = [Position(256), Position(3), Position(256), Position(1)];
-    let sorted = [Position(1), Position(3), Position(256)];
-    compare_sets(&rt, rt.alloc(), &in_graph, &sorted);
-    let in_layer = [file::Position(256), file::Position(3), file::Position(3)];
-    let sorted = [file::Position(3), file::Position(256)];
-    compare_sets(&rt, rt.alloc(), &in_layer, &sorted);
+    compare_texts(&rt, rt.alloc(), CHUNK_ERRORS);
+    compare_texts(&rt, rt.alloc(), PARENT_ERRORS);
+    compare_texts(&rt, rt.alloc(), ID_ERRORS);
+    compare_texts(&rt, rt.alloc(), READ_ERRORS);
 }
 
 const GRAPH_ERRORS: &[(GraphError, &str)] = &[
@@ -107,11 +74,6 @@ const GRAPH_ERRORS: &[(GraphError, &str)] = &[
     (GraphError::HashMismatch { layer: 1 }, "HashMismatch"),
     (GraphError::OutOfMemory, "OutOfMemory"),
 ];
-
-#[test]
-fn errors_of_making_a_graph_are_their_names(rt: HostRuntime) {
-    compare_texts(&rt, rt.alloc(), GRAPH_ERRORS);
-}
 
 const OPEN_ERRORS: &[(OpenError, &str)] = &[
     (OpenError::NothingFound, "NothingFound"),
@@ -129,11 +91,6 @@ const OPEN_ERRORS: &[(OpenError, &str)] = &[
     (OpenError::OutOfMemory, "OutOfMemory"),
 ];
 
-#[test]
-fn errors_of_openers_are_their_names(rt: HostRuntime) {
-    compare_texts(&rt, rt.alloc(), OPEN_ERRORS);
-}
-
 const LAYER_FAULTS: &[(LayerFault, &str)] = &[
     (LayerFault::Checksum, "Checksum"),
     (LayerFault::FileName, "FileName"),
@@ -145,12 +102,6 @@ const COMMIT_FAULTS: &[(CommitFault, &str)] = &[
     (CommitFault::Order, "Order"),
     (CommitFault::NullTree, "NullTree"),
 ];
-
-#[test]
-fn faults_are_their_names(rt: HostRuntime) {
-    compare_texts(&rt, rt.alloc(), LAYER_FAULTS);
-    compare_texts(&rt, rt.alloc(), COMMIT_FAULTS);
-}
 
 const IN_LAYER: file::Position = file::Position(1);
 
@@ -179,6 +130,36 @@ const TRAVERSE_ERRORS: &[(TraverseError<&str>, &str)] = &[
 ];
 
 #[test]
-fn errors_of_a_layer_are_their_names(rt: HostRuntime) {
+fn errors_of_openers_and_faults_are_their_names(rt: HostRuntime) {
+    compare_texts(&rt, rt.alloc(), GRAPH_ERRORS);
+    compare_texts(&rt, rt.alloc(), OPEN_ERRORS);
+    compare_texts(&rt, rt.alloc(), LAYER_FAULTS);
+    compare_texts(&rt, rt.alloc(), COMMIT_FAULTS);
     compare_texts(&rt, rt.alloc(), TRAVERSE_ERRORS);
+    compare_texts(&rt, rt.alloc(), &[(ChecksumMismatch, "ChecksumMismatch")]);
+}
+
+#[test]
+fn positions_are_their_numbers(rt: HostRuntime) {
+    compare_texts(&rt, rt.alloc(), &[(Position(42), "42")]);
+    compare_texts(&rt, rt.alloc(), &[(file::Position(7), "7")]);
+}
+
+const NULL_ID: &str = "Sha1(0000000000000000000000000000000000000000)";
+
+const EARLY_END: &[(ChunkError, &str)] = &[(
+    ChunkError::EarlyEnd { entry: 2 },
+    "EarlyEnd { entry: 2 }",
+)];
+
+#[test]
+fn debug_texts_have_names_and_numbers(rt: HostRuntime) {
+    let null = Kind::Sha1.null();
+    compare_debug(&rt, rt.alloc(), &[(null, NULL_ID)]);
+    compare_debug(&rt, rt.alloc(), &[(null.as_oid(), NULL_ID)]);
+    compare_debug(&rt, rt.alloc(), &[(Position(42), "Position(42)")]);
+    compare_debug(&rt, rt.alloc(), EARLY_END);
+    compare_debug(&rt, rt.alloc(), PARENT_ERRORS);
+    compare_debug(&rt, rt.alloc(), ID_ERRORS);
+    compare_debug(&rt, rt.alloc(), READ_ERRORS);
 }
