@@ -1,106 +1,198 @@
-//! What the tests share: layers built from rows, and folders that hold them.
+//! What the tests share: a folder of graphs that are built from rows, and commands that are run in
+//! it. Where an allocation fails, the process aborts.
 
+use gix_commitgraph::GENERATION_NUMBER_MAX;
 use gix_hash_core::{Kind, ObjectId, digest};
-use graph_folder::folder::Memory;
-use graph_vectors::{Row, build, plan_of_rows};
+use graph_commands::command::Command;
+use graph_commands::line::WriteFailed;
+use graph_commands::program::{Complaints, respond};
+use graph_folder::folder::{Folder, Memory};
+use graph_vectors::{DIAMOND, OCTOPUS, Row, Sink, file_of_rows};
 use std::alloc::Global;
-use std::fmt::Display;
+use std::io;
 use std::process::Abort;
 
-/// The bytes of a SHA-1 file of these commits over these base layers.
-pub(super) fn built(
-    rt: &impl Abort,
-    alloc: Global,
-    bases: &[ObjectId],
-    rows: &[Row<'_>],
-) -> Vec<u8> {
-    let plan = plan_of_rows(alloc, bases, rows).expect(rt, "memory for a plan");
-    assert!(rt; plan.is_buildable());
-    build(alloc, &plan).expect(rt, "memory for a file")
-}
+pub const ONES: &str = "1111111111111111111111111111111111111111";
 
-/// Compares the text of each value with the one beside it.
-pub(super) fn compare_texts<T: Display>(rt: &impl Abort, alloc: Global, rows: &[(T, &str)]) {
-    for (value, want) in rows {
-        let text = value.to_string(alloc).expect(rt, "memory for a text");
-        assert_eq!(rt; text.as_str(), *want);
-    }
-}
+pub const TWOS: &str = "2222222222222222222222222222222222222222";
 
-/// The checksum of a SHA-1 file.
-pub(super) fn checksum_of(bytes: &[u8]) -> ObjectId {
-    let end = bytes.len().saturating_sub(20);
-    digest(Kind::Sha1, &bytes[..end])
-}
+pub const THREES: &str = "3333333333333333333333333333333333333333";
 
-/// The text of the id that repeats a byte.
-pub(super) fn hex_of(rt: &impl Abort, alloc: Global, byte: u8) -> String {
-    let hex = ObjectId::from([byte; 20]).to_string(alloc);
-    hex.expect(rt, "memory for an id")
-}
+pub const FOURS: &str = "4444444444444444444444444444444444444444";
 
-/// The bytes, once more.
-pub(super) fn copied(rt: &impl Abort, alloc: Global, bytes: &[u8]) -> Vec<u8> {
-    Vec::from_slice(alloc, bytes).expect(rt, "memory for a file")
-}
+pub const FIVES: &str = "5555555555555555555555555555555555555555";
 
-/// The text, in memory of its own.
-pub(super) fn owned(rt: &impl Abort, alloc: Global, text: &str) -> String {
-    String::from_str(alloc, text).expect(rt, "memory for a path")
-}
+pub const SIXES: &str = "6666666666666666666666666666666666666666";
 
-/// Puts a file into a folder in memory.
-pub(super) fn put_file(
-    rt: &impl Abort,
-    alloc: Global,
-    memory: &mut Memory,
-    path: &str,
-    bytes: Vec<u8>,
-) {
-    let put = memory.put_file(owned(rt, alloc, path), bytes);
-    put.expect(rt, "memory for a file");
-}
+/// The text of an id of the other kind of hash.
+pub const LONG: &str = "4444444444444444444444444444444444444444444444444444444444444444";
 
-/// Puts a folder into a folder in memory.
-pub(super) fn put_dir(rt: &impl Abort, alloc: Global, memory: &mut Memory, path: &str) {
-    let put = memory.put_dir(owned(rt, alloc, path));
-    put.expect(rt, "memory for a folder");
-}
+/// A chain in whose layers 0x33 and 0x44 stand twice.
+const REPEATED: &[&[Row<'static>]] = &[
+    &[(0x11, &[], 1), (0x33, &[0], 2)],
+    &[(0x33, &[], 1), (0x44, &[0], 2), (0x55, &[1], 3)],
+    &[(0x22, &[4], 4), (0x44, &[], 1)],
+];
 
-/// A folder in memory with one file.
-pub(super) fn with_file(rt: &impl Abort, alloc: Global, path: &str, bytes: Vec<u8>) -> Memory {
+/// A chain in which each id stands once.
+const DISTINCT: &[&[Row<'static>]] = &[
+    &[(0x11, &[], 1), (0x22, &[0], 2)],
+    &[(0x15, &[1], 3), (0x33, &[1], 3), (0x44, &[], 1)],
+];
+
+/// The same, but for an id that is not above the one before, and stands in the lower layer too.
+const FALLING: &[&[Row<'static>]] = &[
+    &[(0x11, &[], 1), (0x22, &[0], 2)],
+    &[(0x33, &[], 1), (0x11, &[], 1), (0x44, &[], 1)],
+];
+
+/// Paths, and what stands there: a file of one layer, or the folder of a chain of more layers, the
+/// lowest first.
+const GRAPHS: &[(&str, &[&[Row<'static>]])] = &[
+    ("diamond", &[DIAMOND]),
+    ("empty", &[&[]]),
+    ("octopus", &[OCTOPUS]),
+    ("cycle", &[&[(0x11, &[0], GENERATION_NUMBER_MAX)]]),
+    ("wrong", &[&[(0x11, &[], 1), (0x22, &[0], 3)]]),
+    ("letters", &[&[(0xab, &[], 9)]]),
+    ("graph-00.graph", &[DIAMOND]),
+    ("repeated", REPEATED),
+    ("distinct", DISTINCT),
+    ("falling", FALLING),
+    // Info folders: with a chain alone, with a file beside it, and with a damaged one.
+    ("chained/commit-graphs", REPEATED),
+    ("filed/commit-graphs", REPEATED),
+    ("filed/commit-graph", &[DIAMOND]),
+    ("damaged/commit-graphs", REPEATED),
+];
+
+/// Files that are no layers and no chains of layers.
+const DAMAGED: &[(&str, &[u8])] = &[
+    ("damaged/commit-graph", &[0; 1099]),
+    ("small", &[0; 1099]),
+    ("missing/commit-graph-chain", b"ab"),
+    ("no-text/commit-graph-chain", b"\xff\n"),
+];
+
+/// The folders that have no chain in them.
+const FOLDERS: &[&str] = &[
+    "bare", "chained", "chained/", "filed", "damaged", "missing", "no-text",
+];
+
+/// The folder of all these.
+pub fn graphs(rt: &impl Abort, alloc: Global) -> Memory {
     let mut memory = Memory::new(alloc);
-    put_file(rt, alloc, &mut memory, path, bytes);
+    for (path, layers) in GRAPHS {
+        match layers {
+            [rows] => put(rt, alloc, &mut memory, path, built(rt, alloc, &[], rows)),
+            _ => put_chain(rt, alloc, &mut memory, path, layers),
+        }
+    }
+    for (path, bytes) in DAMAGED {
+        let bytes = Vec::from_slice(alloc, bytes).expect(rt, "memory");
+        put(rt, alloc, &mut memory, path, bytes);
+    }
+    for path in FOLDERS {
+        memory.put_dir(owned(rt, alloc, path)).expect(rt, "memory");
+    }
     memory
 }
 
-/// A folder in memory with a file of these commits, which has no base layers.
-pub(super) fn with_commits(rt: &impl Abort, alloc: Global, path: &str, rows: &[Row<'_>]) -> Memory {
-    with_file(rt, alloc, path, built(rt, alloc, &[], rows))
+/// The text, in memory of its own.
+fn owned(rt: &impl Abort, alloc: Global, text: &str) -> String {
+    String::from_str(alloc, text).expect(rt, "memory")
 }
 
-/// Adds the files of a chain in a folder: each layer as the file that is named after its checksum,
-/// and the chain file with the lines of these layers.
-pub(super) fn put_chain(
+/// Puts a file into a folder in memory.
+pub fn put(rt: &impl Abort, alloc: Global, memory: &mut Memory, path: &str, bytes: Vec<u8>) {
+    memory
+        .put_file(owned(rt, alloc, path), bytes)
+        .expect(rt, "memory");
+}
+
+/// The bytes of a SHA-1 file of these commits over these base layers.
+pub fn built(rt: &impl Abort, alloc: Global, bases: &[ObjectId], rows: &[Row<'_>]) -> Vec<u8> {
+    file_of_rows(alloc, bases, rows).expect(rt, "a file")
+}
+
+/// Puts a folder with a chain: each layer as the file that is named after its checksum, and the
+/// chain file with the lines of these layers.
+fn put_chain(
     rt: &impl Abort,
     alloc: Global,
     memory: &mut Memory,
     folder: &str,
-    layers: &[&[u8]],
+    layers: &[&[Row<'_>]],
 ) {
-    let mut chain = String::new(alloc);
-    for layer in layers {
-        let checksum = checksum_of(layer);
-        let path = format!(in alloc; "{folder}/graph-{checksum}.graph");
-        let path = path.expect(rt, "memory for a path");
-        put_file(rt, alloc, memory, path.as_str(), copied(rt, alloc, layer));
-        let line = format!(in alloc; "{checksum}\n").expect(rt, "memory for a line");
-        chain
-            .push_str(line.as_str())
-            .expect(rt, "memory for a line");
+    let (mut bases, mut lines) = (Vec::new(alloc), String::new(alloc));
+    for rows in layers {
+        let bytes = built(rt, alloc, &bases, rows);
+        let checksum = digest(Kind::Sha1, &bytes[..bytes.len().saturating_sub(20)]);
+        bases.push(checksum).expect(rt, "memory");
+        let path = format!(in alloc; "{folder}/graph-{checksum}.graph").expect(rt, "memory");
+        put(rt, alloc, memory, &path, bytes);
+        let line = format!(in alloc; "{checksum}\n").expect(rt, "memory");
+        lines.push_str(&line).expect(rt, "memory");
     }
-    put_dir(rt, alloc, memory, folder);
-    let path = format!(in alloc; "{folder}/commit-graph-chain");
-    let path = path.expect(rt, "memory for a path");
-    put_file(rt, alloc, memory, path.as_str(), chain.into_bytes());
+    let path = format!(in alloc; "{folder}/commit-graph-chain").expect(rt, "memory");
+    put(rt, alloc, memory, &path, lines.into_bytes());
+    memory
+        .put_dir(owned(rt, alloc, folder))
+        .expect(rt, "memory");
+}
+
+/// What a program answers to these words after its own name, and what it writes to the output and
+/// to standard error. The input is empty.
+///
+/// The contracts of the commands are long, and here they end: this function has none, so the proof
+/// of a test does not go over them once more.
+pub fn answer<T: Folder>(
+    rt: &impl Abort,
+    alloc: Global,
+    folder: &mut T,
+    words: &[&str],
+    output: &mut Sink,
+    errors: &mut Sink,
+) -> Result<u8, WriteFailed> {
+    let mut line = Vec::new(alloc);
+    line.push(owned(rt, alloc, "graphtool"))
+        .expect(rt, "memory");
+    for word in words {
+        line.push(owned(rt, alloc, word)).expect(rt, "memory");
+    }
+    let complaints = Complaints {
+        usage: "usage",
+        write_failed: "failed",
+    };
+    let (command, mut input) = (Command::from_words(&line), io::empty());
+    respond(
+        alloc, command, complaints, &mut input, folder, output, errors,
+    )
+}
+
+/// Asserts that something holds of an answer, of which this is wanted. A proof has little to go
+/// over where the message stands in a function alone.
+pub fn ensure(rt: &impl Abort, want: &str, holds: bool) {
+    assert!(rt; holds, "{want}");
+}
+
+/// Asserts the status of an answer to these words, and what is written to the output. Only where
+/// that is nothing, the usage is told to standard error.
+pub fn expect<T: Folder>(
+    rt: &impl Abort,
+    alloc: Global,
+    folder: &mut T,
+    words: &[&str],
+    (status, written): (u8, &str),
+) {
+    let mut output = Sink::new(alloc, usize::MAX, None);
+    let mut errors = Sink::new(alloc, usize::MAX, None);
+    let answered = answer(rt, alloc, folder, words, &mut output, &mut errors);
+    let told = if written.is_empty() { "usage\n" } else { "" };
+    ensure(rt, written, answered == Ok(status));
+    ensure(
+        rt,
+        written,
+        output.text() == written && errors.text() == told,
+    );
 }

@@ -1,33 +1,18 @@
 //! Tests of the commands of `graphtool`, on layers, chains and folders that are built for them.
 //!
-//! [`fixtures`] has what several tests share: layers built from rows, and folders that hold them.
+//! [`fixtures`] has the folder of graphs that the commands are asked about, and [`watched`] folders
+//! that count what is asked of them, that change, and that find no memory.
 #![tactic(auto)]
 
 #[cfg(test)]
-mod ancestors;
+mod answers;
 #[cfg(test)]
-mod commands;
-#[cfg(test)]
-mod distinct;
-#[cfg(test)]
-mod finding;
+mod failing;
 #[cfg(test)]
 mod fixtures;
 #[cfg(test)]
-mod large;
-#[cfg(test)]
 mod lines;
 #[cfg(test)]
-mod on_disk;
-#[cfg(test)]
-mod opening;
-#[cfg(test)]
 mod reads;
-#[cfg(test)]
-mod refusing;
-#[cfg(test)]
-mod responding;
-#[cfg(test)]
-mod verifying;
 #[cfg(test)]
 mod watched;

@@ -1,88 +1,67 @@
-//! Folders of the tests: one that counts what is asked of it, one whose files change between two
-//! reads, and one with a file that no memory holds.
+//! Folders of the tests: one that counts what is asked of it, in which a file may change between
+//! two reads, and a call may find no memory; and one with a file that no memory holds.
 
 ghost use Rattle.std.specs.Prelude.{None};
 
-use graph_folder::folder::{Folder, Part, ReadError};
+use crate::fixtures::graphs;
+use graph_folder::folder::{Folder, Memory, Part, ReadError};
 use std::alloc::{AllocError, Global};
+use std::mem;
+use std::process::Abort;
 
-/// A folder that counts the whole reads of the one below, the parts that are asked of it, and the
-/// bytes that are asked for in all these parts.
+/// A folder in memory. No read fails: where one would, there is no memory here.
 #[derive(Drop)]
-pub struct Watched<T> {
-    pub below: T,
+pub struct Watched {
+    pub memory: Memory,
+    /// What stands there after so many reads more.
+    pub later: Memory,
+    pub reads_before: u32,
+    /// How often something was asked, and the number of the call that finds no memory.
+    pub calls: u32,
+    pub refused: u32,
+    /// How many files were read whole, how many parts were asked for, and how many bytes in all of
+    /// these.
     pub whole: u32,
     pub parts: u32,
     pub bytes: u64,
 }
 
-/// This folder, of which nothing was asked yet.
-pub fn counting<T: Folder>(below: T) -> Watched<T> {
+/// The folder of the graphs, of which nothing was asked yet.
+pub fn watched_graphs(rt: &impl Abort, alloc: Global) -> Watched {
     Watched {
-        below,
+        memory: graphs(rt, alloc),
+        later: Memory::new(alloc),
+        reads_before: u32::MAX,
+        calls: 0,
+        refused: u32::MAX,
         whole: 0,
         parts: 0,
         bytes: 0,
     }
 }
 
-impl<T: Folder> Folder for Watched<T> {
-    ghost tree = { λ watched. T.tree watched.below };
-
-    ghost failure_count = { λ watched. T.failure_count watched.below };
-
-    fn failures(&self) -> u64 {
-        self.below.failures()
-    }
-
-    fn is_file(&mut self, alloc: Global, path: &str) -> Result<bool, AllocError> {
-        self.below.is_file(alloc, path)
-    }
-
-    fn is_dir(&mut self, alloc: Global, path: &str) -> Result<bool, AllocError> {
-        self.below.is_dir(alloc, path)
-    }
-
-    fn read(&mut self, alloc: Global, path: &str) -> Result<Vec<u8>, ReadError> {
-        self.whole = self.whole.saturating_add(1);
-        self.below.read(alloc, path)
-    }
-
-    fn read_part(
-        &mut self,
-        alloc: Global,
-        path: &str,
-        start: u64,
-        len: usize,
-    ) -> Result<Option<Part>, ReadError> {
-        self.parts = self.parts.saturating_add(1);
-        self.bytes = self.bytes.saturating_add(len as u64);
-        self.below.read_part(alloc, path, start, len)
-    }
-}
-
-/// A folder that has the files of `old` for so many reads, and then those of `new`. What stands
-/// where, `new` says from the start. No read fails: where one of these folders fails, there is no
-/// memory here.
-#[derive(Drop)]
-pub struct Changing<T> {
-    pub old: T,
-    pub new: T,
-    pub reads_of_old: u32,
-}
-
-impl<T: Folder> Changing<T> {
-    /// The folder of the next read, which counts as one.
-    fn next(&mut self) -> &mut T {
-        if self.reads_of_old == 0 {
-            return &mut self.new;
+impl Watched {
+    /// Counts a call.
+    fn call(&mut self) -> Result<(), AllocError> {
+        let call = self.calls;
+        self.calls = call.saturating_add(1);
+        if call == self.refused {
+            return Err(AllocError);
         }
-        self.reads_of_old -= 1;
-        &mut self.old
+        Ok(())
+    }
+
+    /// Counts a read, and has the files change before it if they are to.
+    fn read_call(&mut self) -> Result<(), AllocError> {
+        if self.reads_before == 0 {
+            mem::swap(&mut self.memory, &mut self.later);
+        }
+        self.reads_before = self.reads_before.wrapping_sub(1);
+        self.call()
     }
 }
 
-impl<T: Folder> Folder for Changing<T> {
+impl Folder for Watched {
     ghost tree = { λ _. None };
 
     ghost failure_count = { λ _. 0 };
@@ -92,17 +71,23 @@ impl<T: Folder> Folder for Changing<T> {
     }
 
     fn is_file(&mut self, alloc: Global, path: &str) -> Result<bool, AllocError> {
-        self.new.is_file(alloc, path)
+        self.call()?;
+        self.memory.is_file(alloc, path)
     }
 
     fn is_dir(&mut self, alloc: Global, path: &str) -> Result<bool, AllocError> {
-        self.new.is_dir(alloc, path)
+        self.call()?;
+        self.memory.is_dir(alloc, path)
     }
 
     fn read(&mut self, alloc: Global, path: &str) -> Result<Vec<u8>, ReadError> {
-        match self.next().read(alloc, path) {
-            Ok(bytes) => Ok(bytes),
-            Err(_) => Err(ReadError::OutOfMemory),
+        if self.read_call().is_err() {
+            return Err(ReadError::OutOfMemory);
+        }
+        self.whole = self.whole.saturating_add(1);
+        match self.memory.read(alloc, path) {
+            Err(ReadError::Device) => Err(ReadError::OutOfMemory),
+            answer => answer,
         }
     }
 
@@ -113,9 +98,14 @@ impl<T: Folder> Folder for Changing<T> {
         start: u64,
         len: usize,
     ) -> Result<Option<Part>, ReadError> {
-        match self.next().read_part(alloc, path, start, len) {
-            Ok(part) => Ok(part),
-            Err(_) => Err(ReadError::OutOfMemory),
+        if self.read_call().is_err() {
+            return Err(ReadError::OutOfMemory);
+        }
+        self.parts = self.parts.saturating_add(1);
+        self.bytes = self.bytes.saturating_add(len as u64);
+        match self.memory.read_part(alloc, path, start, len) {
+            Err(ReadError::Device) => Err(ReadError::OutOfMemory),
+            answer => answer,
         }
     }
 }
@@ -125,19 +115,10 @@ impl<T: Folder> Folder for Changing<T> {
 #[derive(Drop)]
 pub struct Vast<'a> {
     pub len: u64,
-    pub parts: &'a [(u64, &'a [u8])],
-}
-
-impl Vast<'_> {
-    /// How a part begins.
-    fn front(&self, start: u64) -> &[u8] {
-        for (place, bytes) in self.parts {
-            if *place == start {
-                return bytes;
-            }
-        }
-        &[]
-    }
+    pub fronts: &'a [(u64, &'a [u8])],
+    /// How many parts were asked for, and how many bytes in all of them.
+    pub parts: u32,
+    pub bytes: u64,
 }
 
 impl Folder for Vast<'_> {
@@ -168,11 +149,19 @@ impl Folder for Vast<'_> {
         start: u64,
         len: usize,
     ) -> Result<Option<Part>, ReadError> {
-        let count = self.len.saturating_sub(start).min(len as u64) as usize;
-        let front = self.front(start);
-        let mut bytes = Vec::from_slice(alloc, front).map_err(|_| ReadError::OutOfMemory)?;
-        bytes.resize(count, 0).map_err(|_| ReadError::OutOfMemory)?;
+        self.parts = self.parts.saturating_add(1);
+        self.bytes = self.bytes.saturating_add(len as u64);
         let file_len = self.len;
+        let count = file_len.saturating_sub(start).min(len as u64) as usize;
+        let mut bytes = Vec::new(alloc);
+        for (place, front) in self.fronts {
+            if *place == start && bytes.extend_from_slice(front).is_err() {
+                return Err(ReadError::OutOfMemory);
+            }
+        }
+        if bytes.resize(count, 0).is_err() {
+            return Err(ReadError::OutOfMemory);
+        }
         Ok(Some(Part { bytes, file_len }))
     }
 }
