@@ -27,6 +27,8 @@ usage: python3 scripts/real_data GRAPHTOOL HISTORYTOOL TEST_FILTERS [every-value
   Git's verdict; streams that are cut or changed at each byte; and commits that Git's own commands do not make.
 - `show`: graphs that Git writes, with dates and filters or without, and damaged ones, by a plain reading; and what
   `git cgraph show` says that they cover, beside Git's own lists, in repositories of every kind.
+- `write`: files and layers of the commits that Git lists, in any order: they are those that Git writes, bit by bit; and each
+  refusal, of streams that are cut or changed, and on top of wrong graphs.
 - `distinct`: the words of `verify`, and an id that was put into two layers or more, next to one another
   and far apart.
 - each byte of three small files, changed to some other values, or with `every-value` to all of them, beside
@@ -78,6 +80,7 @@ from checks import (
     sweep_checks,
     verify_checks,
     word_checks,
+    write_checks,
 )
 from checks.program import LINES, FilterProgram, HistoryProgram, Program
 from expected.differences import Differences
@@ -124,6 +127,7 @@ def check_kind(paths, object_format):
         object_checks.check_all(histories, results, new)
         show_checks.check_all(histories, results, new)
         ask_checks.check_all((program, histories), results, new)
+        write_checks.check_all(histories, results, new)
         damaged_checks.check_all((histories, asker), results, new)
     return results, differences, LINES
 
