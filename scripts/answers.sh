@@ -3,7 +3,7 @@
 
 newline='
 '
-filter='' holds='' beside='' where='' file='' advice='' cure='' commit='' warnings=''
+passes=pass_on filter='' holds='' beside='' where='' file='' advice='' cure='' commit='' warnings=''
 
 # Says one line on standard error.
 say() {
@@ -29,8 +29,8 @@ find_program() {
     return 1
 }
 
-# Runs a program with some words, and passes on what it writes, through the command `filter` where that is not
-# empty, but for a refusal where `holds` is `yes`. Sets `status` to its status, `line` to the first line that it
+# Runs a program with some words, and passes on what it writes by the function `passes`, through the command `filter` where
+# that is not empty, but for a refusal where `holds` is `yes`. Sets `status` to its status, `line` to the first line that it
 # wrote, and `said` to what it wrote on standard error. Where the answer could not be written, or a signal ended the
 # program, `line` and `said` tell of that, and `status` is 2 or that of the signal; `passed` is more than 128 where
 # nobody reads the answer any more.
@@ -40,7 +40,7 @@ ask() {
     line='' said='' held='' status=2 passed=1
     if (exec 3>&1) 2>/dev/null; then
         exec 3>&1
-        told=$({ { "$@" 2>&4 3>&- 4>&-; echo "status $?" >&4; } | pass_on >&3 2>/dev/null; } 4>&1)
+        told=$({ { "$@" 2>&4 3>&- 4>&-; echo "status $?" >&4; } | "$passes" >&3 2>/dev/null; } 4>&1)
         passed=$?
         exec 3>&-
         take_apart "$told"
@@ -68,6 +68,17 @@ pass_on() {
         printf '%s\n' "$line" && cat
     else
         { printf '%s\n' "$line" && cat; } | "$filter"
+    fi
+}
+
+# As `pass_on`, where the answer may be the bytes of a commit-graph file in place of lines: these begin with a C, as no line
+# does, and are copied as they are.
+pass_bytes_on() {
+    first=$(dd bs=1 count=1 2>/dev/null)
+    if [ "$first" = C ]; then
+        printf %s "$first" && cat
+    else
+        { printf %s "$first" && cat; } | pass_on
     fi
 }
 

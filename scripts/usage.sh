@@ -39,7 +39,8 @@ is_command() {
     shift
     case $reads,$# in
     path,0) return 1 ;;
-    path,*) shift ;;
+    optional,0) ;;
+    path,* | optional,*) shift ;;
     esac
     takes_ids $#
 }
@@ -66,6 +67,7 @@ usage() {
         {
             printf "%s %s", count++ ? " |" : "usage: " name, $1
             if ($3 == "path") printf " PATH"
+            if ($3 == "optional") printf " [PATH]"
             for (id = 1; id <= $4 + 0; id++) printf " HEX"
             if ($4 ~ /\+/) printf ".."
             if ($4 == "range") printf " [FROM TO]"

@@ -47,7 +47,7 @@ def usage(program):
     """The usage text of a program."""
     parts = []
     for command in commands(program):
-        path = ["PATH"] if command.reads == "path" else []
+        path = {"path": ["PATH"], "optional": ["[PATH]"]}.get(command.reads, [])
         more = ".." if command.takes_more() else " [FROM TO]" if command.takes_range() else ""
         parts.append(" ".join([command.word, *path, *["HEX"] * command.least()]) + more)
     return "usage: %s %s" % (program, " | ".join(parts))

@@ -1,6 +1,7 @@
 -- The commands of `historytool`: which words ask for each, and what it may write. The table scripts/commands lists the words:
 -- is-ancestor PATH HEX HEX, ids PATH [FROM TO] and so on; beside these --help or -h, and --version.
 use Rattle.std.specs.Prelude.{◌≡◌, ◌≢◌, ◌⊎◌, ℕ, List, [], ◌∷◌, Some, None, codes, map, string_bytes, Result, Option}
+use Rattle.std.specs.Prelude.{option_map}
 use Rattle.object_commands.specs.AskedRange.{SpellsRange}
 use Rattle.history_program.specs.declared.command.Command.{Command}
 use Rattle.std.specs.Io.KnownBytes.{Appends}
@@ -12,6 +13,7 @@ use Rattle.show_commands.specs.Show.{MayShow, show_text, show_status}
 use Rattle.object_commands.specs.CommitIds.{MayListIds, ids_text, ids_status}
 use Rattle.object_commands.specs.ComparedObjects.{MayCompareObjects, objects_text, objects_status}
 use Rattle.question_commands.specs.Asking.{MayAsk, ask_text, ask_status}
+use Rattle.write_commands.specs.WrittenCommits.{MayWriteLayer, written_text, written_status}
 use Rattle.history_commands.specs.Check.{MayFindInAll, check_text, check_status}
 use Rattle.history_commands.specs.IsAncestor.{IsTold, is_ancestor_text, is_ancestor_status}
 use Rattle.history_commands.specs.MergeBases.{MayCompare, merge_base_text, merge_base_ids_text, merge_base_status}
@@ -41,6 +43,8 @@ AskAfterName help version words (command.Ids path (Some range)) =
 AskAfterName help version words (command.Objects path None) = words ≡ codes "objects" ∷ path.now ∷ []
 AskAfterName help version words (command.Objects path (Some range)) =
     (from to : List ℕ) × (words ≡ codes "objects" ∷ path.now ∷ from ∷ to ∷ []) × SpellsRange from to range
+AskAfterName help version words (command.Write None) = words ≡ codes "write" ∷ []
+AskAfterName help version words (command.Write (Some path)) = words ≡ codes "write" ∷ path.now ∷ []
 
 -- the words of a command line ask for this command; the first of them is the program's own name
 abbrev pub AskHistorytool : List ℕ → List ℕ → List (List ℕ) → Command → Type 0
@@ -52,9 +56,9 @@ abbrev pub TellsOfItself : List ℕ → Option (List ℕ) → Option (List ℕ) 
 TellsOfItself text old new status = Appends old new (text ⧺ newline) × (status ≡ 0)
 
 -- an answer that the command may give is written, with its status: help and version leave the folder alone; each other command
--- answers of what the opener may answer at its path, while the count of failures goes from `before` to `after`; `ask` of what it
--- may answer in several calls, one after another. `objects` and `ask` answer of what the input has left before and after, where
--- that is known; none of the others asks for it
+-- answers of what the opener may answer at its path, while the count of failures goes from `before` to `after`, where it has a
+-- path; `ask` of what it may answer in several calls, one after another. `objects`, `ask` and `write` answer of what the input
+-- has left before and after, where that is known; none of the others asks for it
 abbrev pub HistorytoolMayWrite : Command → Option (List ℕ) → Option (List ℕ) → Type 0
     → (List ℕ → ℕ → ℕ → Result (List Layer) OpenError → Type 0) → ℕ → ℕ → Option (List ℕ) → Option (List ℕ) → ℕ → Type 0
 HistorytoolMayWrite (command.Help text) input unread IsLeftAlone MayOpenAt before after old new status =
@@ -84,3 +88,6 @@ HistorytoolMayWrite (command.Ids path range) input unread IsLeftAlone MayOpenAt 
 HistorytoolMayWrite (command.Objects path range) input unread IsLeftAlone MayOpenAt before after old new status =
     WritesAnswer objects_text objects_status
     (MayCompareObjects range input unread (MayOpenAt path.now before after)) old new status
+HistorytoolMayWrite (command.Write path) input unread IsLeftAlone MayOpenAt before after old new status =
+    WritesAnswer written_text written_status
+    (MayWriteLayer (option_map (λ p. p.now) path) IsLeftAlone (λ at. MayOpenAt at before after) input unread) old new status

@@ -20,6 +20,7 @@ use question_commands::asking::run_ask;
 use show_commands::run::run_show;
 use std::alloc::Global;
 use std::io::{Read, Write};
+use write_commands::run_write;
 
 /// What `historytool` is asked to do.
 #[derive(Clone, Copy, Debug)]
@@ -99,6 +100,11 @@ pub enum Command<'a> {
         /// The positions of the commits that are meant; all of them, where it is none.
         range: Option<PositionRange>,
     },
+    /// The commits that the input has are to be written as a layer.
+    Write {
+        /// The path of the graph on which it is to lie; none, where it is to lie on none.
+        path: Option<&'a str>,
+    },
 }
 
 /// What `historytool` tells of itself.
@@ -128,7 +134,7 @@ impl<'a> Command<'a> {
         }
     }
 
-    /// The command with this name that takes no other word, if it is one.
+    /// The command with this name that needs no other word, if it is one.
     #[tactic(auto, using(crate::proofs::WordsLemmas::named_alone))]
     fn of_name(name: &str, texts: Texts<'a>) -> Option<Command<'a>>
         ensures asked { IfSome result (AskAfterName texts.entry.help.now texts.entry.version.now
@@ -141,6 +147,7 @@ impl<'a> Command<'a> {
             "--version" => Some(Command::Version {
                 text: texts.version,
             }),
+            "write" => Some(Command::Write { path: None }),
             _ => None,
         }
     }
@@ -159,6 +166,7 @@ impl<'a> Command<'a> {
             "ask" => Some(Command::Ask { path }),
             "ids" => Some(Command::Ids { path, range: None }),
             "objects" => Some(Command::Objects { path, range: None }),
+            "write" => Some(Command::Write { path: Some(path) }),
             _ => None,
         }
     }
@@ -318,6 +326,7 @@ impl Run for Command<'_> {
             Command::Objects { path, range } => {
                 run_objects(alloc, input, folder, path, range, output)
             }
+            Command::Write { path } => run_write(alloc, input, folder, path, output),
         }
     }
 }

@@ -1,11 +1,11 @@
 //! `historytool`: answers questions about the histories of Git's commit-graphs, by the ids of two
-//! commits or more, checks what such graphs say of dates and of changed paths, and compares them
-//! with their commits.
+//! commits or more, checks what such graphs say of dates and of changed paths, compares them with
+//! their commits, and writes layers of commits.
 //!
-//! The exit status is 0 where the answer is yes, a walk, merge bases, ids or a right graph, 1 where
-//! it is no or none, where an id is not there or where something was refused, and 2 for other words
-//! than a command, for a text that is no id and for a failed write. Wrong words and a failed write
-//! are reported on standard error.
+//! The exit status is 0 where the answer is yes, a walk, merge bases, ids, a right graph or a
+//! layer, 1 where it is no or none, where an id is not there or where something was refused, and 2
+//! for other words than a command, for a text that is no id and for a failed write. Wrong words and
+//! a failed write are reported on standard error.
 #![tactic(auto)]
 
 use graph_commands::program::{Complaints, respond};
@@ -17,11 +17,13 @@ use std::{env, io};
 
 const USAGE: &str = "usage: historytool is-ancestor PATH HEX HEX | walk PATH HEX HEX \
     | merge-base PATH HEX HEX.. | merge-base-ids PATH HEX HEX.. | check PATH \
-    | show PATH | ask PATH | ids PATH [FROM TO] | objects PATH [FROM TO] | --help | --version";
+    | show PATH | ask PATH | ids PATH [FROM TO] | objects PATH [FROM TO] | write [PATH] \
+    | --help | --version";
 
 const HELP: &str = "usage: historytool is-ancestor PATH HEX HEX | walk PATH HEX HEX \
     | merge-base PATH HEX HEX.. | merge-base-ids PATH HEX HEX.. | check PATH \
-    | show PATH | ask PATH | ids PATH [FROM TO] | objects PATH [FROM TO] | --help | --version\n\
+    | show PATH | ask PATH | ids PATH [FROM TO] | objects PATH [FROM TO] | write [PATH] \
+    | --help | --version\n\
     \n\
     PATH is a commit-graph file, a folder with a chain of them, or an info folder.\n\
     HEX is the id of a commit in hexadecimal.\n\
@@ -49,9 +51,12 @@ const HELP: &str = "usage: historytool is-ancestor PATH HEX HEX | walk PATH HEX 
     objects         how many of these commits are those on standard input, which\n\
     \x20               git cat-file --batch writes for their ids; or the first\n\
     \x20               thing that is wrong\n\
+    write           the file of a layer with the commits on standard input, which\n\
+    \x20               git cat-file --batch writes, for the top of the graph at PATH,\n\
+    \x20               or else of none\n\
     \n\
-    The exit status is 0 for yes, a walk, merge bases, ids, a graph that is right\n\
-    or questions that were answered, 1 for any other answer, and 2 for wrong\n\
+    The exit status is 0 for yes, a walk, merge bases, ids, a graph that is right,\n\
+    questions that were answered or a layer, 1 for any other answer, and 2 for wrong\n\
     words, a text that is no id or a failed write.";
 
 const VERSION: &str = "historytool 0.1.0, proved with rattle-kit-13f logic dac8208d650f15bf";

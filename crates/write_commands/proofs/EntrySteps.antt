@@ -13,7 +13,7 @@ use Rattle.hex.specs.Hex.{encode_lower}
 use Rattle.gix_hash_core.specs.Kind.{id_len}
 use Rattle.gix_hash_core.specs.declared.kind.Kind.{Kind}
 use Rattle.commit_objects.specs.Object.{object_id_of}
-use Rattle.graph_objects.specs.BatchEntry.{line_of_commit, longest_line, HasNoFeed, IsLine, IsLineEnd, IsTail, BeginsWithEntry}
+use Rattle.graph_objects.specs.BatchEntry.{line_of_commit, longest_line, HasNoFeed, IsLine, IsLineEnd, BeginsWithEntry}
 use Rattle.graph_objects.specs.declared.heading.Heading.{Heading}
 use Rattle.graph_objects.specs.declared.heading.Heading.TheVariants as heading
 use Rattle.graph_objects.proofs.EntryLemmas.{line_is, line_more, entry_more}

@@ -1,5 +1,5 @@
 -- What a graph says of the kind of its ids.
-use Rattle.std.proofs.Common.{◌≡◌, ℕ, ◌<◌, List, [], ◌∷◌, All, Some, length, sym, ap, arith}
+use Rattle.std.proofs.Common.{◌≡◌, ◌<◌, List, [], ◌∷◌, All, Some, length, sym, ap, arith}
 use Rattle.std.proofs.lemmas.List.Elements.{All-head}
 use Rattle.gix_hash_core.specs.declared.kind.Kind.{Kind}
 use Rattle.graph_format.specs.Layer.{Layer}

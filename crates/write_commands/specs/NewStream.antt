@@ -1,5 +1,5 @@
 -- Which commits a stream says that `git cat-file --batch` wrote of commits (git-cat-file, "BATCH OUTPUT"), and why it says none.
-use Rattle.std.specs.Prelude.{◌≡◌, ◌≢◌, ◌⊎◌, ◌&&◌, ◌<◌, ◌≤◌, ◌^◌, ◌*◌, ℕ, List, [], ◌∷◌, ◌++◌, All, Option, IfSome, ⊤}
+use Rattle.std.specs.Prelude.{◌≡◌, ◌≢◌, ◌⊎◌, ◌&&◌, ◌<◌, ◌≤◌, ◌^◌, ◌*◌, ℕ, List, [], ◌∷◌, ◌++◌, All, Option, ⊤}
 use Rattle.std.specs.Prelude.{length, take, slice_index, nat_le, unwrap_or, if◌then◌else◌}
 use Rattle.std.specs.List.{AllPass, AllZip, flat_map, list_all}
 use Rattle.hex.specs.Hex.{encode_lower}

@@ -113,6 +113,10 @@ class HistoryProgram(AnyProgram):
         """The answer to `objects` of a path, or of a part of its positions, to the bytes of a stream."""
         return self.run("objects", path, *map(str, part), input=stream)
 
+    def write(self, stream, *path, **streams):
+        """The answer to `write` of the bytes of a stream, on top of the graph at a path, or of none."""
+        return self.run("write", *path, input=stream, **streams)
+
 
 class FilterProgram(AnyProgram):
     """The program of the crate `test_filters`."""

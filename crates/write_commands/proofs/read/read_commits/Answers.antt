@@ -1,9 +1,7 @@
-use Rattle.std.proofs.Common.{◌≡◌, [], ◌∷◌, ◌++◌, length, arith, subst}
+use Rattle.std.proofs.Common.{[], ◌∷◌, arith}
 use Rattle.std.proofs.lemmas.List.{length-append}
 use Rattle.std.proofs.lemmas.Result.{err_from_is_err_and}
 use Rattle.std.specs.Io.KnownBytes.{prepend_known}
-use Rattle.std.specs.Prelude.{IfSome}
-use Rattle.write_commands.specs.NewStream.{kind_of_stream}
 use Rattle.write_commands.proofs.StreamSteps.{kind_known, one_taken, stopped, taken_kept}
 use Rattle.write_commands.proofs.read.read_commits.Goals as goal
 
