@@ -5,6 +5,7 @@ The original is compiled where GIX_COMMITGRAPH names a folder with the sources o
 `memmap2`, and of those that they need, as `cargo vendor` lays them out. Where it is not there, what it answered once is compared,
 by the digests in `gix_answers.txt`: `python3 scripts/bindings/gix.py ORIGINAL` writes them, with the program built with the original.
 """
+import functools
 import hashlib
 import os
 import pathlib
@@ -54,8 +55,9 @@ def build_original(crate, environment, scratch):
     return done, scratch / "original-target/debug/every-item"
 
 
+@functools.lru_cache(maxsize=None)
 def told(program, *words):
-    """The lines of an answer, and its status: a folder's own path is left out of them."""
+    """The lines of an answer, and its status: the path of the folder that is asked about is left out of them."""
     done = subprocess.run([str(program), *map(str, words)], capture_output=True)
     lines = done.stdout.decode(errors="replace").replace(str(pathlib.Path(words[1]).parent) + "/", "")
     return lines, done.returncode
