@@ -110,20 +110,20 @@ fn calls(graph: &Graph) -> Seen {
 /// Walks between pairs of commits; and whether there is one, by a call each, and for all in one call.
 fn queries(layers: &str, kind: &str, graph: &Checked, ids: &[u8]) {
     let position = |id: &[u8]| graph.graph().lookup(id).unwrap();
-    let pair = |ids: &[u8]| (position(&ids[..ID_LEN]), position(&ids[ID_LEN..]));
+    let pair = |ids: &[u8]| (position(&ids[ID_LEN..]), position(&ids[..ID_LEN]));
     let pairs: Vec<_> = ids.chunks_exact(2 * ID_LEN).map(pair).collect();
     let (mut walks, mut commits, mut visits, mut yes) = (0, 0, 0, 0);
     let start = Instant::now();
-    for &(from, to) in &pairs {
-        let reached = graph.ancestor_walk(from, to).unwrap();
+    for &(ancestor, descendant) in &pairs {
+        let reached = graph.ancestor_walk(descendant, ancestor).unwrap();
         visits += u64::from(reached.visits);
         walks += u64::from(reached.walk.is_some());
         commits += reached.walk.map_or(0, |walk| walk.len() as u64);
     }
     println!("{layers}-{kind}-walk {} {walks} {commits} {visits}", start.elapsed().as_nanos());
     let start = Instant::now();
-    for &(from, to) in &pairs {
-        yes += u64::from(graph.is_ancestor(from, to).unwrap());
+    for &(ancestor, descendant) in &pairs {
+        yes += u64::from(graph.is_ancestor(ancestor, descendant).unwrap());
     }
     println!("{layers}-{kind}-yes {} {yes} 0", start.elapsed().as_nanos());
     let start = Instant::now();
