@@ -1,17 +1,14 @@
 /* measure PRESENT ABSENT POSITIONS ANY NEWEST LAYER CHAIN-LAYER..: times reads, checks and queries of commit-graphs through the
  * library for C. A line a figure: its name, its nanoseconds, how many numbers came out, and their sum; of queries, the numbers
  * that bench/ancestor prints. */
+#include "../reading.h"
 #include "commitgraph.h"
 #include <inttypes.h>
-#include <stdio.h>
-#include <stdlib.h>
 #include <string.h>
-#include <time.h>
 
 enum { ID_LEN = 20, MOST_LAYERS = 256, ROOM = 64, PLACES = 4096, CALLS = 100000000 };
 
 typedef struct { uint64_t count, sum; } seen;
-typedef struct { uint8_t *bytes; size_t len; } bytes;
 typedef struct { bytes present, absent, positions, pairs[2]; } inputs;
 
 static void add(seen *to, uint64_t number) {
@@ -19,27 +16,8 @@ static void add(seen *to, uint64_t number) {
     to->sum += number;
 }
 
-static uint64_t now(void) {
-    struct timespec time;
-    clock_gettime(CLOCK_MONOTONIC, &time);
-    return (uint64_t)time.tv_sec * 1000000000u + (uint64_t)time.tv_nsec;
-}
-
 static void report(const char *layers, const char *name, uint64_t start, seen found) {
     printf("%s-%s %" PRIu64 " %" PRIu64 " %" PRIu64 "\n", layers, name, now() - start, found.count, found.sum);
-}
-
-static bytes read_all(const char *path) {
-    bytes read = { NULL, 0 };
-    FILE *file = fopen(path, "rb");
-    if (!file) exit(2);
-    fseek(file, 0, SEEK_END);
-    read.len = (size_t)ftell(file);
-    rewind(file);
-    read.bytes = malloc(read.len + 1);
-    if (!read.bytes || fread(read.bytes, 1, read.len, file) != read.len) exit(2);
-    fclose(file);
-    return read;
 }
 
 static void add_parents(seen *to, cg_graph graph, uint32_t pos) {
@@ -140,7 +118,9 @@ static void queries(const char *layers, const char *kind, cg_graph graph, bytes 
     static uint8_t found[PLACES];
     size_t count = 0;
     for (size_t at = 0; at + 2 * ID_LEN <= ids.len && count < PLACES; at += 2 * ID_LEN)
-        pairs[count++] = (cg_pair){ position(graph, ids.bytes + at + ID_LEN), position(graph, ids.bytes + at) };
+        pairs[count++] = (cg_pair){
+            .descendant = position(graph, ids.bytes + at), .ancestor = position(graph, ids.bytes + at + ID_LEN)
+        };
     uint64_t walks = 0, commits = 0, visits = 0, yes = 0, start = now();
     for (size_t i = 0; i < count; i++) {
         cg_reached reached = cg_ancestor_walk(graph, pairs[i].descendant, pairs[i].ancestor, walk, 1 << 20);

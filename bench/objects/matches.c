@@ -1,34 +1,10 @@
 /* matches LAYER STREAM: times cg_matches over the commits of a layer, in the order of their positions, with the bytes that
  * `git cat-file --batch` wrote for their ids. A line: `matches`, its nanoseconds, how many commits there are, and the sum of the
  * codes, which is 0 where all match. */
+#include "../reading.h"
 #include "commitgraph.h"
 #include <inttypes.h>
-#include <stdio.h>
-#include <stdlib.h>
 #include <string.h>
-#include <time.h>
-
-typedef struct { uint8_t *bytes; size_t len; } bytes;
-
-static uint64_t now(void) {
-    struct timespec time;
-    clock_gettime(CLOCK_MONOTONIC, &time);
-    return (uint64_t)time.tv_sec * 1000000000u + (uint64_t)time.tv_nsec;
-}
-
-static bytes read_all(const char *path) {
-    bytes read = { NULL, 0 };
-    FILE *file = fopen(path, "rb");
-    if (!file) exit(2);
-    fseek(file, 0, SEEK_END);
-    read.len = (size_t)ftell(file);
-    rewind(file);
-    read.bytes = malloc(read.len + 1);
-    if (!read.bytes || fread(read.bytes, 1, read.len, file) != read.len) exit(2);
-    read.bytes[read.len] = 0;
-    fclose(file);
-    return read;
-}
 
 int main(int argc, char **argv) {
     if (argc != 3) return 2;

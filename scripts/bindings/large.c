@@ -2,21 +2,11 @@
  * are numbers of 32 bits: how many pairs, the pairs, a commit, how many others, and the others, by their positions. Then what is
  * told of all commits and of these is written to ANSWERS, one call's after another's. Status 9: two calls disagree. */
 #include "commitgraph.h"
-#include <inttypes.h>
-#include <stdio.h>
+#include "lines.h"
 #include <stdlib.h>
 #include <string.h>
 
 enum { KINDS = 4, LEN = 20 };
-#define N(number) ((uint64_t)(number))
-
-/* A line: a word, and each number after it. */
-static void print(const char *word, size_t count, const uint64_t *numbers) {
-    printf("%s", word);
-    for (size_t i = 0; i < count; i++) printf(" %" PRIu64, numbers[i]);
-    putchar('\n');
-}
-#define PRINT(word, ...) print(word, sizeof (uint64_t[]){ __VA_ARGS__ } / sizeof(uint64_t), (uint64_t[]){ __VA_ARGS__ })
 
 static void *room(size_t count, size_t size) {
     void *made = calloc(count + 1, size);

@@ -1,8 +1,7 @@
 /* layout FILE..: where each field of each struct stands, and what calls write into each, on the layers of these files, which are
  * opened without paths. scripts/bindings compares it with what Git says. The structs have other bytes in them before each call. */
 #include "commitgraph.h"
-#include <inttypes.h>
-#include <stdio.h>
+#include "lines.h"
 #include <string.h>
 
 #define SIZE(name, size) _Static_assert(sizeof(name) == (size), #name)
@@ -39,15 +38,6 @@ SIZE(cg_matched, 16); AT(cg_matched, code, 0); AT(cg_matched, parent, 8);
 SIZE(cg_line, 24); AT(cg_line, found, 0); AT(cg_line, end, 8); AT(cg_line, next, 16);
 
 enum { LAYERS = 8, BYTES = 1 << 16, ROOM = 64, OTHER = 0xaa };
-#define N(number) ((uint64_t)(number))
-
-/* A line: a word, and each number after it. */
-static void print(const char *word, size_t count, const uint64_t *numbers) {
-    printf("%s", word);
-    for (size_t i = 0; i < count; i++) printf(" %" PRIu64, numbers[i]);
-    putchar('\n');
-}
-#define PRINT(word, ...) print(word, sizeof (uint64_t[]){ __VA_ARGS__ } / sizeof(uint64_t), (uint64_t[]){ __VA_ARGS__ })
 
 static void print_check(cg_graph graph) {
     cg_verdict v;
