@@ -2,7 +2,7 @@
 # hand, `source` this file after Git's.
 
 _git_cgraph() {
-    local commands='verify check distinct show list find is-ancestor walk merge-base'
+    local commands='verify check distinct show list find is-ancestor walk merge-base ask'
     local command
     command=$(__git_find_on_cmdline "$commands")
     local options='-C --object-dir --quiet --json --progress --no-progress --help --version'
@@ -15,6 +15,7 @@ _git_cgraph() {
     esac
     case $command,$cur in
     merge-base,-*) __gitcomp "--all --verbose $options" ;;
+    ask,-*) __gitcomp '-C --object-dir --help --version' ;;
     verify,-*) __gitcomp "--all-checks --objects --jobs $options" ;;
     *,-*) __gitcomp "$options" ;;
     ,*) __gitcomp "$commands" ;;

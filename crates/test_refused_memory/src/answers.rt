@@ -18,6 +18,7 @@ use history_commands::run::{
     run_check, run_is_ancestor, run_merge_base, run_merge_base_ids, run_walk,
 };
 use object_commands::{run_ids, run_objects};
+use question_commands::asking::run_ask;
 use show_commands::run::run_show;
 use std::alloc::{AllocError, Global};
 use std::convert::Infallible;
@@ -241,6 +242,11 @@ fn run_history(
         }
         HistoryCommand::Check => run_check(alloc, memory, "dated", out),
         HistoryCommand::Show => run_show(alloc, memory, "dated", out),
+        HistoryCommand::Ask => {
+            let mut questions = QUESTIONS;
+            let asked = run_ask(alloc, &mut questions, memory, "chain", out);
+            asked.map(|asked| asked.status)
+        }
     };
     println!(rt; "{answer:?}")?;
     io::writer(rt).write_all(out)
@@ -264,6 +270,15 @@ fn run_of_objects(
 
 /// The id of the chain's first commit.
 const FIRST: &str = "0101010101010101010101010101010101010101";
+
+/// A line for each question that asks for memory, and one that asks for none.
+const QUESTIONS: &[u8] = b"\
+is-ancestor 0101010101010101010101010101010101010101 0202020202020202020202020202020202020202
+walk 0202020202020202020202020202020202020202 0101010101010101010101010101010101010101
+merge-base 0101010101010101010101010101010101010101 0202020202020202020202020202020202020202
+reload
+parents 0202020202020202020202020202020202020202
+";
 
 /// The id of the second.
 pub const SECOND: &str = "0202020202020202020202020202020202020202";

@@ -52,6 +52,7 @@ pub enum HistoryCommand {
     MergeBaseIds,
     Check,
     Show,
+    Ask,
 }
 
 /// A command that holds a graph against its commits.
@@ -119,6 +120,7 @@ const CALLS: &[(&str, Call)] = &[
     ),
     ("run_check", Call::RunHistory(HistoryCommand::Check)),
     ("run_show", Call::RunHistory(HistoryCommand::Show)),
+    ("run_ask", Call::RunHistory(HistoryCommand::Ask)),
     ("run_ids", Call::RunObjects(ObjectCommand::Ids)),
     ("run_objects", Call::RunObjects(ObjectCommand::Objects)),
     ("open_file_in", Call::Open(Opener::FileIn)),
