@@ -180,6 +180,7 @@ place_graph() {
     [ "$kind" = file ] || return 0
     case $word in
     verify | check | distinct | show) graph=info/commit-graph ;;
+    ask) [ -z "$alone" ] || graph=info/commit-graph ;;
     *) is_there "$(chain_file)" || graph=info/commit-graph ;;
     esac
 }

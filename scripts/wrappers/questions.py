@@ -25,9 +25,9 @@ REVISIONS = ("HEAD", "HEAD~1", "HEAD")
 WORDS = {
     command.word: (command.program, REVISIONS[: command.least() + command.takes_more()])
     for command in commands()
-    if command.by_git and command.word not in ("list", "show")
+    if command.by_git and command.word not in ("list", "show", "ask")
 }
-"""The program that answers each word, and revisions after the word; `list` and `show` are by themselves."""
+"""The program that answers each word, and revisions after the word; `list`, `show` and `ask` are by themselves."""
 
 ASKED = {"merge-base": "merge-base-ids"}
 """By which word a program is asked, where that is another."""
@@ -50,6 +50,10 @@ WRONG = {
     "'0' is no number of jobs from 1 to 99": ["verify", "--objects", "--jobs=0"],
     "'x' is no number of jobs from 1 to 99": ["verify", "--objects", "-jx"],
     "'--jobs' goes with '--objects'": ["verify", "--jobs", "2"],
+    "'ask' takes no revision": ["ask", "HEAD"],
+    "'ask' has no option '--json': each answer is some lines, and an empty one": ["--json", "ask"],
+    "'ask' has no option '--quiet': its answers are all that it is asked for": ["ask", "-q"],
+    "'ask' has no option '--progress'": ["ask", "--progress"],
 }
 STATUSES = [
     *(("verify", "refused verify 1", 1, 1), ("check", "refused dates 6", 1, 128), ("distinct", "refused open 7", 1, 128)),
@@ -153,7 +157,7 @@ def check_told(results, clone):
     """Help and version, alone and after each word, and outside a repository."""
     version = "git-cgraph " + read("VERSION")
     manual = read("docs", "MANUAL.md")
-    for word in (None, "list", "show", *WORDS):
+    for word in (None, "list", "show", "ask", *WORDS):
         before = [word] if word else []
         helps = [ask(clone, [*before, option], clone.folder, ("sh",)) for option in ("--help", "-h")]
         answer = helps[0]
@@ -187,6 +191,13 @@ def check_questions(results, clone, repository, shell):
     clone.put_program("graphtool", "cat\nprintf '<%s>' \"$@\"\n")
     answer = ask(clone, ["list"], sub, shell)
     results.check("%s git-cgraph list" % " ".join(shell), exactly(answer, 0, "content<list>"))
+    clone.put_program("historytool", "cat\nprintf '<%s>' \"$@\"\n")
+    answer = ask(clone, ["ask", "--no-progress"], sub, shell, input=b"a question\n\nanother")
+    results.check("%s git-cgraph ask" % " ".join(shell), exactly(answer, 0, "a question\n\nanother<ask><info>"))
+    clone.put_program("historytool", "case $2 in info) echo 'refused open 2' ;; *) echo \"refused $2\" ;; esac\nexit 1\n")
+    answer = ask(clone, ["ask"], sub, shell, input=b"a question\n")
+    right = answer[:2] == (128, "refused info/commit-graph\n")
+    results.check("%s git-cgraph ask, the file's own refusal" % " ".join(shell), None if right else "it is %r" % (answer,))
 
 
 def check_statuses(results, clone, repository):

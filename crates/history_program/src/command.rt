@@ -321,7 +321,10 @@ impl Run for Command<'_> {
             } => run_merge_base_ids(alloc, folder, path, first, others, output),
             Command::Check { path } => run_check(alloc, folder, path, output),
             Command::Show { path } => run_show(alloc, folder, path, output),
-            Command::Ask { path } => run_ask(alloc, input, folder, path, output),
+            Command::Ask { path } => {
+                let asked = run_ask(alloc, input, folder, path, output)?;
+                Ok(asked.status)
+            }
             Command::Ids { path, range } => run_ids(alloc, folder, path, range, output),
             Command::Objects { path, range } => {
                 run_objects(alloc, input, folder, path, range, output)

@@ -1,12 +1,13 @@
 -- From one turn to all of them.
 use Rattle.std.proofs.Common.{◌≡◌, ℕ, List, [], ◌∷◌, ◌++◌, Option, Some, None, map, refl, sym, ap, subst, ◌∙◌}
-use Rattle.std.proofs.Common.{append_assoc, append-nil, inl, inr}
+use Rattle.std.proofs.Common.{append_assoc, append-nil, inl, inr, arith, min, ◌+◌, ◌-◌, ◌^◌}
 use Rattle.std.specs.Io.KnownBytes.{Appends, prepend_known}
 use Rattle.std.proofs.KnownBytes.{Appends-nil, Appends-trans}
 use Rattle.std.specs.List.{AllByRecursion, flat_map}
 use Rattle.std.specs.Str.Lines.{lines}
 use Rattle.std.proofs.lemmas.List.{map-append}
 use Rattle.std.proofs.lemmas.List.Concat.{flat_map-append}
+use Rattle.std.proofs.lemmas.List.Sums.{sum_by-append, sum_by-cons}
 use Rattle.std.specs.Prelude.{Bool, true, Result, Ok, Err, IfOk, OnOk, ◌≢◌}
 use Rattle.graph_folder.specs.Tree.{Tree}
 use Rattle.graph_folder.specs.declared.folder.ReadError.{ReadError}
@@ -14,11 +15,11 @@ use Rattle.graph_folder.specs.declared.folder.ReadError.TheVariants.{NotOpened}
 use Rattle.graph_format.specs.Layer.{Layer}
 use Rattle.graph_commands.specs.Block.{with_block}
 use Rattle.graph_commands.specs.OpenerAnswer.{MayOpen}
-use Rattle.graph_commands.specs.declared.refusal.Refusal.TheVariants.{Read}
 use Rattle.graph_commands.specs.Text.{newline}
-use Rattle.graph_commands.specs.WrittenAnswer.{WritesAnswer, WritesRefusal}
 use Rattle.question_commands.specs.Asking.{AreLinesOf, AreTurns, MayAsk, MayTake, MayTurn, Opener, Reloads, Session, Standing}
-use Rattle.question_commands.specs.Asking.{Turn, ask_text, ask_status, end_text, end_status, session_text, taken_line, turn_text}
+use Rattle.question_commands.specs.Asking.{Turn, all_checked, end_text, end_status, session_text, taken_line, turn_text}
+use Rattle.question_commands.specs.Ending.{EndsAsked}
+use Rattle.question_commands.specs.declared.asking.Asked.{Asked}
 use Rattle.question_commands.specs.InputLines.{HasNoLine, LeavesBehind, TakesLine}
 use Rattle.question_commands.specs.Proceeding.{HasRead, Proceeds}
 use Rattle.question_commands.specs.Replies.{HasWords, MayTellFor}
@@ -72,19 +73,25 @@ module _ (MayOpen : Opener) where
         ∙ ap (λ (l : List Standing). first ∷ l) (sym (map-append (λ (turn : Turn). turn.after) turns more));
   }
 
-  pub proceeds_none : (standing : Standing) (input old : Option (List ℕ)) → Proceeds MayOpen standing standing input input old old
-  proceeds_none standing input old = ([], turns_none standing, reads_none input, Appends-nil old)
+  pub proceeds_none : (standing : Standing) (input old : Option (List ℕ))
+      → Proceeds MayOpen standing standing input input old old 0
+  proceeds_none standing input old = ([], turns_none standing, reads_none input, Appends-nil old, refl)
 
   pub proceeds_turn : (turn : Turn) (input left old new : Option (List ℕ)) → MayTurn MayOpen turn
       → HasRead input left (turn.line ∷ []) → Appends old new (turn_text turn)
-      → Proceeds MayOpen turn.before turn.after input left old new
-  proceeds_turn turn input left old new may read written =
-      (turn ∷ [], one_turn turn may, read, subst (Appends old new) (sym (append-nil (turn_text turn))) written)
+      → Proceeds MayOpen turn.before turn.after input left old new turn.checked
+  proceeds_turn turn input left old new may read written = (
+    turn ∷ [],
+    one_turn turn may,
+    read,
+    subst (Appends old new) (sym (append-nil (turn_text turn))) written,
+    omega (arith, sum_by-cons (λ (t : Turn). t.checked) turn []),
+  )
 
-  pub proceeds_more : (first middle last : Standing) (input read left old written new : Option (List ℕ))
-      → Proceeds MayOpen first middle input read old written → Proceeds MayOpen middle last read left written new
-      → Proceeds MayOpen first last input left old new
-  proceeds_more first middle last input read left old written new before behind =
+  pub proceeds_more : (first middle last : Standing) (input read left old written new : Option (List ℕ)) (some more : ℕ)
+      → Proceeds MayOpen first middle input read old written some → Proceeds MayOpen middle last read left written new more
+      → Proceeds MayOpen first last input left old new (some + more)
+  proceeds_more first middle last input read left old written new some more before behind =
       let line = λ (turn : Turn). turn.line in (
         before.0 ++ behind.0,
         turns_more first middle last before.0 behind.0 before.1 behind.1,
@@ -92,6 +99,7 @@ module _ (MayOpen : Opener) where
             (reads_more input read left (map line before.0) (map line behind.0) before.2 behind.2),
         subst (Appends old new) (sym (flat_map-append turn_text before.0 behind.0))
             (Appends-trans old written new (flat_map turn_text before.0) (flat_map turn_text behind.0) before.3 behind.3),
+        omega (arith, before.4, behind.4, sum_by-append (λ (t : Turn). t.checked) before.0 behind.0),
       )
 
 -- no byte is left where none is there
@@ -117,55 +125,62 @@ lines_failed None left unread asked error read is = (is, tt)
 lines_failed (Some bytes) None unread asked error read is = absurd read
 lines_failed (Some bytes) (Some more) unread asked error read is = (is, (lines more, read))
 
-module _ (MayOpen : Opener) (first last : Standing) (input left unread old new : Option (List ℕ))
-    (proceeds : Proceeds MayOpen first last input left old new) where
+module _ (MayOpen : Opener) (first last : Standing) (input left unread old new : Option (List ℕ)) (checked counted : ℕ)
+    (proceeds : Proceeds MayOpen first last input left old new checked) (counts : counted ≡ min checked (2 ^ 64 - 1)) where
   -- the lines are answered
   abbrev pub Answered : Option ReadError → ℕ → Type 0
   Answered failed failures =
       (turns : List Turn) × (end : Standing) × AreTurns MayOpen first end turns × (end.failures ≡ failures)
       × AreLinesOf input unread (map (λ turn. turn.line) turns) failed × Appends old new (flat_map turn_text turns)
+      × (counted ≡ all_checked turns)
+
+  counts_all : counted ≡ all_checked proceeds.0
+  counts_all = counts ∙ ap (λ (n : ℕ). min n (2 ^ 64 - 1)) proceeds.4
 
   pub answered_to_end : (ahead : List ℕ) (failures : ℕ) → last.failures ≡ failures → HasNoLine left (prepend_known ahead unread)
       → Answered None failures
   answered_to_end ahead failures is none =
       let asked = map (λ (turn : Turn). turn.line) proceeds.0 in
-      (proceeds.0, last, proceeds.1, is, lines_ended input left unread ahead asked proceeds.2 none, proceeds.3)
+      (proceeds.0, last, proceeds.1, is, lines_ended input left unread ahead asked proceeds.2 none, proceeds.3, counts_all)
 
   pub answered_to_failure : (error : ReadError) (failures : ℕ) → last.failures ≡ failures → error ≢ NotOpened
       → Answered (Some error) failures
   answered_to_failure error failures is failed =
       let asked = map (λ (turn : Turn). turn.line) proceeds.0 in
-      (proceeds.0, last, proceeds.1, is, lines_failed input left unread asked error proceeds.2 failed, proceeds.3)
+      (proceeds.0, last, proceeds.1, is, lines_failed input left unread asked error proceeds.2 failed, proceeds.3, counts_all)
 
 -- a line was answered over the graph that stands
 pub tells_line : (known : Option Tree) (path : List ℕ) (failures : ℕ) (layers : List Layer)
     (before left old new : Option (List ℕ)) (kept told : List ℕ) → TakesLine before left kept
     → MayTellFor layers kept told → Appends old new (told ++ newline)
     → let standing : Standing = record { layers = layers; failures = failures } in
-    Proceeds (MayOpen known path) standing standing before left old new
+    Proceeds (MayOpen known path) standing standing before left old new 0
 tells_line known path failures layers before left old new kept told takes may written =
     let standing : Standing = record { layers = layers; failures = failures } in
-    let turn : Turn = record { line = takes.0; before = standing; told = told; after = standing } in
+    let turn : Turn = record { line = takes.0; before = standing; told = told; after = standing; checked = 0 } in
     proceeds_turn (MayOpen known path) turn before left old new
-    (inl (tells_kept layers takes.0 kept told takes.2 may, refl)) (reads_line before left takes.0 takes.1) written
+    (inl (tells_kept layers takes.0 kept told takes.2 may, refl, refl)) (reads_line before left takes.0 takes.1) written
 
 -- a line was read that asks for the graph to be opened anew, and it was
-pub reloads_line : (MayOpen : Opener) (before after : Standing) (line told : List ℕ) (read left old new : Option (List ℕ))
-    → HasRead read left (line ∷ []) → HasWords line Reload [] → Reloads MayOpen before told after
-    → Appends old new (told ++ newline) → Proceeds MayOpen before after read left old new
-reloads_line MayOpen before after line told read left old new reads has reloads written =
-    proceeds_turn MayOpen (record { line = line; before = before; told = told; after = after }) read left old new
-    (inr (has, reloads)) reads written
+pub reloads_line : (MayOpen : Opener) (before after : Standing) (line told : List ℕ) (checked : ℕ)
+    (read left old new : Option (List ℕ)) → HasRead read left (line ∷ []) → HasWords line Reload []
+    → Reloads MayOpen before told checked after → Appends old new (told ++ newline)
+    → Proceeds MayOpen before after read left old new checked
+reloads_line MayOpen before after line told checked read left old new reads has reloads written =
+    let turn : Turn = record { line = line; before = before; told = told; after = after; checked = checked } in
+    proceeds_turn MayOpen turn read left old new (inr (has, reloads)) reads written
 
 -- the text of a session was written, and why it ended
-pub asks : (MayOpen : Opener) (before opened after status : ℕ) (input unread a b c d : Option (List ℕ)) (layers : List Layer)
-    (turns : List Turn) (last : Standing) (failed : Option ReadError)
+pub asks : (MayOpen : Opener) (before opened after : ℕ) (input unread a b c d : Option (List ℕ)) (layers : List Layer)
+    (turns : List Turn) (last : Standing) (failed : Option ReadError) (asked : Asked) (checked : ℕ)
     → MayTake (MayOpen before opened) (Ok layers)
     → AreTurns MayOpen (record { layers = layers; failures = opened }) last turns → last.failures ≡ after
     → AreLinesOf input unread (map (λ (turn : Turn). turn.line) turns) failed
-    → Appends a b (taken_line (Ok layers) ++ newline) → Appends b c (flat_map turn_text turns) → Appends c d (end_text failed)
-    → status ≡ end_status failed → WritesAnswer ask_text ask_status (MayAsk MayOpen before after input unread) a d status
-asks MayOpen before opened after status input unread a b c d layers turns last failed takes are is read first middle end same =
+    → Appends a b (taken_line (Ok layers) ++ newline) → Appends b c (flat_map turn_text turns) → checked ≡ all_checked turns
+    → Appends c d (end_text failed) → asked.status ≡ end_status failed → asked.checked ≡ checked
+    → EndsAsked (MayAsk MayOpen before after input unread) a d asked
+asks MayOpen before opened after input unread a b c d layers turns last failed asked checked takes are is read first middle counts
+    end status same =
     let session : Session = record { opened = layers; turns = turns; failed = failed } in
     let text : (taken_line (Ok layers) ++ newline) ++ (flat_map turn_text turns ++ end_text failed) ≡ session_text session =
     append_assoc (taken_line (Ok layers)) newline (flat_map turn_text turns ++ end_text failed) in (
@@ -179,24 +194,27 @@ asks MayOpen before opened after status input unread a b c d layers turns last f
         read,
       ),
       subst (Appends a d) text (Appends-trans a b d _ _ first (Appends-trans b c d _ _ middle end)),
-      same,
+      status,
+      same ∙ counts,
     )
 
 -- the same, where the reason was written, if it was
-pub asks_failed : {E : Type 0} (result : Result ℕ E) (MayOpen : Opener) (before opened after : ℕ)
-    (input unread a b c d : Option (List ℕ)) (layers : List Layer) (turns : List Turn) (last : Standing) (error : ReadError)
-    → MayTake (MayOpen before opened) (Ok layers)
+pub asks_ended : {E : Type 0} (result : Result Asked E) (MayOpen : Opener) (before opened after : ℕ)
+    (input unread a b c d : Option (List ℕ)) (layers : List Layer) (turns : List Turn) (last : Standing)
+    (failed : Option ReadError) (checked : ℕ) → MayTake (MayOpen before opened) (Ok layers)
     → AreTurns MayOpen (record { layers = layers; failures = opened }) last turns → last.failures ≡ after
-    → AreLinesOf input unread (map (λ (turn : Turn). turn.line) turns) (Some error)
-    → Appends a b (taken_line (Ok layers) ++ newline) → Appends b c (flat_map turn_text turns)
-    → IfOk result (WritesRefusal (Read error) c d)
-    → IfOk result (WritesAnswer ask_text ask_status (MayAsk MayOpen before after input unread) a d)
-asks_failed (Ok status) MayOpen before opened after input unread a b c d layers turns last error takes are is read first middle
-    end =
-    asks MayOpen before opened after status input unread a b c d layers turns last (Some error) takes are is read first middle
-    end.0 end.1
-asks_failed (Err failed) MayOpen before opened after input unread a b c d layers turns last error takes are is read first middle
-    end = tt
+    → AreLinesOf input unread (map (λ (turn : Turn). turn.line) turns) failed
+    → Appends a b (taken_line (Ok layers) ++ newline) → Appends b c (flat_map turn_text turns) → checked ≡ all_checked turns
+    → IfOk result (λ (asked : Asked). Appends c d (end_text failed) × (asked.status ≡ end_status failed)
+    × (asked.checked ≡ checked))
+    → IfOk result (EndsAsked (MayAsk MayOpen before after input unread) a d)
+asks_ended (Ok asked) MayOpen before opened after input unread a b c d layers turns last failed checked takes are is read first
+    middle counts end =
+    asks MayOpen before opened after input unread a b c d layers turns last failed asked checked takes are is read first middle
+    counts end.0 end.1 end.2
+asks_ended (Err error) MayOpen before opened after input unread a b c d layers turns last failed checked takes are is read first
+    middle counts end =
+    tt
 
 with_nothing : (old : Option (List ℕ)) → with_block old [] ≡ old
 with_nothing None = refl

@@ -2,3 +2,4 @@ pub mod LineLemmas
 pub mod QuestionLemmas
 pub mod ReplyLemmas
 pub mod AskingLemmas
+pub mod ReloadLemmas

@@ -1,6 +1,6 @@
 -- Questions about graphs, one a line: which graph stands at each, what may be told, and what is written of the whole.
-use Rattle.std.specs.Prelude.{◌≡◌, ◌≢◌, ◌⊎◌, ℕ, List, [], ◌∷◌, ◌++◌, Option, Some, None, Result, Ok, Err, IfSome}
-use Rattle.std.specs.Prelude.{codes, decimal, map}
+use Rattle.std.specs.Prelude.{◌≡◌, ◌≢◌, ◌⊎◌, ℕ, ◌^◌, ◌-◌, List, [], ◌∷◌, ◌++◌, Option, Some, None, Result, Ok, Err, IfSome}
+use Rattle.std.specs.Prelude.{codes, decimal, map, min, sum_by}
 use Rattle.std.specs.Io.KnownBytes.{IsAtEnd}
 use Rattle.std.specs.List.{AllByRecursion, flat_map}
 use Rattle.std.specs.Str.Lines.{lines}
@@ -14,6 +14,7 @@ use Rattle.graph_commands.specs.RefusalLines.{refusal_text, refusal_status}
 use Rattle.graph_commands.specs.Text.{◌⧺◌, newline}
 use Rattle.graph_commands.specs.declared.refusal.Refusal.{Refusal}
 use Rattle.graph_commands.specs.declared.refusal.Refusal.TheVariants.{Read}
+use Rattle.graph_history.specs.Reload.{StandAboveShared}
 use Rattle.history_commands.specs.Check.{MayRefuseToStart}
 use Rattle.question_commands.specs.Replies.{HasWords, MayTellFor}
 use Rattle.question_commands.specs.declared.question.Name.TheVariants.{Reload}
@@ -27,12 +28,13 @@ pub record Standing : Type 0 where
   pub layers : List Layer
   pub failures : ℕ
 
--- A line, what stood when it was answered, what was told for it, and what has stood since.
+-- A line, what stood when it was answered, what was told for it, what has stood since, and how many commits were checked for it.
 pub record Turn : Type 0 where
   pub line : List ℕ
   pub before : Standing
   pub told : List ℕ
   pub after : Standing
+  pub checked : ℕ
 
 -- what may come of opening a path and checking its graph, as `verify` does: a right graph, or a refusal
 abbrev pub MayTake : (Result (List Layer) OpenError → Type 0) → Result (List Layer) Refusal → Type 0
@@ -49,24 +51,38 @@ abbrev pub layers_after : List Layer → Result (List Layer) Refusal → List La
 layers_after before (Ok layers) = layers
 layers_after before (Err refusal) = before
 
--- a path is opened anew, and its line is told
-abbrev pub Reloads : Opener → Standing → List ℕ → Standing → Type 0
-Reloads MayOpen before told after =
-    (taken : Result (List Layer) Refusal) × MayTake (MayOpen before.failures after.failures) taken × (told ≡ taken_line taken)
-    × (after.layers ≡ layers_after before.layers taken)
+-- so many commits are checked where a path is opened anew: those above the lowest layers that are the same in the graph that
+-- stood and in the new one, byte for byte. Where the new one is refused, none is counted
+abbrev pub AreChecked : List Layer → Result (List Layer) Refusal → ℕ → Type 0
+AreChecked before (Ok layers) checked = StandAboveShared before layers checked
+AreChecked before (Err refusal) checked = checked ≡ 0
 
--- A turn may be so: what is told for the line may be told over the graph that stood, which stands on; or the line asks that the
--- path is opened anew.
+-- a path is opened anew, its line is told, and so many commits are checked
+abbrev pub Reloads : Opener → Standing → List ℕ → ℕ → Standing → Type 0
+Reloads MayOpen before told checked after =
+    (taken : Result (List Layer) Refusal) × MayTake (MayOpen before.failures after.failures) taken × (told ≡ taken_line taken)
+    × (after.layers ≡ layers_after before.layers taken) × AreChecked before.layers taken checked
+
+-- A turn may be so: what is told for the line may be told over the graph that stood, which stands on, and nothing is checked; or
+-- the line asks that the path is opened anew.
 abbrev pub MayTurn : Opener → Turn → Type 0
 MayTurn MayOpen turn =
-    (MayTellFor turn.before.layers turn.line turn.told × (turn.after ≡ turn.before))
-    ⊎ (HasWords turn.line Reload [] × Reloads MayOpen turn.before turn.told turn.after)
+    (MayTellFor turn.before.layers turn.line turn.told × (turn.after ≡ turn.before) × (turn.checked ≡ 0))
+    ⊎ (HasWords turn.line Reload [] × Reloads MayOpen turn.before turn.told turn.checked turn.after)
 
 -- Turns lead from one standing to another: each of them may be so, and what stood before it is what has stood since the one
 -- before.
 pub record AreTurns (MayOpen : Opener) (first last : Standing) (turns : List Turn) : Type 0 where
   pub allowed : AllByRecursion (MayTurn MayOpen) turns
   pub joined : map (λ turn. turn.before) turns ++ last ∷ [] ≡ first ∷ map (λ turn. turn.after) turns
+
+-- how many commits are checked in some turns
+abbrev pub commits_checked : List Turn → ℕ
+commits_checked turns = sum_by (λ turn. turn.checked) turns
+
+-- the same, as far as 64 bits hold it
+abbrev pub all_checked : List Turn → ℕ
+all_checked turns = min (commits_checked turns) (2 ^ 64 - 1)
 
 -- the text of a turn: what was told, and an empty line
 abbrev pub turn_text : Turn → List ℕ
@@ -122,3 +138,8 @@ ask_text (Err refusal) = refusal_text refusal ⧺ newline
 abbrev pub ask_status : Result Session Refusal → ℕ
 ask_status (Ok session) = end_status session.failed
 ask_status (Err refusal) = refusal_status refusal
+
+-- how many commits were checked after the first check
+abbrev pub ask_checked : Result Session Refusal → ℕ
+ask_checked (Ok session) = all_checked session.turns
+ask_checked (Err refusal) = 0

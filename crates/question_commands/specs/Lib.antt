@@ -4,4 +4,5 @@ pub mod Questions
 pub mod WordsLeft
 pub mod Replies
 pub mod Asking
+pub mod Ending
 pub mod Proceeding

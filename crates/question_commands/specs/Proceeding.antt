@@ -4,7 +4,7 @@ use Rattle.std.specs.Io.KnownBytes.{Appends}
 use Rattle.std.specs.List.{flat_map}
 use Rattle.std.specs.Str.Lines.{lines}
 use Rattle.graph_folder.specs.declared.folder.ReadError.TheVariants.{NotOpened}
-use Rattle.question_commands.specs.Asking.{AreTurns, Opener, Standing, Turn, turn_text}
+use Rattle.question_commands.specs.Asking.{AreTurns, Opener, Standing, Turn, commits_checked, turn_text}
 use Rattle.question_commands.specs.InputLines.{HasNoLine}
 use Rattle.question_commands.specs.Replies.{HasWords}
 use Rattle.question_commands.specs.declared.asking.Next.{Next}
@@ -17,12 +17,12 @@ HasRead None left asked = ⊤
 HasRead (Some bytes) None asked = ⊥
 HasRead (Some bytes) (Some left) asked = lines bytes ≡ asked ++ lines left
 
--- some turns lead from one standing to another; their lines were read, and their texts were written
-abbrev pub Proceeds : Opener → Standing → Standing → Option (List ℕ) → Option (List ℕ) → Option (List ℕ) → Option (List ℕ)
+-- some turns lead from one standing to another; their lines were read, their texts were written, and so many commits were checked
+abbrev pub Proceeds : Opener → Standing → Standing → Option (List ℕ) → Option (List ℕ) → Option (List ℕ) → Option (List ℕ) → ℕ
     → Type 0
-Proceeds MayOpen first last input left old new =
+Proceeds MayOpen first last input left old new checked =
     (turns : List Turn) × AreTurns MayOpen first last turns × HasRead input left (map (λ turn. turn.line) turns)
-    × Appends old new (flat_map turn_text turns)
+    × Appends old new (flat_map turn_text turns) × (checked ≡ commits_checked turns)
 
 -- no line is left; or none could be read; or one was read that asks for the graph to be opened anew
 abbrev pub StopsAt : Option (List ℕ) → Option (List ℕ) → Next → Type 0

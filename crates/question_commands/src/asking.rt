@@ -5,14 +5,15 @@ ghost use Rattle.std.specs.Prelude.{IfErr, IfOk, OnOk, map, true, false};
 ghost use Rattle.std.specs.Io.KnownBytes.{Appends, prepend_known};
 ghost use Rattle.std.specs.List.{flat_map};
 ghost use Rattle.graph_folder.specs.Tree.{Tree};
-ghost use Rattle.gix_commitgraph.specs.Sound.{Sound};
 ghost use Rattle.graph_commands.specs.Block.{with_block};
 ghost use Rattle.graph_commands.specs.OpenerAnswer.{MayOpen};
 ghost use Rattle.graph_commands.specs.Text.{◌⧺◌, newline};
-ghost use Rattle.graph_commands.specs.WrittenAnswer.{WritesAnswer};
+ghost use Rattle.graph_history.specs.Reload.{StandAboveShared};
+ghost use Rattle.graph_history.specs.RightGraph.{plain_options};
 ghost use Rattle.history_commands.specs.Check.{MayRefuseToStart};
-ghost use Rattle.question_commands.specs.Asking.{MayAsk, ask_text, ask_status};
+ghost use Rattle.question_commands.specs.Asking.{MayAsk, all_checked, end_text, end_status};
 ghost use Rattle.question_commands.specs.Asking.{AreLinesOf, AreTurns, MayTake, Reloads};
+ghost use Rattle.question_commands.specs.Ending.{EndsAsked};
 ghost use Rattle.question_commands.specs.Asking.{Standing, Turn, taken_line, turn_text};
 ghost use Rattle.question_commands.specs.Proceeding.{Proceeds, StopsAt};
 ghost use Rattle.question_commands.specs.Replies.{HasWords, MayTellFor};
@@ -28,9 +29,27 @@ use graph_commands::refusal::Refusal;
 use graph_commands::run::refuse;
 use graph_commands::status::Status;
 use graph_folder::folder::{Folder, ReadError};
-use graph_history::{Checked, CheckedGraph};
+use graph_history::{CheckedGraph, Reloaded};
 use std::alloc::Global;
 use std::io::{Read, Write};
+
+/// What came of questions about the graph at a path.
+#[derive(Debug, Drop, PartialEq, Eq)]
+pub struct Asked {
+    /// The exit status: 1 where the graph was refused, or the lines were not read to their end.
+    pub status: u8,
+    /// How many commits were checked in all where `reload` took a graph, at most `u64::MAX`.
+    pub checked: u64,
+}
+
+/// How the lines of an input ended.
+#[derive(Drop)]
+struct Ended {
+    /// Why no further line could be read, if that is how they ended.
+    failed: Option<ReadError>,
+    /// How many commits were checked in all where `reload` took a graph.
+    checked: u64,
+}
 
 /// Opens the graph at the path and checks it, writes how many commits it has, and answers the
 /// questions that the reader gives, one a line, each before it waits for the next.
@@ -41,17 +60,20 @@ use std::io::{Read, Write};
 /// answers from then on, unless it is refused. Any other line is answered by `refused question`.
 /// Each answer ends with an empty line, and is flushed with it.
 ///
+/// Where the lowest layers of a graph that is opened anew are those of the graph that stands, with
+/// the same bytes and the same paths, only the commits above them are checked.
+///
 /// Where the graph is refused at first, one line is written that says why, and nothing is read.
-/// Where a read fails, or there is no memory for a line, such a line ends the answers. The answer
-/// is the exit status. `WriteFailed` comes where the writer fails.
+/// Where a read fails, or there is no memory for a line, such a line ends the answers.
+/// `WriteFailed` comes where the writer fails.
 pub fn run_ask<R: Read, T: Folder, W: Write>(
     alloc: Global,
     reader: &mut R,
     folder: &mut T,
     path: &str,
     writer: &mut W,
-) -> Result<u8, WriteFailed>
-    ensures written { IfOk result (WritesAnswer ask_text ask_status
+) -> Result<Asked, WriteFailed>
+    ensures written { IfOk result (EndsAsked
         (MayAsk (MayOpen (T.tree folder.old) path.now)
         (T.failure_count folder.old) (T.failure_count folder.new)
         (R.remaining reader.old) (R.remaining reader.new))
@@ -61,14 +83,30 @@ pub fn run_ask<R: Read, T: Folder, W: Write>(
     match open_checked(alloc, folder, path) {
         Ok(graph) => {
             write_taken(writer, &graph)?;
-            let failed = answer_all(alloc, reader, folder, path, writer, graph)?;
-            match failed {
-                None => Ok(Status::Yes as u8),
-                Some(error) => refuse(writer, &Refusal::Read(error)),
-            }
+            let ended = answer_all(alloc, reader, folder, path, writer, graph)?;
+            finish_all(writer, ended)
         }
-        Err(refusal) => refuse(writer, &refusal),
+        Err(refusal) => Ok(Asked {
+            status: refuse(writer, &refusal)?,
+            checked: 0,
+        }),
     }
+}
+
+/// Writes why the lines ended, if a read failed.
+fn finish_all<W: Write>(writer: &mut W, ended: Ended) -> Result<Asked, WriteFailed>
+    ensures { IfOk result (λ asked. Appends (W.contents writer.old) (W.contents writer.new)
+        (end_text ended.failed) × (asked.status ≡ end_status ended.failed)
+        × (asked.checked ≡ ended.checked)) }
+{
+    let status = match ended.failed {
+        None => Status::Yes as u8,
+        Some(error) => refuse(writer, &Refusal::Read(error))?,
+    };
+    Ok(Asked {
+        status,
+        checked: ended.checked,
+    })
 }
 
 /// Opens the graph at the path, and checks it.
@@ -80,6 +118,7 @@ fn open_checked<T: Folder>(
     ensures graph { IfOk result (λ graph. MayTake
         (MayOpen (T.tree folder.old) path.now (T.failure_count folder.old)
         (T.failure_count folder.new)) (Ok graph.layers)) }
+    ensures options { IfOk result (λ graph. graph.options ≡ plain_options) }
     ensures refused { IfErr result (MayRefuseToStart
         (MayOpen (T.tree folder.old) path.now (T.failure_count folder.old)
         (T.failure_count folder.new))) }
@@ -110,8 +149,7 @@ fn write_refused<W: Write>(writer: &mut W, refusal: &Refusal) -> Result<(), Writ
     Ok(())
 }
 
-/// Answers all lines, over the graph or those that are taken in its place, and answers why no line
-/// could be read, if that is how they ended.
+/// Answers all lines, over the graph or those that are taken in its place.
 fn answer_all<R: Read, T: Folder, W: Write>(
     alloc: Global,
     reader: &mut R,
@@ -119,18 +157,23 @@ fn answer_all<R: Read, T: Folder, W: Write>(
     path: &str,
     writer: &mut W,
     graph: CheckedGraph,
-) -> Result<Option<ReadError>, WriteFailed>
-    ensures answered { IfOk result (λ failed. (turns : List Turn) × (last : Standing)
+) -> Result<Ended, WriteFailed>
+    requires options { graph.options ≡ plain_options }
+    ensures answered { IfOk result (λ ended. (turns : List Turn) × (last : Standing)
         × AreTurns (MayOpen (T.tree folder.old) path.now)
         (record { layers = graph.layers; failures = T.failure_count folder.old }) last turns
         × (last.failures ≡ T.failure_count folder.new)
         × AreLinesOf (R.remaining reader.old) (R.remaining reader.new)
-        (map (λ turn. turn.line) turns) failed
-        × Appends (W.contents writer.old) (W.contents writer.new) (flat_map turn_text turns)) }
+        (map (λ turn. turn.line) turns) ended.failed
+        × Appends (W.contents writer.old) (W.contents writer.new) (flat_map turn_text turns)
+        × (ended.checked ≡ all_checked turns)) }
     ensures tree { T.tree folder.new ≡ T.tree folder.old }
 {
     let (Ok(mut lines), Ok(mut block)) = (LineReader::new(alloc), Block::new(alloc)) else {
-        return Ok(Some(ReadError::OutOfMemory));
+        return Ok(Ended {
+            failed: Some(ReadError::OutOfMemory),
+            checked: 0,
+        });
     };
     answer_lines(
         alloc, &mut lines, reader, folder, path, &mut block, writer, graph,
@@ -148,59 +191,103 @@ fn answer_lines<R: Read, T: Folder, W: Write>(
     block: &mut Block,
     writer: &mut W,
     graph: CheckedGraph,
-) -> Result<Option<ReadError>, WriteFailed>
+) -> Result<Ended, WriteFailed>
     requires lines { lines.old.ahead ≡ [] }
     requires block { block.old ≡ [] }
-    ensures answered { IfOk result (λ failed. (turns : List Turn) × (last : Standing)
+    requires options { graph.options ≡ plain_options }
+    ensures answered { IfOk result (λ ended. (turns : List Turn) × (last : Standing)
         × AreTurns (MayOpen (T.tree folder.old) path.now)
         (record { layers = graph.layers; failures = T.failure_count folder.old }) last turns
         × (last.failures ≡ T.failure_count folder.new)
         × AreLinesOf (R.remaining reader.old) (R.remaining reader.new)
-        (map (λ turn. turn.line) turns) failed
-        × Appends (W.contents writer.old) (W.contents writer.new) (flat_map turn_text turns)) }
+        (map (λ turn. turn.line) turns) ended.failed
+        × Appends (W.contents writer.old) (W.contents writer.new) (flat_map turn_text turns)
+        × (ended.checked ≡ all_checked turns)) }
     ensures tree { T.tree folder.new ≡ T.tree folder.old }
 {
-    let mut graph = graph;
+    let (mut graph, mut checked) = (graph, 0u64);
     for _ in 0..u64::MAX {
         let next = answer_over(alloc, &graph, lines, reader, block, writer)?;
         match next {
-            Next::End => return Ok(None),
-            Next::Failed(error) => return Ok(Some(error)),
+            Next::End => {
+                return Ok(Ended {
+                    failed: None,
+                    checked,
+                });
+            }
+            Next::Failed(error) => {
+                return Ok(Ended {
+                    failed: Some(error),
+                    checked,
+                });
+            }
             Next::Reload => {
                 let taken = reload(alloc, folder, path, writer, graph)?;
-                graph = taken;
+                graph = taken.graph;
+                checked = checked.saturating_add(taken.checked as u64);
             }
         }
     }
-    Ok(Some(ReadError::Device))
+    Ok(Ended {
+        failed: Some(ReadError::Device),
+        checked,
+    })
 }
 
 /// Opens the graph at the path anew, and tells that. The graph that stands then is the new one, or
-/// where that was refused the one before.
+/// where that was refused the one before. The lowest layers that both share are not checked again.
 fn reload<T: Folder, W: Write>(
     alloc: Global,
     folder: &mut T,
     path: &str,
     writer: &mut W,
     graph: CheckedGraph,
-) -> Result<CheckedGraph, WriteFailed>
+) -> Result<Reloaded, WriteFailed>
+    requires { graph.options ≡ plain_options }
     ensures told { IfOk result (λ taken. (told : List ℕ)
         × Reloads (MayOpen (T.tree folder.old) path.now)
-        (record { layers = graph.layers; failures = T.failure_count folder.old }) told
-        (record { layers = taken.layers; failures = T.failure_count folder.new })
+        (record { layers = graph.layers; failures = T.failure_count folder.old })
+        told taken.checked
+        (record { layers = taken.graph.layers; failures = T.failure_count folder.new })
         × Appends (W.contents writer.old) (W.contents writer.new) (told ⧺ newline)) }
+    ensures options { IfOk result (λ taken. taken.graph.options ≡ plain_options) }
     ensures tree { T.tree folder.new ≡ T.tree folder.old }
 {
-    match open_checked(alloc, folder, path) {
+    match open_above(alloc, folder, path, &graph) {
         Ok(taken) => {
-            write_taken(writer, &taken)?;
+            write_taken(writer, &taken.graph)?;
             Ok(taken)
         }
         Err(refusal) => {
             write_refused(writer, &refusal)?;
-            Ok(graph)
+            Ok(Reloaded { graph, checked: 0 })
         }
     }
+}
+
+/// Opens the graph at the path, and checks what stands above the lowest layers that it shares with
+/// another graph.
+fn open_above<T: Folder>(
+    alloc: Global,
+    folder: &mut T,
+    path: &str,
+    graph: &CheckedGraph,
+) -> Result<Reloaded, Refusal>
+    requires { graph.now.options ≡ plain_options }
+    ensures graph { IfOk result (λ taken. MayTake
+        (MayOpen (T.tree folder.old) path.now (T.failure_count folder.old)
+        (T.failure_count folder.new)) (Ok taken.graph.layers)) }
+    ensures options { IfOk result (λ taken. taken.graph.options ≡ plain_options) }
+    ensures checked { IfOk result (λ taken.
+        StandAboveShared graph.now.layers taken.graph.layers taken.checked) }
+    ensures refused { IfErr result (MayRefuseToStart
+        (MayOpen (T.tree folder.old) path.now (T.failure_count folder.old)
+        (T.failure_count folder.new))) }
+    ensures tree { T.tree folder.new ≡ T.tree folder.old }
+{
+    let opened = open_in(alloc, folder, path)?;
+    let standing = graph.as_checked();
+    Ok(standing.reload(alloc, opened)?)
 }
 
 /// Why lines are no longer answered over a graph.
@@ -227,7 +314,7 @@ fn answer_over<R: Read, W: Write>(
         → let standing : Standing = record { layers = graph.now.layers; failures = failures } in
         (left : Option (List ℕ)) × Proceeds (MayOpen known path) standing standing
         (prepend_known lines.old.ahead (R.remaining reader.old)) left
-        (W.contents writer.old) (W.contents writer.new)
+        (W.contents writer.old) (W.contents writer.new) 0
         × StopsAt left (prepend_known lines.new.ahead (R.remaining reader.new)) next) }
     ensures block { OnOk result (block.new ≡ []) }
 {

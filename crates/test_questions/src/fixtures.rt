@@ -6,7 +6,7 @@ ghost use Rattle.std.specs.Prelude.{None};
 use graph_commands::line::WriteFailed;
 use graph_folder::folder::{Folder, Memory, ReadError};
 use graph_vectors::{Row, Source, file_of_rows};
-use question_commands::asking::run_ask;
+use question_commands::asking::{Asked, run_ask};
 use std::alloc::{AllocError, Global};
 use std::io;
 use std::io::Write;
@@ -127,14 +127,14 @@ impl Write for Flushed {
     }
 }
 
-/// What is answered of the files of these commits to these bytes, of which a read gives so many.
+/// What comes of asking these bytes, of which a read gives so many, of the files of these commits.
 pub(crate) fn ask(
     rt: &impl Abort,
     alloc: Global,
     files: &[&[Row<'_>]],
     (input, most): (&[u8], usize),
     out: &mut Flushed,
-) -> Result<u8, WriteFailed> {
+) -> Result<Asked, WriteFailed> {
     let mut folder = Changing::new(rt, alloc, files);
     let mut reader = Source::new(input, most, None);
     run_ask(alloc, &mut reader, &mut folder, "graph", out)
@@ -151,7 +151,7 @@ pub(crate) fn expect_told(
     for most in [1, usize::MAX] {
         let mut out = Flushed::new(alloc);
         let answer = ask(rt, alloc, files, (input, most), &mut out);
-        assert_eq!(rt; answer, Ok(status));
+        assert_eq!(rt; answer.map(|asked| asked.status), Ok(status));
         assert_eq!(rt; out.text(), text);
     }
 }

@@ -105,7 +105,7 @@ fn each_answer_is_flushed(rt: HostRuntime) {
     let question = b"find 1111111111111111111111111111111111111111\n\nwalk\nreload\n\
         parents 1111111111111111111111111111111111111111";
     let answer = ask(&rt, alloc, &[FIVE], (question, usize::MAX), &mut out);
-    assert_eq!(&rt; answer, Ok(0));
+    assert_eq!(&rt; answer.map(|asked| asked.status), Ok(0));
     assert_eq!(&rt; out.flushes.len(), 6);
     for flushed in &out.flushes {
         let text = out.text().get(..*flushed).unwrap_or("");

@@ -230,11 +230,23 @@ fn run_history(rt: &HostRuntime, alloc: Global, stage: &mut Stage) -> io::Result
     let Some(command) = HistoryCommand::from_words(&stage.folders.words, texts) else {
         return println!(rt; "no such command");
     };
-    let mut stream = stage.long.stream.as_slice();
-    let answer = command.run(alloc, &mut stream, memory, out);
+    let mut input = match command {
+        HistoryCommand::Ask { .. } => QUESTIONS,
+        _ => stage.long.stream.as_slice(),
+    };
+    let answer = command.run(alloc, &mut input, memory, out);
     println!(rt; "{answer:?}")?;
     io::writer(rt).write_all(out)
 }
+
+/// A line for each question that asks for memory, and one that asks for none.
+const QUESTIONS: &[u8] = b"\
+is-ancestor 0101010101010101010101010101010101010101 0202020202020202020202020202020202020202
+walk 0202020202020202020202020202020202020202 0101010101010101010101010101010101010101
+merge-base 0101010101010101010101010101010101010101 0202020202020202020202020202020202020202
+reload
+parents 0202020202020202020202020202020202020202
+";
 
 /// The id of the chain's first commit.
 const FIRST: &str = "0101010101010101010101010101010101010101";

@@ -1,16 +1,68 @@
-"""Checks `ask`: each question beside the command of its name, over two pipes and at once, and graphs that are opened anew."""
+"""Checks `ask`: each question beside the command of its name, at once, over two pipes and over a terminal, and graphs that are
+opened anew, also while Git writes them. And `git cgraph ask`, with the programs of the manual that ask over two pipes.
+"""
 
 import itertools
 import os
+import pty
+import re
+import select
+import shutil
+import socket
 import subprocess
+import sys
+import termios
+import threading
 
+import refusals
 from checks.program import LINES, SECONDS
 from expected import judge
 from histories import shapes
-from histories.repository import write_bytes
+from histories.repository import read_bytes, write_bytes
+from wrappers.clone import run as run_words
+from wrappers.tools import read
 
 NO_QUESTIONS = ["", "nonsense", "is-ancestor", "find 00", "parents x", "walk  a", "find " + "0" * (1 << 20)]
 """Lines that ask nothing: the last has more than a megabyte."""
+
+WRITES = 25
+"""So many layers are written beside a program that opens the graph anew all the time."""
+
+
+class Asking:
+    """A run of a command that answers questions; an answer that does not come in time is empty."""
+
+    def __init__(self, command, **streams):
+        streams = {"stdin": subprocess.PIPE, "stdout": subprocess.PIPE, "env": {}, **streams}
+        self.run = subprocess.Popen(command, **streams)
+        self.timer = threading.Timer(SECONDS, self.run.kill)
+        self.timer.start()
+
+    def __enter__(self):
+        return self
+
+    def __exit__(self, *reason):
+        self.timer.cancel()
+        self.run.kill()
+        self.run.__exit__(*reason)
+
+    def answer(self):
+        """The lines up to an empty one."""
+        lines = []
+        while not lines or lines[-1] not in (b"\n", b""):
+            lines.append(self.run.stdout.readline())
+        return b"".join(lines).decode()
+
+    def ask(self, question):
+        """The answer to a question."""
+        self.run.stdin.write(question.encode() + b"\n")
+        self.run.stdin.flush()
+        return self.answer()
+
+    def end(self):
+        """The status, after the input has ended."""
+        self.run.stdin.close()
+        return self.run.wait()
 
 
 def check_kind(programs, results, new):
@@ -27,11 +79,15 @@ def check_kind(programs, results, new):
     for title, ends in (("", "\n"), (", the last line without its end", "")):
         said = histories.run("ask", path, input="\n".join(asked).encode() + ends.encode())
         results.check("%s, ask, all at once%s" % (kind, title), judge.exactly(0, text, "", said))
-    results.check("%s, ask, one after another" % kind, over_pipes(histories, path, zip(asked, answers), 20))
+    command = [histories.path, "ask", path]
+    results.check("%s, ask, one after another" % kind, over_pipes(command, zip(asked, answers), 20))
+    results.check("%s, ask, each answer is written by itself" % kind, in_messages(command, asked[:-1], answers))
+    results.check("%s, ask, over a terminal" % kind, over_terminal(command, list(zip(asked, answers))[: -len(NO_QUESTIONS)]))
     results.check("%s, ask, nothing" % kind, judge.exactly(0, "ok commits 20\n\n", "", histories.run("ask", path, input=b"")))
     refused = histories.run("ask", path + "/nowhere", input=b"reload\n")
     results.check("%s, ask, no graph" % kind, judge.exactly(1, "refused open 1\n", "", refused))
     check_reload(programs, results, repository, history)
+    results.check("%s, ask beside a writer" % kind, beside_writer(histories, new("questions beside a writer")))
     LINES.add(("ask", "refused question"))
 
 
@@ -61,42 +117,125 @@ def answer_alone(programs, path, question, repository):
     return programs[word != "find"].run(word, path, *names, stdin=subprocess.DEVNULL).out.decode() + "\n"
 
 
-def over_pipes(histories, path, asked, commits):
+def over_pipes(command, asked, commits, **streams):
     """A complaint where an answer is another one, or is not there before the next question is sent."""
-    with subprocess.Popen([histories.path, "ask", path], stdin=subprocess.PIPE, stdout=subprocess.PIPE, env={}) as run:
-        told = read_answer(run)
+    with Asking(command, **streams) as run:
+        told = run.answer()
         if told != "ok commits %d\n\n" % commits:
             return "at first it tells %r" % told
         for question, answer in asked:
-            run.stdin.write(question.encode() + b"\n")
-            run.stdin.flush()
-            told = read_answer(run)
+            told = run.ask(question)
             if told != answer:
                 return "for %.60r it tells %r, and not %r" % (question, told, answer)
-        run.stdin.close()
-        status = run.wait(SECONDS)
+        status = run.end()
         return None if status == 0 else "the status is %s" % status
 
 
-def read_answer(run):
-    """The lines up to an empty one."""
-    lines = []
-    while not lines or lines[-1] not in (b"\n", b""):
-        lines.append(run.stdout.readline())
-    return b"".join(lines).decode()
+def in_messages(command, asked, answers):
+    """A complaint where two answers come in one write. All questions are sent at once, and the output is a socket that keeps
+    its writes apart. An answer may come in several.
+    """
+    ours, theirs = socket.socketpair(socket.AF_UNIX, socket.SOCK_SEQPACKET)
+    with ours, Asking(command, stdout=theirs) as run:
+        theirs.close()
+        sender = threading.Thread(target=run.run.communicate, args=("".join(line + "\n" for line in asked).encode(),))
+        sender.start()
+        messages = list(iter(lambda: ours.recv(1 << 20), b""))
+        sender.join()
+    text, ends = "", []
+    for message in messages:
+        text += message.decode()
+        ends.append(len(text))
+    if text != "ok commits 20\n\n" + "".join(answers[: len(asked)]):
+        return "it tells %.200r" % text
+    wanted = list(itertools.accumulate(len(answer) for answer in ["ok commits 20\n\n", *answers[: len(asked)]]))
+    joined = sorted(set(wanted) - set(ends))
+    return "no write ends with the answer at byte %d" % joined[0] if joined else None
+
+
+def over_terminal(command, asked, **surroundings):
+    """A complaint where an answer is another one on a terminal, at the end of whose input Ctrl-D is typed."""
+    ours, theirs = pty.openpty()
+    modes = termios.tcgetattr(theirs)
+    modes[1] &= ~termios.OPOST
+    modes[3] &= ~termios.ECHO
+    termios.tcsetattr(theirs, termios.TCSANOW, modes)
+    with Asking(command, stdin=theirs, stdout=theirs, start_new_session=True, **surroundings) as run:
+        os.close(theirs)
+        try:
+            told = read_terminal(ours)
+            for question, answer in asked:
+                os.write(ours, question.encode() + b"\n")
+                told = read_terminal(ours)
+                if told != answer:
+                    return "for %r it tells %r, and not %r" % (question, told, answer)
+            os.write(ours, b"\x04")
+            status = run.run.wait()
+            return None if status == 0 else "the status is %s" % status
+        finally:
+            os.close(ours)
+
+
+def read_terminal(terminal):
+    """What a terminal shows up to an empty line."""
+    text = b""
+    while not text.endswith(b"\n\n") and select.select([terminal], [], [], SECONDS)[0]:
+        text += os.read(terminal, 1 << 16)
+    return text.decode()
+
+
+def beside_writer(histories, repository):
+    """A complaint where a graph that is opened anew beside `git commit-graph write --split` is neither one that was written nor
+    refused for a layer that is gone, or where a graph with fewer commits answers after one with more.
+    """
+    history = shapes.linear(10 * (WRITES + 1))
+    ids = repository.add(history)
+    repository.write_graph("--split", tips=[ids[9]])
+    writer = LayerWriter(repository, [ids[at] for at in range(19, len(ids), 10)])
+    with Asking([histories.path, "ask", repository.info_path()]) as run:
+        run.answer()
+        writer.start()
+        commits, reloads = 10, 0
+        while writer.is_alive() or reloads == 0:
+            told, reloads = run.ask("reload"), reloads + 1
+            now = re.fullmatch(r"ok commits (\d+)\n\n", told)
+            if now and int(now[1]) >= commits and int(now[1]) % 10 == 0:
+                commits = int(now[1])
+            elif not re.fullmatch(r"refused open (2|3|5 layer \d+ file \d+)\n\n", told):
+                return "after %d commits it tells %r" % (commits, told)
+            if run.ask("is-ancestor %s %s" % (ids[0], ids[commits - 1])) != "yes\n\n":
+                return "the graph of %d commits does not answer" % commits
+            if commits < len(ids) and run.ask("parents " + ids[-1]) != "unknown 1\n\n":
+                return "a graph of %d commits answers for that of %d" % (len(ids), commits)
+        writer.join()
+        told = run.ask("reload"), run.ask("parents " + ids[-1]), run.end()
+        right = "ok commits %d\n\n" % len(ids), "parents %s\n\n" % ids[-2], 0
+        return writer.failure or (None if told == right else "at the end it tells %r" % (told,))
+
+
+class LayerWriter(threading.Thread):
+    """Writes a layer for each of some tips. The layers of before are removed where they are merged."""
+
+    def __init__(self, repository, tips):
+        super().__init__()
+        self.repository, self.tips, self.failure = repository, tips, None
+
+    def run(self):
+        """Writes them."""
+        try:
+            for at, tip in enumerate(self.tips):
+                flag = "--split=no-merge" if at % 5 else "--split"
+                self.repository.write_graph(flag, "--expire-time=now", tips=[tip])
+        except RuntimeError as failure:
+            self.failure = failure
 
 
 def check_reload(programs, results, repository, history):
     """The graph gets a layer, then a damaged one, and then is gone; after each, the path is opened anew."""
     path, kind = repository.info_path(), repository.object_format
-    with subprocess.Popen([programs[1].path, "ask", path], stdin=subprocess.PIPE, stdout=subprocess.PIPE, env={}) as run:
-
-        def ask(question):
-            run.stdin.write(question.encode() + b"\n")
-            run.stdin.flush()
-            return read_answer(run)
-
-        read_answer(run)
+    with Asking([programs[1].path, "ask", path]) as run:
+        ask = run.ask
+        run.answer()
         tip = repository.add(history, 20)[-1]
         repository.write_graph("--split=no-merge")
         before = ask("find " + tip)
@@ -114,5 +253,75 @@ def check_reload(programs, results, repository, history):
         write_bytes(top, layer)
         told = ask("reload")
         results.check("%s, ask, it is mended" % kind, None if told == "ok commits 30\n\n" else "it tells %r" % told)
-        run.stdin.close()
-        run.wait(SECONDS)
+
+
+def check_by_git(installed, results, repository, way):
+    """`git cgraph ask`: the same answers, a chain that takes the place of the file, refusals, and the programs of the manual."""
+    history = shapes.diamonds(4)
+    ids = repository.add(history)
+    repository.git("update-ref", "refs/heads/topic", ids[2])
+    repository.git("symbolic-ref", "HEAD", "refs/heads/tip-%d" % (len(ids) - 1))
+    repository.write_graph(tips=[ids[6]])
+    command = ["git", "cgraph", "ask"]
+    surroundings = {"env": installed.variables, "cwd": repository.folder}
+    asked = [
+        ("is-ancestor %s %s" % (ids[0], ids[6]), "yes\n\n"),
+        ("parents %s" % ids[0], "parents\n\n"),
+        ("nonsense", "refused question\n\n"),
+        ("parents %s" % ids[-1], "unknown 1\n\n"),
+    ]
+    commits = len(repository.git("rev-list", ids[6]).split())
+    results.check("git cgraph ask, over two pipes", over_pipes(command, asked, commits, **surroundings))
+    results.check("git cgraph ask, over a terminal", over_terminal(command, asked, **surroundings))
+    with Asking(command, **surroundings) as run:
+        run.answer()
+        repository.write_graph("--split")
+        told = run.ask("reload"), run.ask("is-ancestor %s %s" % (ids[0], ids[-1])), run.end()
+        right = "ok commits %d\n\n" % len(ids), "yes\n\n", 0
+        results.check("git cgraph ask, a chain in the place of a file", None if told == right else "it tells %r" % (told,))
+    check_refused_by_git(installed, results, repository, way)
+    check_scripts(installed, results, repository, ids, way)
+
+
+def check_refused_by_git(installed, results, repository, way):
+    """A commit-graph that is refused or not there, questions that cannot be read, and options that are not for `ask`."""
+    shutil.rmtree(repository.chain_path())
+    repository.write_graph()
+    content, rows = read_bytes(repository.graph_path()), refusals.read_rows()
+    folder = os.open(repository.folder, os.O_RDONLY)
+    answer = run_words(["git", "cgraph", "ask"], installed.variables, cwd=repository.folder, stdin=folder)
+    os.close(folder)
+    unread = "the questions could not be read to their end"
+    commits = len(repository.git("rev-list", "--all").split())
+    err = refusals.written("git cgraph", [unread, *refusals.sentences(rows, unread, "ask")])
+    right = (128, "ok commits %d\n\nrefused read 2\n" % commits, err)
+    results.check("git cgraph ask, a folder as input", None if answer == right else "it is %r, expected %r" % (answer, right))
+    for title, damaged, line in (
+        ("a checksum", content[:-1] + bytes([content[-1] ^ 1]), "refused verify 4 layer 0 fault 1"),
+        ("an empty file", b"", "refused open 5 layer 0 file 2"),
+    ):
+        write_bytes(repository.graph_path(), damaged)
+        answers = [installed.ask(way, word, *words) for word, words in (("ask", []), ("is-ancestor", ["topic", "topic"]))]
+        right = answers[0] == answers[1] and answers[0][0] == 128 and answers[0].out.startswith(line[:12])
+        results.check("git cgraph ask, damaged: %s" % title, None if right else "it is %r" % (answers,))
+    os.remove(repository.graph_path())
+    answer = installed.ask(way, "ask")
+    right = answer[:2] == (128, "refused open 2\n") and "there is no commit-graph" in answer.err
+    results.check("git cgraph ask, no commit-graph", None if right else "it is %r" % (answer,))
+    repository.write_graph()
+
+
+def check_scripts(installed, results, repository, ids, way):
+    """The programs of the manual that ask over two pipes, in bash and in Python."""
+    section = re.search(r"## Questions over two pipes\n(.*?)\n## ", read("docs", "MANUAL.md"), re.DOTALL).group(1)
+    scripts = [re.sub("(?m)^    ", "", block) for block in re.findall(r"((?:^    .*\n)+)", section, re.MULTILINE)]
+    commits = "ok commits %d\n" % len(ids)
+    bases = installed.ask(way, "merge-base", "-v", "topic", "HEAD").out
+    branches = repository.git("for-each-ref", "--format=%(refname:short)", "refs/heads").decode().split()
+    told = ["%s %s\n" % (name, "yes" if repository.reaches("HEAD", name) else "no") for name in branches]
+    wanted = [commits + "yes\n" + bases, commits + "".join(told)]
+    results.check("the manual has two programs that ask", None if len(scripts) == 2 else "they are %r" % scripts)
+    variables = {**installed.variables, "PATH": installed.variables["PATH"] + ":" + os.environ["PATH"]}
+    for words, script, out in zip((["bash", "-c"], [sys.executable, "-c"]), scripts, wanted):
+        answer = run_words([*words, script], variables, cwd=repository.folder)
+        results.check("the manual's program for %s" % os.path.basename(words[0]), None if answer == (0, out, "") else "it is %r" % (answer,))

@@ -10,7 +10,7 @@ import shutil
 import subprocess
 
 import refusals
-from checks import disk_checks, show_checks, verify_checks
+from checks import ask_checks, disk_checks, show_checks, verify_checks
 from damage import trees, wrong_commits, wrong_layout, wrong_trees
 from damage.layer import sealed
 from expected import reading
@@ -75,6 +75,8 @@ def check_all(programs, results, folder, new):
         check_kinds(installed, results, new(kind, "asked"))
         check_split(installed, results, new(kind, "asked, split"))
         show_checks.check_told(installed, results, os.path.join(folder, "shown, " + kind), new(kind, "asked, shown.git"), Way)
+        asked = new(kind, "asked questions.git")
+        ask_checks.check_by_git(installed, results, asked, Way(asked.folder))
     check_empty(installed, results, new("sha1", "asked, empty"))
     check_abbreviation(installed, results, new("sha1", "asked, abbreviations"))
     check_session(installed, results, os.path.join(folder, "repository"))

@@ -18,4 +18,5 @@ returns-in_default-clause-answered g c =
       refl,
       lines_failed input input input [] OutOfMemory (reads_none input) (λ is. cc),
       Appends-nil (g.W.Write.contents c.args.writer.now),
+      refl,
     )

@@ -1,5 +1,5 @@
 -- The lines are answered over one graph after another.
-use Rattle.std.proofs.Common.{◌≡◌, ◌∙◌, List, ℕ, Option, ap, refl, subst, sym}
+use Rattle.std.proofs.Common.{◌≡◌, ◌∙◌, ◌+◌, List, ℕ, Option, ap, arith, refl, subst, sym}
 use Rattle.std.specs.Io.KnownBytes.{prepend_known}
 use Rattle.std.proofs.KnownBytes.{prepend_known-nil}
 use Rattle.graph_commands.specs.OpenerAnswer.{MayOpen}
@@ -19,8 +19,13 @@ loop-init g c =
     let same : prepend_known c.args.lines.now.ahead input ≡ input =
     ap (λ (ahead : List ℕ). prepend_known ahead input) c.requires.lines ∙ prepend_known-nil input in
     record {
-      answered = subst (λ (left : Option (List ℕ)). Proceeds opens first first input left old old) (sym same)
-          (proceeds_none opens first input old);
+      answered = (
+        0,
+        subst (λ (left : Option (List ℕ)). Proceeds opens first first input left old old 0) (sym same)
+            (proceeds_none opens first input old),
+        refl,
+      );
+      options = c.requires.options;
       block = c.requires.block;
       tree = refl;
     }
@@ -33,8 +38,9 @@ returns-in-End-clause-answered g c =
     let standing : Standing = record { layers = c.loop.graph.layers; failures = failures } in
     let over = c.in_ok-next.ensures.answered tree c.args.path.now failures in
     let end = rw c.in-End.is at over.2 in
-    answered_to_end opens _ standing _ over.0 _ _ _
-    (proceeds_more opens _ standing standing _ _ over.0 _ _ _ c.loop.invariant.answered over.1)
+    let before = c.loop.invariant.answered in
+    answered_to_end opens _ standing _ over.0 _ _ _ (before.0 + 0) c.loop.checked
+    (proceeds_more opens _ standing standing _ _ over.0 _ _ _ before.0 0 before.1 over.1) (omega (arith, before.2))
     c.answer_over.new.lines.ahead failures refl end
 
 pub returns-in-Failed-clause-answered : goal.returns-in-Failed-clause-answered
@@ -45,8 +51,9 @@ returns-in-Failed-clause-answered g c =
     let standing : Standing = record { layers = c.loop.graph.layers; failures = failures } in
     let over = c.in_ok-next.ensures.answered tree c.args.path.now failures in
     let failed = rw c.in-Failed.is at over.2 in
-    answered_to_failure opens _ standing _ over.0 (g.R.Read.remaining c.answer_over.new.reader) _ _
-    (proceeds_more opens _ standing standing _ _ over.0 _ _ _ c.loop.invariant.answered over.1)
+    let before = c.loop.invariant.answered in
+    answered_to_failure opens _ standing _ over.0 (g.R.Read.remaining c.answer_over.new.reader) _ _ (before.0 + 0) c.loop.checked
+    (proceeds_more opens _ standing standing _ _ over.0 _ _ _ before.0 0 before.1 over.1) (omega (arith, before.2))
     c.in-Failed.error failures refl failed
 
 pub loop-preserved : goal.loop-preserved
@@ -56,14 +63,21 @@ loop-preserved g c =
     let failures = g.T.Folder.failure_count c.loop.folder in
     let standing : Standing = record { layers = c.loop.graph.layers; failures = failures } in
     let after : Standing =
-    record { layers = c.in_ok-taken-in-Reload.taken.layers; failures = g.T.Folder.failure_count c.reload.new.folder } in
+    record { layers = c.in_ok-taken-in-Reload.taken.graph.layers; failures = g.T.Folder.failure_count c.reload.new.folder } in
     let over = c.in_ok-next.ensures.answered tree c.args.path.now failures in
     let asks = rw c.in-Reload.is at over.2 in
     let told = rw c.loop.invariant.tree at c.in_ok-taken-in-Reload.ensures.told in
+    let before = c.loop.invariant.answered in
+    let checked = c.in_ok-taken-in-Reload.taken.checked in
     record {
-      answered = proceeds_more opens _ standing after _ over.0 _ _ _ _
-          (proceeds_more opens _ standing standing _ _ over.0 _ _ _ c.loop.invariant.answered over.1)
-          (reloads_line opens standing after asks.0 told.0 over.0 _ _ _ asks.1 asks.2 told.1 told.2);
+      answered = (
+        before.0 + 0 + checked,
+        proceeds_more opens _ standing after _ over.0 _ _ _ _ (before.0 + 0) checked
+            (proceeds_more opens _ standing standing _ _ over.0 _ _ _ before.0 0 before.1 over.1)
+            (reloads_line opens standing after asks.0 told.0 checked over.0 _ _ _ asks.1 asks.2 told.1 told.2),
+        omega (arith, before.2, c.saturating_add-checked.ensures),
+      );
+      options = c.in_ok-taken-in-Reload.ensures.options;
       block = c.in_ok-next.ensures.block;
       tree = c.reload.ensures.tree ∙ c.loop.invariant.tree;
     }

@@ -38,7 +38,7 @@ loop-preserved g c =
     record {
       answered = λ known path failures.
           let standing : Standing = record { layers = layers; failures = failures } in
-          proceeds_more (MayOpen known path) standing standing standing _ _ _ _ _ _
+          proceeds_more (MayOpen known path) standing standing standing _ _ _ _ _ _ 0 0
           (c.loop.invariant.answered known path failures)
           (tells_line known path failures layers _ _ _ _ c.read.new.self.line told.0 takes may told.2);
       block = c.in_ok-answer.ensures.block;

@@ -13,7 +13,7 @@ invariant-loop g l = record {
       (record { layers = l.fn.graph.layers; failures = failures })
       (prepend_known l.fn.lines.ahead (g.R.Read.remaining l.fn.reader))
       (prepend_known l.lines.ahead (g.R.Read.remaining l.reader))
-      (g.W.Write.contents l.fn.writer) (g.W.Write.contents l.writer);
+      (g.W.Write.contents l.fn.writer) (g.W.Write.contents l.writer) 0;
   block : l.block ≡ [];
   teller : l.teller ≡ l.fn.graph.layers;
 }
