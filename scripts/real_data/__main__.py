@@ -131,7 +131,8 @@ def new_repository(folder, object_format, name):
 
 
 if __name__ == "__main__":
-    if len(sys.argv) < 4:
-        sys.exit(__doc__)
     EVERY_VALUE = sys.argv[4:5] == ["every-value"]
-    sys.exit(main(sys.argv[1:4], EVERY_VALUE, sys.argv[4 + EVERY_VALUE :]))
+    NAMES = sys.argv[4 + EVERY_VALUE :]
+    if len(sys.argv) < 4 or not set(NAMES).issubset(all_names()):
+        sys.exit(__doc__)
+    sys.exit(main(sys.argv[1:4], EVERY_VALUE, NAMES))
