@@ -134,7 +134,9 @@ def check_pages(results, clone, prefix):
             shown = {"man": [["man", "--warnings", "-l", page], ["man", name]], "groff": [["groff", "-ww", "-man", "-Tascii", "-P-c", page]]}[tool]
             for command in shown + [["git", "help", "cgraph"]] * (name == "git-cgraph" and tool == "man"):
                 answer = run([shutil.which(command[0]), *command[1:]], variables)
-                missing = [word for word in words_of_page(name) if word not in answer.out] if tool == "man" else []
+                # Lines are filled up with spaces to the width of the page.
+                shown_words = " ".join(answer.out.split())
+                missing = [word for word in words_of_page(name) if word not in shown_words] if tool == "man" else []
                 right = answer.status == 0 and name.upper() + "(1)" in answer.out and not answer.err and not missing
                 results.check("the manual page of %s, by %s" % (name, " ".join(command[:2])), None if right else "it is %r" % (answer,))
     install(clone, "--remove", prefix)

@@ -30,9 +30,10 @@ class Command(NamedTuple):
         return self.ids == "range"
 
     def operands(self, number=None) -> List[str]:
-        """A path, if the command reads one, and so many ids, or as few as it takes."""
+        """A path, if the command reads one or may read one before ids, and so many ids, or as few as it takes."""
         ids = self.least() if number is None else number
-        return ["."] * (self.reads == "path") + [str(number) for number in range(ids)]
+        has_path = self.reads == "path" or self.reads == "optional" and ids > 0
+        return ["."] * has_path + [str(number) for number in range(ids)]
 
 
 def commands(program=None):
