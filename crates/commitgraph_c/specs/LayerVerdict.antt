@@ -1,5 +1,5 @@
 -- what a check tells C of one layer
-use Rattle.std.specs.Prelude.{◌≡◌, ℕ, length, Some, None, ⊤, ⊥}
+use Rattle.std.specs.Prelude.{◌≡◌, ℕ, length, Some, None, ⊤}
 use Rattle.graph_format.specs.Layer.{Layer}
 use Rattle.graph_format.specs.Points.{first_fault}
 use Rattle.graph_format.specs.StoredHistory.{layer_history}
