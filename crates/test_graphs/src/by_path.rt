@@ -1,4 +1,7 @@
-use crate::fixtures::{built, layer};
+//! The openers at each kind of path, over the disk and over a folder in memory with the same
+//! contents.
+
+use crate::fixtures::{bare, built, layer};
 use gix_chunk_core::ChunkError;
 use gix_commitgraph::opening::{
     OpenError, open_chain_dir_in, open_file_in, open_in, open_info_dir_in,
@@ -9,7 +12,7 @@ use graph_folder::folder::{Disk, Folder, Memory};
 use graph_vectors::refused::{
     ENTRIES, MISSING_CHUNKS, REFUSED_HEADERS, Refused, THREE, WRONG_BASES, WRONG_SIZES,
 };
-use graph_vectors::{END, LayerPlan, file_of_zeros};
+use graph_vectors::{DIAMOND, END, file_of_zeros};
 use std::alloc::Global;
 use std::fs;
 use std::process::Abort;
@@ -18,74 +21,51 @@ use std::rt::Files;
 /// The number of commits that an opener found, or its refusal.
 type Answer = Result<u32, OpenError>;
 
+/// What the openers answer at one path: that of any path, of a file, of an info folder and of a
+/// chain folder.
+type Answers = [Answer; 4];
+
 fn commits(answer: Result<Graph, OpenError>) -> Answer {
     answer.map(|graph| graph.num_commits())
 }
 
-fn compare(rt: &impl Abort, answer: Answer, want: &Answer) {
-    assert_eq!(rt; answer, *want);
+/// The answers over a folder. The contracts of the openers are long, and here they end.
+fn answers_in<T: Folder>(alloc: Global, folder: &mut T, path: &str) -> Answers {
+    [
+        commits(open_in(alloc, folder, path)),
+        commits(open_file_in(alloc, folder, path)),
+        commits(open_info_dir_in(alloc, folder, path)),
+        commits(open_chain_dir_in(alloc, folder, path)),
+    ]
 }
 
-/// The answers of the openers over a folder. Their contracts are long, and here they end.
-fn any_in<T: Folder>(alloc: Global, folder: &mut T, path: &str) -> Answer {
-    commits(open_in(alloc, folder, path))
-}
-
-fn file_in<T: Folder>(alloc: Global, folder: &mut T, path: &str) -> Answer {
-    commits(open_file_in(alloc, folder, path))
-}
-
-fn info_in<T: Folder>(alloc: Global, folder: &mut T, path: &str) -> Answer {
-    commits(open_info_dir_in(alloc, folder, path))
-}
-
-fn chain_in<T: Folder>(alloc: Global, folder: &mut T, path: &str) -> Answer {
-    commits(open_chain_dir_in(alloc, folder, path))
-}
-
-/// What the opener of any path answers over a folder in memory. Over the disk, with the same
-/// contents, and by the path alone the answer is the same.
-fn any<R: Files + Abort>(rt: &R, alloc: Global, memory: &mut Memory, path: &str) -> Answer {
-    let want = any_in(alloc, memory, path);
-    compare(rt, any_in(alloc, &mut Disk::new(rt), path), &want);
-    compare(rt, commits(Graph::at(rt, alloc, path)), &want);
-    compare(rt, commits(at(rt, alloc, path)), &want);
-    want
-}
-
-/// The same of the opener of a file, and of that of a layer alone.
-fn file<R: Files + Abort>(rt: &R, alloc: Global, memory: &mut Memory, path: &str) -> Answer {
-    let want = file_in(alloc, memory, path);
-    compare(rt, file_in(alloc, &mut Disk::new(rt), path), &want);
-    compare(rt, commits(Graph::from_file(rt, alloc, path)), &want);
-    let layer = File::at(rt, alloc, path).map(|file| file.num_commits());
-    compare(rt, layer, &want);
-    want
-}
-
-/// The same of the opener of an info folder.
-fn info<R: Files + Abort>(rt: &R, alloc: Global, memory: &mut Memory, path: &str) -> Answer {
-    let want = info_in(alloc, memory, path);
-    compare(rt, info_in(alloc, &mut Disk::new(rt), path), &want);
-    compare(rt, commits(Graph::from_info_dir(rt, alloc, path)), &want);
-    want
-}
-
-/// The same of the opener of a chain folder.
-fn chain<R: Files + Abort>(rt: &R, alloc: Global, memory: &mut Memory, path: &str) -> Answer {
-    let want = chain_in(alloc, memory, path);
-    compare(rt, chain_in(alloc, &mut Disk::new(rt), path), &want);
-    compare(
-        rt,
+/// The answers by the path alone.
+fn answers_at<R: Files>(rt: &R, alloc: Global, path: &str) -> Answers {
+    [
+        commits(Graph::at(rt, alloc, path)),
+        commits(Graph::from_file(rt, alloc, path)),
+        commits(Graph::from_info_dir(rt, alloc, path)),
         commits(Graph::from_commit_graphs_dir(rt, alloc, path)),
-        &want,
-    );
+    ]
+}
+
+/// The same two of the function beside the graphs, and of that of a layer alone.
+fn others_at<R: Files>(rt: &R, alloc: Global, path: &str) -> [Answer; 2] {
+    let layer = File::at(rt, alloc, path).map(|file| file.num_commits());
+    [commits(at(rt, alloc, path)), layer]
+}
+
+/// The answers over a folder in memory. Over the disk, with the same contents, they are the same,
+/// and by the path alone.
+fn answers<R: Files + Abort>(rt: &R, alloc: Global, memory: &mut Memory, path: &str) -> Answers {
+    let want = answers_in(alloc, memory, path);
+    assert!(rt; answers_in(alloc, &mut Disk::new(rt), path).as_slice() == want.as_slice());
+    assert!(rt; answers_at(rt, alloc, path).as_slice() == want.as_slice());
+    assert!(rt; others_at(rt, alloc, path).as_slice() == &want[..2]);
     want
 }
 
 const TOP: &str = "graph_by_path_test";
-
-const FILE: &str = "graph_by_path_test/file";
 
 const MISSING: &str = "graph_by_path_test/missing";
 
@@ -113,26 +93,25 @@ fn put<R: Files + Abort>(rt: &R, alloc: Global, memory: &mut Memory, path: &str,
     memory.put_file(path, bytes).expect(rt, "memory");
 }
 
-/// Two layers of one commit each, and one without commits of the other kind of hash, on disk and in
-/// memory.
-fn layers<R: Files + Abort>(rt: &R, alloc: Global) -> Memory {
-    let mut memory = Memory::new(alloc);
+/// Makes folders on disk and in memory.
+fn put_folders<R: Files + Abort>(rt: &R, alloc: Global, memory: &mut Memory) {
     for path in [TOP, INFO, GRAPHS] {
         fs::create_dir(rt, path).expect(rt, "a folder");
         let path = String::from_str(alloc, path).expect(rt, "memory");
         memory.put_dir(path).expect(rt, "memory");
     }
-    for (path, byte) in [(FIRST, 0x11), (SECOND, 0x22)] {
-        put(
-            rt,
-            alloc,
-            &mut memory,
-            path,
-            &layer(rt, alloc, &[], &[(byte, &[], 1)]),
-        );
-    }
-    let plan = LayerPlan::new(alloc, Kind::Sha256, &[]).expect(rt, "memory");
-    let sha256 = built(rt, alloc, &plan);
+}
+
+/// Two layers of one commit each, and one without commits of the other kind of hash, on disk and in
+/// memory.
+fn layers<R: Files + Abort>(rt: &R, alloc: Global) -> Memory {
+    let mut memory = Memory::new(alloc);
+    put_folders(rt, alloc, &mut memory);
+    let first = layer(rt, alloc, &[], &[(0x11, &[], 1)]);
+    put(rt, alloc, &mut memory, FIRST, &first);
+    let second = layer(rt, alloc, &[], &[(0x22, &[], 1)]);
+    put(rt, alloc, &mut memory, SECOND, &second);
+    let sha256 = built(rt, alloc, &bare(rt, alloc, Kind::Sha256));
     put(rt, alloc, &mut memory, SHA256, &sha256);
     memory
 }
@@ -160,21 +139,9 @@ const MORE: &[Refused] = &[
     ),
 ];
 
-/// Refusals of files of each kind, except that of more extra edges than 16 GiB hold.
-const REFUSALS: &[&[Refused]] = &[
-    REFUSED_HEADERS,
-    MISSING_CHUNKS,
-    WRONG_SIZES,
-    WRONG_BASES,
-    MORE,
-];
-
-/// Asserts that the file of this layer is refused for this reason.
-fn assert_refused(rt: &impl Abort, answer: &Answer, layer: usize, want: &FileError) {
-    let Err(OpenError::Layer { layer: at, error }) = answer else {
-        panic!(rt; "no layer is refused for {want:?}");
-    };
-    assert!(rt; *at == layer && error == want);
+/// Whether the file of this layer is refused for this reason.
+fn is_refused(answer: &Answer, layer: usize, want: &FileError) -> bool {
+    matches!(answer, Err(OpenError::Layer { layer: at, error }) if *at == layer && error == want)
 }
 
 /// Compares the refusal of a file that stands alone, as the first layer of a chain, and as a later
@@ -186,15 +153,22 @@ fn compare_refused<R: Files + Abort>(
     bytes: &[u8],
     want: &FileError,
 ) {
-    for path in [FILE, INFO_FILE, REFUSED] {
-        put(rt, alloc, memory, path, bytes);
-    }
-    assert_refused(rt, &any(rt, alloc, memory, FILE), 0, want);
-    assert_refused(rt, &file(rt, alloc, memory, FILE), 0, want);
+    put(rt, alloc, memory, INFO_FILE, bytes);
+    put(rt, alloc, memory, REFUSED, bytes);
+    let alone = answers(rt, alloc, memory, INFO_FILE);
+    assert!(rt; is_refused(&alone[0], 0, want) && is_refused(&alone[1], 0, want));
     put(rt, alloc, memory, CHAIN, b"refused\n");
-    assert_refused(rt, &chain(rt, alloc, memory, GRAPHS), 0, want);
+    assert!(rt; is_refused(&answers(rt, alloc, memory, GRAPHS)[3], 0, want));
     put(rt, alloc, memory, CHAIN, b"first\nrefused\n");
-    assert_refused(rt, &info(rt, alloc, memory, INFO), 1, want);
+    assert!(rt; is_refused(&answers(rt, alloc, memory, INFO)[2], 1, want));
+}
+
+/// Compares the refusals of some files.
+fn compare_files<R: Files + Abort>(rt: &R, alloc: Global, memory: &mut Memory, rows: &[Refused]) {
+    for (header, entries, zeros, want) in rows {
+        let bytes = file_of_zeros(alloc, header, entries, *zeros).expect(rt, "memory");
+        compare_refused(rt, alloc, memory, &bytes, want);
+    }
 }
 
 /// Chains, and what they open or why they are refused, where the refused file is too short.
@@ -233,43 +207,104 @@ const CHAINS: &[(&[u8], Answer)] = &[
 ];
 
 /// Compares what chains open, beside a refused file in the info folder.
-fn compare_chains<R: Files + Abort>(rt: &R, alloc: Global, memory: &mut Memory) {
-    put(rt, alloc, memory, REFUSED, &[0; 1099]);
-    for (lines, want) in CHAINS {
+fn compare_chains<R: Files + Abort>(
+    rt: &R,
+    alloc: Global,
+    memory: &mut Memory,
+    rows: &[(&[u8], Answer)],
+) {
+    for (lines, want) in rows {
         put(rt, alloc, memory, CHAIN, lines);
-        for path in [INFO, GRAPHS] {
-            compare(rt, any(rt, alloc, memory, path), want);
-        }
-        compare(rt, info(rt, alloc, memory, INFO), want);
-        compare(rt, chain(rt, alloc, memory, GRAPHS), want);
+        let at_info = answers(rt, alloc, memory, INFO);
+        assert!(rt; at_info[0] == *want && at_info[2] == *want);
+        let at_chain = answers(rt, alloc, memory, GRAPHS);
+        assert!(rt; at_chain[0] == *want && at_chain[3] == *want);
     }
 }
 
-/// Compares what is answered where nothing stands.
-fn compare_missing<R: Files + Abort>(rt: &R, alloc: Global, memory: &mut Memory) {
-    let any = any(rt, alloc, memory, MISSING);
-    compare(rt, any, &Err(OpenError::NothingFound));
-    for answer in [
-        file(rt, alloc, memory, MISSING),
-        info(rt, alloc, memory, MISSING),
-        chain(rt, alloc, memory, MISSING),
-    ] {
-        compare(rt, answer, &Err(OpenError::NotOpened));
+/// Paths of each kind, beside a chain of two commits and a file of four, and the answers there. An
+/// info folder is opened by its file.
+const KINDS: &[(&str, Answers)] = &[
+    (
+        INFO_FILE,
+        [
+            Ok(4),
+            Ok(4),
+            Err(OpenError::NotOpened),
+            Err(OpenError::NotOpened),
+        ],
+    ),
+    (
+        INFO,
+        [
+            Ok(4),
+            Err(OpenError::NotOpened),
+            Ok(4),
+            Err(OpenError::NotOpened),
+        ],
+    ),
+    (
+        GRAPHS,
+        [
+            Ok(2),
+            Err(OpenError::NotOpened),
+            Err(OpenError::NotOpened),
+            Ok(2),
+        ],
+    ),
+    // a folder with neither
+    (
+        TOP,
+        [
+            Err(OpenError::NotOpened),
+            Err(OpenError::NotOpened),
+            Err(OpenError::NotOpened),
+            Err(OpenError::NotOpened),
+        ],
+    ),
+    (
+        MISSING,
+        [
+            Err(OpenError::NothingFound),
+            Err(OpenError::NotOpened),
+            Err(OpenError::NotOpened),
+            Err(OpenError::NotOpened),
+        ],
+    ),
+];
+
+/// Compares the answers at each kind of path.
+fn compare_kinds<R: Files + Abort>(
+    rt: &R,
+    alloc: Global,
+    memory: &mut Memory,
+    rows: &[(&str, Answers)],
+) {
+    put(rt, alloc, memory, CHAIN, b"first\nsecond\n");
+    put(
+        rt,
+        alloc,
+        memory,
+        INFO_FILE,
+        &layer(rt, alloc, &[], DIAMOND),
+    );
+    for (path, want) in rows {
+        assert!(rt; answers(rt, alloc, memory, path).as_slice() == want.as_slice());
     }
 }
 
 #[test]
-fn each_refusal_by_path_and_over_a_folder(rt: HostRuntime) {
+fn each_opener_by_path_and_over_a_folder(rt: HostRuntime) {
     let alloc = rt.alloc();
     let _ = fs::remove_dir_all(&rt, TOP);
     let mut memory = layers(&rt, alloc);
-    for rows in REFUSALS {
-        for (header, entries, zeros, want) in *rows {
-            let bytes = file_of_zeros(alloc, header, entries, *zeros).expect(&rt, "memory");
-            compare_refused(&rt, alloc, &mut memory, &bytes, want);
-        }
-    }
-    compare_chains(&rt, alloc, &mut memory);
-    compare_missing(&rt, alloc, &mut memory);
+    compare_files(&rt, alloc, &mut memory, REFUSED_HEADERS);
+    compare_files(&rt, alloc, &mut memory, MISSING_CHUNKS);
+    compare_files(&rt, alloc, &mut memory, WRONG_SIZES);
+    compare_files(&rt, alloc, &mut memory, WRONG_BASES);
+    compare_files(&rt, alloc, &mut memory, MORE);
+    put(&rt, alloc, &mut memory, REFUSED, &[0; 1099]);
+    compare_chains(&rt, alloc, &mut memory, CHAINS);
+    compare_kinds(&rt, alloc, &mut memory, KINDS);
     fs::remove_dir_all(&rt, TOP).expect(&rt, "a folder");
 }

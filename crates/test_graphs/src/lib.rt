@@ -7,8 +7,6 @@
 #[cfg(test)]
 mod by_path;
 #[cfg(test)]
-mod disk;
-#[cfg(test)]
 mod distinct;
 #[cfg(test)]
 mod fixtures;

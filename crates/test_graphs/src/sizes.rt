@@ -5,8 +5,7 @@
 //! their number, the longest walk goes over all commits, and each number of parents below the size
 //! is that of one commit. From four commits on there is an octopus merge, of three parents or more.
 
-use crate::fixtures::graph;
-use crate::verifying::compare_outcome;
+use crate::fixtures::{compare_outcome, graph};
 use graph_vectors::Row;
 use std::alloc::Global;
 use std::process::Abort;
@@ -38,25 +37,33 @@ const COUNTS: [(u32, u32); 10] = [
     (9, 1),
 ];
 
-/// Compares the outcome of the graph of these layers, which have so many commits as there are
-/// counts.
-fn compare_size(rt: &impl Abort, alloc: Global, layers: &[&[Row<'_>]], counts: &[(u32, u32)]) {
+/// Compares the outcome of the first commits in these layers.
+fn compare_layers(rt: &impl Abort, alloc: Global, layers: &[&[Row<'_>]], size: u32) {
     let graph = graph(rt, alloc, layers);
-    let longest = counts.last().map(|count| count.0);
-    let seen = compare_outcome(rt, alloc, &graph, longest, counts);
-    assert!(rt; seen.len() == counts.len());
+    let counts = COUNTS.get(..size as usize).unwrap_or(&[]);
+    compare_outcome(
+        rt,
+        alloc,
+        &graph,
+        None,
+        (Some(size.saturating_sub(1)), counts),
+    );
+}
+
+/// Compares the outcomes of the first commits, in one layer and in one for each.
+fn compare_size(rt: &impl Abort, alloc: Global, size: u32) {
+    let commits = COMMITS.get(..size as usize).unwrap_or(&[]);
+    compare_layers(rt, alloc, &[commits], size);
+    let mut layers = Vec::new(alloc);
+    for commit in commits.chunks(1) {
+        layers.push(commit).expect(rt, "memory");
+    }
+    compare_layers(rt, alloc, &layers, size);
 }
 
 #[test]
 fn right_graphs_have_every_size_up_to_ten(rt: HostRuntime) {
-    let alloc = rt.alloc();
     for size in 1..11 {
-        let (commits, counts) = (&COMMITS[..size], &COUNTS[..size]);
-        compare_size(&rt, alloc, &[commits], counts);
-        let mut layers = Vec::new(alloc);
-        for commit in commits.chunks(1) {
-            layers.push(commit).expect(&rt, "memory");
-        }
-        compare_size(&rt, alloc, &layers, counts);
+        compare_size(&rt, rt.alloc(), size);
     }
 }

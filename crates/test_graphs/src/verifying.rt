@@ -1,148 +1,105 @@
-use crate::fixtures::{file, graph, graph_of, graph_of_one, layer, opened};
-use gix_commitgraph::file::Commit;
+use crate::fixtures::{
+    Fault, Refused, Summary, checked, compare_outcome, compare_refusal, file, graph, graph_of,
+    graph_of_one, layer,
+};
 use gix_commitgraph::file::commit::ParentError;
-use gix_commitgraph::verify::{CommitFault, LayerFault, Outcome, VerifyError};
-use gix_commitgraph::{File, GENERATION_NUMBER_MAX, Graph, Position};
+use gix_commitgraph::verify::{CommitFault, LayerFault, VerifyError};
+use gix_commitgraph::{GENERATION_NUMBER_MAX, Graph, Position};
 use gix_hash_core::ObjectId;
 use graph_vectors::changed::{
     Change, FIRST_IS_EDGE_INDEX, NO_EDGE_LIST, NULL_TREE, SECOND_WITHOUT_FIRST, WRONG_FAN,
-    WRONG_GENERATIONS, WrongGeneration, changed_diamond, sharing_file,
+    WRONG_GENERATIONS, WrongGeneration, changed_file,
 };
 use graph_vectors::{DIAMOND, OCTOPUS, Row, TEN};
-use std::alloc::{AllocError, Global};
-use std::collections::BTreeMap;
-use std::convert::Infallible;
+use std::alloc::Global;
 use std::process::Abort;
 
 const MAX: u32 = GENERATION_NUMBER_MAX;
 
-/// The outcome with this longest path and these counts: numbers of parents, each with the number of
-/// commits that have it.
-fn outcome(
-    alloc: Global,
-    longest_path_length: Option<u32>,
-    counts: &[(u32, u32)],
-) -> Result<Outcome, AllocError> {
-    let mut num_commits = 0u32;
-    let mut parent_counts = BTreeMap::new(alloc);
-    for (parents, commits) in counts {
-        num_commits = num_commits.saturating_add(*commits);
-        parent_counts.insert(*parents, *commits)?;
-    }
-    Ok(Outcome {
-        longest_path_length,
-        num_commits,
-        parent_counts,
-    })
+/// Four commits, each on the one before, of which the third has two words in the extra edge list:
+/// the parent 0, and the last parent 1. The second parent fields of the last two are at 1268 and
+/// 1304, and the words at 1316 and 1320.
+const LISTED: &[Row<'static>] = &[
+    (0x11, &[], 1),
+    (0x22, &[0], 2),
+    (0x33, &[1, 0, 1], 3),
+    (0x44, &[2], 4),
+];
+
+/// The second parent field of the fourth commit points to the first word of the list, to the
+/// second, and past its end.
+const AT_FIRST: Change<'static> = (1304, b"\x80\0\0\0");
+
+const AT_SECOND: Change<'static> = (1304, b"\x80\0\0\x01");
+
+const PAST_END: Change<'static> = (1304, b"\x80\0\0\x02");
+
+/// The third commit's begins at the second word.
+const THIRD_AT_SECOND: Change<'static> = (1268, b"\x80\0\0\x01");
+
+/// The graph of the one layer of these commits with these changes of its file.
+fn changed(rt: &impl Abort, alloc: Global, rows: &[Row<'_>], changes: &[Change<'_>]) -> Graph {
+    let file = changed_file(alloc, rows, changes).expect(rt, "memory");
+    let file = file.expect(rt, "places in the file");
+    graph_of_one(rt, alloc, file, "commit-graph")
 }
 
-/// The error of the processor below.
-#[derive(Debug, Drop, PartialEq, Eq)]
-enum Refused {
-    Commit,
-    OutOfMemory,
-}
-
-/// What the check answers where the processor refuses just the commits whose ids begin with this
-/// byte, and the first bytes of the ids of the commits that it was called on, in order.
-fn checked(
-    alloc: Global,
-    graph: &Graph,
-    refused: Option<u8>,
-) -> (Result<Outcome, VerifyError<Refused>>, Vec<u8>) {
-    let mut seen = Vec::new(alloc);
-    let answer = graph.verify_integrity(
-        alloc,
-        &mut |commit: &Commit<'_>| -> Result<(), Refused> {
-            let byte = commit.id().first_byte();
-            seen.push(byte).map_err(|_| Refused::OutOfMemory)?;
-            if refused == Some(byte) {
-                return Err(Refused::Commit);
-            }
-            Ok(())
-        },
-    );
-    (answer, seen)
-}
-
-/// Why a graph is refused whose commits the processor accepts.
-type Fault = VerifyError<Infallible>;
-
-/// Compares the refusal of a graph whose commits the processor accepts, and the number of its
-/// calls.
-fn compare_refusal(rt: &impl Abort, alloc: Global, graph: &Graph, want: &Fault, calls: usize) {
-    let mut seen = 0usize;
-    let answer = graph.verify_integrity(
-        alloc,
-        &mut |_: &Commit<'_>| -> Result<(), Infallible> {
-            seen = seen.saturating_add(1);
-            Ok(())
-        },
-    );
-    assert!(rt; seen == calls);
-    assert!(rt; matches!(&answer, Err(error) if error == want));
-}
-
-/// Compares the outcome of a right graph: its longest path and the counts of the numbers of
-/// parents. The first bytes of the ids of the commits that the processor was called on are
-/// answered, in order.
-pub fn compare_outcome(
-    rt: &impl Abort,
-    alloc: Global,
-    graph: &Graph,
-    longest: Option<u32>,
-    counts: &[(u32, u32)],
-) -> Vec<u8> {
-    let want = outcome(alloc, longest, counts).expect(rt, "memory");
-    let (answer, seen) = checked(alloc, graph, None);
-    assert!(rt; matches!(&answer, Ok(outcome) if *outcome == want));
-    seen
-}
-
-/// Compares the commits that the processor is called on, where it refuses the last of them, which
-/// is at this position.
-fn compare_calls(rt: &impl Abort, alloc: Global, graph: &Graph, pos: u32, calls: &[u8]) {
-    let (answer, seen) = checked(alloc, graph, calls.last().copied());
-    let (pos, error) = (Position(pos), Refused::Commit);
-    let want = VerifyError::Processor { pos, error };
-    assert!(rt; matches!(&answer, Err(error) if *error == want));
-    assert!(rt; seen.as_slice() == calls);
-}
-
-/// The commits of a graph of one layer, and its outcome.
-type Right = (&'static [Row<'static>], Option<u32>, &'static [(u32, u32)]);
+/// The commits of a graph of one layer, the changes of its file, and what the check says.
+type Right = (
+    &'static [Row<'static>],
+    &'static [Change<'static>],
+    Summary<'static>,
+);
 
 const RIGHT: &[Right] = &[
-    (&[], Some(0), &[]),
-    (DIAMOND, Some(2), &[(0, 1), (1, 2), (2, 1)]),
-    (OCTOPUS, Some(3), &[(0, 1), (1, 2), (3, 1)]),
+    (&[], &[], (Some(0), &[])),
+    (DIAMOND, &[], (Some(2), &[(0, 1), (1, 2), (2, 1)])),
+    (OCTOPUS, &[], (Some(3), &[(0, 1), (1, 2), (3, 1)])),
     (
         &[(0x11, &[1], 2), (0x22, &[], 1)],
-        Some(1),
-        &[(0, 1), (1, 1)],
+        &[],
+        (Some(1), &[(0, 1), (1, 1)]),
     ),
-    (&[(0x11, &[0], MAX)], None, &[(1, 1)]),
-    (TEN, Some(9), &[(0, 1), (1, 9)]),
-    (&[(0x11, &[1], MAX), (0x22, &[0], MAX)], None, &[(1, 2)]),
+    (&[(0x11, &[0], MAX)], &[], (None, &[(1, 1)])),
+    (TEN, &[], (Some(9), &[(0, 1), (1, 9)])),
+    (
+        &[(0x11, &[1], MAX), (0x22, &[0], MAX)],
+        &[],
+        (None, &[(1, 2)]),
+    ),
     (
         &[(0x11, &[0], MAX), (0x22, &[0], MAX), (0x33, &[], 1)],
-        None,
-        &[(0, 1), (1, 2)],
+        &[],
+        (None, &[(0, 1), (1, 2)]),
+    ),
+    // two commits share an extra edge list
+    (LISTED, &[AT_FIRST], (Some(3), &[(0, 1), (1, 1), (3, 2)])),
+    (
+        LISTED,
+        &[AT_SECOND],
+        (Some(3), &[(0, 1), (1, 1), (2, 1), (3, 1)]),
+    ),
+    (
+        LISTED,
+        &[THIRD_AT_SECOND, AT_FIRST],
+        (Some(3), &[(0, 1), (1, 1), (2, 1), (3, 1)]),
     ),
 ];
 
 /// Whether these are the first bytes of the commits' ids.
 fn are_all(seen: &[u8], commits: &[Row<'_>]) -> bool {
-    seen.iter()
-        .copied()
-        .eq(commits.iter().map(|commit| commit.0))
+    let mut all = seen.len() == commits.len();
+    for (byte, commit) in seen.iter().zip(commits) {
+        all = all && *byte == commit.0;
+    }
+    all
 }
 
 /// Compares the outcomes of right graphs, where the processor is called on each commit, in order.
 fn compare_right(rt: &impl Abort, alloc: Global, rows: &[Right]) {
-    for (commits, longest, counts) in rows {
-        let graph = graph(rt, alloc, &[*commits]);
-        let seen = compare_outcome(rt, alloc, &graph, *longest, counts);
+    for (commits, changes, want) in rows {
+        let graph = changed(rt, alloc, commits, changes);
+        let seen = compare_outcome(rt, alloc, &graph, None, *want);
         assert!(rt; are_all(&seen, commits));
     }
 }
@@ -152,31 +109,13 @@ fn right_graphs_pass(rt: HostRuntime) {
     compare_right(&rt, rt.alloc(), RIGHT);
 }
 
-#[test]
-fn calls_are_in_the_order_of_the_graph(rt: HostRuntime) {
-    let alloc = rt.alloc();
-    let lower: &[Row<'_>] = &[(0x33, &[1], 2), (0x44, &[], 1)];
-    let upper: &[Row<'_>] = &[(0x11, &[4], 4), (0x22, &[0, 2, 4], 5), (0x55, &[0], 3)];
-    let graph = graph(&rt, alloc, &[lower, upper]);
-    let calls: &[u8] = &[0x33, 0x44, 0x11, 0x22, 0x55];
-    compare_calls(&rt, alloc, &graph, 4, calls);
-    let seen = compare_outcome(&rt, alloc, &graph, Some(4), &[(0, 1), (1, 3), (3, 1)]);
-    assert!(rt; seen.as_slice() == calls);
-}
-
-#[test]
-fn a_refusal_of_the_processor_is_handed_back(rt: HostRuntime) {
-    let graph = graph(&rt, rt.alloc(), &[TEN]);
-    compare_calls(&rt, rt.alloc(), &graph, 2, &[0x11, 0x22, 0x33]);
-}
-
 /// Compares the refusals of graphs with a wrong generation number.
 fn compare_wrong(rt: &impl Abort, alloc: Global, rows: &[WrongGeneration]) {
     for (commits, place, expected) in rows {
         let graph = graph(rt, alloc, &[*commits]);
         let (pos, expected) = (Position(*place), *expected);
         let want = VerifyError::Generation { pos, expected };
-        compare_refusal(rt, alloc, &graph, &want, *place as usize);
+        compare_refusal(rt, alloc, &graph, None, (&want, *place as usize));
     }
 }
 
@@ -185,12 +124,19 @@ fn wrong_generation_numbers_are_refused(rt: HostRuntime) {
     compare_wrong(&rt, rt.alloc(), WRONG_GENERATIONS);
 }
 
-/// A change of the diamond's file, the refusal, and the number of calls.
-type Damaged = (Change<'static>, Fault, usize);
+/// The commits of a graph of one layer, the changes of its file, the refusal, and on how many
+/// commits the processor is called.
+type Damaged = (
+    &'static [Row<'static>],
+    &'static [Change<'static>],
+    Fault,
+    usize,
+);
 
 const DAMAGED: &[Damaged] = &[
     (
-        WRONG_FAN,
+        DIAMOND,
+        &[WRONG_FAN],
         VerifyError::Layer {
             layer: 0,
             fault: LayerFault::Fan { byte: 17 },
@@ -198,7 +144,26 @@ const DAMAGED: &[Damaged] = &[
         0,
     ),
     (
-        NULL_TREE,
+        &[(0, &[], 1)],
+        &[],
+        VerifyError::Commit {
+            pos: Position(0),
+            fault: CommitFault::NullId,
+        },
+        0,
+    ),
+    (
+        &[(0x11, &[], 1), (0x11, &[], 1)],
+        &[],
+        VerifyError::Commit {
+            pos: Position(1),
+            fault: CommitFault::Order,
+        },
+        1,
+    ),
+    (
+        DIAMOND,
+        &[NULL_TREE],
         VerifyError::Commit {
             pos: Position(2),
             fault: CommitFault::NullTree,
@@ -206,7 +171,8 @@ const DAMAGED: &[Damaged] = &[
         2,
     ),
     (
-        SECOND_WITHOUT_FIRST,
+        DIAMOND,
+        &[SECOND_WITHOUT_FIRST],
         VerifyError::Parent {
             pos: Position(3),
             error: ParentError::SecondWithoutFirst,
@@ -214,7 +180,8 @@ const DAMAGED: &[Damaged] = &[
         3,
     ),
     (
-        FIRST_IS_EDGE_INDEX,
+        DIAMOND,
+        &[FIRST_IS_EDGE_INDEX],
         VerifyError::Parent {
             pos: Position(3),
             error: ParentError::FirstIsEdgeIndex,
@@ -222,7 +189,8 @@ const DAMAGED: &[Damaged] = &[
         3,
     ),
     (
-        NO_EDGE_LIST,
+        DIAMOND,
+        &[NO_EDGE_LIST],
         VerifyError::Parent {
             pos: Position(3),
             error: ParentError::NoEdgeList,
@@ -231,211 +199,166 @@ const DAMAGED: &[Damaged] = &[
     ),
 ];
 
+/// Graphs of which two commits share an extra edge list, whose words are changed.
+const DAMAGED_LISTS: &[Damaged] = &[
+    (
+        LISTED,
+        &[AT_FIRST, (1320, b"\x80\0\0\x09")],
+        VerifyError::ParentOutOfRange {
+            pos: Position(2),
+            parent: Position(9),
+        },
+        2,
+    ),
+    (
+        LISTED,
+        &[THIRD_AT_SECOND, AT_FIRST, (1316, b"\0\0\0\x09")],
+        VerifyError::ParentOutOfRange {
+            pos: Position(3),
+            parent: Position(9),
+        },
+        3,
+    ),
+    // the list also runs out, after the position that is too great or before it
+    (
+        LISTED,
+        &[AT_FIRST, (1316, b"\0\0\0\x09\0\0\0\x01")],
+        VerifyError::ParentOutOfRange {
+            pos: Position(2),
+            parent: Position(9),
+        },
+        2,
+    ),
+    (
+        LISTED,
+        &[AT_FIRST, (1316, b"\0\0\0\x01\0\0\0\x09")],
+        VerifyError::ParentOutOfRange {
+            pos: Position(2),
+            parent: Position(9),
+        },
+        2,
+    ),
+    (
+        LISTED,
+        &[AT_FIRST, (1320, b"\0\0\0\x01")],
+        VerifyError::Parent {
+            pos: Position(2),
+            error: ParentError::EdgeOverflow,
+        },
+        2,
+    ),
+    (
+        LISTED,
+        &[PAST_END],
+        VerifyError::Parent {
+            pos: Position(3),
+            error: ParentError::EdgeOverflow,
+        },
+        3,
+    ),
+    // the greatest generation number is that of a word: of the position 3, which is 4
+    (
+        LISTED,
+        &[THIRD_AT_SECOND, AT_FIRST, (1316, b"\0\0\0\x03")],
+        VerifyError::Generation {
+            pos: Position(3),
+            expected: 5,
+        },
+        3,
+    ),
+];
+
 /// Compares the refusals of damaged files.
 fn compare_damaged(rt: &impl Abort, alloc: Global, rows: &[Damaged]) {
-    for (change, want, calls) in rows {
-        let bytes = changed_diamond(alloc, *change).expect(rt, "memory");
-        let graph = graph_of_one(rt, alloc, bytes.expect(rt, "a place in the file"));
-        compare_refusal(rt, alloc, &graph, want, *calls);
+    for (commits, changes, want, calls) in rows {
+        let graph = changed(rt, alloc, commits, changes);
+        compare_refusal(rt, alloc, &graph, None, (want, *calls));
     }
 }
 
 #[test]
 fn damaged_layers_are_refused(rt: HostRuntime) {
     compare_damaged(&rt, rt.alloc(), DAMAGED);
+    compare_damaged(&rt, rt.alloc(), DAMAGED_LISTS);
 }
 
-/// The commits of a graph of one layer, the position that is refused, and what is wrong with its
-/// id.
-const WRONG_IDS: &[(&[Row<'static>], u32, CommitFault)] = &[
-    (&[(0, &[], 1)], 0, CommitFault::NullId),
-    (&[(0x11, &[], 1), (0x11, &[], 1)], 1, CommitFault::Order),
-];
-
-#[test]
-fn wrong_ids_are_refused(rt: HostRuntime) {
-    for (commits, place, fault) in WRONG_IDS {
-        let graph = graph(&rt, rt.alloc(), &[*commits]);
-        let (pos, fault) = (Position(*place), *fault);
-        let want = VerifyError::Commit { pos, fault };
-        compare_refusal(&rt, rt.alloc(), &graph, &want, *place as usize);
+/// Compares the refusal of the diamond's graph, whose file has this path and, at its end, these
+/// bits turned.
+fn compare_layer(rt: &impl Abort, alloc: Global, path: &str, bits: u8, fault: LayerFault) {
+    let mut bytes = layer(rt, alloc, &[], DIAMOND);
+    if let Some(last) = bytes.last_mut() {
+        *last ^= bits;
     }
-}
-
-/// Compares the refusal of the graph of a layer with this fault.
-fn compare_layer(rt: &impl Abort, alloc: Global, file: File, fault: LayerFault) {
+    let graph = graph_of_one(rt, alloc, bytes, path);
     let want = VerifyError::Layer { layer: 0, fault };
-    compare_refusal(rt, alloc, &graph_of(rt, alloc, [file]), &want, 0);
+    compare_refusal(rt, alloc, &graph, None, (&want, 0));
 }
 
 #[test]
 fn a_layer_of_another_checksum_or_name_is_refused(rt: HostRuntime) {
-    let alloc = rt.alloc();
-    let mut bytes = layer(&rt, alloc, &[], DIAMOND);
-    assert!(rt; bytes.len() == 1324);
-    bytes[1323] ^= 1;
-    let changed = opened(&rt, alloc, bytes, "commit-graph");
-    compare_layer(&rt, alloc, changed, LayerFault::Checksum);
-    let bytes = layer(&rt, alloc, &[], DIAMOND);
-    let misnamed = opened(&rt, alloc, bytes, "graph-.graph");
-    compare_layer(&rt, alloc, misnamed, LayerFault::FileName);
+    compare_layer(&rt, rt.alloc(), "commit-graph", 1, LayerFault::Checksum);
+    compare_layer(&rt, rt.alloc(), "graph-.graph", 0, LayerFault::FileName);
 }
 
-/// The parent fields that point to the first and to the second word of an extra edge list, and the
-/// first one past two words.
-const FIRST: u32 = 0x8000_0000;
-
-const SECOND: u32 = 0x8000_0001;
-
-const PAST: u32 = 0x8000_0002;
-
-/// A last parent, at position 1.
-const LAST: u32 = 0x8000_0001;
-
-/// The graph of four commits, each on the one before, of which the last two have these second
-/// parent fields, beside an extra edge list of these two words.
-fn sharing(rt: &impl Abort, alloc: Global, fields: [u32; 2], words: [u32; 2]) -> Graph {
-    let bytes = sharing_file(alloc, fields, words).expect(rt, "memory");
-    graph_of_one(rt, alloc, bytes.expect(rt, "places in the file"))
+/// Compares the commits that the processor is called on, where it refuses the last of them, which
+/// is at this position.
+fn compare_calls(rt: &impl Abort, alloc: Global, graph: &Graph, pos: u32, calls: &[u8]) {
+    let (answer, seen) = checked(alloc, graph, None, calls.last().copied());
+    let (pos, error) = (Position(pos), Refused::Commit);
+    let want = VerifyError::Processor { pos, error };
+    assert!(rt; answer.as_ref().err() == Some(&want) && seen.as_slice() == calls);
 }
 
-/// The second parent fields of the positions 2 and 3, and how many commits have each number of
-/// parents.
-const SHARED: &[([u32; 2], &[(u32, u32)])] = &[
-    ([FIRST, FIRST], &[(0, 1), (1, 1), (3, 2)]),
-    ([FIRST, SECOND], &[(0, 1), (1, 1), (2, 1), (3, 1)]),
-    ([SECOND, FIRST], &[(0, 1), (1, 1), (2, 1), (3, 1)]),
+/// Two commits, and three more that are on some of them.
+const TWO_AND_THREE: &[&[Row<'static>]] = &[
+    &[(0x33, &[1], 2), (0x44, &[], 1)],
+    &[(0x11, &[4], 4), (0x22, &[0, 2, 4], 5), (0x55, &[0], 3)],
 ];
 
 #[test]
-fn commits_share_an_edge_list(rt: HostRuntime) {
-    let alloc = rt.alloc();
-    for (fields, counts) in SHARED {
-        let graph = sharing(&rt, alloc, *fields, [0, LAST]);
-        compare_outcome(&rt, alloc, &graph, Some(3), counts);
-    }
+fn calls_are_in_the_order_of_the_graph(rt: HostRuntime) {
+    let graph = graph(&rt, rt.alloc(), TWO_AND_THREE);
+    let calls: &[u8] = &[0x33, 0x44, 0x11, 0x22, 0x55];
+    compare_calls(&rt, rt.alloc(), &graph, 4, calls);
+    compare_calls(&rt, rt.alloc(), &graph, 2, &[0x33, 0x44, 0x11]);
+    let want = (Some(4), [(0, 1), (1, 3), (3, 1)].as_slice());
+    let seen = compare_outcome(&rt, rt.alloc(), &graph, None, want);
+    assert!(rt; seen.as_slice() == calls);
 }
 
-/// The second parent fields of the positions 2 and 3, the words of the list, the refusal, and how
-/// many commits the processor is called on.
-const REFUSED_LISTS: &[([u32; 2], [u32; 2], Fault, usize)] = &[
-    (
-        [FIRST, FIRST],
-        [0, 0x8000_0009],
-        VerifyError::ParentOutOfRange {
-            pos: Position(2),
-            parent: Position(9),
-        },
-        2,
-    ),
-    (
-        [SECOND, FIRST],
-        [9, LAST],
-        VerifyError::ParentOutOfRange {
-            pos: Position(3),
-            parent: Position(9),
-        },
-        3,
-    ),
-    (
-        [FIRST, FIRST],
-        [9, 1],
-        VerifyError::ParentOutOfRange {
-            pos: Position(2),
-            parent: Position(9),
-        },
-        2,
-    ),
-    (
-        [FIRST, FIRST],
-        [1, 9],
-        VerifyError::ParentOutOfRange {
-            pos: Position(2),
-            parent: Position(9),
-        },
-        2,
-    ),
-    (
-        [FIRST, FIRST],
-        [0, 1],
-        VerifyError::Parent {
-            pos: Position(2),
-            error: ParentError::EdgeOverflow,
-        },
-        2,
-    ),
-    (
-        [FIRST, PAST],
-        [0, LAST],
-        VerifyError::Parent {
-            pos: Position(3),
-            error: ParentError::EdgeOverflow,
-        },
-        3,
-    ),
-];
-
-#[test]
-fn a_word_of_a_shared_edge_list_is_refused(rt: HostRuntime) {
-    let alloc = rt.alloc();
-    for (fields, words, want, calls) in REFUSED_LISTS {
-        let graph = sharing(&rt, alloc, *fields, *words);
-        compare_refusal(&rt, alloc, &graph, want, *calls);
+/// Compares the refusal of the graph of these empty layers and of one more on this base.
+fn compare_on_base(rt: &impl Abort, alloc: Global, empty: usize, base: &[ObjectId], want: &Fault) {
+    let mut files = Vec::new(alloc);
+    for _ in 0..empty {
+        files.push(file(rt, alloc, &[], &[])).expect(rt, "memory");
     }
-}
-
-#[test]
-fn the_greatest_generation_stands_in_a_shared_edge_list(rt: HostRuntime) {
-    let alloc = rt.alloc();
-    let graph = sharing(&rt, alloc, [SECOND, FIRST], [3, LAST]);
-    let (pos, expected) = (Position(3), 5);
-    let want = VerifyError::Generation { pos, expected };
-    compare_refusal(&rt, alloc, &graph, &want, 3);
+    files.push(file(rt, alloc, base, &[])).expect(rt, "memory");
+    compare_refusal(rt, alloc, &graph_of(rt, alloc, files), None, (want, 0));
 }
 
 #[test]
 fn a_base_too_many_and_another_base_are_refused(rt: HostRuntime) {
-    let (alloc, base) = (rt.alloc(), ObjectId::from([0x33; 20]));
-    let alone = graph_of(&rt, alloc, [file(&rt, alloc, &[base], &[])]);
-    let want = VerifyError::BaseCount { layer: 0 };
-    compare_refusal(&rt, alloc, &alone, &want, 0);
-    let (lower, upper) = (file(&rt, alloc, &[], &[]), file(&rt, alloc, &[base], &[]));
-    let graph = graph_of(&rt, alloc, [lower, upper]);
-    let want = VerifyError::BaseId { layer: 1, index: 0 };
-    compare_refusal(&rt, alloc, &graph, &want, 0);
-}
-
-#[test]
-fn a_parent_in_a_later_layer_is_refused(rt: HostRuntime) {
-    let layers: [&[Row<'_>]; 2] = [&[(0x11, &[1], 2)], &[(0x22, &[], 1)]];
-    let graph = graph(&rt, rt.alloc(), &layers);
-    let (pos, parent) = (Position(0), Position(1));
-    let want = VerifyError::ParentOutOfRange { pos, parent };
-    compare_refusal(&rt, rt.alloc(), &graph, &want, 0);
-}
-
-/// The graph of 257 empty layers.
-fn too_many_layers(rt: &impl Abort, alloc: Global) -> Graph {
-    let mut files = Vec::new(alloc);
-    for _ in 0..257 {
-        files.push(file(rt, alloc, &[], &[])).expect(rt, "memory");
-    }
-    Graph::new(alloc, files).expect(rt, "a graph")
+    let base = [ObjectId::from([0x33; 20])];
+    let too_many = VerifyError::BaseCount { layer: 0 };
+    compare_on_base(&rt, rt.alloc(), 0, &base, &too_many);
+    let another = VerifyError::BaseId { layer: 1, index: 0 };
+    compare_on_base(&rt, rt.alloc(), 1, &base, &another);
 }
 
 #[test]
 fn up_to_256_layers_pass(rt: HostRuntime) {
-    let alloc = rt.alloc();
-    let graph_of_257 = too_many_layers(&rt, alloc);
-    compare_refusal(&rt, alloc, &graph_of_257, &VerifyError::TooManyFiles, 0);
-
+    compare_on_base(&rt, rt.alloc(), 256, &[], &VerifyError::TooManyFiles);
     let layers: [&[Row<'_>]; 256] = [&[]; 256];
-    let graph = graph(&rt, alloc, &layers);
-    compare_outcome(&rt, alloc, &graph, Some(0), &[]);
+    let graph = graph(&rt, rt.alloc(), &layers);
+    compare_outcome(&rt, rt.alloc(), &graph, None, (Some(0), &[]));
 }
 
+const IN_A_LATER_LAYER: &[&[Row<'static>]] = &[&[(0x11, &[1], 2)], &[(0x22, &[], 1)]];
+
 #[test]
-fn an_outcome_is_equal_to_its_clone(rt: HostRuntime) {
-    let right = outcome(rt.alloc(), Some(2), &[(0, 1), (1, 2), (2, 1)]).expect(&rt, "memory");
-    assert!(rt; right.try_clone().expect(&rt, "memory") == right);
+fn a_parent_in_a_later_layer_is_refused(rt: HostRuntime) {
+    let graph = graph(&rt, rt.alloc(), IN_A_LATER_LAYER);
+    let (pos, parent) = (Position(0), Position(1));
+    let want = VerifyError::ParentOutOfRange { pos, parent };
+    compare_refusal(&rt, rt.alloc(), &graph, None, (&want, 0));
 }

@@ -1,7 +1,7 @@
-//! What the tests share: files that are built from rows, and the command.
+//! What the tests share: the command, and what it is compared with.
 
 use graph_commands::run::{WriteFailed, run_list};
-use graph_vectors::{Row, Sink, build, plan_of_rows};
+use graph_vectors::{Row, Sink, file_of_rows};
 use std::alloc::Global;
 use std::io::Read;
 use std::process::Abort;
@@ -16,20 +16,19 @@ pub(super) fn list<R: Read>(
     run_list(alloc, input, out)
 }
 
-/// Asserts the status of the command, and what it wrote.
-pub(super) fn expect_answer(
+/// Compares the status of the command, and what it writes of an input.
+pub(super) fn compare_listing<R: Read>(
     rt: &impl Abort,
-    answer: Result<u8, WriteFailed>,
-    out: &Sink,
+    alloc: Global,
+    input: &mut R,
     (status, want): (u8, &str),
 ) {
-    assert_eq!(rt; answer, Ok(status));
-    assert_eq!(rt; out.text(), want);
+    let mut out = Sink::new(alloc, usize::MAX, None);
+    let answer = list(alloc, input, &mut out);
+    assert!(rt; answer == Ok(status) && out.text() == want);
 }
 
 /// The bytes of a SHA-1 file of these commits, which has no base layers.
 pub(super) fn built(rt: &impl Abort, alloc: Global, rows: &[Row<'_>]) -> Vec<u8> {
-    let plan = plan_of_rows(alloc, &[], rows).expect(rt, "memory for a plan");
-    assert!(rt; plan.is_buildable());
-    build(alloc, &plan).expect(rt, "memory for a file")
+    file_of_rows(alloc, &[], rows).expect(rt, "a file")
 }

@@ -1,313 +1,285 @@
-use crate::fixtures::{expect_answer, list};
+use crate::fixtures::{built, compare_listing, list};
+use gix_hash_core::{Kind, ObjectId};
 use graph_commands::run::WriteFailed;
-use graph_vectors::{Sink, Source, words};
+use graph_vectors::changed::{Change, changed_file};
+use graph_vectors::refused::{ENTRIES, THREE};
+use graph_vectors::{
+    END, Entry, LayerPlan, PlanCommit, Row, Sink, Source, file_of_parts, file_of_plan,
+    file_of_rows, file_of_zeros, words,
+};
 use std::alloc::Global;
 use std::process::Abort;
 
-/// What a file is to say. An id is one byte, as often as the kind has bytes.
-#[derive(Clone, Copy)]
-struct Plan<'a> {
-    hash: u8,
-    bases: &'a [u8],
-    // the fields of the parents, and the number of the generation and the time
-    commits: &'a [(u32, u32, u64)],
-    edges: Option<&'a [u32]>,
-}
-
-/// The chunks of a file whose commits have the ids 11.., 12.., and so on, and the tree 22...
-fn chunks(rt: &impl Abort, alloc: Global, plan: &Plan<'_>) -> Vec<([u8; 4], Vec<u8>)> {
-    let mut chunks = Vec::new(alloc);
-    put_chunk(rt, &mut chunks, b"OIDF", fan(rt, alloc, plan.commits.len()));
-    put_chunk(rt, &mut chunks, b"OIDL", ids(rt, alloc, plan));
-    put_chunk(rt, &mut chunks, b"CDAT", records(rt, alloc, plan));
-    if let Some(edges) = plan.edges {
-        let edges = words(alloc, edges).expect(rt, "memory for a chunk");
-        put_chunk(rt, &mut chunks, b"EDGE", edges);
-    }
-    if !plan.bases.is_empty() {
-        put_chunk(rt, &mut chunks, b"BASE", bases(rt, alloc, plan));
-    }
-    chunks
-}
-
-/// Adds a chunk to others.
-fn put_chunk(rt: &impl Abort, chunks: &mut Vec<([u8; 4], Vec<u8>)>, id: &[u8; 4], bytes: Vec<u8>) {
-    chunks.push((*id, bytes)).expect(rt, "memory for a chunk");
-}
-
-/// The bytes of a file with these chunks, and a checksum of zeros.
-fn file(rt: &impl Abort, alloc: Global, plan: &Plan<'_>) -> Vec<u8> {
-    let chunks = chunks(rt, alloc, plan);
-    let base_count = plan.bases.len().min(255) as u8;
-    let mut bytes = Vec::new(alloc);
-    put(rt, &mut bytes, b"CGPH");
-    put(
-        rt,
-        &mut bytes,
-        &[1, plan.hash, chunks.len().min(255) as u8, base_count],
-    );
-    put_chunks(rt, &mut bytes, &chunks);
-    put_id(rt, &mut bytes, 0, id_len(plan));
-    bytes
-}
-
-fn id_len(plan: &Plan<'_>) -> usize {
-    if plan.hash == 1 { 20 } else { 32 }
-}
-
-/// The fan of so many commits, whose ids begin with the bytes 11, 12, and so on.
-fn fan(rt: &impl Abort, alloc: Global, commits: usize) -> Vec<u8> {
-    let mut bytes = Vec::new(alloc);
-    for byte in 0..256usize {
-        let count = byte.saturating_sub(0x10).min(commits) as u32;
-        put(rt, &mut bytes, &count.to_be_bytes());
-    }
-    bytes
-}
-
-fn ids(rt: &impl Abort, alloc: Global, plan: &Plan<'_>) -> Vec<u8> {
-    let mut bytes = Vec::new(alloc);
-    for (id, _) in (0x11u8..).zip(plan.commits) {
-        put_id(rt, &mut bytes, id, id_len(plan));
-    }
-    bytes
-}
-
-fn records(rt: &impl Abort, alloc: Global, plan: &Plan<'_>) -> Vec<u8> {
-    let mut bytes = Vec::new(alloc);
-    for (first, second, dates) in plan.commits {
-        put_id(rt, &mut bytes, 0x22, id_len(plan));
-        put(rt, &mut bytes, &first.to_be_bytes());
-        put(rt, &mut bytes, &second.to_be_bytes());
-        put(rt, &mut bytes, &dates.to_be_bytes());
-    }
-    bytes
-}
-
-fn bases(rt: &impl Abort, alloc: Global, plan: &Plan<'_>) -> Vec<u8> {
-    let mut bytes = Vec::new(alloc);
-    for base in plan.bases {
-        put_id(rt, &mut bytes, *base, id_len(plan));
-    }
-    bytes
-}
-
-/// Adds the table of these chunks to a header, and the chunks.
-fn put_chunks(rt: &impl Abort, bytes: &mut Vec<u8>, chunks: &[([u8; 4], Vec<u8>)]) {
-    let mut offset = 20 + 12 * chunks.len() as u64;
-    for (id, chunk) in chunks {
-        put(rt, bytes, id);
-        put(rt, bytes, &offset.to_be_bytes());
-        offset = offset.saturating_add(chunk.len() as u64);
-    }
-    put(rt, bytes, &[0; 4]);
-    put(rt, bytes, &offset.to_be_bytes());
-    for (_, chunk) in chunks {
-        put(rt, bytes, chunk);
-    }
-}
-
-fn put_id(rt: &impl Abort, bytes: &mut Vec<u8>, id: u8, len: usize) {
-    for _ in 0..len {
-        put(rt, bytes, &[id]);
-    }
-}
-
-/// Adds bytes to a file.
-fn put(rt: &impl Abort, bytes: &mut Vec<u8>, more: &[u8]) {
-    bytes
-        .extend_from_slice(more)
-        .expect(rt, "memory for a file");
-}
-
-const NONE: u32 = 0x7000_0000;
-
-/// Generation 1 at time 0.
-const FIRST: u64 = 0x4_0000_0000;
-
 /// One commit, without parents.
-const ONE: Plan<'static> = Plan {
-    hash: 1,
-    bases: &[],
-    commits: &[(NONE, NONE, FIRST)],
-    edges: None,
-};
+const ONE: &[Row<'static>] = &[(0x11, &[], 1)];
 
 const ONE_LISTING: &str = "layer sha1 bases 0 commits 1\n\
-    0 1111111111111111111111111111111111111111 2222222222222222222222222222222222222222 1 0 -\n";
+    0 1111111111111111111111111111111111111111 9999999999999999999999999999999999999999 1 7 -\n";
 
-/// What files are to say, with their sizes and their listings.
-const LAYERS: &[(Plan<'_>, usize, &str)] = &[
-    (ONE, 1156, ONE_LISTING),
+/// The commits of a SHA-1 file, the changes of its records, its size and its listing.
+type Listed = (
+    &'static [Row<'static>],
+    &'static [Change<'static>],
+    usize,
+    &'static str,
+);
+
+const LAYERS: &[Listed] = &[
+    (ONE, &[], 1156, ONE_LISTING),
+    // a second parent without a first
     (
-        Plan {
-            hash: 1,
-            bases: &[],
-            commits: &[(NONE, 0x8000_0000, FIRST)],
-            edges: None,
-        },
+        ONE,
+        &[(1124, b"\x80\0\0\0")],
         1156,
         "layer sha1 bases 0 commits 1\n\
-        0 1111111111111111111111111111111111111111 2222222222222222222222222222222222222222 1 0 !1\n",
+        0 1111111111111111111111111111111111111111 9999999999999999999999999999999999999999 1 7 !1\n",
     ),
+    // parents in an extra edge list that is not there
     (
-        Plan {
-            hash: 1,
-            bases: &[],
-            commits: &[
-                (5, 0x8000_0000, 0x7_ffff_ffff),
-                (5, 0x8000_0002, u64::MAX),
-                (NONE, 0x8000_0000, FIRST),
-                (0x8000_0000, NONE, 0x8_0000_0000),
-                (5, 4, FIRST),
-                (5, NONE, FIRST),
-            ],
-            edges: Some(&[3, 0x8000_0002]),
-        },
+        &[(0x11, &[5], 1)],
+        &[(1124, b"\x80\0\0\0")],
+        1156,
+        "layer sha1 bases 0 commits 1\n\
+        0 1111111111111111111111111111111111111111 9999999999999999999999999999999999999999 1 7 5,!3\n",
+    ),
+    // an extra edge list of two words, and a field of each kind
+    (
+        &[
+            (0x11, &[5, 3, 2], 1),
+            (0x12, &[5], 1),
+            (0x13, &[], 1),
+            (0x14, &[], 2),
+            (0x15, &[5, 4], 1),
+            (0x16, &[5], 1),
+        ],
+        &[
+            (1240, b"\0\0\0\x07\xff\xff\xff\xff"),
+            (
+                1268,
+                b"\0\0\0\x05\x80\0\0\x02\xff\xff\xff\xff\xff\xff\xff\xff",
+            ),
+            (1304, b"\x70\0\0\0\x80\0\0\0"),
+            (1340, b"\x80\0\0\0\x70\0\0\0"),
+        ],
         1456,
         "layer sha1 bases 0 commits 6\n\
-        0 1111111111111111111111111111111111111111 2222222222222222222222222222222222222222 1 17179869183 5,3,2\n\
-        1 1212121212121212121212121212121212121212 2222222222222222222222222222222222222222 1073741823 17179869183 5,!4\n\
-        2 1313131313131313131313131313131313131313 2222222222222222222222222222222222222222 1 0 !1\n\
-        3 1414141414141414141414141414141414141414 2222222222222222222222222222222222222222 2 0 !2\n\
-        4 1515151515151515151515151515151515151515 2222222222222222222222222222222222222222 1 0 5,4\n\
-        5 1616161616161616161616161616161616161616 2222222222222222222222222222222222222222 1 0 5\n",
+        0 1111111111111111111111111111111111111111 9999999999999999999999999999999999999999 1 17179869183 5,3,2\n\
+        1 1212121212121212121212121212121212121212 9999999999999999999999999999999999999999 1073741823 17179869183 5,!4\n\
+        2 1313131313131313131313131313131313131313 9999999999999999999999999999999999999999 1 7 !1\n\
+        3 1414141414141414141414141414141414141414 9999999999999999999999999999999999999999 2 7 !2\n\
+        4 1515151515151515151515151515151515151515 9999999999999999999999999999999999999999 1 7 5,4\n\
+        5 1616161616161616161616161616161616161616 9999999999999999999999999999999999999999 1 7 5\n",
     ),
+];
+
+/// Compares the size and the listing of a file.
+fn compare(rt: &impl Abort, alloc: Global, bytes: &[u8], size: usize, want: &str) {
+    assert!(rt; bytes.len() == size);
+    compare_listing(
+        rt,
+        alloc,
+        &mut Source::new(bytes, usize::MAX, None),
+        (0, want),
+    );
+}
+
+/// Compares the listings of SHA-1 files without bases.
+fn compare_layers(rt: &impl Abort, alloc: Global, rows: &[Listed]) {
+    for (commits, changes, size, want) in rows {
+        let file = changed_file(alloc, commits, changes).expect(rt, "memory");
+        compare(
+            rt,
+            alloc,
+            &file.expect(rt, "places in the file"),
+            *size,
+            want,
+        );
+    }
+}
+
+/// The header of a SHA-1 file of four chunks.
+const FOUR: &[u8; 8] = b"CGPH\x01\x01\x04\x00";
+
+/// The header and the table of a file without commits, the number of bytes 0 after them, its size
+/// and its listing.
+type Empty = (
+    &'static [u8; 8],
+    &'static [Entry],
+    usize,
+    usize,
+    &'static str,
+);
+
+/// The second has an empty extra edge list. Of the third, chunks lie in the header.
+const EMPTY: &[Empty] = &[
     (
-        Plan {
-            hash: 1,
-            bases: &[0xab, 0xcd],
-            commits: &[(5, 0x8000_0000, FIRST)],
-            edges: None,
-        },
-        1208,
-        "layer sha1 bases 2 commits 1\n\
-        base abababababababababababababababababababab\n\
-        base cdcdcdcdcdcdcdcdcdcdcdcdcdcdcdcdcdcdcdcd\n\
-        0 1111111111111111111111111111111111111111 2222222222222222222222222222222222222222 1 0 5,!3\n",
-    ),
-    (
-        Plan {
-            hash: 1,
-            bases: &[],
-            commits: &[],
-            edges: Some(&[]),
-        },
-        1112,
-        "layer sha1 bases 0 commits 0\n",
-    ),
-    (
-        Plan {
-            hash: 2,
-            bases: &[],
-            commits: &[],
-            edges: None,
-        },
+        b"CGPH\x01\x02\x03\x00",
+        ENTRIES,
+        1056,
         1112,
         "layer sha256 bases 0 commits 0\n",
     ),
     (
-        Plan {
-            hash: 2,
-            bases: &[0xab],
-            commits: &[(NONE, NONE, FIRST)],
-            edges: None,
-        },
-        1236,
-        "layer sha256 bases 1 commits 1\n\
-        base abababababababababababababababababababababababababababababababab\n\
-        0 1111111111111111111111111111111111111111111111111111111111111111 \
-        2222222222222222222222222222222222222222222222222222222222222222 1 0 -\n",
+        FOUR,
+        &[
+            (b"OIDF", 68),
+            (b"OIDL", 1092),
+            (b"CDAT", 1092),
+            (b"EDGE", 1092),
+            (END, 1092),
+        ],
+        1044,
+        1112,
+        "layer sha1 bases 0 commits 0\n",
     ),
+    (
+        FOUR,
+        &[
+            (b"OIDL", 0),
+            (b"CDAT", 0),
+            (b"XTRA", 0),
+            (b"OIDF", 68),
+            (END, 1092),
+        ],
+        1044,
+        1112,
+        "layer sha1 bases 0 commits 0\n",
+    ),
+    (THREE, ENTRIES, 1044, 1100, "layer sha1 bases 0 commits 0\n"),
 ];
+
+/// Compares the listings of files without commits.
+fn compare_empty(rt: &impl Abort, alloc: Global, rows: &[Empty]) {
+    for (header, entries, zeros, size, want) in rows {
+        let file = file_of_zeros(alloc, header, entries, *zeros).expect(rt, "memory");
+        compare(rt, alloc, &file, *size, want);
+    }
+}
+
+/// A SHA-256 file of one commit without parents, over one base layer.
+fn root_on_a_base(rt: &impl Abort, alloc: Global) -> Vec<u8> {
+    let bases = [ObjectId::from([0xab; 32])];
+    let mut plan = LayerPlan::new(alloc, Kind::Sha256, &bases).expect(rt, "memory");
+    let commit = PlanCommit {
+        id: ObjectId::from([0x11; 32]),
+        tree: ObjectId::from([0xee; 32]),
+        parents: Vec::new(alloc),
+        generation: 1,
+        time: 7,
+    };
+    plan.commits.push(commit).expect(rt, "memory");
+    file_of_plan(alloc, &plan).expect(rt, "a file")
+}
+
+const ROOT_ON_A_BASE: &str = "layer sha256 bases 1 commits 1\n\
+    base abababababababababababababababababababababababababababababababab\n\
+    0 1111111111111111111111111111111111111111111111111111111111111111 \
+    eeeeeeeeeeeeeeeeeeeeeeeeeeeeeeeeeeeeeeeeeeeeeeeeeeeeeeeeeeeeeeee 1 7 -\n";
+
+const ON_TWO_BASES: &str = "layer sha1 bases 2 commits 1\n\
+    base abababababababababababababababababababab\n\
+    base cdcdcdcdcdcdcdcdcdcdcdcdcdcdcdcdcdcdcdcd\n\
+    0 1111111111111111111111111111111111111111 9999999999999999999999999999999999999999 1 7 5\n";
 
 #[test]
 fn lists_layers(rt: HostRuntime) {
     let alloc = rt.alloc();
-    for (plan, size, want) in LAYERS {
-        let bytes = file(&rt, alloc, plan);
-        assert!(rt; bytes.len() == *size);
-        let mut out = Sink::new(alloc, usize::MAX, None);
-        let answer = list(alloc, &mut Source::new(&bytes, usize::MAX, None), &mut out);
-        expect_answer(&rt, answer, &out, (0, want));
-    }
+    compare_layers(&rt, alloc, LAYERS);
+    compare_empty(&rt, alloc, EMPTY);
+    compare(
+        &rt,
+        alloc,
+        &root_on_a_base(&rt, alloc),
+        1236,
+        ROOT_ON_A_BASE,
+    );
+    let bases = [ObjectId::from([0xab; 20]), ObjectId::from([0xcd; 20])];
+    let on_two_bases = file_of_rows(alloc, &bases, &[(0x11, &[5], 1)]).expect(&rt, "a file");
+    compare(&rt, alloc, &on_two_bases, 1208, ON_TWO_BASES);
+    compare_listing(&rt, alloc, &mut b"".as_slice(), (1, "refused file 1\n"));
 }
 
-#[test]
-fn lists_the_empty_input(rt: HostRuntime) {
-    let mut out = Sink::new(rt.alloc(), usize::MAX, None);
-    let answer = list(rt.alloc(), &mut Source::new(b"", 1, None), &mut out);
-    expect_answer(&rt, answer, &out, (1, "refused file 1\n"));
+/// Compares the answer to each failed read of a file that is read a hundred bytes at a time.
+fn compare_reads(rt: &impl Abort, alloc: Global, bytes: &[u8], reads: usize) {
+    let mut whole = Source::new(bytes, 100, None);
+    compare_listing(rt, alloc, &mut whole, (0, ONE_LISTING));
+    assert!(rt; whole.reads == reads);
+    for read in 0..reads {
+        let mut failing = Source::new(bytes, 100, Some(read));
+        compare_listing(rt, alloc, &mut failing, (1, "refused read 2\n"));
+    }
 }
 
 #[test]
 fn reports_each_read_that_fails(rt: HostRuntime) {
-    let alloc = rt.alloc();
-    let bytes = file(&rt, alloc, &ONE);
-    let mut whole = Source::new(&bytes, 100, None);
-    let mut out = Sink::new(alloc, usize::MAX, None);
-    let answer = list(alloc, &mut whole, &mut out);
-    assert!(rt; answer == Ok(0) && whole.reads == 13);
-    for read in 0..whole.reads {
-        let mut out = Sink::new(alloc, usize::MAX, None);
-        let answer = list(alloc, &mut Source::new(&bytes, 100, Some(read)), &mut out);
-        expect_answer(&rt, answer, &out, (1, "refused read 2\n"));
-    }
+    compare_reads(&rt, rt.alloc(), &built(&rt, rt.alloc(), ONE), 13);
 }
 
-/// Asserts the listing of an input that is given a byte a read, and the answer to each write that
-/// fails.
-fn try_writes(rt: &impl Abort, alloc: Global, input: &[u8], want: &str, status: u8) {
-    let mut whole = Sink::new(alloc, 10, None);
-    let answer = list(alloc, &mut Source::new(input, 1, None), &mut whole);
-    expect_answer(rt, answer, &whole, (status, want));
-    for write in 0..whole.writes {
-        let mut out = Sink::new(alloc, 10, Some(write));
-        let answer = list(alloc, &mut Source::new(input, 1, None), &mut out);
-        assert!(rt; answer == Err(WriteFailed));
-    }
-    let mut out = Sink::new(alloc, 10, Some(whole.writes));
-    let answer = list(alloc, &mut Source::new(input, 1, None), &mut out);
+/// Lists bytes that are given so many a read to a writer that takes as many a write, and whose
+/// write of this number fails. The writer is answered too.
+fn listed(
+    alloc: Global,
+    bytes: &[u8],
+    most: usize,
+    fails_at: Option<usize>,
+) -> (Result<u8, WriteFailed>, Sink) {
+    let mut out = Sink::new(alloc, most, fails_at);
+    let answer = list(alloc, &mut Source::new(bytes, most, None), &mut out);
+    (answer, out)
+}
+
+/// Compares the answer to each failed write. What was written where none failed is answered.
+fn compare_writes(rt: &impl Abort, alloc: Global, bytes: &[u8], most: usize, status: u8) -> Sink {
+    let (answer, out) = listed(alloc, bytes, most, None);
     assert!(rt; answer == Ok(status));
+    for write in 0..out.writes {
+        let (failed, _) = listed(alloc, bytes, most, Some(write));
+        assert!(rt; failed == Err(WriteFailed));
+    }
+    let (unfailed, _) = listed(alloc, bytes, most, Some(out.writes));
+    assert!(rt; unfailed == Ok(status));
+    out
 }
 
 #[test]
 fn reports_each_write_that_fails(rt: HostRuntime) {
-    let bytes = file(&rt, rt.alloc(), &ONE);
-    try_writes(&rt, rt.alloc(), &bytes, ONE_LISTING, 0);
-    try_writes(&rt, rt.alloc(), &[0; 1099], "refused file 1\n", 1);
+    let bytes = built(&rt, rt.alloc(), ONE);
+    let out = compare_writes(&rt, rt.alloc(), &bytes, 1, 0);
+    assert!(rt; out.text() == ONE_LISTING);
+    let refused = compare_writes(&rt, rt.alloc(), &[0; 1099], 1, 1);
+    assert!(rt; refused.text() == "refused file 1\n");
 }
 
-/// The bytes of a file of one commit whose parents are position 0, over and over.
-fn many_parents(rt: &impl Abort, alloc: Global) -> Vec<u8> {
-    let mut edges = vec![in alloc; 0; 40_000].expect(rt, "memory for a list");
-    edges.push(0x8000_0000).expect(rt, "memory for a list");
-    let plan = Plan {
-        hash: 1,
-        bases: &[],
-        commits: &[(0, 0x8000_0000, FIRST)],
-        edges: Some(&edges),
-    };
-    file(rt, alloc, &plan)
-}
-
-/// A listing that is longer than a block is written in two parts, either of which may fail.
+/// A listing that is longer than a block is written in two parts, either of which may fail. It is
+/// that of one commit whose parents are position 0, over and over.
 #[test]
 fn lists_in_blocks(rt: HostRuntime) {
-    let alloc = rt.alloc();
-    let bytes = many_parents(&rt, alloc);
-    let mut whole = Sink::new(alloc, usize::MAX, None);
-    let answer = list(
-        alloc,
-        &mut Source::new(&bytes, usize::MAX, None),
-        &mut whole,
-    );
-    assert!(rt; answer == Ok(0) && whole.writes == 2);
-    assert!(rt; whole.bytes.len() == 29 + 88 + 80_003 + 1);
-    assert!(rt; whole.bytes.ends_with(b",0,0\n"));
-    for write in 0..2 {
-        let mut out = Sink::new(alloc, usize::MAX, Some(write));
-        let answer = list(alloc, &mut Source::new(&bytes, usize::MAX, None), &mut out);
-        assert!(rt; answer == Err(WriteFailed));
-    }
+    let parents = vec![in rt.alloc(); 0; 40_002].expect(&rt, "memory");
+    let bytes = built(&rt, rt.alloc(), &[(0x11, &parents, 1)]);
+    let out = compare_writes(&rt, rt.alloc(), &bytes, usize::MAX, 0);
+    assert!(rt; out.writes == 2 && out.bytes.len() == 29 + 88 + 80_003 + 1);
+    assert!(rt; out.bytes.ends_with(b",0,0\n"));
+}
+
+/// A table whose extra edge list is the header and the table itself.
+const EDGES: &[Entry] = &[
+    (b"EDGE", 0),
+    (b"OIDF", 68),
+    (b"OIDL", 1092),
+    (b"CDAT", 1112),
+    (END, 1148),
+];
+
+/// The parents are the position 5, and the words from the table's last entry on.
+const FIELDS: &[u8] = b"\0\0\0\x05\x80\0\0\x0f\0\0\0\x04\0\0\0\0";
+
+const IN_THE_TABLE: &str = "layer sha1 bases 0 commits 1\n\
+    0 1111111111111111111111111111111111111111 2222222222222222222222222222222222222222 1 0 5,0,1148,!4\n";
+
+#[test]
+fn chunks_may_lie_in_the_header_and_in_the_table(rt: HostRuntime) {
+    let ones = words(rt.alloc(), &[1; 239]).expect(&rt, "memory");
+    let parts: [&[u8]; 6] = [&[0; 68], &ones, &[0x11; 20], &[0x22; 20], FIELDS, &[0; 20]];
+    let bytes = file_of_parts(rt.alloc(), FOUR, EDGES, &parts).expect(&rt, "memory");
+    compare(&rt, rt.alloc(), &bytes, 1168, IN_THE_TABLE);
 }
