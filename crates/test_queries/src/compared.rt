@@ -1,11 +1,9 @@
 //! The bases and the counts are those that Git 2.39.5 names for the same commits, but for the
 //! cycles, which no repository has. On a cycle a commit is its own proper ancestor, and so no base.
 
-use crate::fixtures::{compared, graph, right};
+use crate::fixtures::{compared, right_graph};
 use gix_commitgraph::{GENERATION_NUMBER_MAX, Position};
-use gix_hash_core::ObjectId;
-use graph_history::{Checked, Comparer, Comparison, Divergence};
-use graph_uses::comparing::merge_bases;
+use graph_history::{Checked, Comparer, Comparison};
 use graph_vectors::Row;
 use std::alloc::Global;
 use std::process::Abort;
@@ -99,6 +97,16 @@ const CYCLE_ABOVE_A_FORK: Layers = &[&[
     (0x66, &[0], 2),
 ]];
 
+/// A line of four commits, and two commits on its end, one of which merges the root once more.
+const ABOVE_A_LINE: Layers = &[&[
+    (0x11, &[], 1),
+    (0x22, &[0], 2),
+    (0x33, &[1], 3),
+    (0x44, &[2], 4),
+    (0x55, &[3, 0], 5),
+    (0x66, &[3], 5),
+]];
+
 /// A graph, a commit and some others, their merge bases, and how many commits are ahead and behind.
 type Query = (Layers, u32, &'static [u32], &'static [u32], u32, u32);
 
@@ -132,16 +140,19 @@ const QUERIES: &[Query] = &[
     (CYCLE_ABOVE_A_FORK, 3, &[5], &[0], 3, 1),
     (CYCLE_ABOVE_A_FORK, 5, &[3, 4], &[0], 1, 4),
     (CYCLE_ABOVE_A_FORK, 0, &[3], &[0], 0, 3),
+    (ABOVE_A_LINE, 4, &[5], &[3], 1, 1),
 ];
 
-/// Compares an answer with the numbers of the bases and the two counts.
-fn compare_answer(rt: &impl Abort, answer: &Comparison, bases: &[u32], ahead: u32, behind: u32) {
-    let positions = answer.bases.positions.as_slice();
-    assert!(rt; positions.iter().map(|pos| pos.0).eq(bases.iter().copied()));
-    assert!(rt; answer.divergence.ahead == ahead && answer.divergence.behind == behind);
+/// The positions of these numbers.
+fn positions(rt: &impl Abort, alloc: Global, numbers: &[u32]) -> Vec<Position> {
+    let mut positions = Vec::new(alloc);
+    for number in numbers {
+        positions.push(Position(*number)).expect(rt, "memory");
+    }
+    positions
 }
 
-/// What is answered of a commit and some others of a graph.
+/// What is answered of a commit and some others of a graph, by one call and by two.
 fn answer_of(
     rt: &impl Abort,
     alloc: Global,
@@ -150,41 +161,40 @@ fn answer_of(
     others: &[u32],
 ) -> Comparison {
     let first = checked.position(first).expect(rt, "a commit");
+    let others = positions(rt, alloc, others);
     let commits = checked.num_commits();
-    let others: Result<Vec<Position>, _> = others
-        .iter()
-        .map(|other| Position(*other))
-        .collect(alloc);
-    let others = others.expect(rt, "memory");
     assert!(rt; others.iter().all(|other| other.0 < commits));
-    checked.compare(alloc, first, &others).expect(rt, "memory")
+    let answer = checked.compare(alloc, first, &others).expect(rt, "memory");
+    let apart = checked.divergence(alloc, first, &others);
+    assert!(rt; apart.expect(rt, "memory") == answer.divergence);
+    let bases = checked
+        .merge_bases(alloc, first, &others)
+        .expect(rt, "memory");
+    assert!(rt; bases.positions == answer.bases.positions);
+    assert!(rt; bases.visits == answer.bases.visits);
+    answer
 }
 
-/// Compares what is answered of a row.
-fn compare_row(rt: &impl Abort, alloc: Global, row: &Query) {
-    let (layers, first, others, bases, ahead, behind) = row;
-    let graph = graph(rt, alloc, layers);
-    let checked = right(rt, alloc, &graph);
-    let answer = answer_of(rt, alloc, &checked, *first, others);
-    compare_answer(rt, &answer, bases, *ahead, *behind);
+/// Compares an answer with the numbers of the bases and the two counts.
+fn compare_answer(
+    rt: &impl Abort,
+    alloc: Global,
+    answer: &Comparison,
+    (bases, ahead, behind): (&[u32], u32, u32),
+) {
+    assert!(rt; answer.bases.positions == positions(rt, alloc, bases));
+    assert!(rt; answer.divergence.ahead == ahead && answer.divergence.behind == behind);
 }
 
 #[test]
 fn bases_and_counts_are_those_of_git(rt: HostRuntime) {
-    for row in QUERIES {
-        compare_row(&rt, rt.alloc(), row);
+    let alloc = rt.alloc();
+    for (layers, first, others, bases, ahead, behind) in QUERIES {
+        let graph = right_graph(&rt, alloc, layers);
+        let answer = answer_of(&rt, alloc, &graph.as_checked(), *first, others);
+        compare_answer(&rt, alloc, &answer, (bases, *ahead, *behind));
     }
 }
-
-/// A line of four commits, and two commits on its end, one of which merges the root once more.
-const ABOVE_A_LINE: Layers = &[&[
-    (0x11, &[], 1),
-    (0x22, &[0], 2),
-    (0x33, &[1], 3),
-    (0x44, &[2], 4),
-    (0x55, &[3, 0], 5),
-    (0x66, &[3], 5),
-]];
 
 /// A graph, two commits, and how many commits a search visits, those with the highest generation
 /// numbers first, until none is left but ancestors of common ancestors.
@@ -194,80 +204,41 @@ const VISITS: &[(Layers, u32, u32, u64)] = &[
     (ABOVE_A_LINE, 4, 5, 5),
     // The commit, to which both lead, and once more as an ancestor of itself.
     (CYCLE, 0, 0, 2),
+    // Of a commit and itself nothing else is visited.
+    (CRISS_CROSS, 3, 3, 1),
 ];
 
 #[test]
 fn visits_are_those_of_the_search(rt: HostRuntime) {
     for (layers, first, other, visits) in VISITS {
-        let graph = graph(&rt, rt.alloc(), layers);
-        let checked = right(&rt, rt.alloc(), &graph);
-        let answer = answer_of(&rt, rt.alloc(), &checked, *first, &[*other]);
+        let graph = right_graph(&rt, rt.alloc(), layers);
+        let answer = answer_of(&rt, rt.alloc(), &graph.as_checked(), *first, &[*other]);
         assert!(&rt; answer.bases.visits == *visits);
     }
 }
 
 /// Two commits of `CRISS_CROSS`, their merge bases, and how many commits are ahead and behind.
-type Pair = (u32, u32, &'static [Position], u32, u32);
-
-const PAIRS: &[Pair] = &[
-    (3, 6, &[Position(1), Position(2)], 1, 2),
-    (6, 3, &[Position(1), Position(2)], 2, 1),
-    (3, 3, &[Position(3)], 0, 0),
+const PAIRS: &[(u32, u32, &[u32], u32, u32)] = &[
+    (5, 6, &[1, 2], 2, 2),
+    (5, 0, &[0], 4, 0),
+    (3, 4, &[1, 2], 1, 1),
+    (5, 6, &[1, 2], 2, 2),
+    (3, 6, &[1, 2], 1, 2),
+    (6, 3, &[1, 2], 2, 1),
+    (3, 3, &[3], 0, 0),
 ];
-
-/// Asserts the merge bases of two commits, and how many commits are ahead and behind.
-fn compare_pair(rt: &impl Abort, alloc: Global, checked: &Checked<'_>, pair: &Pair) {
-    let (first, other, want, ahead, behind) = pair;
-    let first = checked.position(*first).expect(rt, "a commit");
-    let others = [checked.position(*other).expect(rt, "a commit")];
-    let apart = checked.divergence(alloc, first, &others);
-    let want_apart = Divergence {
-        ahead: *ahead,
-        behind: *behind,
-    };
-    assert!(rt; apart.expect(rt, "memory") == want_apart);
-    let bases = checked.merge_bases(alloc, first, &others);
-    let bases = bases.expect(rt, "memory");
-    assert!(rt; bases.positions.as_slice() == *want);
-    // Of a commit and itself nothing else is visited.
-    assert!(rt; first != others[0] || bases.visits == 1);
-}
-
-#[test]
-fn two_commits_turned_round_have_the_same_bases(rt: HostRuntime) {
-    let alloc = rt.alloc();
-    let graph = graph(&rt, alloc, CRISS_CROSS);
-    let checked = right(&rt, alloc, &graph);
-    for pair in PAIRS {
-        compare_pair(&rt, alloc, &checked, pair);
-    }
-}
 
 /// What a search marks in the memory that is kept is gone before the next one.
 #[test]
 fn a_comparer_keeps_nothing_of_a_question_for_the_next(rt: HostRuntime) {
     let alloc = rt.alloc();
-    let graph = graph(&rt, alloc, CRISS_CROSS);
-    let checked = right(&rt, alloc, &graph);
+    let graph = right_graph(&rt, alloc, CRISS_CROSS);
+    let checked = graph.as_checked();
     let mut comparer = Comparer::new(alloc, &checked);
-    let visits = compared(&rt, &mut comparer, 5, 6).bases.visits;
-    let down = compared(&rt, &mut comparer, 5, 0);
-    compare_answer(&rt, &down, &[0], 4, 0);
-    let near = compared(&rt, &mut comparer, 3, 4);
-    compare_answer(&rt, &near, &[1, 2], 1, 1);
-    let far = compared(&rt, &mut comparer, 5, 6);
-    compare_answer(&rt, &far, &[1, 2], 2, 2);
-    assert!(rt; far.bases.visits == visits);
-}
-
-#[test]
-fn the_ids_of_merge_bases_are_told(rt: HostRuntime) {
-    let alloc = rt.alloc();
-    let graph = graph(&rt, alloc, CRISS_CROSS);
-    let checked = right(&rt, alloc, &graph);
-    let sixth = ObjectId::from([0x66; 20]);
-    let seventh = ObjectId::from([0x77; 20]);
-    let bases = merge_bases(alloc, &checked, sixth.as_oid(), seventh.as_oid());
-    let wanted = [ObjectId::from([0x22; 20]), ObjectId::from([0x33; 20])];
-    assert!(rt; bases.expect(&rt, "memory").as_slice() == wanted.as_slice());
+    for (first, other, bases, ahead, behind) in PAIRS {
+        let kept = compared(&rt, &mut comparer, *first, *other);
+        compare_answer(&rt, alloc, &kept, (bases, *ahead, *behind));
+        let fresh = answer_of(&rt, alloc, &checked, *first, &[*other]);
+        assert!(rt; kept.bases.visits == fresh.bases.visits);
+    }
 }

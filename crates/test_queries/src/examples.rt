@@ -1,10 +1,13 @@
+//! The examples of calls of `graph_uses`, on the diamond.
+
 use crate::fixtures::built;
 use gix_commitgraph::opening::OpenError;
-use gix_commitgraph::verify::{CommitFault, VerifyError, VerifyOptions};
-use gix_commitgraph::{FileError, Graph, Position};
+use gix_commitgraph::verify::VerifyOptions;
+use gix_commitgraph::{FileError, Position};
 use gix_hash_core::{IdError, ObjectId};
 use graph_history::{Checked, CheckedGraph};
 use graph_uses::checked::open_checked;
+use graph_uses::comparing::merge_bases;
 use graph_uses::finding::{find, only_position, time_of};
 use graph_uses::in_memory::open_bytes;
 use graph_uses::parents::parents_of;
@@ -40,14 +43,11 @@ fn file_of(rt: &impl Abort, alloc: Global, rows: &[Row<'_>]) -> Vec<u8> {
     built(rt, alloc, &plan)
 }
 
-/// The graph of a file of these commits.
-fn graph_of(rt: &impl Abort, alloc: Global, rows: &[Row<'_>]) -> Graph {
-    open_bytes(alloc, file_of(rt, alloc, rows)).expect(rt, "a graph")
-}
-
-/// The checked graph of a file of these commits, which is right.
-fn right_graph(rt: &impl Abort, alloc: Global, rows: &[Row<'_>]) -> CheckedGraph {
-    CheckedGraph::new(alloc, graph_of(rt, alloc, rows)).expect(rt, "a right graph")
+/// The checked graph of the diamond, whose ids are asked to be distinct or not.
+fn diamond(rt: &impl Abort, alloc: Global, distinct_ids: bool) -> CheckedGraph {
+    let graph = open_bytes(alloc, file_of(rt, alloc, DIAMOND)).expect(rt, "a graph");
+    let options = VerifyOptions { distinct_ids };
+    CheckedGraph::new_with(alloc, options, graph).expect(rt, "a right graph")
 }
 
 /// The id that repeats this byte.
@@ -56,108 +56,20 @@ fn id(byte: u8) -> ObjectId {
 }
 
 #[test]
-fn opens_bytes_in_memory(rt: HostRuntime) {
+fn bytes_in_memory_that_are_no_file_are_refused(rt: HostRuntime) {
     let alloc = rt.alloc();
-    let graph = graph_of(&rt, alloc, DIAMOND);
-    assert!(rt; graph.num_commits() == 4);
-    let refused = open_bytes(alloc, Vec::new(alloc));
-    assert!(rt;
-        matches!(
-            refused,
-            Err(OpenError::Layer {
-                layer: 0,
-                error: FileError::TooSmall,
-            })
-        )
-    );
+    let (layer, error) = (0, FileError::TooSmall);
+    let refused = open_bytes(alloc, Vec::new(alloc)).err();
+    assert!(rt; refused == Some(OpenError::Layer { layer, error }));
 }
-
-#[test]
-fn checks_a_graph(rt: HostRuntime) {
-    let alloc = rt.alloc();
-    let right = right_graph(&rt, alloc, DIAMOND);
-    let checked = right.as_checked();
-    let outcome = checked.outcome();
-    assert!(rt; outcome.num_commits == 4);
-    assert!(rt; outcome.longest_path_length == Some(2));
-    assert!(rt; outcome.parent_counts.get(&1) == Some(&2));
-    let wrong = graph_of(&rt, alloc, TWICE);
-    let answer = CheckedGraph::new(alloc, wrong);
-    assert!(rt;
-        matches!(
-            answer,
-            Err(VerifyError::Commit {
-                pos: Position(2),
-                fault: CommitFault::Order,
-            })
-        )
-    );
-}
-
-const RIGHT: &str = "graph_uses_test_right";
-
-const WRONG: &str = "graph_uses_test_wrong";
 
 /// Asserts what is found in the diamond.
 fn compare_found(rt: &impl Abort, checked: &Checked<'_>) {
-    assert!(rt; matches!(find(checked, THREES), Ok(Some(Position(2)))));
-    assert!(rt; matches!(find(checked, FIVES), Ok(None)));
-    assert!(rt; matches!(find(checked, "33"), Err(IdError::Length)));
+    assert!(rt; find(checked, THREES) == Ok(Some(Position(2))));
+    assert!(rt; find(checked, FIVES) == Ok(None));
+    assert!(rt; find(checked, "33") == Err(IdError::Length));
     assert!(rt; time_of(checked, id(0x33).as_oid()) == Some(1700000000));
     assert!(rt; time_of(checked, id(0x55).as_oid()).is_none());
-}
-
-/// Asserts the parents of a commit of the graph on disk.
-fn compare_parents<R: Files + Abort>(rt: &R, alloc: Global, text: &str, want: &[ObjectId]) {
-    let parents = parents_at_path(rt, alloc, RIGHT, text).expect(rt, "an answer");
-    assert!(rt; parents.as_slice() == want);
-}
-
-#[test]
-fn asks_a_graph_on_disk(rt: HostRuntime) {
-    let alloc = rt.alloc();
-    let bytes = file_of(&rt, alloc, DIAMOND);
-    fs::write(&rt, RIGHT, bytes.as_slice()).expect(&rt, "a file");
-    let graph = open_checked(&rt, alloc, RIGHT).expect(&rt, "a right graph");
-    compare_found(&rt, &graph.as_checked());
-    compare_parents(&rt, alloc, FOURS, &[id(0x22), id(0x33)]);
-    compare_parents(&rt, alloc, FIVES, &[]);
-    fs::remove_file(&rt, RIGHT).expect(&rt, "no file");
-}
-
-/// Asserts why there is no answer for a path.
-fn expect_refusal<R: Files + Abort>(rt: &R, alloc: Global, path: &str, want: &str) {
-    match parents_at_path(rt, alloc, path, FOURS) {
-        Ok(_) => panic!(rt; "{path} has an answer"),
-        Err(error) => {
-            let text = error.to_string(alloc).expect(rt, "memory for a text");
-            assert_eq!(rt; text.as_str(), want);
-        }
-    }
-}
-
-#[test]
-fn an_id_has_one_position_where_that_was_asked(rt: HostRuntime) {
-    let alloc = rt.alloc();
-    for (distinct_ids, position) in [(false, None), (true, Some(Position(2)))] {
-        let options = VerifyOptions { distinct_ids };
-        let graph = CheckedGraph::new_with(alloc, options, graph_of(&rt, alloc, DIAMOND));
-        let graph = graph.expect(&rt, "a right graph");
-        let checked = graph.as_checked();
-        assert!(rt; only_position(&checked, id(0x33).as_oid()) == position);
-        assert!(rt; only_position(&checked, id(0x55).as_oid()).is_none());
-    }
-}
-
-#[test]
-fn says_why_there_is_no_answer(rt: HostRuntime) {
-    let alloc = rt.alloc();
-    let bytes = file_of(&rt, alloc, TWICE);
-    fs::write(&rt, WRONG, bytes.as_slice()).expect(&rt, "a file");
-    let missing = "the graph was not opened: NothingFound";
-    expect_refusal(&rt, alloc, "graph_uses_test_missing", missing);
-    expect_refusal(&rt, alloc, WRONG, "the graph failed its check: Commit");
-    fs::remove_file(&rt, WRONG).expect(&rt, "no file");
 }
 
 /// Positions of the diamond's commits, with those of their parents.
@@ -167,27 +79,30 @@ const PARENTS: &[(u32, &[Position])] = &[
     (3, &[Position(1), Position(2)]),
 ];
 
-#[test]
-fn gives_parents(rt: HostRuntime) {
-    let alloc = rt.alloc();
-    let graph = right_graph(&rt, alloc, DIAMOND);
-    let checked = graph.as_checked();
+/// Asserts the parents of the diamond's commits.
+fn compare_parents(rt: &impl Abort, alloc: Global, checked: &Checked<'_>) {
     for (number, want) in PARENTS {
-        let pos = checked.position(*number).expect(&rt, "a commit");
-        let parents = parents_of(alloc, &checked, pos).expect(&rt, "parents");
-        assert!(rt; parents.as_slice() == *want, "at {number}");
+        let pos = checked.position(*number).expect(rt, "a commit");
+        let parents = parents_of(alloc, checked, pos).expect(rt, "parents");
+        assert!(rt; parents.as_slice() == *want);
     }
     assert!(rt; checked.position(4).is_none());
 }
 
-/// Whether a commit leads to another.
-fn leads(rt: &impl Abort, alloc: Global, checked: &Checked<'_>, from: u32, to: u32) -> bool {
-    let from = checked.position(from).expect(rt, "a commit");
-    let to = checked.position(to).expect(rt, "a commit");
-    reaches(alloc, checked, from, to).expect(rt, "an answer")
+/// Positions of two commits, and whether the first leads to the second.
+const LEADS: &[(u32, u32, bool)] = &[(3, 0, true), (1, 2, false), (2, 2, true), (0, 3, false)];
+
+/// Asserts which of the diamond's commits lead to which.
+fn compare_leads(rt: &impl Abort, alloc: Global, checked: &Checked<'_>) {
+    for (from, to, want) in LEADS {
+        let from = checked.position(*from).expect(rt, "a commit");
+        let to = checked.position(*to).expect(rt, "a commit");
+        assert!(rt; reaches(alloc, checked, from, to).expect(rt, "an answer") == *want);
+    }
 }
 
-/// Asserts which commits are merged into the second, and all ancestors of the last.
+/// Asserts which commits are merged into the second, all ancestors of the last, and the merge base
+/// of the two between.
 fn compare_ancestors(rt: &impl Abort, alloc: Global, checked: &Checked<'_>) {
     let commits = [id(0x11), id(0x33), id(0x22), id(0x55)];
     let found = merged(alloc, checked, id(0x22).as_oid(), &commits).expect(rt, "an answer");
@@ -195,16 +110,86 @@ fn compare_ancestors(rt: &impl Abort, alloc: Global, checked: &Checked<'_>) {
     let all = ancestors(alloc, checked, id(0x44).as_oid()).expect(rt, "an answer");
     let want = [id(0x44), id(0x33), id(0x22), id(0x11)];
     assert!(rt; all.as_slice() == want.as_slice());
+    let bases = merge_bases(alloc, checked, id(0x22).as_oid(), id(0x33).as_oid());
+    assert!(rt; bases.expect(rt, "an answer").as_slice() == [id(0x11)].as_slice());
 }
 
 #[test]
-fn asks_for_ancestors(rt: HostRuntime) {
+fn asks_a_graph_in_memory(rt: HostRuntime) {
     let alloc = rt.alloc();
-    let graph = right_graph(&rt, alloc, DIAMOND);
-    let checked = graph.as_checked();
-    for (from, to, want) in [(3, 0, true), (1, 2, false), (2, 2, true), (0, 3, false)] {
-        let found = leads(&rt, alloc, &checked, from, to);
-        assert!(rt; found == want, "from {from} to {to}");
+    for distinct_ids in [false, true] {
+        let graph = diamond(&rt, alloc, distinct_ids);
+        let checked = graph.as_checked();
+        assert!(rt; checked.outcome().parent_counts.get(&1) == Some(&2));
+        compare_found(&rt, &checked);
+        compare_parents(&rt, alloc, &checked);
+        compare_leads(&rt, alloc, &checked);
+        compare_ancestors(&rt, alloc, &checked);
+        let only = only_position(&checked, id(0x33).as_oid());
+        assert!(rt;
+            only == if distinct_ids {
+                Some(Position(2))
+            } else {
+                None
+            }
+        );
+        assert!(rt; only_position(&checked, id(0x55).as_oid()).is_none());
     }
-    compare_ancestors(&rt, alloc, &checked);
+}
+
+const RIGHT: &str = "graph_uses_test_right";
+
+const WRONG: &str = "graph_uses_test_wrong";
+
+const MISSING: &str = "graph_uses_test_missing";
+
+/// Paths and texts of ids, with the parents of the commit, or why there is no answer.
+const AT_PATHS: &[(&str, &str, Result<&[u8], &str>)] = &[
+    (RIGHT, FOURS, Ok(&[0x22, 0x33])),
+    (RIGHT, FIVES, Ok(&[])),
+    (
+        MISSING,
+        FOURS,
+        Err("the graph was not opened: NothingFound"),
+    ),
+    (WRONG, FOURS, Err("the graph failed its check: Commit")),
+];
+
+/// Asserts the parents of a commit of a graph on disk, or why there is no answer.
+fn compare_at_path<R: Files + Abort>(
+    rt: &R,
+    alloc: Global,
+    (path, text): (&str, &str),
+    want: Result<&[u8], &str>,
+) {
+    match (parents_at_path(rt, alloc, path, text), want) {
+        (Ok(parents), Ok(want)) => {
+            assert!(rt; parents.len() == want.len());
+            for (parent, byte) in parents.iter().zip(want) {
+                assert!(rt; *parent == id(*byte));
+            }
+        }
+        (Err(error), Err(want)) => {
+            let text = error.to_string(alloc).expect(rt, "memory for a text");
+            assert!(rt; text.as_str() == want);
+        }
+        _ => panic!(rt; "another answer"),
+    }
+}
+
+#[test]
+fn asks_a_graph_on_disk(rt: HostRuntime) {
+    let alloc = rt.alloc();
+    for (path, rows) in [(RIGHT, DIAMOND), (WRONG, TWICE)] {
+        let bytes = file_of(&rt, alloc, rows);
+        fs::write(&rt, path, bytes.as_slice()).expect(&rt, "a file");
+    }
+    let graph = open_checked(&rt, alloc, RIGHT).expect(&rt, "a right graph");
+    compare_found(&rt, &graph.as_checked());
+    for (path, text, want) in AT_PATHS {
+        compare_at_path(&rt, alloc, (path, text), *want);
+    }
+    for path in [RIGHT, WRONG] {
+        fs::remove_file(&rt, path).expect(&rt, "no file");
+    }
 }

@@ -3,7 +3,7 @@
 
 use gix_commitgraph::{File, Graph};
 use gix_hash_core::{Kind, ObjectId};
-use graph_history::{Checked, Comparer, Comparison};
+use graph_history::{Checked, CheckedGraph, Comparer, Comparison};
 use graph_vectors::{LayerPlan, Row, build, plan_of_rows};
 use std::alloc::Global;
 use std::process::Abort;
@@ -44,6 +44,11 @@ pub fn graph(rt: &impl Abort, alloc: Global, layers: &[&[Row<'_>]]) -> Graph {
         files.push(file).expect(rt, "memory");
     }
     Graph::new(alloc, files).expect(rt, "a graph")
+}
+
+/// The checked graph of the same, which is right.
+pub fn right_graph(rt: &impl Abort, alloc: Global, layers: &[&[Row<'_>]]) -> CheckedGraph {
+    CheckedGraph::new(alloc, graph(rt, alloc, layers)).expect(rt, "a right graph")
 }
 
 /// The graph of these layers.

@@ -19,8 +19,6 @@ mod refusals;
 #[cfg(test)]
 mod reloading;
 #[cfg(test)]
-mod shared_bases;
-#[cfg(test)]
 mod shared_lists;
 #[cfg(test)]
 mod wide;

@@ -1,6 +1,6 @@
-use crate::fixtures::{empty_layer, graph, graph_of, layer, right};
+use crate::fixtures::{empty_layer, graph, graph_of, layer};
 use gix_commitgraph::verify::{CommitFault, VerifyError, VerifyOptions};
-use gix_commitgraph::{File, Graph, GraphError, Position};
+use gix_commitgraph::{File, GraphError, Position};
 use gix_hash_core::{Kind, ObjectId};
 use graph_history::{Checked, CheckedGraph, NoFault, PushError};
 use graph_vectors::Row;
@@ -11,60 +11,71 @@ use std::time::Instant;
 /// The positions 0 and 1.
 const LOWER: &[Row<'static>] = &[(0x11, &[], 1), (0x22, &[0], 2)];
 
+const DISTINCT: VerifyOptions = VerifyOptions { distinct_ids: true };
+
 /// The checked graph of these two commits.
-fn checked(rt: &impl Abort, alloc: Global, distinct_ids: bool) -> CheckedGraph {
-    let options = VerifyOptions { distinct_ids };
+fn checked(rt: &impl Abort, alloc: Global, options: VerifyOptions) -> CheckedGraph {
     let graph = graph(rt, alloc, &[LOWER]);
     CheckedGraph::new_with(alloc, options, graph).expect(rt, "a right graph")
 }
 
-/// The checksum of the highest layer.
-fn top(rt: &impl Abort, graph: &Graph) -> ObjectId {
-    let file = graph.layers().last().expect(rt, "a layer");
-    file.checksum().to_owned()
-}
-
-/// Puts the layer of these commits on top.
+/// Puts the layer of these commits on top, over the right bases.
 fn push_layer(
     rt: &impl Abort,
     alloc: Global,
     lower: &mut CheckedGraph,
-    bases: &[ObjectId],
     rows: &[Row<'_>],
 ) -> Result<(), PushError> {
-    lower.push(alloc, layer(rt, alloc, bases, rows))
-}
-
-/// Whether no id may stand at two positions of a graph.
-fn asks_for_distinct_ids(graph: &CheckedGraph) -> bool {
-    graph.as_checked().options().distinct_ids
+    let mut bases = Vec::new(alloc);
+    for file in lower.as_checked().graph().layers() {
+        bases.push(file.checksum().to_owned()).expect(rt, "memory");
+    }
+    lower.push(alloc, layer(rt, alloc, &bases, rows))
 }
 
 /// The layer of three more commits, the first of which has the number of three others below it.
 const RIGHT: &[Row<'static>] = &[(0x33, &[1], 3), (0x44, &[2, 0, 1], 4), (0x55, &[], 1)];
 
 /// Compares a graph of five commits with the same graph that was checked as a whole.
-fn compare_right(rt: &impl Abort, alloc: Global, graph: &Checked<'_>, whole: &Checked<'_>) {
-    assert!(rt; graph.outcome() == whole.outcome());
-    assert!(rt; graph.num_commits() == 5 && graph.outcome().longest_path_length == Some(3));
-    let merge = graph.position(3).expect(rt, "the merge");
-    let root = graph.position(0).expect(rt, "the root");
-    let found = graph.is_ancestor(alloc, merge, root);
-    assert!(rt; found.expect(rt, "memory"));
+fn compare_right(rt: &impl Abort, alloc: Global, pushed: &Checked<'_>, options: VerifyOptions) {
+    let layers = graph(rt, alloc, &[LOWER, RIGHT]);
+    let whole = Checked::new_with(alloc, options, &layers).expect(rt, "a right graph");
+    assert!(rt; pushed.outcome() == whole.outcome());
+    assert!(rt; pushed.options() == options && whole.options() == options);
+    assert!(rt; pushed.num_commits() == 5 && pushed.outcome().longest_path_length == Some(3));
+    let merge = pushed.position(3).expect(rt, "the merge");
+    let root = pushed.position(0).expect(rt, "the root");
+    assert!(rt; pushed.is_ancestor(alloc, merge, root).expect(rt, "memory"));
 }
 
+/// The second layer has an id of the first one. Where ids are to be distinct, it is refused, each
+/// time.
 #[test]
-fn a_right_layer_is_put_on_top(rt: HostRuntime) {
+fn a_right_layer_is_put_on_top_by_what_was_asked(rt: HostRuntime) {
     let alloc = rt.alloc();
-    let mut lower = checked(&rt, alloc, true);
-    let base = top(&rt, lower.as_checked().graph());
-    let answer = push_layer(&rt, alloc, &mut lower, &[base], RIGHT);
-    assert!(&rt; answer == Ok(()));
-    let whole = graph(&rt, alloc, &[LOWER, RIGHT]);
-    compare_right(&rt, alloc, &lower.as_checked(), &right(&rt, alloc, &whole));
+    for distinct_ids in [false, true] {
+        let options = VerifyOptions { distinct_ids };
+        let mut graph = checked(&rt, alloc, options);
+        assert!(&rt; graph.as_checked().options() == options);
+        assert!(&rt; push_layer(&rt, alloc, &mut graph, RIGHT) == Ok(()));
+        compare_right(&rt, alloc, &graph.as_checked(), options);
+        let (pos, earlier) = (Position(5), Position(1));
+        for _ in [0, 1] {
+            let answer = push_layer(&rt, alloc, &mut graph, &[(0x22, &[], 1)]);
+            let error = VerifyError::DuplicateId { pos, earlier };
+            let want = if distinct_ids {
+                Err(PushError::Check(error))
+            } else {
+                Ok(())
+            };
+            assert!(&rt; answer == want);
+            assert!(&rt; graph.as_checked().options() == options);
+        }
+    }
 }
 
-/// The commits of a layer, and why it is refused on two commits whose ids are to be distinct.
+/// The commits of a layer, and why it is refused on two commits whose ids are to be distinct. No
+/// other than the last is about that.
 const REFUSED: &[(&[Row<'static>], VerifyError<NoFault>)] = &[
     (
         &[(0x33, &[1], 2)],
@@ -96,109 +107,44 @@ const REFUSED: &[(&[Row<'static>], VerifyError<NoFault>)] = &[
     ),
 ];
 
-/// Compares the refusal of a layer on the two commits, after which they are left.
+/// Asserts that the two commits are left, whose ids are to be distinct.
+fn assert_left(rt: &impl Abort, graph: &Checked<'_>) {
+    assert!(rt; graph.num_commits() == 2 && graph.outcome().longest_path_length == Some(1));
+    assert!(rt; graph.options() == DISTINCT);
+}
+
+/// Compares the refusals of the whole graph, lent and owned, and of a layer that is put on top of
+/// the two commits.
 fn compare_refused(
     rt: &impl Abort,
     alloc: Global,
     lower: &mut CheckedGraph,
-    file: File,
-    want: &PushError,
+    rows: &[Row<'_>],
+    want: &VerifyError<NoFault>,
 ) {
-    let answer = lower.push(alloc, file);
-    assert!(rt; matches!(&answer, Err(error) if error == want));
-    let left = lower.as_checked();
-    assert!(rt; left.num_commits() == 2 && left.outcome().longest_path_length == Some(1));
-    assert!(rt; left.options().distinct_ids);
-}
-
-#[test]
-fn a_wrong_graph_that_is_lent_is_refused_by_its_first_fault(rt: HostRuntime) {
-    let alloc = rt.alloc();
-    let options = VerifyOptions { distinct_ids: true };
-    for (rows, want) in REFUSED {
-        let whole = graph(&rt, alloc, &[LOWER, *rows]);
-        let answer = Checked::new_with(alloc, options, &whole);
-        assert!(&rt; matches!(&answer, Err(error) if error == want));
-    }
-}
-
-#[test]
-fn a_wrong_graph_that_is_owned_is_refused_by_its_first_fault(rt: HostRuntime) {
-    let alloc = rt.alloc();
-    // No other than the last of them is about ids that are to be distinct.
-    for (rows, want) in REFUSED.iter().take(3) {
-        let whole = graph(&rt, alloc, &[LOWER, *rows]);
-        let answer = CheckedGraph::new(alloc, whole);
-        assert!(&rt; matches!(&answer, Err(error) if error == want));
-    }
-}
-
-/// Why a graph is refused whose ids are to be distinct.
-fn refusal_of(rt: &impl Abort, alloc: Global, graph: Graph) -> VerifyError<NoFault> {
-    let answer = CheckedGraph::new_with(alloc, VerifyOptions { distinct_ids: true }, graph);
-    answer.err().expect(rt, "a wrong graph")
+    let whole = graph(rt, alloc, &[LOWER, rows]);
+    let lent = Checked::new_with(alloc, DISTINCT, &whole).err();
+    let owned = CheckedGraph::new_with(alloc, DISTINCT, whole).err();
+    assert!(rt; lent.as_ref() == Some(want) && owned.as_ref() == Some(want));
+    let answer = push_layer(rt, alloc, lower, rows);
+    assert!(rt; matches!(&answer, Err(PushError::Check(error)) if error == want));
+    assert_left(rt, &lower.as_checked());
 }
 
 #[test]
 fn a_wrong_layer_is_refused_as_the_whole_graph(rt: HostRuntime) {
     let alloc = rt.alloc();
-    let mut lower = checked(&rt, alloc, true);
-    let base = top(&rt, lower.as_checked().graph());
+    let mut lower = checked(&rt, alloc, DISTINCT);
     for (rows, want) in REFUSED {
-        let whole = graph(&rt, alloc, &[LOWER, *rows]);
-        let error = refusal_of(&rt, alloc, whole);
-        assert!(&rt; error == *want);
-        let file = layer(&rt, alloc, &[base], rows);
-        compare_refused(&rt, alloc, &mut lower, file, &PushError::Check(error));
+        compare_refused(&rt, alloc, &mut lower, rows, want);
     }
-    let file = layer(&rt, alloc, &[ObjectId::from([0x33; 20])], &[]);
-    let want = VerifyError::BaseId { layer: 1, index: 0 };
-    compare_refused(&rt, alloc, &mut lower, file, &PushError::Check(want));
-    let other = empty_layer(&rt, alloc, Kind::Sha256);
-    let want = GraphError::HashMismatch { layer: 1 };
-    compare_refused(&rt, alloc, &mut lower, other, &PushError::Graph(want));
-}
-
-#[test]
-fn a_repeated_id_is_put_on_top_where_none_was_asked_about(rt: HostRuntime) {
-    let alloc = rt.alloc();
-    let mut lower = checked(&rt, alloc, false);
-    let base = top(&rt, lower.as_checked().graph());
-    let answer = push_layer(&rt, alloc, &mut lower, &[base], RIGHT);
-    assert!(&rt; answer == Ok(()) && !asks_for_distinct_ids(&lower));
-    let bases = [base, top(&rt, lower.as_checked().graph())];
-    let answer = push_layer(&rt, alloc, &mut lower, &bases, &[(0x22, &[], 1)]);
-    assert!(&rt; answer == Ok(()) && !asks_for_distinct_ids(&lower));
-}
-
-#[test]
-fn a_checked_graph_says_what_was_asked(rt: HostRuntime) {
-    let alloc = rt.alloc();
-    for distinct_ids in [false, true] {
-        let options = VerifyOptions { distinct_ids };
-        let lower = graph(&rt, alloc, &[LOWER]);
-        let lent = Checked::new_with(alloc, options, &lower).expect(&rt, "a right graph");
-        assert!(&rt; lent.options().distinct_ids == distinct_ids);
-        let owned = checked(&rt, alloc, distinct_ids);
-        assert!(&rt; asks_for_distinct_ids(&owned) == distinct_ids);
-    }
-}
-
-#[test]
-fn what_was_asked_is_asked_of_each_layer(rt: HostRuntime) {
-    let alloc = rt.alloc();
-    let mut lower = checked(&rt, alloc, true);
-    let base = top(&rt, lower.as_checked().graph());
-    let answer = push_layer(&rt, alloc, &mut lower, &[base], RIGHT);
-    assert!(&rt; answer == Ok(()) && asks_for_distinct_ids(&lower));
-    let bases = [base, top(&rt, lower.as_checked().graph())];
-    let (pos, earlier) = (Position(5), Position(1));
-    for _ in [0, 1] {
-        let answer = push_layer(&rt, alloc, &mut lower, &bases, &[(0x22, &[], 1)]);
-        let want = PushError::Check(VerifyError::DuplicateId { pos, earlier });
-        assert!(&rt; matches!(&answer, Err(error) if *error == want));
-        assert!(&rt; asks_for_distinct_ids(&lower));
-    }
+    let answer = lower.push(alloc, layer(&rt, alloc, &[ObjectId::from([0x33; 20])], &[]));
+    let error = VerifyError::BaseId { layer: 1, index: 0 };
+    assert!(&rt; answer == Err(PushError::Check(error)));
+    let answer = lower.push(alloc, empty_layer(&rt, alloc, Kind::Sha256));
+    let error = GraphError::HashMismatch { layer: 1 };
+    assert!(&rt; answer == Err(PushError::Graph(error)));
+    assert_left(&rt, &lower.as_checked());
 }
 
 /// How many layers are put on top of a first one, and how many commits each has.

@@ -1,4 +1,4 @@
-use crate::fixtures::{built, empty_layer, graph, graph_of, graph_of_one, layer, opened};
+use crate::fixtures::{empty_layer, graph, graph_of, graph_of_one, layer, opened};
 use gix_commitgraph::file::Commit;
 use gix_commitgraph::verify::VerifyError;
 use gix_commitgraph::{File, Graph};
@@ -8,7 +8,7 @@ use graph_vectors::changed::{
     Change, FIRST_IS_EDGE_INDEX, NO_EDGE_LIST, NULL_TREE, SECOND_WITHOUT_FIRST, WRONG_FAN,
     WRONG_GENERATIONS, changed_diamond, sharing_file,
 };
-use graph_vectors::{DIAMOND, Row, plan_of_rows};
+use graph_vectors::{DIAMOND, Row, file_of_rows};
 use std::alloc::Global;
 use std::process::Abort;
 
@@ -34,17 +34,6 @@ const WRONG: &[&[&[Row<'static>]]] = &[
     &[&[(0x11, &[1], 2)], &[(0x22, &[], 1)]],
 ];
 
-#[test]
-fn no_graph_of_wrong_commits_is_checked(rt: HostRuntime) {
-    let alloc = rt.alloc();
-    for (commits, ..) in WRONG_GENERATIONS {
-        compare_refusal(&rt, alloc, graph(&rt, alloc, &[*commits]));
-    }
-    for layers in WRONG {
-        compare_refusal(&rt, alloc, graph(&rt, alloc, layers));
-    }
-}
-
 const CHANGES: &[Change<'static>] = &[
     WRONG_FAN,
     NULL_TREE,
@@ -64,19 +53,6 @@ const LISTS: &[([u32; 2], [u32; 2])] = &[
     ([0x8000_0001, 0x8000_0000], [3, 0x8000_0001]),
 ];
 
-#[test]
-fn no_graph_of_a_damaged_file_is_checked(rt: HostRuntime) {
-    let alloc = rt.alloc();
-    for change in CHANGES {
-        let bytes = changed_diamond(alloc, *change).expect(&rt, "memory");
-        compare_bytes(&rt, alloc, bytes);
-    }
-    for (fields, words) in LISTS {
-        let bytes = sharing_file(alloc, *fields, *words).expect(&rt, "memory");
-        compare_bytes(&rt, alloc, bytes);
-    }
-}
-
 /// The graph of 257 empty layers.
 fn too_many_layers(rt: &impl Abort, alloc: Global) -> Graph {
     let mut files: Vec<File> = Vec::new(alloc);
@@ -89,20 +65,40 @@ fn too_many_layers(rt: &impl Abort, alloc: Global) -> Graph {
 }
 
 #[test]
+fn no_graph_of_wrong_commits_is_checked(rt: HostRuntime) {
+    let alloc = rt.alloc();
+    for (commits, ..) in WRONG_GENERATIONS {
+        compare_refusal(&rt, alloc, graph(&rt, alloc, &[*commits]));
+    }
+    for layers in WRONG {
+        compare_refusal(&rt, alloc, graph(&rt, alloc, layers));
+    }
+    for change in CHANGES {
+        let bytes = changed_diamond(alloc, *change).expect(&rt, "memory");
+        compare_bytes(&rt, alloc, bytes);
+    }
+    for (fields, words) in LISTS {
+        let bytes = sharing_file(alloc, *fields, *words).expect(&rt, "memory");
+        compare_bytes(&rt, alloc, bytes);
+    }
+}
+
+#[test]
 fn no_graph_of_wrong_layers_is_checked(rt: HostRuntime) {
     let alloc = rt.alloc();
     compare_refusal(&rt, alloc, too_many_layers(&rt, alloc));
-    let base = ObjectId::from([0x33; 20]);
-    let alone = graph_of(&rt, alloc, [layer(&rt, alloc, &[base], &[])]);
-    compare_refusal(&rt, alloc, alone);
-    let upper = layer(&rt, alloc, &[base], &[]);
-    let lower = empty_layer(&rt, alloc, Kind::Sha1);
-    compare_refusal(&rt, alloc, graph_of(&rt, alloc, [lower, upper]));
-
-    let plan = plan_of_rows(alloc, &[], DIAMOND).expect(&rt, "memory");
-    let misnamed = opened(&rt, alloc, built(&rt, alloc, &plan), "graph-.graph");
+    let base = [ObjectId::from([0x33; 20])];
+    let alone = layer(&rt, alloc, &base, &[]);
+    compare_refusal(&rt, alloc, graph_of(&rt, alloc, [alone]));
+    let layers = [
+        empty_layer(&rt, alloc, Kind::Sha1),
+        layer(&rt, alloc, &base, &[]),
+    ];
+    compare_refusal(&rt, alloc, graph_of(&rt, alloc, layers));
+    let mut bytes = file_of_rows(alloc, &[], DIAMOND).expect(&rt, "a file");
+    let misnamed = Vec::from_slice(alloc, &bytes).expect(&rt, "memory");
+    let misnamed = opened(&rt, alloc, misnamed, "graph-.graph");
     compare_refusal(&rt, alloc, graph_of(&rt, alloc, [misnamed]));
-    let mut bytes = built(&rt, alloc, &plan);
     if let Some(last) = bytes.last_mut() {
         *last ^= 1;
     }

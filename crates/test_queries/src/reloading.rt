@@ -1,8 +1,8 @@
-use crate::fixtures::{built, graph, graph_of, layer, opened};
+use crate::fixtures::{graph, graph_of, layer, opened, right_graph};
 use gix_commitgraph::verify::{LayerFault, VerifyError, VerifyOptions};
 use gix_commitgraph::{Graph, Position};
-use graph_history::{CheckedGraph, NoFault, Reloaded};
-use graph_vectors::{Row, plan_of_rows};
+use graph_history::{CheckedGraph, NoFault};
+use graph_vectors::{Row, file_of_rows};
 use std::alloc::Global;
 use std::process::Abort;
 
@@ -28,12 +28,8 @@ const DISTINCT: VerifyOptions = VerifyOptions { distinct_ids: true };
 
 /// The checked graph of these layers, in which no id stands twice.
 fn checked(rt: &impl Abort, alloc: Global, layers: &[Rows]) -> CheckedGraph {
-    whole(alloc, graph(rt, alloc, layers)).expect(rt, "a right graph")
-}
-
-/// What the check of a whole graph answers.
-fn whole(alloc: Global, graph: Graph) -> Result<CheckedGraph, VerifyError<NoFault>> {
-    CheckedGraph::new_with(alloc, DISTINCT, graph)
+    let graph = graph(rt, alloc, layers);
+    CheckedGraph::new_with(alloc, DISTINCT, graph).expect(rt, "a right graph")
 }
 
 /// Compares what a checked graph says of itself with what another one does.
@@ -72,12 +68,9 @@ fn only_the_layers_above_those_of_before_are_checked(rt: HostRuntime) {
     for (before, after, commits) in RELOADED {
         let old = checked(&rt, alloc, before);
         let answer = old.as_checked().reload(alloc, graph(&rt, alloc, after));
-        let Reloaded {
-            graph,
-            checked: count,
-        } = answer.expect(&rt, "a right graph");
-        assert!(&rt; count == *commits);
-        compare(&rt, &graph, &checked(&rt, alloc, after));
+        let answer = answer.expect(&rt, "a right graph");
+        assert!(&rt; answer.checked == *commits);
+        compare(&rt, &answer.graph, &checked(&rt, alloc, after));
         compare(&rt, &old, &checked(&rt, alloc, before));
     }
 }
@@ -114,66 +107,58 @@ const REFUSED: &[(&[Rows], VerifyError<NoFault>)] = &[
     ),
 ];
 
+/// How many commits are checked where a graph is opened anew, or why the new one is refused.
+fn reloaded(alloc: Global, old: &CheckedGraph, next: Graph) -> Result<u32, VerifyError<NoFault>> {
+    let answer = old.as_checked().reload(alloc, next)?;
+    Ok(answer.checked)
+}
+
 #[test]
 fn a_wrong_graph_is_refused_and_the_one_of_before_stays(rt: HostRuntime) {
     let alloc = rt.alloc();
     let old = checked(&rt, alloc, &[LOWER, MIDDLE]);
     for (after, want) in REFUSED {
-        let answer = old.as_checked().reload(alloc, graph(&rt, alloc, after));
+        let answer = reloaded(alloc, &old, graph(&rt, alloc, after));
         assert!(&rt; matches!(&answer, Err(error) if error == want));
-        let answer = whole(alloc, graph(&rt, alloc, after));
-        assert!(&rt; matches!(&answer, Err(error) if error == want));
-        compare(&rt, &old, &checked(&rt, alloc, &[LOWER, MIDDLE]));
+        let whole = CheckedGraph::new_with(alloc, DISTINCT, graph(&rt, alloc, after));
+        assert!(&rt; whole.err().as_ref() == Some(want));
     }
+    compare(&rt, &old, &checked(&rt, alloc, &[LOWER, MIDDLE]));
 }
 
 #[test]
 fn a_repeated_id_is_taken_where_none_was_asked_about(rt: HostRuntime) {
     let alloc = rt.alloc();
-    let old = CheckedGraph::new(alloc, graph(&rt, alloc, &[LOWER, MIDDLE]));
-    let old = old.expect(&rt, "a right graph");
+    let old = right_graph(&rt, alloc, &[LOWER, MIDDLE]);
     let next = graph(&rt, alloc, &[LOWER, MIDDLE, &[(0x22, &[], 1)]]);
-    let answer = old
-        .as_checked()
-        .reload(alloc, next)
-        .expect(&rt, "a right graph");
+    let answer = old.as_checked().reload(alloc, next);
+    let answer = answer.expect(&rt, "a right graph");
     assert!(&rt; answer.checked == 1 && !answer.graph.as_checked().options().distinct_ids);
 }
 
 /// The graph of the lowest layer alone, whose file has this path.
 fn at_path(rt: &impl Abort, alloc: Global, path: &str) -> Graph {
-    let plan = plan_of_rows(alloc, &[], LOWER).expect(rt, "memory");
-    graph_of(
-        rt,
-        alloc,
-        [opened(rt, alloc, built(rt, alloc, &plan), path)],
-    )
+    let bytes = file_of_rows(alloc, &[], LOWER).expect(rt, "a file");
+    graph_of(rt, alloc, [opened(rt, alloc, bytes, path)])
 }
 
 const ZEROS: &str = "graph-0000000000000000000000000000000000000000.graph";
 
 #[test]
-fn a_file_of_another_path_is_checked_again(rt: HostRuntime) {
+fn a_file_of_another_path_or_base_is_checked_again(rt: HostRuntime) {
     let alloc = rt.alloc();
-    let old = checked(&rt, alloc, &[LOWER]);
-    let answer = old.as_checked().reload(alloc, at_path(&rt, alloc, "other"));
-    assert!(&rt; answer.expect(&rt, "a right graph").checked == 2);
-    let answer = old.as_checked().reload(alloc, at_path(&rt, alloc, ZEROS));
-    let want = VerifyError::Layer {
+    let old = checked(&rt, alloc, &[LOWER, MIDDLE]);
+    let next = at_path(&rt, alloc, "other");
+    assert!(&rt; reloaded(alloc, &old, next) == Ok(2));
+    let next = at_path(&rt, alloc, ZEROS);
+    let error = VerifyError::Layer {
         layer: 0,
         fault: LayerFault::FileName,
     };
-    assert!(&rt; matches!(&answer, Err(error) if *error == want));
-}
-
-#[test]
-fn a_file_on_another_base_is_checked_again(rt: HostRuntime) {
-    let alloc = rt.alloc();
-    let old = checked(&rt, alloc, &[LOWER, MIDDLE]);
+    assert!(&rt; reloaded(alloc, &old, next) == Err(error));
     let lower = layer(&rt, alloc, &[], LOWER);
     let middle = layer(&rt, alloc, &[lower.checksum().to_owned()], MIDDLE);
     let next = graph_of(&rt, alloc, [layer(&rt, alloc, &[], OTHER), middle]);
-    let answer = old.as_checked().reload(alloc, next);
-    let want = VerifyError::BaseId { layer: 1, index: 0 };
-    assert!(&rt; matches!(&answer, Err(error) if *error == want));
+    let error = VerifyError::BaseId { layer: 1, index: 0 };
+    assert!(&rt; reloaded(alloc, &old, next) == Err(error));
 }

@@ -1,22 +1,29 @@
-//! A layer whose commits share one long extra edge list. A check or a query that goes over the list
-//! once for each of them takes longer than a test may.
+//! Two lines of commits that share one long extra edge list. A check or a question that goes over
+//! the list once for each of them takes longer than a test may.
 
-use crate::fixtures::{graph_of, layer as layer_of_rows, opened, right};
+use crate::fixtures::{compared, graph_of, layer as layer_of_rows, opened};
 use gix_commitgraph::file::Commit;
-use gix_commitgraph::{File, Graph};
+use gix_commitgraph::{File, Graph, Position};
 use gix_hash_core::Kind;
-use graph_history::CheckedGraph;
+use graph_history::{Checked, CheckedGraph, Comparer, Comparison};
 use graph_vectors::{END, file_of_parts, reseal, words};
 use std::alloc::Global;
 use std::convert::Infallible;
 use std::process::Abort;
 use std::time::Instant;
 
-/// How many commits the layer has. Each but the first has the one before as its first parent.
-const COMMITS: u32 = 50_000;
+/// How many commits have no parent. They come first.
+const ROOTS: u32 = 100;
 
-/// How many words its extra edge list has. The further parents of commit i are listed from word i
-/// on, up to the last word. All are the first commit.
+/// How many commits each line has. Those of the two lines come in turns. The first of each has the
+/// first root as its first parent, and each other one the commit before it in its line.
+const LINE: u32 = 25_000;
+
+const COMMITS: u32 = ROOTS + 2 * LINE;
+
+/// How many words the extra edge list has, which name one root after another over and over. The
+/// further parents of commit i are listed from word i on, up to the last word, so each commit of a
+/// line has all roots as parents. The last word names the first root.
 const WORDS: u32 = 800_000;
 
 const RECORDS_AT: u64 = 1092 + 20 * COMMITS as u64;
@@ -40,6 +47,17 @@ fn push(rt: &impl Abort, bytes: &mut Vec<u8>, more: &[u8]) {
     bytes.extend_from_slice(more).expect(rt, "memory");
 }
 
+/// The two parent fields of a commit, and its generation number.
+fn fields(commit: u32) -> (u32, u32, u32) {
+    if commit < ROOTS {
+        (NO_PARENT, NO_PARENT, 1)
+    } else if commit < ROOTS + 2 {
+        (0, TOP_BIT | commit, 2)
+    } else {
+        (commit - 2, TOP_BIT | commit, 2 + (commit - ROOTS) / 2)
+    }
+}
+
 /// The ids of the commits: the numbers from 1 on in their first four bytes.
 fn ids(rt: &impl Abort, alloc: Global) -> Vec<u8> {
     let mut bytes = Vec::new(alloc);
@@ -50,26 +68,25 @@ fn ids(rt: &impl Abort, alloc: Global) -> Vec<u8> {
     bytes
 }
 
-/// The records of the commits. The generation number of commit i is i + 1, and its time is 0.
+/// The records of the commits, whose times are 0.
 fn records(rt: &impl Abort, alloc: Global) -> Vec<u8> {
     let mut bytes = Vec::new(alloc);
     for commit in 0..COMMITS {
-        let (first, second) = if commit == 0 {
-            (NO_PARENT, NO_PARENT)
-        } else {
-            (commit - 1, TOP_BIT + commit)
-        };
+        let (first, second, generation) = fields(commit);
         push(rt, &mut bytes, &[0x99; 20]);
         push(rt, &mut bytes, &first.to_be_bytes());
         push(rt, &mut bytes, &second.to_be_bytes());
-        push(rt, &mut bytes, &(u64::from(commit + 1) << 34).to_be_bytes());
+        push(rt, &mut bytes, &(u64::from(generation) << 34).to_be_bytes());
     }
     bytes
 }
 
-/// The layer's extra edge list, whose words are 0 but for the last, which ends it.
+/// The extra edge list.
 fn edges(rt: &impl Abort, alloc: Global) -> Vec<u8> {
-    let mut bytes = vec![in alloc; 0; 4 * WORDS as usize - 4].expect(rt, "memory");
+    let mut bytes = Vec::new(alloc);
+    for word in 0..WORDS - 1 {
+        push(rt, &mut bytes, &(word % ROOTS).to_be_bytes());
+    }
     push(rt, &mut bytes, &TOP_BIT.to_be_bytes());
     bytes
 }
@@ -87,45 +104,66 @@ fn layer(rt: &impl Abort, alloc: Global) -> File {
     opened(rt, alloc, bytes, "commit-graph")
 }
 
-/// The check of the layer.
+/// Compares what the check of the layer counts. The first commit of a line has the most parents, of
+/// which the list has all but the first, and each of the lines has another number of them.
 fn compare_traversed(rt: &impl Abort, alloc: Global, file: &File) {
     let outcome = file.traverse(alloc, &mut |_: &Commit<'_>| Ok::<(), Infallible>(()));
     let outcome = outcome.expect(rt, "a right layer");
-    assert!(rt; outcome.num_commits == COMMITS && outcome.max_generation == COMMITS);
-    assert!(rt; outcome.max_parents == WORDS);
-    assert!(rt; outcome.parent_counts.len() == COMMITS as usize);
+    assert!(rt; outcome.num_commits == COMMITS && outcome.max_generation == LINE + 1);
+    assert!(rt; outcome.max_parents == WORDS - ROOTS + 1);
+    assert!(rt; outcome.parent_counts.len() == 2 * LINE as usize + 1);
 }
 
-/// The check of the graph of the layer.
-fn compare_verified(rt: &impl Abort, alloc: Global, graph: &Graph) {
-    let outcome = graph.verify_integrity(alloc, &mut |_: &Commit<'_>| Ok::<(), Infallible>(()));
-    let outcome = outcome.expect(rt, "a right graph");
-    assert!(rt; outcome.longest_path_length == Some(COMMITS - 1));
-    assert!(rt; outcome.parent_counts.len() == COMMITS as usize);
-}
-
-/// The walk from the last commit to the second, which goes through all commits between them.
-fn compare_queries(rt: &impl Abort, alloc: Global, graph: &Graph) {
-    let checked = right(rt, alloc, graph);
+/// Compares the walk from the last commit to the first of its line, which goes through all of them.
+fn compare_walk(rt: &impl Abort, alloc: Global, checked: &Checked<'_>) {
     let last = checked.position(COMMITS - 1).expect(rt, "the last commit");
-    let second = checked.position(1).expect(rt, "the second commit");
-    let reached = checked.ancestor_walk(alloc, last, second);
+    let first = checked
+        .position(ROOTS + 1)
+        .expect(rt, "the first of its line");
+    let reached = checked.ancestor_walk(alloc, last, first);
     let reached = reached.expect(rt, "memory");
-    assert!(rt; reached.visits == COMMITS - 1);
+    assert!(rt; reached.visits == LINE);
     let walk = reached.walk.expect(rt, "a walk");
-    assert!(rt; walk.len() == COMMITS as usize - 1);
-    let found = checked.is_ancestor(alloc, last, second);
+    assert!(rt; walk.len() == LINE as usize);
+    let found = checked.is_ancestor(alloc, last, first);
     assert!(rt; found.expect(rt, "memory"));
 }
 
+/// Compares what is answered of the last commits of the two lines. They lead to all commits, and
+/// both of them to the roots alone.
+fn compare_apart(rt: &impl Abort, answer: &Comparison) {
+    let positions = answer.bases.positions.as_slice();
+    assert!(rt; positions.iter().map(|pos| pos.0).eq(0..ROOTS));
+    assert!(rt; answer.divergence.ahead == LINE && answer.divergence.behind == LINE);
+    assert!(rt; answer.bases.visits == u64::from(COMMITS));
+}
+
+/// Compares merge bases of the last commits of the lines, and of the last one and the one before it
+/// in its line.
+fn compare_bases(rt: &impl Abort, alloc: Global, checked: &Checked<'_>) {
+    let mut comparer = Comparer::new(alloc, checked);
+    let (first, second, before) = (COMMITS - 1, COMMITS - 2, COMMITS - 3);
+    compare_apart(rt, &compared(rt, &mut comparer, first, second));
+    // Nothing that was passed on is left for the next question.
+    let near = compared(rt, &mut comparer, first, before);
+    let positions = near.bases.positions.as_slice();
+    assert!(rt; positions == [Position(before)].as_slice());
+    assert!(rt; near.divergence.ahead == 1 && near.divergence.behind == 0);
+    compare_apart(rt, &compared(rt, &mut comparer, second, first));
+}
+
 #[test]
-fn a_shared_list_is_checked_in_time(rt: HostRuntime) {
+fn a_shared_list_is_gone_over_once(rt: HostRuntime) {
     let alloc = rt.alloc();
     let file = layer(&rt, alloc);
     compare_traversed(&rt, alloc, &file);
-    let graph = graph_of(&rt, alloc, [file]);
-    compare_verified(&rt, alloc, &graph);
-    compare_queries(&rt, alloc, &graph);
+    let graph = CheckedGraph::new(alloc, graph_of(&rt, alloc, [file]));
+    let graph = graph.expect(&rt, "a right graph");
+    let checked = graph.as_checked();
+    assert!(rt; checked.outcome().longest_path_length == Some(LINE));
+    assert!(rt; checked.outcome().parent_counts.len() == 2 * LINE as usize + 1);
+    compare_walk(&rt, alloc, &checked);
+    compare_bases(&rt, alloc, &checked);
 }
 
 /// The graph of the layer and of one above it, with one commit, whose id repeats this byte.
