@@ -230,11 +230,16 @@ fn run_history(rt: &HostRuntime, alloc: Global, stage: &mut Stage) -> io::Result
     let Some(command) = HistoryCommand::from_words(&stage.folders.words, texts) else {
         return println!(rt; "no such command");
     };
-    let mut input = match command {
-        HistoryCommand::Ask { .. } => QUESTIONS,
-        _ => stage.long.stream.as_slice(),
+    let answer = match command {
+        HistoryCommand::Ask { .. } => {
+            let mut questions = QUESTIONS;
+            command.run(alloc, &mut questions, memory, out)
+        }
+        _ => {
+            let mut stream = stage.long.stream.as_slice();
+            command.run(alloc, &mut stream, memory, out)
+        }
     };
-    let answer = command.run(alloc, &mut input, memory, out);
     println!(rt; "{answer:?}")?;
     io::writer(rt).write_all(out)
 }
