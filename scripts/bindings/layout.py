@@ -6,6 +6,8 @@ import struct
 WORD = struct.Struct(">I")
 CLOSED = [2] + 9 * [0]
 """The fields of a verdict where no graph is open."""
+BASE_ID, CHECKSUM = 303, 341
+"""The numbers of a wrong base id and of a wrong checksum."""
 
 
 class History:
@@ -77,8 +79,11 @@ def longest_of(history):
 
 
 def alone(verdict, layers):
-    """What is told of layers alone by their check, where the verdict on their graph names a fault of one: else `None`."""
+    """What is told of layers alone by their check, where the verdict on their graph names a fault of one: else `None`. A base id
+    is changed with no new checksum, and a layer alone is held against that and not against the layers below."""
     code, position, other, layer = verdict[0], verdict[4], verdict[5], verdict[7]
+    if code == BASE_ID:
+        return layer, [CHECKSUM, 0, 0, 0, 0, 0, 0]
     if not 341 <= code <= 364:
         return None
     at = layer if code <= 343 else max(number for number, told in enumerate(layers) if told[0] <= position)
@@ -153,5 +158,5 @@ def layered(layers):
     counts = changed(layers[1], fan + 4 * byte, word(layers[1], fan + 4 * byte) + 1)
     opened = [0, 0, 1, 1]
     yield "table", [layers[0], table_end, *layers[2:]], [157, 1, 0, 0], CLOSED
-    yield "base", [*layers[:2], base_id, layers[3]], opened, verdict(303, called=sum(sizes[:2]), layer=2, index=1)
+    yield "base", [*layers[:2], base_id, layers[3]], opened, verdict(BASE_ID, called=sum(sizes[:2]), layer=2, index=1)
     yield "fan", [layers[0], counts], opened, verdict(343, other=byte, called=sizes[0], layer=1)
