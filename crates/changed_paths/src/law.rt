@@ -32,6 +32,7 @@ pub fn filters_are_all_of_the_data()
 
 /// Known hashes: published ones of murmur3, those of both readings, and the seven probes of the
 /// empty text.
+#[tactic(auto, unfolding(crate::specs::Murmur3::murmur3, crate::specs::Murmur3::with_words, crate::specs::Filter::probe))]
 pub fn known_hashes()
     ensures empty { murmur3 Unsigned 0 (codes "") ≡ 0 }
     ensures hello { murmur3 Unsigned 0 (codes "Hello world!") ≡ 0x627b0c2c }
