@@ -64,8 +64,8 @@ IN_RUST = re.compile(r"^pub\(crate\) const (\w+): u32 = (\d+);$", re.MULTILINE)
 IN_PYTHON = re.compile(r"^    ([A-Z]\w+) = (\d+)$", re.MULTILINE)
 IN_PYTHON_SAID = re.compile(r'^    Code\.(\w+): "(.+)",$', re.MULTILINE)
 IN_SPECS = re.compile(
-    r"^(?:\w+_code \S.* = |refusal_of \S.* = refusal_in_\w+ |told_\w+_fault \(.* = without_\w+ |told_mismatch .* = (?:matched_code |record \{ code = ))(\d+)\b"
-    r"|^(?:out_of_memory|closed_graph|not_checked|no_such_position|path_not_utf8|no_dates|more_parents|path_wanted|no_such_layer) = (\d+)$",
+    r"^(?:\w+_code \S.* = |refusal_of \S.* = refusal_in_\w+ |told_\w+_fault \(.* = without_\w+ |told_write .* = write_code |told_mismatch .* = (?:matched_code |record \{ code = ))(\d+)\b"
+    r"|^(?:out_of_memory|closed_graph|not_checked|no_such_position|path_not_utf8|no_dates|more_parents|path_wanted|no_such_layer|no_ids) = (\d+)$",
     re.MULTILINE,
 )
 NEVER = 309
@@ -83,6 +83,8 @@ GROUPS = {
     400: re.compile(r"^\| `refused dates ([1-5])\b", re.MULTILINE),
     500: re.compile(r"^\| `refused filters ([1-9])\b(?!0)", re.MULTILINE),
     600: re.compile(r"^\| `refused objects ([6-9]|10) ", re.MULTILINE),
+    700: re.compile(r"^\| `refused write ([3-79])\b", re.MULTILINE),
+    0: re.compile(r"^\| `CG_WRITE_\w+`, (\d+) ", re.MULTILINE),
 }
 """The rows of the document whose numbers, added to this one, are those by which the library tells the same causes."""
 

@@ -1,4 +1,4 @@
-/* Reads and checks the commit-graph files of Git.
+/* Reads, checks and writes the commit-graph files of Git.
  *
  * The calls below are the proved code of Nolavimure, compiled: they read no byte out of bounds, never abort and always
  * return, for all bytes of files and all numbers, if the caller keeps the rules here. Nothing checks that a caller does.
@@ -13,10 +13,14 @@
  *   graph is running, and none follows.
  * - No call keeps a pointer that it was given. No call is made from a signal handler, or in the child of a process with
  *   threads before it execs. Memory comes from malloc, realloc and free.
- * - What an out parameter holds before a call does not matter, but for the cg_graph that a call hands out, which has to
- *   be CG_CLOSED.
+ * - What an out parameter holds before a call does not matter, but for the cg_graph or the cg_bytes that a call hands out, which
+ *   has to be CG_CLOSED or CG_NO_BYTES.
  * - Where a call answers a code, CG_OK, 0, is a full answer, and any other the number of the cause: see CG_OK. Other codes than
  *   those that are named beside a call do not come. Calls with a graph that is CG_CLOSED answer CG_CLOSED_GRAPH, or as each says.
+ *
+ * Costs. Opening copies all bytes and decodes the records. A check reads all of them, with a digest of each file. A lookup goes over the
+ * layers from the lowest on, and searches each by halves; a call for a position finds its layer by halves; one for a layer counts
+ * those below it. Writing into a room costs what is written. Comments say where a call costs more.
  *
  * The library is for x86-64 Linux. Link with libcommitgraph.a or libcommitgraph.so.0; memory comes from the program's malloc.
  * Until version 1.0, a program is built with the header of the library that it is linked with: structs and numbers may change
@@ -136,9 +140,23 @@ enum cg_code {
     CG_OBJECT_UNREADABLE = 607,
     CG_OBJECT_TREE = 608,
     CG_OBJECT_PARENT = 609,
-    CG_OBJECT_TIME = 610
-};
+    CG_OBJECT_TIME = 610,
 
+    /* Commits make no layer: "write N". */
+    CG_WRITE_KIND = 701,
+    CG_WRITE_NULL_ID = 702,
+    CG_WRITE_NULL_TREE = 703,
+    CG_WRITE_TIME = 704,
+    CG_WRITE_TWICE = 705,
+    CG_WRITE_BELOW = 706,
+    CG_WRITE_PARENT = 707,
+    CG_WRITE_CYCLE = 708,
+    CG_WRITE_NOTHING = 709,
+    CG_WRITE_NO_IDS = 712,
+    CG_WRITE_TOO_MANY_COMMITS = 721,
+    CG_WRITE_TOO_MANY_EDGES = 722,
+    CG_WRITE_TOO_MANY_LAYERS = 723
+};
 
 /* No position. Positions count from 0 over all layers, the lowest first, and are below cg_num_commits. */
 #define CG_NOWHERE 0xffffffffu
@@ -264,10 +282,28 @@ size_t cg_base_id_at(cg_graph graph, uint64_t layer, uint64_t index, uint8_t *ou
  * holds the id. In a graph that cg_verify found right it is the least that does, and CG_NOWHERE means that none does. */
 uint32_t cg_lookup(cg_graph graph, const uint8_t *id, size_t len);
 
+/* Looks up many ids of `id_len` bytes each, which stand one after another, and writes the position of each, or CG_NOWHERE, as
+ * cg_lookup answers it, as many as there is room for. Answers how many ids there are; 0, and writes nothing, for an `id_len` other
+ * than 20 or 32, and for CG_CLOSED. It costs what so many calls of cg_lookup cost. */
+uint64_t cg_lookup_all(cg_graph graph, const uint8_t *ids, size_t ids_len, size_t id_len, uint32_t *out, size_t len);
+
 /* Writes the id at a position, or that of its commit's root tree, and answers its length, which `len` has to be. Answers 0,
  * and writes nothing, for another length, for a position that is none, and for CG_CLOSED. */
 size_t cg_id_at(cg_graph graph, uint32_t pos, uint8_t *out, size_t len);
 size_t cg_tree_at(cg_graph graph, uint32_t pos, uint8_t *out, size_t len);
+
+/* How many of many questions were answered, by a call for positions or for pairs. `code` is
+ *   CG_CLOSED_GRAPH; else
+ *   CG_NOT_CHECKED         from the call for pairs alone, where the graph is none that cg_open_checked or cg_check has handed out; else
+ *   CG_OK                  where `answered` is as many as were asked, or as there is room for, if that is fewer; else
+ *   CG_NO_SUCH_POSITION    where the next position, or one of the next pair, is none: that of number `answered`; else
+ *   CG_OUT_OF_MEMORY       from the call for pairs alone, where memory ran out on the next pair.
+ * The first `answered` places of the room were written, and no other. It is 0 on the first two. */
+typedef struct cg_answered { uint32_t code; uint64_t answered; } cg_answered;
+
+/* Writes the ids at many positions, one after another, each of cg_id_len bytes: there is room for `len` / cg_id_len of them. It costs
+ * what so many calls of cg_id_at cost. */
+cg_answered cg_ids_at(cg_graph graph, const uint32_t *positions, size_t count, uint8_t *out, size_t len);
 
 /* What a commit's record says: the committer's time in seconds since 1970-01-01 00:00:00 UTC, and the generation number. */
 typedef struct cg_commit { uint64_t time; uint32_t generation; } cg_commit;
@@ -377,15 +413,6 @@ cg_leads cg_is_ancestor(cg_graph graph, uint32_t ancestor, uint32_t descendant);
 /* Two commits, by their positions, in the order of cg_is_ancestor. */
 typedef struct cg_pair { uint32_t ancestor, descendant; } cg_pair;
 
-/* How many pairs were answered. `code` is
- *   CG_CLOSED_GRAPH; else
- *   CG_NOT_CHECKED         where the graph is none that cg_open_checked or cg_check has handed out; else
- *   CG_OK                  where `answered` is the smaller of the two lengths: each pair was answered for which there is room; else
- *   CG_NO_SUCH_POSITION    where a position of the next pair, whose number `answered` is, is none; else
- *   CG_OUT_OF_MEMORY       where memory ran out on that pair.
- * The first `answered` places of the room were written, and no other. It is 0 on the first two. */
-typedef struct cg_answered { uint32_t code; uint64_t answered; } cg_answered;
-
 /* Asks for many pairs what cg_is_ancestor asks for one, and writes of each 1 where `ancestor` is one of `descendant`, and
  * else 0. The memory of the search is filled once for all pairs, which takes most of the time where the commits of a pair are near each other. */
 cg_answered cg_are_ancestors(cg_graph graph, const cg_pair *pairs, size_t count, uint8_t *out, size_t len);
@@ -398,6 +425,26 @@ typedef struct cg_bases { uint32_t code, ahead, behind; uint64_t visits, length;
 /* Looks for the merge bases that `git merge-base --all FIRST OTHERS..` names, and writes their positions, the least first, as
  * many as there is room for. */
 cg_bases cg_merge_bases(cg_graph graph, uint32_t first, const uint32_t *others, size_t count, uint32_t *out, size_t len);
+
+/* Two commits, by their positions. */
+typedef struct cg_two { uint32_t first, other; } cg_two;
+
+/* How many pairs were compared. `code` is
+ *   CG_CLOSED_GRAPH; else
+ *   CG_NOT_CHECKED         where the graph is none that cg_open_checked or cg_check has handed out; else
+ *   CG_OK                  where `answered` is as many as were asked, or as `answers` has room for, if that is fewer; else
+ *   CG_NO_SUCH_POSITION    where a position of the next pair, whose number `answered` is, is none; else
+ *   CG_OUT_OF_MEMORY       where memory ran out on that pair.
+ * `length` is the number of merge bases that all answered pairs have together. Both are 0 on the first two. */
+typedef struct cg_compared { uint32_t code; uint64_t answered, length; } cg_compared;
+
+/* Compares the commits of many pairs, as cg_merge_bases compares one with another: it writes the answer on each pair, whose code is
+ * CG_OK, and the positions of the merge bases, one pair's after another's, as many as there is room for; no place past `answered`
+ * and past `length` is written. Where `length` is above `len`, the answers are whole all the same, and the sum of their lengths says
+ * of which pairs all positions were written. Two bytes for each commit are filled once for all pairs: with the second pair each costs
+ * no more than what is visited for it. */
+cg_compared cg_merge_bases_of(cg_graph graph, const cg_two *pairs, size_t count, cg_bases *answers, size_t answers_len,
+                              uint32_t *out, size_t len);
 
 /* The corrected commit dates of a graph, by which Git orders commits. `code` is
  *   CG_OK               where each commit has one, and all are right: there are `length`;
@@ -444,6 +491,60 @@ typedef struct cg_matched { uint32_t code; uint64_t parent; } cg_matched;
 /* Compares what the graph says of the commit at a position with the contents of a commit object, as `git cat-file commit ID` writes
  * them. The graph need not be checked. Most of the time goes into the digest. */
 cg_matched cg_matches(cg_graph graph, uint32_t pos, const uint8_t *contents, size_t len);
+
+/* A commit that a layer is to have: its id, that of its root tree, the ids of its parents, one after another, first parent first, each
+ * as long as its own, which is 20 bytes or 32; and the committer's time, in seconds since 1970-01-01 00:00:00 UTC. */
+typedef struct cg_new_commit {
+    const uint8_t *id; size_t id_len; const uint8_t *tree; size_t tree_len; const uint8_t *parents; size_t parents_len;
+    uint64_t time;
+} cg_new_commit;
+
+/* Bytes that a call has made, or none. The rules for a cg_graph are those for it, with cg_bytes_free for cg_close. */
+typedef struct cg_bytes { const void *address; bool kept; } cg_bytes;
+#if defined(__cplusplus) && __cplusplus >= 201103L
+#define CG_NO_BYTES (cg_bytes{ NULL, false })
+#elif defined(__cplusplus)
+static inline cg_bytes cg_no_bytes() { cg_bytes none = { NULL, false }; return none; }
+#define CG_NO_BYTES (cg_no_bytes())
+#else
+#define CG_NO_BYTES ((cg_bytes){ NULL, false })
+#endif
+
+/* Why no layer was written. `code` is CG_OK where one was, else the first of these that holds; commits that are handed in, and the
+ * parents of one, count from 0:
+ *   CG_NOT_CHECKED               the graph is open, and none that cg_open_checked or cg_check has handed out;
+ *   CG_WRITE_NO_IDS              an id of `commit` has neither 20 nor 32 bytes, or not as many as its own;
+ *   CG_WRITE_KIND                an id of `commit` is of another kind than the first commit, or than the graph;
+ *   CG_WRITE_NULL_ID, CG_WRITE_NULL_TREE, CG_WRITE_TIME    of `commit`; these four are looked for together, commit by commit;
+ *   CG_WRITE_TWICE               `commit` has the id of `other`, an earlier one;
+ *   CG_WRITE_BELOW               the graph has `commit`, first at `position`;
+ *   CG_WRITE_TOO_MANY_COMMITS;
+ *   CG_WRITE_PARENT              the parent of number `other` of `commit` is neither handed in nor in the graph;
+ *   CG_WRITE_NOTHING             no commit is handed in: Git writes no file then;
+ *   401 to 405                   the corrected dates of the graph are wrong: as in cg_dates, with `layer`, `position`, `expected`;
+ *   CG_WRITE_CYCLE               `commit` is its own ancestor;
+ *   CG_WRITE_TOO_MANY_LAYERS, CG_WRITE_TOO_MANY_EDGES;
+ *   CG_OUT_OF_MEMORY             which may stand before all of these but the first two.
+ * What is not named is 0. */
+typedef struct cg_write_error { uint32_t code, position; uint64_t commit, other, layer, expected; } cg_write_error;
+
+/* Makes the file of a layer with these commits, in any order: on top of a checked graph, whose layers are then those below, or, with
+ * CG_CLOSED, the only layer. It is what Git writes of them, without changed-path filters: with corrected dates where all layers below
+ * have them, as where there are none. Each parent has to be one of the commits, or in the graph. All is copied, and the graph stays
+ * open and as it is. On CG_OK *out has the bytes of the file, which are the caller's to free; else *out is left as it was. What *out
+ * was before is not freed: let it be CG_NO_BYTES. The file's checksum, by which the file of a chain is named graph-X.graph, is its
+ * last cg_id_len bytes.
+ *
+ * The layer is made once, in this call, whose memory is some 300 bytes a commit and 16 for each commit of the graph below; the bytes
+ * wait in *out. */
+cg_write_error cg_write(cg_graph graph, const cg_new_commit *commits, size_t count, cg_bytes *out);
+
+/* Copies bytes, from the one of number `start` on, as many as there is room for. Answers how many there are from there on, 0 past
+ * their end and of CG_NO_BYTES: so with no room it answers how much is wanted, and copies nothing. */
+uint64_t cg_bytes_copy(cg_bytes bytes, uint64_t start, uint8_t *out, size_t len);
+
+/* Frees bytes, and answers whether there were some: false of CG_NO_BYTES, with which nothing is done. */
+bool cg_bytes_free(cg_bytes bytes);
 
 /* A line of a chain file, commit-graph-chain, each of which names a layer, from the lowest on: the line L is the layer of the
  * file graph-L.graph in the same folder. `found`: the line is the bytes from the start that was asked for up to `end`, without
@@ -533,6 +634,19 @@ static inline const char *cg_strerror(uint32_t code) {
     case CG_OBJECT_TREE: return "the root tree is another one in the commit-graph than in the commit";
     case CG_OBJECT_PARENT: return "the parents are others in the commit-graph than in the commit";
     case CG_OBJECT_TIME: return "the time is another one in the commit-graph than in the commit";
+    case CG_WRITE_KIND: return "an id of a commit is of another kind of hash than the first commit, or than the graph below";
+    case CG_WRITE_NULL_ID: return "the id of a commit is null";
+    case CG_WRITE_NULL_TREE: return "the root tree of a commit is null";
+    case CG_WRITE_TIME: return "the time of a commit is past 34 bits";
+    case CG_WRITE_TWICE: return "a commit is handed in twice";
+    case CG_WRITE_BELOW: return "the graph below has a commit that is handed in";
+    case CG_WRITE_PARENT: return "a parent of a commit is neither handed in nor in the graph below";
+    case CG_WRITE_CYCLE: return "a commit is its own ancestor";
+    case CG_WRITE_NOTHING: return "no commit is handed in";
+    case CG_WRITE_NO_IDS: return "an id of a commit has neither 20 nor 32 bytes, or another length than the commit's own";
+    case CG_WRITE_TOO_MANY_COMMITS: return "with the graph below there are more than 1,879,048,191 commits";
+    case CG_WRITE_TOO_MANY_EDGES: return "there are 2^31 parents past the first of commits with more than two";
+    case CG_WRITE_TOO_MANY_LAYERS: return "the graph below has 256 layers";
     default: return "a number that is not known";
     }
 }

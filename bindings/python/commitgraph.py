@@ -100,6 +100,19 @@ class Code(enum.IntEnum):
     OBJECT_TREE = 608
     OBJECT_PARENT = 609
     OBJECT_TIME = 610
+    WRITE_KIND = 701
+    WRITE_NULL_ID = 702
+    WRITE_NULL_TREE = 703
+    WRITE_TIME = 704
+    WRITE_TWICE = 705
+    WRITE_BELOW = 706
+    WRITE_PARENT = 707
+    WRITE_CYCLE = 708
+    WRITE_NOTHING = 709
+    WRITE_NO_IDS = 712
+    WRITE_TOO_MANY_COMMITS = 721
+    WRITE_TOO_MANY_EDGES = 722
+    WRITE_TOO_MANY_LAYERS = 723
 
 
 SENTENCES = {
@@ -180,6 +193,19 @@ SENTENCES = {
     Code.OBJECT_TREE: "the root tree is another one in the commit-graph than in the commit",
     Code.OBJECT_PARENT: "the parents are others in the commit-graph than in the commit",
     Code.OBJECT_TIME: "the time is another one in the commit-graph than in the commit",
+    Code.WRITE_KIND: "an id of a commit is of another kind of hash than the first commit, or than the graph below",
+    Code.WRITE_NULL_ID: "the id of a commit is null",
+    Code.WRITE_NULL_TREE: "the root tree of a commit is null",
+    Code.WRITE_TIME: "the time of a commit is past 34 bits",
+    Code.WRITE_TWICE: "a commit is handed in twice",
+    Code.WRITE_BELOW: "the graph below has a commit that is handed in",
+    Code.WRITE_PARENT: "a parent of a commit is neither handed in nor in the graph below",
+    Code.WRITE_CYCLE: "a commit is its own ancestor",
+    Code.WRITE_NOTHING: "no commit is handed in",
+    Code.WRITE_NO_IDS: "an id of a commit has neither 20 nor 32 bytes, or another length than the commit's own",
+    Code.WRITE_TOO_MANY_COMMITS: "with the graph below there are more than 1,879,048,191 commits",
+    Code.WRITE_TOO_MANY_EDGES: "there are 2^31 parents past the first of commits with more than two",
+    Code.WRITE_TOO_MANY_LAYERS: "the graph below has 256 layers",
 }
 """What happened, for each number."""
 

@@ -19,6 +19,7 @@ import os
 import pathlib
 import real
 import re
+import resource
 import shlex
 import shutil
 import subprocess
@@ -46,7 +47,7 @@ SANITIZED = "-Zsanitizer=thread -Cunsafe-allow-abi-mismatch=sanitizer"
 """Flags of a nightly Rust compiler. Its standard library is not built with them."""
 CALLING_ALL = ("ask.c", "large.c", "memory.c", "threads.c")
 """The programs that make each call. Those of layout.c are the calls that write a struct."""
-IN_HEADER = {"cg_strerror", "cg_closed"}
+IN_HEADER = {"cg_strerror", "cg_closed", "cg_no_bytes"}
 """Functions that the header has whole."""
 STRICT = ["-D_GNU_SOURCE", "-Wall", "-Wextra", "-Wpedantic", "-Werror"]
 COUNTING = threading.Lock()
@@ -416,7 +417,8 @@ def checked_by_program(folder):
 def rust_tests(crate, environment):
     """The tests of the Rust crate, and that of its threads under ThreadSanitizer, where a toolchain can."""
     done = run("cargo", "test", "--quiet", "--offline", cwd=crate, env=environment)
-    expect("Rust: tests", done.returncode == 0 and "21 passed" in done.stdout and "4 threads read" in done.stdout, done)
+    expect("Rust: tests", done.returncode == 0 and "4 threads read" in done.stdout, done)
+    expect("Rust: the tests are all made", all(f"{n} passed" in done.stdout for n in (21, 4)), done)
     command = ["cargo", "+nightly", "test", "--quiet", "--offline", "--test", "threads", "--target", "x86_64-unknown-linux-gnu"]
     at = {**environment, "RUSTFLAGS": SANITIZED}
     if run(*command, "--no-run", cwd=crate, env=at).returncode:
@@ -460,7 +462,23 @@ def rust(environment, archive, scratch, graphs):
         same_as_program(f"Rust, {kind}, chain", built / "ask", where / ".git/objects/info/commit-graphs", commits)
     same_as_real("Rust", built / "ask", scratch, folders=True)
     same_chunks("Rust", built / "ask", scratch, folders=True)
+    short_of_memory(built / "ask", scratch)
     names_of_the_original(crate / "gix-commitgraph", environment, scratch)
+
+
+def short_of_memory(program, scratch):
+    """An info folder with a large file beside a small chain: where the file finds no memory, the chain is not opened in its place."""
+    info = scratch / "short"
+    shutil.copytree(chain(scratch, "sha1") / ".git/objects/info/commit-graphs", info / "commit-graphs")
+    (info / "commit-graph").write_bytes(large.graph())
+    whole, told = run(program, info, "verify").stdout, set()
+    expect("Rust: a large file beside a chain", whole.startswith(f"ok commits {large.COMMITS} "), whole[:200])
+    for megabytes in range(8, 129, 8):
+        limit = functools.partial(resource.setrlimit, resource.RLIMIT_AS, (megabytes << 20, megabytes << 20))
+        # A panic that tells its backtrace wants memory.
+        done = run(program, info, "verify", preexec_fn=limit, env={**os.environ, "RUST_BACKTRACE": "0"})
+        told.add("no memory" if "memory ran out" in done.stderr else done.stdout)
+    expect("Rust: a file that finds no memory hides no chain", {"no memory", whole} <= told <= {"no memory", whole, ""}, told)
 
 
 def names_of_the_original(crate, environment, scratch):
@@ -508,7 +526,8 @@ def c(compiler, archive, scratch, graphs):
     example(compiler, archive, scratch, graphs)
     plus = {"gcc": "g++", "clang": "clang++"}[compiler]
     including = scratch / compiler / "including"
-    including.write_text('#include "commitgraph.h"\ncg_graph closed(void);\ncg_graph closed(void) { return CG_CLOSED; }\n')
+    including.write_text('#include "commitgraph.h"\ncg_graph closed(void);\ncg_graph closed(void) { return CG_CLOSED; }\n'
+                         'cg_bytes no_bytes(void);\ncg_bytes no_bytes(void) { return CG_NO_BYTES; }\n')
     for command, standard in ((compiler, "c99"), (compiler, "c11"), (plus, "c++98"), (plus, "c++17")):
         if present(command, f"the header as {standard}"):
             kind = "c++" if command == plus else "c"
@@ -555,7 +574,7 @@ def installed(compilers, scratch, graphs):
     page = (prefix / "share/man/man3/commitgraph.3").read_text()
     header = (prefix / "include/commitgraph.h").read_text()
     missing = [name for name in re.findall(r"^(?:static inline )?[\w ]+ \*?(cg_[a-z_]+)\(", header, re.MULTILINE) if name not in page]
-    expect("the manual page names each call", missing == ["cg_closed"], missing)
+    expect("the manual page names each call", missing == ["cg_closed", "cg_no_bytes"], missing)
     number = (TOP / "VERSION").read_text().split(",")[0]
     first, second, third = map(int, number.split("."))
     expect("the header has the version", f"#define CG_VERSION {10000 * first + 100 * second + third}\n" in header, number)

@@ -2,6 +2,7 @@
  * through the library, for scripts/bindings, those of graphs and `find` and `ancestor` in the lines of `graphtool`, and `dates` and
  * what refuses a `probe` in lines of `historytool check`. The path is that of a file or of a chain. */
 #include "commitgraph.h"
+#include "commits.h"
 #include <inttypes.h>
 #include <stdio.h>
 #include <stdlib.h>
@@ -77,12 +78,15 @@ static bool layers_agree(cg_graph graph, cg_verdict v) {
     return cg_verify_layer(graph, number, &alone) == CG_NO_SUCH_LAYER && alone.code == CG_NO_SUCH_LAYER && !alone.num_commits;
 }
 
+static bool writes_again(cg_graph graph);
+
 static int check(cg_graph graph, bool distinct) {
     cg_verdict v;
     cg_count counts[ROOM];
     uint32_t code = cg_verify(graph, distinct, &v, counts, ROOM);
     if (!distinct && (v.has_longest || v.code) && !layers_agree(graph, v)) return 9;
     if (code) return not_right(v);
+    if (!writes_again(graph)) return 9;
     printf("ok commits %" PRIu32 " longest ", v.num_commits);
     if (v.has_longest) printf("%" PRIu32 "\n", v.longest);
     else puts("none");
@@ -166,8 +170,39 @@ static bool print_layer(cg_graph graph) {
     return !cg_base_id_at(graph, 0, layer.bases, id, cg_id_len(graph)) && !cg_base_id_at(graph, 1, 0, id, cg_id_len(graph));
 }
 
+/* Whether the calls for many ids and for many positions answer what those for one do: in a room that ends too early, up to a
+ * position that is none, and in all. */
+static bool answers_ids(cg_graph graph) {
+    uint32_t count = cg_num_commits(graph);
+    size_t len = cg_id_len(graph);
+    uint32_t *positions = malloc((count + 2) * sizeof *positions), *found = malloc((count + 2) * sizeof *found);
+    uint8_t *ids = malloc((count + 2) * len), one[32];
+    if (!positions || !found || !ids) exit(9);
+    for (uint32_t i = 0; i <= count; i++) positions[i] = count - 1 - i;
+    memset(ids, 7, (count + 2) * len);
+    cg_answered few = cg_ids_at(graph, positions, count + 1, ids, count / 2 * len + len - 1);
+    bool good = !few.code && few.answered == count / 2 && ids[count / 2 * len] == 7;
+    cg_answered all = cg_ids_at(graph, positions, count + 1, ids, (count + 1) * len);
+    good = good && all.code == CG_NO_SUCH_POSITION && all.answered == count && ids[count * len] == 7;
+    found[count] = found[count / 2] = 7;
+    good = good && cg_lookup_all(graph, ids, (count + 1) * len + len - 1, len, found, count / 2) == count + 1 && found[count / 2] == 7;
+    good = good && cg_lookup_all(graph, ids, count * len, len, found, count + 1) == count && found[count] == 7;
+    for (uint32_t i = 0; good && i < count; i++) {
+        good = cg_id_at(graph, positions[i], one, len) == len && !memcmp(one, ids + i * len, len);
+        good = good && found[i] == cg_lookup(graph, one, len);
+    }
+    good = good && !cg_lookup_all(graph, ids, count * len, 21, found, count) && !cg_lookup_all(graph, ids, count * len, 0, found, count);
+    memset(one, 7, sizeof one);
+    good = good && cg_lookup_all(graph, one, len, len, found, 1) == 1 && found[0] == cg_lookup(graph, one, len);
+    free(positions);
+    free(found);
+    free(ids);
+    return good;
+}
+
 /* All commits, from blocks, each compared with what the calls for one commit say. */
 static int list(cg_graph graph) {
+    if (!answers_ids(graph)) return 9;
     if (cg_num_layers(graph) == 1 && !print_layer(graph)) return 9;
     uint32_t count = cg_num_commits(graph), out[ROOM + 1], one[ROOM];
     cg_parent_count answers[PLACES + 1];
@@ -237,12 +272,144 @@ static int ancestor(cg_graph graph, char **hex) {
     return reached.length ? 0 : 1;
 }
 
+/* What is told of a layer that is refused, with nothing written. */
+static bool refuses(cg_graph graph, const cg_new_commit *commits, size_t count, cg_write_error wanted) {
+    cg_bytes bytes = { commits, false };
+    cg_write_error told = cg_write(graph, commits, count, &bytes);
+    return told.code == wanted.code && told.position == wanted.position && told.commit == wanted.commit && told.other == wanted.other
+        && told.layer == wanted.layer && told.expected == wanted.expected && bytes.address == commits && !bytes.kept;
+}
+
+/* A copy of bytes that were made, which are freed: in a room that is too small and in one that is too large. */
+static uint8_t *copied(cg_bytes bytes, size_t *len) {
+    *len = (size_t)cg_bytes_copy(bytes, 0, NULL, 0);
+    uint8_t *copy = malloc(*len + 1), few[8] = { 7, 7, 7, 7, 7, 7, 7, 7 };
+    if (!copy || *len < 8) exit(9);
+    copy[*len] = 7;
+    if (cg_bytes_copy(bytes, 4, few, 4) != *len - 4 || few[4] != 7 || cg_bytes_copy(bytes, *len + 1, few + 4, 4) || few[4] != 7) exit(9);
+    if (cg_bytes_copy(bytes, 0, copy, *len + 1) != *len || copy[*len] != 7 || memcmp(copy, "CGPH", 4) || memcmp(copy + 4, few, 4)) exit(9);
+    if (cg_bytes_copy(bytes, *len, few, 4) || !cg_bytes_free(bytes)) exit(9);
+    return copy;
+}
+
+/* Whether a layer with one new commit is written on top of a checked graph, and what is refused there. */
+static bool writes_on(cg_graph graph) {
+    static const uint8_t null[32] = { 0 };
+    uint8_t id[32], other[32], first[32];
+    size_t len = cg_id_len(graph), size;
+    uint32_t count = cg_num_commits(graph), parent;
+    memset(id, 0xee, 32);
+    memset(other, 0xed, 32);
+    cg_id_at(graph, 0, first, len);
+    cg_new_commit one = { id, len, other, len, first, len, (1ull << 34) - 1 }, two[2] = { one, one }, bad[2] = { one, one };
+    two[1].id = other;
+    bad[1].id = two[1].id;
+    bool good = refuses(graph, NULL, 0, (cg_write_error){ .code = CG_WRITE_NOTHING });
+#define REFUSED(field, value, fault, ...) bad[1].field = value; \
+    good = good && refuses(graph, bad, 2, (cg_write_error){ .code = fault, .commit = 1, __VA_ARGS__ }); bad[1] = two[1]
+    REFUSED(id, null, CG_WRITE_NULL_ID, .other = 0);
+    REFUSED(tree, null, CG_WRITE_NULL_TREE, .other = 0);
+    REFUSED(time, 1ull << 34, CG_WRITE_TIME, .other = 0);
+    REFUSED(id, id, CG_WRITE_TWICE, .other = 0);
+    REFUSED(id, first, CG_WRITE_BELOW, .position = 0);
+    REFUSED(parents, null, CG_WRITE_PARENT, .other = 0);
+    REFUSED(parents, other, CG_WRITE_CYCLE, .other = 0);
+    REFUSED(id_len, 21, CG_WRITE_NO_IDS, .other = 0);
+    REFUSED(id_len, 0, CG_WRITE_NO_IDS, .other = 0);
+    REFUSED(tree_len, 52 - len, CG_WRITE_NO_IDS, .other = 0);
+    REFUSED(parents_len, len - 1, CG_WRITE_NO_IDS, .other = 0);
+    bad[1] = (cg_new_commit){ id, 52 - len, other, 52 - len, first, 0, 0 };
+    good = good && refuses(graph, bad, 2, (cg_write_error){ .code = CG_WRITE_KIND, .commit = 1 });
+    uint64_t layers = cg_num_layers(graph);
+    cg_bytes bytes = CG_NO_BYTES;
+    cg_write_error told = cg_write(graph, two, 2, &bytes);
+    if (layers == 256) return good && told.code == CG_WRITE_TOO_MANY_LAYERS;
+    if (told.code >= CG_DATES_DATA_SIZE && told.code <= CG_DATES_WRONG) return good && cg_corrected_dates(graph, NULL, 0).code == told.code;
+    if (told.code || !bytes.kept) return false;
+    uint8_t *file = copied(bytes, &size);
+    cg_file alone = { file, size, NULL, 0 };
+    cg_graph top = CG_CLOSED;
+    cg_commit commit, below;
+    cg_layer_info layer;
+    cg_layer_verdict verdict;
+    good = good && !cg_open(&alone, 1, &top).code && cg_num_commits(top) == 2 && cg_layer(top, 0, &layer) && layer.bases == layers;
+    good = good && cg_lookup(top, id, len) == 1 && cg_lookup(top, other, len) == 0 && cg_commit_at(top, 1, &commit);
+    good = good && cg_commit_at(graph, 0, &below) && commit.time == one.time && commit.generation == below.generation + 1;
+    good = good && cg_parents(top, 1, &parent, 1).count == 1 && parent == 0 && count && !cg_verify_layer(top, 0, &verdict);
+    for (uint64_t i = 0; good && i < layers; i++) {
+        good = cg_layer_checksum(graph, i, first, len) == len && cg_base_id_at(top, 0, i, other, len) == len && !memcmp(first, other, len);
+    }
+    free(file);
+    return cg_close(top) && good;
+}
+
+/* Whether the commits of a right graph, written to one file, are read from it again as they were. */
+static bool writes_again(cg_graph graph) {
+    uint8_t *ids, id[32], tree[2][32];
+    uint32_t count = cg_num_commits(graph), out[ROOM], again[ROOM];
+    size_t len = cg_id_len(graph), size;
+    cg_new_commit *commits = commits_of(graph, 0, count, &ids);
+    cg_bytes bytes = CG_NO_BYTES;
+    cg_write_error told = cg_write(CG_CLOSED, commits, count, &bytes);
+    free(commits);
+    free(ids);
+    if (told.code == CG_WRITE_TWICE) return cg_verify(graph, true, &(cg_verdict){ 0 }, NULL, 0) == CG_CHECK_DUPLICATE_ID && !bytes.kept;
+    if (told.code) return told.code == CG_WRITE_NOTHING && !count && !bytes.kept;
+    uint8_t *file = copied(bytes, &size);
+    cg_file alone = { file, size, NULL, 0 };
+    cg_graph read = CG_CLOSED;
+    cg_verdict verdict;
+    cg_error error = cg_open_checked(&alone, 1, true, &verdict, NULL, 0, &read);
+    bool good = !error.code && verdict.num_commits == count && cg_corrected_dates(read, NULL, 0).code == CG_OK;
+    for (uint32_t pos = 0; good && pos < count; pos++) {
+        cg_commit commit, other;
+        cg_id_at(graph, pos, id, len);
+        uint32_t place = cg_lookup(read, id, len);
+        good = cg_commit_at(read, place, &other) && cg_commit_at(graph, pos, &commit) && other.time == commit.time
+            && other.generation == commit.generation && cg_tree_at(graph, pos, tree[0], len) == len
+            && cg_tree_at(read, place, tree[1], len) == len && !memcmp(tree[0], tree[1], len);
+        uint64_t parents = cg_parents(graph, pos, out, ROOM).count;
+        good = good && cg_parents(read, place, again, ROOM).count == parents;
+        for (uint64_t i = 0; good && i < parents && i < ROOM; i++) {
+            cg_id_at(graph, out[i], tree[0], len);
+            cg_id_at(read, again[i], tree[1], len);
+            good = !memcmp(tree[0], tree[1], len);
+        }
+    }
+    free(file);
+    return cg_close(read) && good;
+}
+
+/* Whether the call for many pairs answers what the one for a commit and another does: in a room that ends too early, up to a pair that
+ * is none, and in all. */
+static bool answers_two(cg_graph graph, uint32_t first, const uint32_t *others, uint32_t count) {
+    cg_two pairs[ROOM + 1];
+    cg_bases answers[ROOM + 1], one;
+    uint32_t out[ROOM * FEW + 1], alone[ROOM];
+    uint64_t length = 0;
+    for (uint32_t i = 0; i < count; i++) pairs[i] = (cg_two){ first, others[i] };
+    pairs[count] = (cg_two){ cg_num_commits(graph), first };
+    answers[count].code = out[ROOM * FEW] = 7;
+    cg_compared all = cg_merge_bases_of(graph, pairs, count + 1, answers, count + 1, out, ROOM * FEW);
+    if (all.code != CG_NO_SUCH_POSITION || all.answered != count || answers[count].code != 7 || out[ROOM * FEW] != 7) return false;
+    for (uint32_t i = 0; i < count; i++) {
+        one = cg_merge_bases(graph, first, &others[i], 1, alone, ROOM);
+        if (answers[i].code || one.ahead != answers[i].ahead || one.behind != answers[i].behind || one.length != answers[i].length) return false;
+        if (one.visits != answers[i].visits || memcmp(alone, out + length, one.length * sizeof *out)) return false;
+        length += one.length;
+    }
+    alone[0] = 7;
+    cg_compared few = cg_merge_bases_of(graph, pairs, count, answers, count, alone, 0);
+    return length == all.length && !few.code && few.answered == count && few.length == length && alone[0] == 7;
+}
+
 /* The merge bases of a commit and some others, and how far they have come apart. */
 static int bases(cg_graph graph, int count, char **hex) {
     uint32_t others[ROOM], out[ROOM];
     for (int i = 1; i < count && i <= ROOM; i++) others[i - 1] = position_of(graph, hex[i]);
     cg_bases found = cg_merge_bases(graph, position_of(graph, hex[0]), others, (size_t)count - 1, out, ROOM);
     if (found.code) { printf("refused bases %s\n", cg_strerror(found.code)); return 1; }
+    if (!answers_two(graph, position_of(graph, hex[0]), others, (uint32_t)count - 1) || !writes_on(graph)) return 9;
     print_ids(graph, out, found.length);
     printf("ahead %" PRIu32 " behind %" PRIu32 "\n", found.ahead, found.behind);
     return 0;
@@ -307,6 +474,12 @@ static bool closed_answers(void) {
     cg_layer_info layer = { .first = 7 };
     cg_layer_verdict alone = { .byte = 7 };
     cg_graph none = CG_CLOSED;
+    cg_bases bases = { .code = 7 };
+    cg_two two = { 0, 0 };
+    if (cg_lookup_all(CG_CLOSED, id, 20, 20, out, 1) || cg_ids_at(CG_CLOSED, out, 1, id, 20).code != CG_CLOSED_GRAPH) return false;
+    if (cg_merge_bases_of(CG_CLOSED, &two, 1, &bases, 1, out, 1).code != CG_CLOSED_GRAPH || bases.code != 7) return false;
+    if (!refuses(CG_CLOSED, NULL, 0, (cg_write_error){ .code = CG_WRITE_NOTHING })) return false;
+    if (cg_bytes_copy(CG_NO_BYTES, 0, id, 20) || cg_bytes_free(CG_NO_BYTES)) return false;
     if (cg_verify_layer(CG_CLOSED, 0, &alone) != CG_CLOSED_GRAPH || alone.code != CG_CLOSED_GRAPH || alone.byte) return false;
     if (cg_close(CG_CLOSED) || cg_num_layers(CG_CLOSED) || cg_layer(CG_CLOSED, 0, &layer) || layer.first != 7) return false;
     if (cg_layer_checksum(CG_CLOSED, 0, id, 20) || cg_base_id_at(CG_CLOSED, 0, 0, id, 20)) return false;
@@ -354,6 +527,11 @@ static bool null_answers(cg_graph graph) {
     cg_error none[] = { cg_open(NULL, 0, &opened), cg_open(files, 0, &opened) };
     cg_verify(graph, false, &verdicts[0], NULL, 0);
     cg_verify(graph, false, &verdicts[1], counts, 0);
+    cg_two two[1] = { { 7, 7 } };
+    cg_answered ids[] = { cg_ids_at(graph, NULL, 0, NULL, 0), cg_ids_at(graph, numbers, 0, bytes, 0) };
+    cg_bases base[1] = { { .code = 7 } };
+    cg_compared compared[] = { cg_merge_bases_of(graph, NULL, 0, NULL, 0, NULL, 0), cg_merge_bases_of(graph, two, 0, base, 0, numbers, 0) };
+    if (!SAME(ids, code, answered) || !SAME(compared, code, answered) || cg_lookup_all(graph, NULL, 0, 20, NULL, 0) || base[0].code != 7) return false;
     return SAME(parents, code, count) && SAME(first, code, count) && SAME(blocks, commits, length) && SAME(walks, code, length)
         && SAME(many, code, answered) && SAME(bases, ahead, length) && SAME(told, code, length) && SAME(probed, code, answered)
         && SAME(matched, code, parent) && bases[0].code == bases[1].code && errors[0].code == CG_FILE_TOO_SHORT && errors[1].code == CG_FILE_TOO_SHORT
@@ -369,6 +547,10 @@ static bool unchecked_answers(cg_graph graph) {
     uint32_t out[1] = { 7 };
     uint8_t bit = 7;
     cg_pair pair = { 0, 0 };
+    cg_two two = { 0, 0 };
+    cg_bases bases = { .code = 7 };
+    if (cg_merge_bases_of(graph, &two, 1, &bases, 1, out, 1).code != CG_NOT_CHECKED || bases.code != 7) return false;
+    if (!refuses(graph, NULL, 0, (cg_write_error){ .code = CG_NOT_CHECKED })) return false;
     return cg_ancestor_walk(graph, 0, 0, out, 1).code == CG_NOT_CHECKED && cg_is_ancestor(graph, 0, 0).code == CG_NOT_CHECKED
         && cg_are_ancestors(graph, &pair, 1, &bit, 1).code == CG_NOT_CHECKED && bit == 7
         && cg_merge_bases(graph, 0, out, 0, out, 1).code == CG_NOT_CHECKED && out[0] == 7;

@@ -2,6 +2,7 @@
  * are numbers of 32 bits: how many pairs, the pairs, a commit, how many others, and the others, by their positions. Then what is
  * told of all commits and of these is written to ANSWERS, one call's after another's. Status 9: two calls disagree. */
 #include "commitgraph.h"
+#include "commits.h"
 #include "lines.h"
 #include <stdlib.h>
 #include <string.h>
@@ -150,6 +151,53 @@ static void read_lines(uint32_t count) {
     agree(!cg_chain_line(text, len, start).found);
 }
 
+/* Ids and positions of all commits in one call, and merge bases of as many pairs. */
+static void ask_many(cg_graph checked, uint32_t count) {
+    uint32_t *positions = room(count, sizeof *positions), *found = room(count, sizeof *found);
+    uint8_t *ids = room(count, LEN);
+    cg_two *pairs = room(count, sizeof *pairs);
+    cg_bases *answers = room(count, sizeof *answers), one;
+    for (uint32_t i = 0; i < count; i++) positions[i] = (uint32_t)(N(i) * 48271 % count);
+    cg_answered all = cg_ids_at(checked, positions, count, ids, (size_t)count * LEN);
+    agree(!all.code && all.answered == count && cg_lookup_all(checked, ids, (size_t)count * LEN, LEN, found, count) == count);
+    agree(!memcmp(positions, found, count * sizeof *found));
+    /* The merge base of a commit with itself is itself. */
+    for (uint32_t i = 0; i < count; i++) pairs[i] = (cg_two){ positions[i], positions[i] };
+    cg_compared told = cg_merge_bases_of(checked, pairs, count, answers, count, found, count);
+    agree(!told.code && told.answered == count && told.length == count && !memcmp(positions, found, count * sizeof *found));
+    for (uint32_t i = 0; i < count; i += 4999) {
+        one = cg_merge_bases(checked, positions[i], &positions[i], 1, found, 1);
+        agree(!answers[i].code && answers[i].length == 1 && answers[i].visits == one.visits && !answers[i].ahead && !answers[i].behind);
+    }
+}
+
+/* All commits, written to one file and read from it: each has its place, and says what it said. */
+static void write_again(cg_graph graph, uint32_t count) {
+    uint8_t *ids, id[LEN], other[LEN];
+    cg_new_commit *commits = commits_of(graph, 0, count, &ids);
+    cg_bytes bytes = CG_NO_BYTES;
+    agree(commits && !cg_write(CG_CLOSED, commits, count, &bytes).code);
+    size_t len = (size_t)cg_bytes_copy(bytes, 0, NULL, 0);
+    cg_file file = { room(len, 1), len, NULL, 0 };
+    agree(cg_bytes_copy(bytes, 0, (uint8_t *)(uintptr_t)file.bytes, len) == len && cg_bytes_free(bytes));
+    cg_graph again = CG_CLOSED;
+    cg_verdict verdict;
+    agree(!cg_open_checked(&file, 1, true, &verdict, NULL, 0, &again).code && verdict.num_commits == count);
+    uint64_t *dates = room(count, sizeof *dates), *wanted = room(count, sizeof *wanted);
+    agree(!cg_corrected_dates(again, dates, count).code && !cg_corrected_dates(graph, wanted, count).code);
+    agree(!memcmp(dates, wanted, count * sizeof *dates));
+    for (uint32_t pos = 0; pos < count; pos++) {
+        uint32_t parents[2] = { 0, 0 }, others[2] = { 0, 0 };
+        cg_commit commit, read;
+        agree(cg_id_at(graph, pos, id, LEN) && cg_id_at(again, pos, other, LEN) && !memcmp(id, other, LEN));
+        agree(cg_tree_at(graph, pos, id, LEN) && cg_tree_at(again, pos, other, LEN) && !memcmp(id, other, LEN));
+        agree(cg_commit_at(graph, pos, &commit) && cg_commit_at(again, pos, &read) && commit.time == read.time);
+        agree(commit.generation == read.generation && cg_parents(graph, pos, parents, 2).count == cg_parents(again, pos, others, 2).count);
+        agree(!memcmp(parents, others, sizeof parents));
+    }
+    cg_close(again);
+}
+
 static void tell(cg_graph graph, cg_graph checked, const char *questions, const char *answers) {
     size_t len;
     uint32_t *asked = (uint32_t *)(void *)read_all(questions, &len), count = cg_num_commits(graph), pairs = asked[0];
@@ -164,6 +212,8 @@ static void tell(cg_graph graph, cg_graph checked, const char *questions, const 
     tell_pairs(checked, file, first_pair, pairs);
     asked += 1 + 2 * (size_t)pairs;
     tell_bases(checked, file, asked[0], asked + 2, asked[1]);
+    ask_many(checked, count);
+    write_again(graph, count);
     if (fclose(file)) exit(2);
 }
 

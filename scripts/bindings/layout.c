@@ -35,6 +35,13 @@ AT(cg_dates, length, 24);
 SIZE(cg_bases, 32); AT(cg_bases, code, 0); AT(cg_bases, ahead, 4); AT(cg_bases, behind, 8); AT(cg_bases, visits, 16);
 AT(cg_bases, length, 24);
 SIZE(cg_matched, 16); AT(cg_matched, code, 0); AT(cg_matched, parent, 8);
+SIZE(cg_two, 8); AT(cg_two, first, 0); AT(cg_two, other, 4);
+SIZE(cg_compared, 24); AT(cg_compared, code, 0); AT(cg_compared, answered, 8); AT(cg_compared, length, 16);
+SIZE(cg_new_commit, 56); AT(cg_new_commit, id, 0); AT(cg_new_commit, id_len, 8); AT(cg_new_commit, tree, 16);
+AT(cg_new_commit, tree_len, 24); AT(cg_new_commit, parents, 32); AT(cg_new_commit, parents_len, 40); AT(cg_new_commit, time, 48);
+SIZE(cg_bytes, 16); AT(cg_bytes, address, 0); AT(cg_bytes, kept, 8);
+SIZE(cg_write_error, 40); AT(cg_write_error, code, 0); AT(cg_write_error, position, 4); AT(cg_write_error, commit, 8);
+AT(cg_write_error, other, 16); AT(cg_write_error, layer, 24); AT(cg_write_error, expected, 32);
 SIZE(cg_line, 24); AT(cg_line, found, 0); AT(cg_line, end, 8); AT(cg_line, next, 16);
 
 enum { LAYERS = 8, BYTES = 1 << 16, ROOM = 64, OTHER = 0xaa };
@@ -105,6 +112,28 @@ static void print_queries(cg_graph graph, uint32_t first, uint32_t second) {
     PRINT("leads", leads.code, N(leads.found));
     PRINT("answered", many.code, many.answered, bits[0], bits[1], bits[2]);
     PRINT("bases", bases.code, bases.ahead, bases.behind, bases.visits, bases.length);
+    cg_two two[] = { { first, second }, { CG_NOWHERE, second } };
+    cg_bases answers[2];
+    memset(answers, OTHER, sizeof answers);
+    cg_compared compared = cg_merge_bases_of(graph, two, 2, answers, 2, out, ROOM);
+    PRINT("compared", compared.code, compared.answered, compared.length, answers[0].ahead, answers[0].behind, answers[1].code);
+}
+
+/* What is told where commits are written on top of a graph: one that it has, one that is handed in twice, and a new one. */
+static void print_written(cg_graph graph) {
+    uint8_t id[20], tree[20];
+    uint32_t last = cg_num_commits(graph) - 1;
+    memset(tree, 1, sizeof tree);
+    cg_id_at(graph, last, id, sizeof id);
+    cg_new_commit commits[] = { { tree, 20, tree, 20, id, 20, 5 }, { id, 20, tree, 20, NULL, 0, 5 }, { tree, 20, tree, 20, NULL, 0, 5 } };
+    for (size_t count = 1; count <= 3; count++) {
+        cg_bytes bytes = CG_NO_BYTES;
+        cg_write_error told;
+        memset(&told, OTHER, sizeof told);
+        told = cg_write(graph, commits, count, &bytes);
+        PRINT("written", told.code, told.position, told.commit, told.other, told.layer, told.expected, N(bytes.kept),
+              N(cg_bytes_copy(bytes, 0, NULL, 0) > 1100), N(cg_bytes_free(bytes)));
+    }
 }
 
 int main(int argc, char **argv) {
@@ -130,6 +159,7 @@ int main(int argc, char **argv) {
     uint32_t count = cg_num_commits(checked);
     for (uint32_t pos = 0; pos < count * count; pos++) print_queries(checked, pos / count, pos % count);
     if (!count) print_queries(graph, 0, 1);
+    if (count) print_written(checked);
     char file[4] = { 'a', 'a', 'a', 'a' };
     cg_known known = { "no", 2, (const uint8_t *)"", 0, CG_NOTHING };
     cg_path_error missing = cg_open_known("no", 2, CG_FILE, &known, 1, file, 3, &graph);

@@ -60,6 +60,10 @@ class History:
             for second, other in enumerate(self.ids):
                 yield ["asked", first, second]
                 yield from self.answers(one, self.reached(one), other, self.reached(other))
+        last = len(self.ids) - 1
+        yield ["written", 0, 0, 0, 0, 0, 0, 1, 1, 1]
+        yield ["written", 706, last, 1, 0, 0, 0, 0, 0, 0]
+        yield ["written", 705, 0, 2, 0, 0, 0, 0, 0, 0]
         yield ["missing", 22, 0, 2, ord("o"), ord("a")]
         yield ["line", 1, 3, 5]
 
@@ -70,7 +74,9 @@ class History:
         yield ["reached", 0, one.get(other, -1) + 1]
         yield ["leads", 0, int(other in one)]
         yield ["answered", 4, 2, int(other in one), int(first in two), 0xAA]
-        yield ["bases", 0, len(set(one) - set(two)), len(set(two) - set(one)), len(common - below)]
+        apart = len(set(one) - set(two)), len(set(two) - set(one))
+        yield ["bases", 0, *apart, len(common - below)]
+        yield ["compared", 4, 1, len(common - below), *apart, 0xAAAAAAAA]
 
 
 def longest_of(history):

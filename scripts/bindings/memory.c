@@ -3,6 +3,7 @@
  * verdict's code. It is linked with --wrap for malloc, realloc and free. With `check` in place of the first id it does
  * so with the check of distinct ids alone. */
 #include "commitgraph.h"
+#include "commits.h"
 #include <stdio.h>
 #include <stdlib.h>
 #include <string.h>
@@ -170,6 +171,44 @@ static outcome bases(void) {
     return found == NO_MEMORY && !unwritten(out, sizeof out) ? WRONG : found;
 }
 
+static outcome bases_of(void) {
+    cg_two pairs[] = { { from, to }, { to, from }, { from, from } };
+    cg_bases answers[3];
+    memset(out, OTHER, sizeof out);
+    for (int i = 0; i < 3; i++) answers[i].code = OTHER;
+    cg_compared told = cg_merge_bases_of(graph, pairs, 3, answers, 3, out, ROOM);
+    uint64_t length = 0;
+    for (uint64_t i = 0; i < 3; i++) {
+        if ((i < told.answered) != (answers[i].code == CG_OK)) return WRONG;
+        length += i < told.answered ? answers[i].length : 0;
+    }
+    return length != told.length || !unwritten(out + length, (ROOM - length) * sizeof *out) ? WRONG : outcome_of(told.code);
+}
+
+/* A layer with some commits: a new one on top of the graph, or those of the graph in one file. */
+static outcome writing(cg_graph below, const cg_new_commit *commits, size_t count) {
+    cg_bytes bytes = { files, false };
+    cg_write_error told = cg_write(below, commits, count, &bytes);
+    if (told.code == CG_OK) {
+        bool good = bytes.kept && cg_bytes_copy(bytes, 0, (uint8_t *)out, sizeof out) > 1100 && !memcmp(out, "CGPH", 4);
+        return cg_bytes_free(bytes) && good ? DONE : WRONG;
+    }
+    bool silent = !told.position && !told.commit && !told.other && !told.layer && !told.expected;
+    return silent && bytes.address == (void *)files && !bytes.kept ? outcome_of(told.code) : WRONG;
+}
+
+static cg_new_commit *all_commits;
+
+static outcome write_on(void) {
+    static const uint8_t id[32] = { 0xee }, tree[32] = { 1 };
+    cg_new_commit one = all_commits[0];
+    one.id = id;
+    one.tree = tree;
+    return writing(graph, &one, 1);
+}
+
+static outcome write_all(void) { return writing(CG_CLOSED, all_commits, cg_num_commits(graph)); }
+
 /* The calls that only read: they ask for no memory. */
 static outcome reading(void) {
     uint8_t id[32];
@@ -180,6 +219,8 @@ static outcome reading(void) {
     uint64_t last = cg_num_layers(graph) - 1;
     if (!cg_layer(graph, last, &layer) || cg_layer_checksum(graph, last, id, len) != len) return WRONG;
     if (cg_base_id_at(graph, last, 0, id, len) != (last ? len : 0) || cg_id_at(graph, from, id, len) != len) return WRONG;
+    cg_answered many = cg_ids_at(graph, &from, 1, id, len);
+    if (many.code || cg_lookup_all(graph, id, len, len, out, 1) != 1 || out[0] != from) return WRONG;
     bool good = cg_lookup(graph, id, len) == from && cg_tree_at(graph, from, id, len) == len && cg_commit_at(graph, from, &commit)
         && cg_commits(graph, from, &commit, 1) == cg_num_commits(graph) - from && cg_parents(graph, from, out, 4).code == CG_OK
         && cg_first_parents(graph, from, out, 4).code == CG_OK && cg_matches(graph, from, id, len).code == CG_OBJECT_OTHER_CONTENTS
@@ -241,6 +282,13 @@ int main(int argc, char **argv) {
     printf("dates %ld\n", refusals("dates", dates));
     printf("probe %ld\n", refusals("probe", probe));
     printf("bases %ld\n", refusals("bases", bases));
+    printf("bases_of %ld\n", refusals("bases_of", bases_of));
+    uint8_t *ids;
+    all_commits = commits_of(graph, 0, cg_num_commits(graph), &ids);
+    printf("write_on %ld\n", refusals("write_on", write_on));
+    printf("write_all %ld\n", refusals("write_all", write_all));
+    free(all_commits);
+    free(ids);
     printf("reading %ld\n", refusals("reading", reading));
     cg_close(graph);
     return blocks;

@@ -25,6 +25,22 @@ static uint32_t opened(void) {
     return count + error.code + told.code;
 }
 
+/* The sum of the bytes of a layer with one new commit on top of the graph. */
+static uint64_t written(void) {
+    uint8_t id[32] = { 0xee }, tree[32] = { 1 }, parent[32], part[ROOM];
+    size_t len = cg_id_len(graph);
+    uint64_t all = cg_id_at(graph, 0, parent, len), size = 0;
+    cg_new_commit one = { id, len, tree, len, parent, len, 1000000000 };
+    cg_bytes bytes = CG_NO_BYTES;
+    all += cg_write(graph, &one, 1, &bytes).code;
+    for (uint64_t left; (left = cg_bytes_copy(bytes, size, part, ROOM)) > 0;) {
+        uint64_t count = left < ROOM ? left : ROOM;
+        for (uint64_t i = 0; i < count; i++) all = all * 31 + part[i];
+        size += count;
+    }
+    return all * 31 + size + cg_bytes_free(bytes);
+}
+
 /* A number made from all that a graph answers. */
 static uint64_t sum(void) {
     uint64_t all = 0;
@@ -50,11 +66,14 @@ static uint64_t sum(void) {
         all = all * 31 + cg_merge_bases(graph, pos, &pos, 1, out, ROOM).length;
         all = all * 31 + cg_parents(graph, pos, out, ROOM).count + cg_first_parents(graph, pos, out, 1).count + cg_matches(graph, pos, id, len).code + cg_commit_at(graph, pos, commits) + commits[0].time;
         all = all * 31 + cg_tree_at(graph, pos, id, len) + id[0] + cg_chain_line(id, len, 0).next;
+        all = all * 31 + cg_ids_at(graph, &pos, 1, id, len).answered + cg_lookup_all(graph, id, len, len, out, 1) + out[0];
+        cg_bases bases = { 0, 0, 0, 0, 0 };
+        all = all * 31 + cg_merge_bases_of(graph, &(cg_two){ pos, count - 1 }, 1, &bases, 1, out, ROOM).length + bases.ahead;
         all = all * 31 + cg_are_ancestors(graph, &(cg_pair){ pos, count - 1 }, 1, id, 1).answered + id[0];
     }
     all = all * 31 + cg_corrected_dates(graph, dates, ROOM).length + dates[count - 1];
     all = all * 31 + cg_probe_path(graph, (const uint8_t *)"a", 1, out, 0, (uint8_t *)commits, 0).code;
-    all = all * 31 + opened();
+    all = all * 31 + opened() + written();
     return all * 31 + cg_version() + cg_verify(graph, true, &verdict, counts, ROOM) + verdict.longest + counts[0].commits;
 }
 

@@ -1,4 +1,4 @@
-//! Git's commit-graph files, read and checked by proved code, with the calls of `gix-commitgraph`.
+//! Git's commit-graph files, read, checked and written by proved code, with the calls of `gix-commitgraph`.
 //!
 //! What is proved stands behind `extern "C"`; this crate is not proved. It keeps the rules of `commitgraph.h` by Rust's
 //! types: a [`Graph`] owns its handle and closes it once, what is read borrows it, and each slice is passed whole.
@@ -23,10 +23,12 @@ mod error;
 mod file_error;
 mod id;
 mod layer;
+mod many;
 mod open;
 mod room;
 mod sys;
 mod verify;
+mod writer;
 
 pub use blocks::{ParentBlock, Record};
 pub use checked::{Checked, Comparison, Reached};
@@ -46,6 +48,7 @@ use std::fmt;
 use std::iter::FusedIterator;
 use std::path::Path;
 pub use verify::{Outcome, VerifyOptions};
+pub use writer::{WriteError, Writer};
 
 /// A position in a graph, over all its layers.
 #[derive(Clone, Copy, Debug, PartialEq, Eq, PartialOrd, Ord, Hash)]

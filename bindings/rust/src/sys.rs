@@ -139,7 +139,7 @@ pub struct Leads {
 }
 
 #[repr(C)]
-#[derive(Clone, Copy)]
+#[derive(Clone, Copy, Default)]
 pub struct Bases {
     pub code: u32,
     pub ahead: u32,
@@ -180,6 +180,53 @@ pub struct Probed {
     pub number: u32,
     pub layer: u64,
     pub answered: u64,
+}
+
+#[repr(C)]
+#[derive(Clone, Copy)]
+pub struct Two {
+    pub first: u32,
+    pub other: u32,
+}
+
+#[repr(C)]
+#[derive(Clone, Copy)]
+pub struct Compared {
+    pub code: u32,
+    pub answered: u64,
+    pub length: u64,
+}
+
+#[repr(C)]
+#[derive(Clone, Copy)]
+pub struct NewCommit {
+    pub id: *const u8,
+    pub id_len: usize,
+    pub tree: *const u8,
+    pub tree_len: usize,
+    pub parents: *const u8,
+    pub parents_len: usize,
+    pub time: u64,
+}
+
+#[repr(C)]
+#[derive(Clone, Copy)]
+pub struct Bytes {
+    pub address: *const c_void,
+    pub kept: bool,
+}
+
+pub const NO_BYTES: Bytes = Bytes { address: std::ptr::null(), kept: false };
+
+#[repr(C)]
+#[derive(Clone, Copy)]
+pub struct WriteError {
+    pub code: u32,
+    pub position: u32,
+    pub commit: u64,
+    pub other: u64,
+    pub layer: u64,
+    pub expected: u64,
 }
 
 extern "C" {
@@ -265,6 +312,20 @@ extern "C" {
         out: *mut u32,
         len: usize,
     ) -> Bases;
+    pub fn cg_merge_bases_of(
+        graph: Graph,
+        pairs: *const Two,
+        count: usize,
+        answers: *mut Bases,
+        answers_len: usize,
+        out: *mut u32,
+        len: usize,
+    ) -> Compared;
+    pub fn cg_lookup_all(graph: Graph, ids: *const u8, ids_len: usize, id_len: usize, out: *mut u32, len: usize) -> u64;
+    pub fn cg_ids_at(graph: Graph, positions: *const u32, count: usize, out: *mut u8, len: usize) -> Answered;
+    pub fn cg_write(graph: Graph, commits: *const NewCommit, count: usize, out: *mut Bytes) -> WriteError;
+    pub fn cg_bytes_copy(bytes: Bytes, start: u64, out: *mut u8, len: usize) -> u64;
+    pub fn cg_bytes_free(bytes: Bytes) -> bool;
 }
 
 /// The sizes and offsets of these structs, as `commitgraph.h` has them on a machine of 64 bits.
@@ -302,4 +363,9 @@ mod layout {
     laid_out!(Probed, 32, code 0, position 4, number 8, layer 16, answered 24);
     laid_out!(Matched, 16, code 0, parent 8);
     laid_out!(Line, 24, found 0, end 8, next 16);
+    laid_out!(Two, 8, first 0, other 4);
+    laid_out!(Compared, 24, code 0, answered 8, length 16);
+    laid_out!(NewCommit, 56, id 0, id_len 8, tree 16, tree_len 24, parents 32, parents_len 40, time 48);
+    laid_out!(Bytes, 16, address 0, kept 8);
+    laid_out!(WriteError, 40, code 0, position 4, commit 8, other 16, layer 24, expected 32);
 }

@@ -88,14 +88,14 @@ block_of_none zero room = refl
 block_of_none (suc places) room = refl
 
 -- what stands in the room once its rest was written
-rest_put : (a : ℕ) (xs ys : List ℕ) → take a xs ++ (ys ++ drop (length xs - a) (drop a xs)) ≡ take a xs ++ ys
+pub rest_put : (a : ℕ) (xs ys : List ℕ) → take a xs ++ (ys ++ drop (length xs - a) (drop a xs)) ≡ take a xs ++ ys
 rest_put a xs ys =
     let none : drop (length xs - a) (drop a xs) ≡ [] =
     ap (λ n. drop n (drop a xs)) (sym (length-drop a xs)) ∙ drop-length (drop a xs) in
     rw (none, append-nil) refl
 
 -- and the rest itself
-rest_of : (a : ℕ) (xs : List ℕ) → take (length xs - a) (drop a xs) ≡ drop a xs
+pub rest_of : (a : ℕ) (xs : List ℕ) → take (length xs - a) (drop a xs) ≡ drop a xs
 rest_of a xs = take_all (length xs - a) (drop a xs) (omega (arith, length-drop a xs))
 
 -- what is told of a commit's parents is that

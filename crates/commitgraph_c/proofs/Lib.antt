@@ -1,4 +1,5 @@
 mod AsBox
+mod AsKeptBox
 mod AtPath
 mod BlockRoom
 mod Called
@@ -6,7 +7,11 @@ mod DateRoom
 mod FieldParents
 mod Files
 mod FirstRoom
+mod HandedIn
+mod IdRoom
 mod ManyRoom
 mod ParentRoom
+mod PieceRoom
 mod Positions
+mod TwoRoom
 mod Written

@@ -1,5 +1,5 @@
 -- what is told of the layers of a graph
-use Rattle.std.specs.Prelude.{◌≡◌, ℕ, List, Option, IsSomeAnd, length, slice_get}
+use Rattle.std.specs.Prelude.{ℕ, List, Option, IsSomeAnd, length, slice_get}
 use Rattle.gix_hash_core.specs.declared.kind.Kind.{Kind}
 use Rattle.gix_hash_core.specs.declared.kind.Kind.TheVariants.{Sha1, Sha256}
 use Rattle.graph_format.specs.Layer.{Layer}

@@ -90,7 +90,7 @@ fn positions_of(alloc: Global, numbers: &[u32]) -> Result<Vec<Position>, AllocEr
 }
 
 /// Tells a comparison, and writes the positions of the merge bases.
-fn tell(comparison: &Comparison, out: &mut [u32]) -> CgBases
+pub(crate) fn tell(comparison: &Comparison, out: &mut [u32]) -> CgBases
     ensures code { result.code ≡ 0 }
     ensures tells { TellsComparison comparison.now result out.old out.new }
 {

@@ -105,7 +105,7 @@ fn in_commit(code: u32, pos: Position, expected: u64) -> CgDates
 }
 
 /// Tells why dates are refused.
-fn refused(error: DatesError) -> CgDates
+pub(crate) fn refused(error: DatesError) -> CgDates
     ensures { result ≡ told_date_fault error }
 {
     match error {

@@ -160,13 +160,9 @@ fn refused(error: &OpenError, file: &[u8]) -> CgPathError
 }
 
 /// Writes bytes, as many as there is room for.
-#[tactic(auto, using(crate::proofs::Written::next_number, crate::proofs::Written::no_place_for, crate::proofs::Written::written_length))]
-fn write_bytes(bytes: &[u8], out: &mut [u8])
+pub(crate) fn write_bytes(bytes: &[u8], out: &mut [u8])
     ensures { out.new ≡ written bytes.now out.old }
 {
-    for place in 0..bytes.len() {
-        if place < out.len() {
-            out[place] = bytes[place];
-        }
-    }
+    let count = bytes.len().min(out.len());
+    out[..count].copy_from_slice(&bytes[..count]);
 }

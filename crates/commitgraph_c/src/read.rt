@@ -12,8 +12,10 @@ ghost use Rattle.gix_commitgraph.specs.Sound.{Sound};
 ghost use Rattle.gix_commitgraph.specs.GraphLookup.{FoundIn, position_number};
 ghost use Rattle.commitgraph_c.specs.Answers.{HasCommit, HasId, HasRecord};
 ghost use Rattle.commitgraph_c.specs.Answers.{layers_of, nowhere, told_commit, told_position};
+ghost use Rattle.commitgraph_c.specs.ManyIds.{AnswersLookup};
 
 use crate::handle::CgGraph;
+use crate::opened::Opened;
 use gix_commitgraph::file::Commit;
 use gix_commitgraph::law::graph::the_commits_of_layers_add_up;
 use gix_commitgraph::law::sound::a_lookup_in_a_right_graph_is_a_scan;
@@ -66,9 +68,17 @@ pub extern "C" fn cg_lookup(graph: CgGraph, id: &[u8]) -> u32
     ensures size { is_id_len (length id.now) ≡ false → result ≡ nowhere }
     ensures closed { IfNone graph.address.held (result ≡ nowhere) }
 {
-    let Some(opened) = graph.opened() else {
-        return NOWHERE;
-    };
+    match graph.opened() {
+        Some(opened) => look_up(opened, id),
+        None => NOWHERE,
+    }
+}
+
+/// The position of an id, or 0xffffffff.
+pub(crate) fn look_up(opened: &Opened, id: &[u8]) -> u32
+    ensures answer { IsTrue (is_id_len (length id.now)) → AnswersLookup opened.now id.now result }
+    ensures size { is_id_len (length id.now) ≡ false → result ≡ nowhere }
+{
     let Some(id) = oid::try_from_bytes(id) else {
         return NOWHERE;
     };
