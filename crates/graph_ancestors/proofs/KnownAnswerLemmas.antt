@@ -1,5 +1,5 @@
 -- The answers that are known without a search.
-use Rattle.std.proofs.Common.{ℕ, zero, suc, ◌<◌, ◌≤◌, List, [], ◌∷◌, length, get_or, refl, arith, inl, inr}
+use Rattle.std.proofs.Common.{ℕ, zero, suc, ◌<◌, ◌≤◌, List, [], ◌∷◌, length, get_or, refl, arith, inl, inr, ⊎_elim}
 use Rattle.std.proofs.Common.{Result, Ok, Err, OnErr}
 use Rattle.std.proofs.lemmas.Bool.{cases_lt}
 use Rattle.std.proofs.lemmas.Option.{none-some}
@@ -10,7 +10,7 @@ use Rattle.graph_ancestors.specs.WalkAnswer.{IsShortestWalk, IsAtOrAbove, IsAbov
 use Rattle.graph_ancestors.specs.Cardinality.{AtLeast, AtMost}
 
 module _ (h : List Node) (p : ℕ) (within : p < length h) where
-  one_walk : IsWalkBetween h p p (p ∷ [])
+  pub one_walk : IsWalkBetween h p p (p ∷ [])
   one_walk = record { is_walk = within; first = refl; last = refl }
 
   not_shorter : (other : List ℕ) → IsWalkBetween h p p other → 1 ≤ length other
@@ -51,3 +51,12 @@ pub may_lead : (h : List Node) (from to : ℕ)
     → (generation_at h from ≤ generation_at h to → GENERATION_NUMBER_MAX ≤ generation_at h from) → MayLead h from to
 may_lead h from to allowed =
     elim (cases_lt (generation_at h to) (generation_at h from)) [ inl falls ↦ inl falls | inr stays ↦ inr (allowed stays) ]
+
+-- where they allow a walk, they do not both stay and lie below the cap
+pub led_somewhere : (h : List Node) (from to : ℕ) → MayLead h from to → generation_at h from ≤ generation_at h to
+    → generation_at h from < GENERATION_NUMBER_MAX → ⊥
+led_somewhere h from to leads low below =
+    ⊎_elim
+    (λ (falls : generation_at h to < generation_at h from). omega arith)
+    (λ (capped : GENERATION_NUMBER_MAX ≤ generation_at h from). omega arith)
+    leads

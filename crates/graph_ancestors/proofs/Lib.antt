@@ -2,6 +2,7 @@ pub mod MarkLemmas
 pub mod QueueLemmas
 pub mod ListLemmas
 pub mod FieldLemmas
+pub mod InMemoryLemmas
 pub mod SearchLemmas
 pub mod AheadLemmas
 pub mod StepLemmas

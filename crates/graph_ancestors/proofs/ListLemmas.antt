@@ -19,6 +19,7 @@ use Rattle.gix_commitgraph.proofs.lookup.ElementLemmas.{all-at}
 use Rattle.graph_ancestors.specs.Commits.{named_by, named_from, list_of, list_in, IsReading}
 use Rattle.graph_ancestors.specs.Queue.{IsQueued, Extends}
 use Rattle.graph_ancestors.specs.Search.{IsRead}
+use Rattle.graph_ancestors.specs.Source.{Told, IsListTrue, IsWordTold}
 use Rattle.graph_ancestors.proofs.QueueLemmas.{marked_new, marked_old, marked_cases, queued_extends}
 
 pub head_contained : (x : ℕ) (xs : List ℕ) → Contains (x ∷ xs) x
@@ -80,6 +81,26 @@ module _ (h : List Node) (list : List ℕ) (p next : ℕ) (reading : IsReading h
           reading.parents q (subst (λ (xs : List ℕ). Contains xs q) (sym (named_internal list next pos reading_within is))
           (tail_contained pos.0 q (named_from list (next + 1)) contained));
     }
+
+-- a word that is read where the words from it on name parents of p
+module _ (t : Told) (p l next : ℕ) (word : ExtraEdge) (told : IsWordTold t l next word) (reading : IsListTrue t p l next) where
+  named_here : (e : ExtraEdge) → word ≡ e → Contains (named_from (t.lists l) next) (named_by e)
+  named_here (extra.Internal pos) is =
+      subst (λ (xs : List ℕ). Contains xs pos.0) (sym (named_internal (t.lists l) next pos told.there (sym told.says ∙ is)))
+      (head_contained pos.0 (named_from (t.lists l) (next + 1)))
+  named_here (extra.Last pos) is =
+      subst (λ (xs : List ℕ). Contains xs pos.0) (sym (named_last (t.lists l) next pos told.there (sym told.says ∙ is)))
+      (head_contained pos.0 [])
+
+  pub word_is_parent : named_by word < length t.history → IsParent t.history p (named_by word)
+  word_is_parent within = reading (named_by word) (named_here word refl) within
+
+  pub list_goes_on : (pos : Position) → word ≡ extra.Internal pos → IsListTrue t p l (next + 1)
+  list_goes_on pos is q contained within =
+      reading q
+      (subst (λ (xs : List ℕ). Contains xs q) (sym (named_internal (t.lists l) next pos told.there (sym told.says ∙ is)))
+      (tail_contained pos.0 q (named_from (t.lists l) (next + 1)) contained))
+      within
 
 module _ (h : List Node) (least : ℕ) (queued : List Marked) (list : List ℕ) (marked : List Marked) where
   pub read_extends : (after : List Marked) (c : ℕ) (next : Option ℕ) → Extends queued after c
@@ -217,6 +238,17 @@ module _ (h : List Node) (least : ℕ) (queued : List Marked) (list : List ℕ) 
         → IsQueued queued q
     named_are_queued w is q contained high = named_within (length list) w (omega arith) is q contained high
 
+-- a word that was marked, or is now
+pub word_marked : (was now : List Marked) (next : ℕ) → now ≡ was ++ record { number = next; mark = 0 } ∷ [] → (w : ℕ)
+    → IsMarked was w ⊎ (w ≡ next) → IsMarked now w
+word_marked was now next marks w begun =
+    subst (λ (xs : List Marked). IsMarked xs w) (sym marks)
+    (⊎_elim
+    (λ (old : IsMarked was w). marked_old was (record { number = next; mark = 0 }) w old)
+    (λ (here : w ≡ next). subst (IsMarked (was ++ record { number = next; mark = 0 } ∷ [])) (sym here)
+    (marked_new was (record { number = next; mark = 0 })))
+    begun)
+
 -- One word is gone over: the parent that it names is queued, before the word is marked.
 pub record GoesOver (h : List Node) (least : ℕ) (a b : List Marked) (list : List ℕ) (was now : List Marked) (next : ℕ)
     (word : ExtraEdge) : Type 0 where
@@ -248,15 +280,6 @@ module _ {h : List Node} {least : ℕ} {a b : List Marked} {list : List ℕ} {wa
   goes_over_last last is =
       subst (λ (xs : List Marked). IsRead h least b list xs None) (sym marks)
       (read_last h least b list was next parent unmarked named queues last (says ∙ is))
-
-  pub goes_over_marked : (w : ℕ) → IsMarked was w ⊎ (w ≡ next) → IsMarked now w
-  goes_over_marked w begun =
-      subst (λ (xs : List Marked). IsMarked xs w) (sym marks)
-      (⊎_elim
-      (λ (old : IsMarked was w). marked_old was (record { number = next; mark = 0 }) w old)
-      (λ (here : w ≡ next). subst (IsMarked (was ++ record { number = next; mark = 0 } ∷ [])) (sym here)
-      (marked_new was (record { number = next; mark = 0 })))
-      begun)
 
 -- the parent that the next word names
 pub next_is_parent : (h : List Node) (list : List ℕ) (p next : ℕ) (reading : IsReading h list p next) (e : ExtraEdge)

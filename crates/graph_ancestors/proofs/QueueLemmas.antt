@@ -4,9 +4,8 @@ use Rattle.std.proofs.Common.{◌∙◌, subst, inl, inr, ⊎_elim, arith}
 use Rattle.std.specs.Option.{option_map_or}
 use Rattle.std.proofs.lemmas.Bool.{cases_lt}
 use Rattle.std.proofs.lemmas.List.{length_push}
-use Rattle.graph_walks.specs.History.{Node, IsParent, generation_at}
 use Rattle.graph_ancestors.specs.Marks.{Marked, IsMarked}
-use Rattle.graph_ancestors.specs.Queue.{commit_in, child_in, IsQueue, IsQueued, Extends}
+use Rattle.graph_ancestors.specs.Queue.{commit_in, child_in, IsQueueOf, IsQueued, Extends}
 
 slice_get_push_old : {A : Type 0} (xs : List A) (x : A) (i : ℕ) → i < length xs → slice_get (xs ++ x ∷ []) i ≡ slice_get xs i
 slice_get_push_old [] x i lt = absurd (omega arith)
@@ -17,8 +16,8 @@ slice_get_push_new : {A : Type 0} (xs : List A) (x : A) → slice_get (xs ++ x �
 slice_get_push_new [] x = refl
 slice_get_push_new (y ∷ ys) x = slice_get_push_new ys x
 
-parent_same : (h : List Node) (p q r s : ℕ) → p ≡ r → q ≡ s → IsParent h r s → IsParent h p q
-parent_same h p q r s e f parent = subst (λ (x : ℕ). IsParent h x q) (sym e) (subst (λ (y : ℕ). IsParent h r y) (sym f) parent)
+leads_same : (Leads : ℕ → ℕ → Type 0) (p q r s : ℕ) → p ≡ r → q ≡ s → Leads r s → Leads p q
+leads_same Leads p q r s e f leads = subst (λ (x : ℕ). Leads x q) (sym e) (subst (λ (y : ℕ). Leads r y) (sym f) leads)
 
 -- the places of a list and one more
 module _ (queued : List Marked) (f : Marked) where
@@ -89,37 +88,36 @@ one_commit : (from i : ℕ) → i < 1 → commit_in (record { number = from; mar
 one_commit from zero lt = refl
 one_commit from (suc i) lt = absurd (omega arith)
 
-pub one_is_queue : (h : List Node) (least from : ℕ) (queued : List Marked) → queued ≡ record { number = from; mark = 0 } ∷ []
-    → from < length h → least ≤ generation_at h from → IsQueue h least queued
-one_is_queue h least from queued is within high =
-    subst (IsQueue h least) (sym is) (record {
+pub one_is_queue : (count : ℕ) (Keeps : ℕ → Type 0) (Leads : ℕ → ℕ → Type 0) (from : ℕ) (queued : List Marked)
+    → queued ≡ record { number = from; mark = 0 } ∷ [] → from < count → Keeps from → IsQueueOf count Keeps Leads queued
+one_is_queue count Keeps Leads from queued is within kept =
+    subst (IsQueueOf count Keeps Leads) (sym is) (record {
       within = λ i lt. omega (arith, one_commit from i (omega arith));
-      kept = λ i lt. subst (λ (p : ℕ). least ≤ generation_at h p) (sym (one_commit from i (omega arith))) high;
+      kept = λ i lt. subst Keeps (sym (one_commit from i (omega arith))) kept;
       once = λ i j lt lt' same. omega arith;
       parents = λ i pos lt. absurd (omega arith);
       earlier = λ i pos lt. absurd (omega arith);
     })
 
 -- a commit that was not queued is queued
-module _ (h : List Node) (least : ℕ) (queued : List Marked) (e : Marked) (queue : IsQueue h least queued)
-    (child : e.mark < length queued) (parent : IsParent h (commit_in queued e.mark) e.number)
-    (unqueued : IsQueued queued e.number → ⊥) (high : least ≤ generation_at h e.number) where
+module _ (count : ℕ) (Keeps : ℕ → Type 0) (Leads : ℕ → ℕ → Type 0) (queued : List Marked) (e : Marked)
+    (queue : IsQueueOf count Keeps Leads queued) (child : e.mark < length queued) (inside : e.number < count)
+    (leads : Leads (commit_in queued e.mark) e.number) (unqueued : IsQueued queued e.number → ⊥) (keeps : Keeps e.number) where
   not_queued : (i : ℕ) → i < length queued → commit_in queued i ≢ e.number
   not_queued i lt at = unqueued (i, lt, at)
 
-  pushed_within : (i : ℕ) → i < length (queued ++ e ∷ []) → commit_in (queued ++ e ∷ []) i < length h
+  pushed_within : (i : ℕ) → i < length (queued ++ e ∷ []) → commit_in (queued ++ e ∷ []) i < count
   pushed_within i lt =
       ⊎_elim
       (λ (lo : i < length queued). let same = commit_old queued e i lo in let b = queue.within i lo in omega arith)
-      (λ (hi : i ≡ length queued). let same = commit_new queued e i hi in let b = parent.1 in omega arith)
+      (λ (hi : i ≡ length queued). let same = commit_new queued e i hi in omega arith)
       (cases_pushed queued e i lt)
 
-  pushed_kept : (i : ℕ) → i < length (queued ++ e ∷ []) → least ≤ generation_at h (commit_in (queued ++ e ∷ []) i)
+  pushed_kept : (i : ℕ) → i < length (queued ++ e ∷ []) → Keeps (commit_in (queued ++ e ∷ []) i)
   pushed_kept i lt =
       ⊎_elim
-      (λ (lo : i < length queued).
-      subst (λ (p : ℕ). least ≤ generation_at h p) (sym (commit_old queued e i lo)) (queue.kept i lo))
-      (λ (hi : i ≡ length queued). subst (λ (p : ℕ). least ≤ generation_at h p) (sym (commit_new queued e i hi)) high)
+      (λ (lo : i < length queued). subst Keeps (sym (commit_old queued e i lo)) (queue.kept i lo))
+      (λ (hi : i ≡ length queued). subst Keeps (sym (commit_new queued e i hi)) keeps)
       (cases_pushed queued e i lt)
 
   pushed_once : (i j : ℕ) → i < length (queued ++ e ∷ []) → j < length (queued ++ e ∷ [])
@@ -138,17 +136,17 @@ module _ (h : List Node) (least : ℕ) (queued : List Marked) (e : Marked) (queu
       (cases_pushed queued e i lt)
 
   pushed_parents : (i : ℕ) → 0 < i → i < length (queued ++ e ∷ [])
-      → IsParent h (commit_in (queued ++ e ∷ []) (child_in (queued ++ e ∷ []) i)) (commit_in (queued ++ e ∷ []) i)
+      → Leads (commit_in (queued ++ e ∷ []) (child_in (queued ++ e ∷ []) i)) (commit_in (queued ++ e ∷ []) i)
   pushed_parents i pos lt =
       ⊎_elim
       (λ (lo : i < length queued).
       let below : child_in queued i < length queued = (let b = queue.earlier i pos lo in omega arith) in
-      parent_same h _ _ (commit_in queued (child_in queued i)) (commit_in queued i)
+      leads_same Leads _ _ (commit_in queued (child_in queued i)) (commit_in queued i)
       (ap (commit_in (queued ++ e ∷ [])) (child_old queued e i lo) ∙ commit_old queued e (child_in queued i) below)
       (commit_old queued e i lo) (queue.parents i pos lo))
       (λ (hi : i ≡ length queued).
-      parent_same h _ _ (commit_in queued e.mark) e.number (ap (commit_in (queued ++ e ∷ [])) (child_new queued e i hi)
-      ∙ commit_old queued e e.mark child) (commit_new queued e i hi) parent)
+      leads_same Leads _ _ (commit_in queued e.mark) e.number (ap (commit_in (queued ++ e ∷ [])) (child_new queued e i hi)
+      ∙ commit_old queued e e.mark child) (commit_new queued e i hi) leads)
       (cases_pushed queued e i lt)
 
   pushed_earlier : (i : ℕ) → 0 < i → i < length (queued ++ e ∷ []) → child_in (queued ++ e ∷ []) i < i
@@ -158,7 +156,7 @@ module _ (h : List Node) (least : ℕ) (queued : List Marked) (e : Marked) (queu
       (λ (hi : i ≡ length queued). let same = child_new queued e i hi in omega arith)
       (cases_pushed queued e i lt)
 
-  pub queue_push : IsQueue h least (queued ++ e ∷ [])
+  pub queue_push : IsQueueOf count Keeps Leads (queued ++ e ∷ [])
   queue_push = record {
     within = pushed_within;
     kept = pushed_kept;
@@ -166,3 +164,15 @@ module _ (h : List Node) (least : ℕ) (queued : List Marked) (e : Marked) (queu
     parents = pushed_parents;
     earlier = pushed_earlier;
   }
+
+-- a queue of commits that are of another kind too, and led to in another way too
+pub queue_weaker : (count : ℕ) (Keeps Holds : ℕ → Type 0) (Leads Goes : ℕ → ℕ → Type 0) (queued : List Marked)
+    → ((p : ℕ) → Keeps p → Holds p) → ((p q : ℕ) → Leads p q → Goes p q) → IsQueueOf count Keeps Leads queued
+    → IsQueueOf count Holds Goes queued
+queue_weaker count Keeps Holds Leads Goes queued holds goes queue = record {
+  within = queue.within;
+  kept = λ i lt. holds (commit_in queued i) (queue.kept i lt);
+  once = queue.once;
+  parents = λ i pos lt. goes (commit_in queued (child_in queued i)) (commit_in queued i) (queue.parents i pos lt);
+  earlier = queue.earlier;
+}

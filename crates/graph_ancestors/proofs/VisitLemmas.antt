@@ -7,10 +7,9 @@ use Rattle.std.proofs.lemmas.List.Elements.{All-contains, All-take, Contains-get
 use Rattle.std.proofs.lemmas.Map.Made.{length-le_from_is_member, is_member-Decides, IsDistinct-from_AllPairs}
 use Rattle.std.proofs.lemmas.Map.Steps.{length-le_from_distinct_below}
 use Rattle.std.proofs.lemmas.Map.Views.{Contains-from_any}
-use Rattle.graph_walks.specs.History.{Node}
 use Rattle.graph_ancestors.specs.Cardinality.{AtLeast, AtMost, Lists}
 use Rattle.graph_ancestors.specs.Marks.{Marked}
-use Rattle.graph_ancestors.specs.Queue.{IsQueue, IsQueued, commit_in}
+use Rattle.graph_ancestors.specs.Queue.{IsQueueOf, IsQueued, commit_in}
 
 -- the commits of a queue
 commits_of : List Marked → List ℕ
@@ -58,7 +57,8 @@ module _ (ps : List ℕ) (P : ℕ → Type 0) (lists : Lists ps P) where
         omega (arith, bound, le))),
   )
 
-module _ (h : List Node) (least : ℕ) (queued : List Marked) (queue : IsQueue h least queued) where
+module _ (count : ℕ) (Keeps : ℕ → Type 0) (Leads : ℕ → ℕ → Type 0) (queued : List Marked)
+    (queue : IsQueueOf count Keeps Leads queued) where
   apart : AllPairs (λ p q. p ≢ q) (commits_of queued)
   apart i j d lt lt' same =
       let len = length-commits_of queued in
@@ -67,12 +67,12 @@ module _ (h : List Node) (least : ℕ) (queued : List Marked) (queue : IsQueue h
       ∙ commits_at queued j d (omega arith)) in
       omega arith
 
-  -- no commit is queued twice, so the queue is no longer than the history
-  pub length-queued : length queued ≤ length h
+  -- no commit is queued twice, so the queue has no more than there are commits
+  pub length-queued : length queued ≤ count
   length-queued =
       let len = length-commits_of queued in
       let bound =
-      length-le_from_distinct_below (commits_of queued) (length h)
+      length-le_from_distinct_below (commits_of queued) count
       (IsDistinct-from_AllPairs unsigned_Decides (commits_of queued) apart) (λ q e.
       let at = Contains-from_any (λ x y t. (unsigned_Decides x y).0 t) q (commits_of queued) e in
       let lt : at.0 < length queued = omega (arith, at.1) in

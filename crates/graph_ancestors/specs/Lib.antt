@@ -5,4 +5,5 @@ pub mod Marks
 pub mod Queue
 pub mod BreadthFirst
 pub mod Commits
+pub mod Source
 pub mod Search

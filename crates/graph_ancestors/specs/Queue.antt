@@ -16,15 +16,20 @@ child_in queued i = mark_in queued i
 abbrev pub IsQueued : List Marked → ℕ → Type 0
 IsQueued queued p = IsMarked queued p
 
--- The queue of a search in which no commit with a generation number below the least one is of use.
-pub record IsQueue (history : List Node) (least : ℕ) (queued : List Marked) : Type 0 where
-  -- each that is queued is a commit at or above the least number, and is queued once
-  pub within : (i : ℕ) → i < length queued → commit_in queued i < length history
-  pub kept : (i : ℕ) → i < length queued → least ≤ generation_at history (commit_in queued i)
+-- The queue of a search among so many commits. It keeps commits of one kind alone, and each but the first was led to from one
+-- before it.
+pub record IsQueueOf (count : ℕ) (Keeps : ℕ → Type 0) (Leads : ℕ → ℕ → Type 0) (queued : List Marked) : Type 0 where
+  -- each that is queued is a commit of the kind, and is queued once
+  pub within : (i : ℕ) → i < length queued → commit_in queued i < count
+  pub kept : (i : ℕ) → i < length queued → Keeps (commit_in queued i)
   pub once : (i j : ℕ) → i < length queued → j < length queued → commit_in queued i ≡ commit_in queued j → i ≡ j
-  -- each but the first is a parent of one before it
-  pub parents : (i : ℕ) → 0 < i → i < length queued → IsParent history (commit_in queued (child_in queued i)) (commit_in queued i)
+  pub parents : (i : ℕ) → 0 < i → i < length queued → Leads (commit_in queued (child_in queued i)) (commit_in queued i)
   pub earlier : (i : ℕ) → 0 < i → i < length queued → child_in queued i < i
+
+-- the queue of a search along parents in which no commit with a generation number below the least one is of use
+abbrev pub IsQueue : List Node → ℕ → List Marked → Type 0
+IsQueue history least queued =
+    IsQueueOf (length history) (λ p. least ≤ generation_at history p) (IsParent history) queued
 
 -- What was queued stands where it stood, and what was queued since was reached from place c.
 pub record Extends (old new : List Marked) (c : ℕ) : Type 0 where

@@ -42,3 +42,8 @@ pub record IsAnswer (history : List Node) (from to : ℕ) (reached : Reached) : 
   -- none is visited where the generation numbers allow no walk from one commit to another
   pub no_visits : from ≢ to → generation_at history from ≤ generation_at history to
       → generation_at history from < GENERATION_NUMBER_MAX → reached.visits ≡ 0
+
+-- What holds of an answer whatever the generation numbers are: a walk that is answered is one, and no commit is visited twice.
+pub record IsAnyAnswer (history : List Node) (from to : ℕ) (reached : Reached) : Type 0 where
+  pub walk : IfSome reached.walk (λ walk. IsWalkBetween history from to (numbers_of walk.items))
+  pub visits : AtLeast reached.visits (IsAtOrAbove history from to)

@@ -1,46 +1,52 @@
 //! A search depth first, which finds whether there is a walk.
 
-ghost use Rattle.std.specs.Prelude.{◌≡◌, ◌⊎◌, ◌↔◌, ◌+◌, ◌-◌, ◌<◌, ◌≤◌, ℕ, length, IfOk, OnOk};
-ghost use Rattle.std.specs.Prelude.{IsTrue, Contains};
+ghost use Rattle.std.specs.Prelude.{◌≡◌, ◌⊎◌, ◌+◌, ◌-◌, ◌<◌, ◌≤◌, ℕ, length, IfOk, IfErr, OnOk};
+ghost use Rattle.std.specs.Prelude.{IsTrue, Contains, alloc_error};
 ghost use Rattle.graph_walks.specs.History.{generation_at};
-ghost use Rattle.graph_walks.specs.Walks.{Reaches};
-ghost use Rattle.graph_format.specs.StoredHistory.{history_of};
-ghost use Rattle.gix_commitgraph.specs.Graph.{total};
-ghost use Rattle.graph_ancestors.specs.Search.{IsIdle};
+ghost use Rattle.graph_walks.specs.Walks.{CountWalks, Reaches};
+ghost use Rattle.graph_ancestors.specs.Search.{IsIdle, Keeps};
+ghost use Rattle.graph_ancestors.specs.Source.{Told};
 
 use crate::search::Search;
+use crate::source::CommitSource;
 use gix_commitgraph::Position;
 use gix_commitgraph::law::walk::generations_never_rise_along_walks;
 use std::alloc::AllocError;
 
-impl<'g> Search<'g> {
+impl Search {
     /// Whether a walk leads from one commit to another, whose generation number is not above that
     /// of the first. First parents are followed first.
-    pub(crate) fn reaches(
+    pub(crate) fn reaches<S: CommitSource>(
         &mut self,
+        commits: &mut S,
         from: Position,
         to: Position,
         least: u32,
-    ) -> Result<bool, AllocError>
+    ) -> Result<bool, S::Error>
         requires idle { IsIdle self.old }
-        requires from { from.0 < total self.old.graph.now }
-        requires to { to.0 < total self.old.graph.now }
-        requires least { least ≡ generation_at (history_of self.old.graph.now) to.0 }
-        requires above { least ≤ generation_at (history_of self.old.graph.now) from.0 }
-        ensures graph { self.new.graph.now ≡ self.old.graph.now }
-        ensures found { IfOk result (λ found.
-            IsTrue found ↔ Reaches (history_of self.old.graph.now) from.0 to.0) }
+        requires from { from.0 < S.count (S.known commits.old) }
+        requires least { (t : Told) → S.says commits.old t
+            → least ≡ generation_at t.history to.0 }
+        requires above { Keeps (S.says commits.old) least from.0 }
+        ensures known { S.known commits.new ≡ S.known commits.old }
+        ensures kept { (t : Told) → S.says commits.new t → S.says commits.old t }
+        ensures yes { IfOk result (λ found. (t : Told) → S.says commits.new t
+            → IsTrue found → Reaches t.history from.0 to.0) }
+        ensures no { IfOk result (λ found. (t : Told) → S.says commits.new t
+            → CountWalks t.history → Reaches t.history from.0 to.0 → IsTrue found) }
+        ensures failed { IfErr result (λ e. S.may_fail (S.known commits.old) e
+            ⊎ S.Error.from_gives alloc_error e) }
     {
         generations_never_rise_along_walks();
-        self.begin(from, least)?;
+        self.begin(commits.num_commits(), from, least)?;
         self.stack.clear();
-        self.stack.push(0)?;
+        push_places(&mut self.stack, 0, 1)?;
         while let Some(place) = self.stack.pop() {
             if self.commit_at(place) == to {
                 return Ok(true);
             }
             let reached = self.len() as u32;
-            self.visit(place)?;
+            self.visit(commits, place)?;
             let end = self.len() as u32;
             push_places(&mut self.stack, reached, end)?;
         }

@@ -8,19 +8,25 @@
 
 mod ahead;
 mod ancestor;
+mod any;
 mod checking;
 pub mod commits;
+mod in_memory;
 pub mod law;
 mod lists;
 mod marks;
 mod search;
 mod searcher;
+mod source;
 mod walk;
 mod words;
 
+pub use any::AnySearcher;
 pub use checking::{NoFault, check};
 use gix_commitgraph::Position;
+pub use in_memory::InMemory;
 pub use searcher::Searcher;
+pub use source::CommitSource;
 
 /// The answer of a query for a walk from one commit to another.
 #[derive(Debug, Drop)]

@@ -1,49 +1,59 @@
 //! A search along the extra edge lists.
 
-ghost use Rattle.std.specs.Prelude.{◌≡◌, ◌<◌, ◌≤◌, ℕ, length, OnOk, Contains};
+ghost use Rattle.std.specs.Prelude.{◌≡◌, ◌⊎◌, ◌<◌, ◌≤◌, ℕ, length, OnOk, IfErr, Contains};
+ghost use Rattle.std.specs.Prelude.{alloc_error};
 ghost use Rattle.graph_walks.specs.History.{generation_at};
-ghost use Rattle.graph_format.specs.StoredHistory.{history_of};
-ghost use Rattle.graph_ancestors.specs.Commits.{IsReading, list_in, named_from};
+ghost use Rattle.graph_ancestors.specs.Commits.{named_from};
 ghost use Rattle.graph_ancestors.specs.Queue.{commit_in, IsQueued};
 ghost use Rattle.graph_ancestors.specs.Search.{queued_by, IsSearching, AreRead, GoesOn};
+ghost use Rattle.graph_ancestors.specs.Source.{Told, IsListTrue};
 
-use crate::commits::{list_of, parent_of};
+use crate::commits::parent_of;
 use crate::search::Search;
+use crate::source::CommitSource;
 use gix_commitgraph::file::commit::ExtraEdge;
-use std::alloc::AllocError;
 
-impl<'g> Search<'g> {
-    /// Goes over the words of a layer's extra edge list, from this index on to the last parent of
-    /// the commit at a place, or to a word that was gone over before.
-    pub(crate) fn visit_list(
+impl Search {
+    /// Goes over the words of the extra edge list in whose layer the commit at a place lies, from
+    /// this index on to the last parent of the commit, or to a word that was gone over before.
+    pub(crate) fn visit_list<S: CommitSource>(
         &mut self,
-        layer: usize,
+        commits: &mut S,
         index: u32,
         place: u32,
-    ) -> Result<(), AllocError>
-        requires search { IsSearching self.old }
-        requires read { AreRead self.old }
+    ) -> Result<(), S::Error>
+        requires search { IsSearching (S.count (S.known commits.old)) (S.says commits.old)
+            self.old }
+        requires read { AreRead (S.says commits.old) self.old }
         requires place { place < length (queued_by self.old) }
-        requires layer { layer < length self.old.graph.now }
-        requires reading { IsReading (history_of self.old.graph.now)
-            (list_in self.old.graph.now layer) (commit_in (queued_by self.old) place) index }
-        ensures graph { self.new.graph.now ≡ self.old.graph.now }
-        ensures search { OnOk result (IsSearching self.new) }
-        ensures read { OnOk result (AreRead self.new) }
+        requires listed { S.is_listed (S.known commits.old) (commit_in (queued_by self.old) place)
+            index }
+        requires told { (t : Told) → S.says commits.old t → (l : ℕ)
+            → S.lies (S.known commits.old) (commit_in (queued_by self.old) place) l
+            → IsListTrue t (commit_in (queued_by self.old) place) l index }
+        ensures known { S.known commits.new ≡ S.known commits.old }
+        ensures kept { (t : Told) → S.says commits.new t → S.says commits.old t }
+        ensures search { OnOk result
+            (IsSearching (S.count (S.known commits.old)) (S.says commits.new) self.new) }
+        ensures read { OnOk result (AreRead (S.says commits.new) self.new) }
         ensures goes_on { OnOk result (GoesOn self.old self.new place) }
-        ensures named { OnOk result ((q : ℕ)
-            → Contains (named_from (list_in self.old.graph.now layer) index) q
-            → self.old.least ≤ generation_at (history_of self.old.graph.now) q
-            → IsQueued (queued_by self.new) q) }
+        ensures named { OnOk result ((t : Told) (q : ℕ) → S.says commits.new t
+            → ((l : ℕ) → S.lies (S.known commits.old) (commit_in (queued_by self.old) place) l
+            → Contains (named_from (t.lists l) index) q)
+            → self.old.least ≤ generation_at t.history q → IsQueued (queued_by self.new) q) }
+        ensures failed { IfErr result (λ e. S.may_fail (S.known commits.old) e
+            ⊎ S.Error.from_gives alloc_error e) }
     {
-        let words = list_of(self.graph, layer);
-        self.words.grow_to(layer, words.len())?;
+        let pos = self.commit_at(place);
+        let layer = commits.layer_of(pos);
+        let count = commits.words_of(pos, layer, index);
+        self.words.grow_to(layer, count as usize)?;
         let mut next = index;
         while !self.words.is_marked(layer, next) {
-            let edge = ExtraEdge::from_raw(words[next as usize]);
-            self.enqueue(parent_of(edge), place)?;
+            let word = commits.listed_parent(pos, layer, next)?;
+            self.enqueue(commits, parent_of(word), place)?;
             self.words.set(layer, next)?;
-            match edge {
+            match word {
                 ExtraEdge::Internal(_) => next += 1,
                 ExtraEdge::Last(_) => return Ok(()),
             }

@@ -1,30 +1,26 @@
 //! A search along parents: which commits it has reached, and from where.
 
-ghost use Rattle.std.specs.Prelude.{◌≡◌, ◌<◌, ◌≤◌, ◌∷◌, [], ℕ, length, OnOk, IfOk};
-ghost use Rattle.graph_walks.specs.History.{IsParent, generation_at};
-ghost use Rattle.graph_format.specs.StoredHistory.{history_of};
-ghost use Rattle.gix_commitgraph.specs.Graph.{total};
-ghost use Rattle.gix_commitgraph.specs.Sound.{Sound};
-ghost use Rattle.graph_ancestors.specs.WalkAnswer.{IsAnswer};
-ghost use Rattle.graph_ancestors.specs.Commits.{AreParentFields, NamesParents, Names};
+ghost use Rattle.std.specs.Prelude.{◌≡◌, ◌⊎◌, ◌<◌, ◌≤◌, ◌∷◌, [], ℕ, length, OnOk, IfErr};
+ghost use Rattle.std.specs.Prelude.{alloc_error};
+ghost use Rattle.graph_walks.specs.History.{generation_at};
+ghost use Rattle.graph_ancestors.specs.Marks.{marked_at};
 ghost use Rattle.graph_ancestors.specs.Queue.{commit_in, child_in, IsQueued, QueuesParents};
 ghost use Rattle.graph_ancestors.specs.Search.{queued_by, IsIdle, IsSearching, AreRead, GoesOn};
-ghost use Rattle.graph_ancestors.specs.Search.{IsParentNumber};
+ghost use Rattle.graph_ancestors.specs.Search.{IsEnqueued, IsParentNumber, Leads};
+ghost use Rattle.graph_ancestors.specs.Source.{Told, AreFieldsRead, IsFieldRead, FieldNames};
 
-use crate::commits::{generation_of, layer_of, parent_fields_of};
 use crate::marks::Marks;
+use crate::source::CommitSource;
 use crate::words::WordMarks;
+use gix_commitgraph::Position;
 use gix_commitgraph::file::commit::ParentEdge;
-use gix_commitgraph::law::walk::the_history_of_a_graph_is_that_of_its_layers;
-use gix_commitgraph::{Graph, Position};
 use std::alloc::{AllocError, Global};
 
 /// A search along parents. The commits that it has reached are its queue, in the order in which
 /// they were.
 #[derive(Drop)]
-pub(crate) struct Search<'g> {
+pub(crate) struct Search {
     pub(crate) alloc: Global,
-    pub(crate) graph: &'g Graph,
     /// The generation number of the commit that is looked for. No walk to it goes through a commit
     /// with a lower one, since the numbers never rise along a walk.
     pub(crate) least: u32,
@@ -38,16 +34,13 @@ pub(crate) struct Search<'g> {
     pub(crate) stack: Vec<u32>,
 }
 
-impl<'g> Search<'g> {
+impl Search {
     /// A search that has reached nothing. Nothing is allocated.
-    pub(crate) fn new(alloc: Global, graph: &'g Graph) -> Search<'g>
-        requires { Sound graph.now }
-        ensures graph { result.graph.now ≡ graph.now }
-        ensures idle { IsIdle result }
+    pub(crate) fn new(alloc: Global) -> Search
+        ensures { IsIdle result }
     {
         Search {
             alloc,
-            graph,
             least: 0,
             reached: Marks::new(alloc),
             words: WordMarks::new(alloc),
@@ -55,29 +48,24 @@ impl<'g> Search<'g> {
         }
     }
 
-    /// Begins a search at a commit, for one with this generation number.
-    pub(crate) fn begin(&mut self, from: Position, least: u32) -> Result<(), AllocError>
+    /// Begins a search at one of so many commits, for one with this generation number.
+    pub(crate) fn begin(&mut self, count: u32, from: Position, least: u32) -> Result<(), AllocError>
         requires idle { IsIdle self.old }
-        requires from { from.0 < total self.old.graph.now }
-        requires least { least ≤ generation_at (history_of self.old.graph.now) from.0 }
-        ensures graph { self.new.graph.now ≡ self.old.graph.now }
+        requires from { from.0 < count }
         ensures least { self.new.least ≡ least }
-        ensures search { OnOk result (IsSearching self.new) }
-        ensures read { OnOk result (AreRead self.new) }
+        ensures room { OnOk result (count ≤ self.new.reached.bound) }
         ensures first { OnOk result
             (queued_by self.new ≡ record { number = from.0; mark = 0 } ∷ []) }
+        ensures words { (l : ℕ) → marked_at self.new.words.layers.items l ≡ [] }
     {
-        the_history_of_a_graph_is_that_of_its_layers();
         self.least = least;
-        self.reached.grow_to(self.graph.num_commits() as usize)?;
+        self.reached.grow_to(count as usize)?;
         self.reached.set(from.0, 0)
     }
 
     /// Forgets what was reached. Only that is gone over.
     pub(crate) fn clear(&mut self)
-        requires { Sound self.old.graph.now }
-        ensures graph { self.new.graph.now ≡ self.old.graph.now }
-        ensures idle { IsIdle self.new }
+        ensures { IsIdle self.new }
     {
         self.reached.clear();
         self.words.clear();
@@ -108,166 +96,194 @@ impl<'g> Search<'g> {
 
     /// Puts a parent of the commit at a place at the end of the queue, unless it was reached before
     /// or cannot lead to the commit that is looked for.
-    pub(crate) fn enqueue(&mut self, commit: Position, child: u32) -> Result<(), AllocError>
-        requires search { IsSearching self.old }
+    pub(crate) fn enqueue<S: CommitSource>(
+        &mut self,
+        commits: &mut S,
+        commit: Position,
+        child: u32,
+    ) -> Result<(), S::Error>
+        requires search { IsSearching (S.count (S.known commits.old)) (S.says commits.old)
+            self.old }
         requires child { child < length (queued_by self.old) }
-        requires parent { IsParent (history_of self.old.graph.now)
-            (commit_in (queued_by self.old) child) commit.0 }
-        ensures graph { self.new.graph.now ≡ self.old.graph.now }
+        requires commit { commit.0 < S.count (S.known commits.old) }
+        requires parent { Leads (S.says commits.old) (commit_in (queued_by self.old) child)
+            commit.0 }
+        ensures known { S.known commits.new ≡ S.known commits.old }
+        ensures kept { (t : Told) → S.says commits.new t → S.says commits.old t }
         ensures words { self.new.words ≡ self.old.words }
-        ensures search { OnOk result (IsSearching self.new) }
+        ensures search { OnOk result
+            (IsSearching (S.count (S.known commits.old)) (S.says commits.new) self.new) }
         ensures goes_on { OnOk result (GoesOn self.old self.new child) }
-        ensures queued { OnOk result
-            (self.old.least ≤ generation_at (history_of self.old.graph.now) commit.0
+        ensures queued { OnOk result ((t : Told) → S.says commits.new t
+            → self.old.least ≤ generation_at t.history commit.0
             → IsQueued (queued_by self.new) commit.0) }
+        ensures failed { IfErr result (λ e. S.may_fail (S.known commits.old) e
+            ⊎ S.Error.from_gives alloc_error e) }
     {
         if self.reached.is_marked(commit.0) {
             return Ok(());
         }
-        let number = generation_of(self.graph, commit);
-        self.enqueue_known(commit, child, number)
+        let number = commits.generation_number(commit)?;
+        self.enqueue_known(commit, child, number)?;
+        Ok(())
     }
 
     /// Puts it there so where it has this generation number, which need not be read then.
-    fn enqueue_known(&mut self, commit: Position, child: u32, number: u32) -> Result<(), AllocError>
-        requires search { IsSearching self.old }
-        requires child { child < length (queued_by self.old) }
-        requires parent { IsParent (history_of self.old.graph.now)
-            (commit_in (queued_by self.old) child) commit.0 }
-        requires number { number ≡ generation_at (history_of self.old.graph.now) commit.0 }
-        ensures graph { self.new.graph.now ≡ self.old.graph.now }
+    pub(crate) fn enqueue_known(
+        &mut self,
+        commit: Position,
+        child: u32,
+        number: u32,
+    ) -> Result<(), AllocError>
+        requires { commit.0 < self.old.reached.bound }
         ensures words { self.new.words ≡ self.old.words }
-        ensures search { OnOk result (IsSearching self.new) }
-        ensures goes_on { OnOk result (GoesOn self.old self.new child) }
-        ensures queued { OnOk result
-            (self.old.least ≤ generation_at (history_of self.old.graph.now) commit.0
-            → IsQueued (queued_by self.new) commit.0) }
+        ensures enqueued { OnOk result (IsEnqueued self.old self.new commit.0 child number) }
     {
-        if self.least <= number && !self.reached.is_marked(commit.0) {
-            self.reached.set(commit.0, child)?;
+        if number < self.least {
+            return Ok(());
         }
+        if self.reached.is_marked(commit.0) {
+            return Ok(());
+        }
+        self.reached.set(commit.0, child)?;
         Ok(())
     }
 
     /// Visits the commit at a place of the queue: goes over its parents, first parent first.
-    pub(crate) fn visit(&mut self, place: u32) -> Result<(), AllocError>
-        requires search { IsSearching self.old }
-        requires read { AreRead self.old }
-        requires place { place < length (queued_by self.old) }
-        ensures graph { self.new.graph.now ≡ self.old.graph.now }
-        ensures search { OnOk result (IsSearching self.new) }
-        ensures read { OnOk result (AreRead self.new) }
-        ensures goes_on { OnOk result (GoesOn self.old self.new place) }
-        ensures parents { OnOk result (QueuesParents (history_of self.old.graph.now) self.old.least
-            (queued_by self.new) place) }
-    {
-        let fields = parent_fields_of(self.graph, self.commit_at(place));
-        self.visit_fields(fields, place)
-    }
-
-    /// Visits the commit at a place, of which both parent fields say this.
-    fn visit_fields(
+    pub(crate) fn visit<S: CommitSource>(
         &mut self,
-        fields: (ParentEdge, ParentEdge),
+        commits: &mut S,
         place: u32,
-    ) -> Result<(), AllocError>
-        requires search { IsSearching self.old }
-        requires read { AreRead self.old }
+    ) -> Result<(), S::Error>
+        requires search { IsSearching (S.count (S.known commits.old)) (S.says commits.old)
+            self.old }
+        requires read { AreRead (S.says commits.old) self.old }
         requires place { place < length (queued_by self.old) }
-        requires fields { AreParentFields self.old.graph.now
-            (commit_in (queued_by self.old) place) fields }
-        ensures graph { self.new.graph.now ≡ self.old.graph.now }
-        ensures search { OnOk result (IsSearching self.new) }
-        ensures read { OnOk result (AreRead self.new) }
+        ensures known { S.known commits.new ≡ S.known commits.old }
+        ensures kept { (t : Told) → S.says commits.new t → S.says commits.old t }
+        ensures search { OnOk result
+            (IsSearching (S.count (S.known commits.old)) (S.says commits.new) self.new) }
+        ensures read { OnOk result (AreRead (S.says commits.new) self.new) }
         ensures goes_on { OnOk result (GoesOn self.old self.new place) }
-        ensures parents { OnOk result (QueuesParents (history_of self.old.graph.now) self.old.least
-            (queued_by self.new) place) }
+        ensures parents { OnOk result ((t : Told) → S.says commits.new t
+            → QueuesParents t.history self.old.least (queued_by self.new) place) }
+        ensures failed { IfErr result (λ e. S.may_fail (S.known commits.old) e
+            ⊎ S.Error.from_gives alloc_error e) }
     {
-        self.visit_field(fields.0, place)?;
-        self.visit_field(fields.1, place)?;
+        let fields = commits.parent_fields(self.commit_at(place))?;
+        self.visit_field(commits, fields.0, place)?;
+        self.visit_field(commits, fields.1, place)?;
         Ok(())
     }
 
-    /// Visits it so where the parent that the first of the fields names has this generation number,
-    /// which need not be read then.
-    pub(crate) fn visit_known(
+    /// Goes over the parents that a parent field of the commit at a place names.
+    pub(crate) fn visit_field<S: CommitSource>(
         &mut self,
+        commits: &mut S,
+        field: ParentEdge,
+        place: u32,
+    ) -> Result<(), S::Error>
+        requires search { IsSearching (S.count (S.known commits.old)) (S.says commits.old)
+            self.old }
+        requires read { AreRead (S.says commits.old) self.old }
+        requires place { place < length (queued_by self.old) }
+        requires field { let k = S.known commits.old in
+            IsFieldRead (S.count k) (S.is_listed k) (S.lies k) (S.says commits.old)
+            (commit_in (queued_by self.old) place) field }
+        ensures known { S.known commits.new ≡ S.known commits.old }
+        ensures kept { (t : Told) → S.says commits.new t → S.says commits.old t }
+        ensures search { OnOk result
+            (IsSearching (S.count (S.known commits.old)) (S.says commits.new) self.new) }
+        ensures read { OnOk result (AreRead (S.says commits.new) self.new) }
+        ensures goes_on { OnOk result (GoesOn self.old self.new place) }
+        ensures named { OnOk result ((t : Told) (q : ℕ) → S.says commits.new t
+            → FieldNames t.lists (S.lies (S.known commits.old)
+            (commit_in (queued_by self.old) place)) field q
+            → self.old.least ≤ generation_at t.history q → IsQueued (queued_by self.new) q) }
+        ensures failed { IfErr result (λ e. S.may_fail (S.known commits.old) e
+            ⊎ S.Error.from_gives alloc_error e) }
+    {
+        match field {
+            ParentEdge::None => Ok(()),
+            ParentEdge::GraphPosition(parent) => {
+                self.enqueue(commits, parent, place)?;
+                Ok(())
+            }
+            ParentEdge::ExtraEdgeIndex(index) => {
+                self.visit_list(commits, index, place)?;
+                Ok(())
+            }
+        }
+    }
+    /// Visits the commit at a place, of which both parent fields say this. The parent that the
+    /// first of them names has this generation number, which need not be read then.
+    pub(crate) fn visit_known<S: CommitSource>(
+        &mut self,
+        commits: &mut S,
         fields: (ParentEdge, ParentEdge),
         number: u32,
         place: u32,
-    ) -> Result<(), AllocError>
-        requires search { IsSearching self.old }
-        requires read { AreRead self.old }
+    ) -> Result<(), S::Error>
+        requires search { IsSearching (S.count (S.known commits.old)) (S.says commits.old)
+            self.old }
+        requires read { AreRead (S.says commits.old) self.old }
         requires place { place < length (queued_by self.old) }
-        requires fields { AreParentFields self.old.graph.now
+        requires fields { let k = S.known commits.old in
+            AreFieldsRead (S.count k) (S.is_listed k) (S.lies k) (S.says commits.old)
             (commit_in (queued_by self.old) place) fields }
-        requires number { IsParentNumber self.old.graph.now fields.0 number }
-        ensures graph { self.new.graph.now ≡ self.old.graph.now }
-        ensures search { OnOk result (IsSearching self.new) }
-        ensures read { OnOk result (AreRead self.new) }
+        requires number { IsParentNumber (S.says commits.old) fields.0 number }
+        ensures known { S.known commits.new ≡ S.known commits.old }
+        ensures kept { (t : Told) → S.says commits.new t → S.says commits.old t }
+        ensures search { OnOk result
+            (IsSearching (S.count (S.known commits.old)) (S.says commits.new) self.new) }
+        ensures read { OnOk result (AreRead (S.says commits.new) self.new) }
         ensures goes_on { OnOk result (GoesOn self.old self.new place) }
-        ensures parents { OnOk result (QueuesParents (history_of self.old.graph.now) self.old.least
-            (queued_by self.new) place) }
+        ensures parents { OnOk result ((t : Told) → S.says commits.new t
+            → QueuesParents t.history self.old.least (queued_by self.new) place) }
+        ensures failed { IfErr result (λ e. S.may_fail (S.known commits.old) e
+            ⊎ S.Error.from_gives alloc_error e) }
     {
-        self.visit_first(fields.0, number, place)?;
-        self.visit_field(fields.1, place)?;
+        self.visit_first(commits, fields.0, number, place)?;
+        self.visit_field(commits, fields.1, place)?;
         Ok(())
     }
 
     /// Goes over the parents that the first parent field of the commit at a place names. One that
     /// it names itself has this generation number.
-    fn visit_first(&mut self, field: ParentEdge, number: u32, place: u32) -> Result<(), AllocError>
-        requires search { IsSearching self.old }
-        requires read { AreRead self.old }
+    fn visit_first<S: CommitSource>(
+        &mut self,
+        commits: &mut S,
+        field: ParentEdge,
+        number: u32,
+        place: u32,
+    ) -> Result<(), S::Error>
+        requires search { IsSearching (S.count (S.known commits.old)) (S.says commits.old)
+            self.old }
+        requires read { AreRead (S.says commits.old) self.old }
         requires place { place < length (queued_by self.old) }
-        requires field { NamesParents self.old.graph.now (commit_in (queued_by self.old) place)
-            field }
-        requires number { IsParentNumber self.old.graph.now field number }
-        ensures graph { self.new.graph.now ≡ self.old.graph.now }
-        ensures search { OnOk result (IsSearching self.new) }
-        ensures read { OnOk result (AreRead self.new) }
+        requires field { let k = S.known commits.old in
+            IsFieldRead (S.count k) (S.is_listed k) (S.lies k) (S.says commits.old)
+            (commit_in (queued_by self.old) place) field }
+        requires number { IsParentNumber (S.says commits.old) field number }
+        ensures known { S.known commits.new ≡ S.known commits.old }
+        ensures kept { (t : Told) → S.says commits.new t → S.says commits.old t }
+        ensures search { OnOk result
+            (IsSearching (S.count (S.known commits.old)) (S.says commits.new) self.new) }
+        ensures read { OnOk result (AreRead (S.says commits.new) self.new) }
         ensures goes_on { OnOk result (GoesOn self.old self.new place) }
-        ensures named { OnOk result ((q : ℕ)
-            → Names self.old.graph.now (commit_in (queued_by self.old) place) field q
-            → self.old.least ≤ generation_at (history_of self.old.graph.now) q
-            → IsQueued (queued_by self.new) q) }
+        ensures named { OnOk result ((t : Told) (q : ℕ) → S.says commits.new t
+            → FieldNames t.lists (S.lies (S.known commits.old)
+            (commit_in (queued_by self.old) place)) field q
+            → self.old.least ≤ generation_at t.history q → IsQueued (queued_by self.new) q) }
+        ensures failed { IfErr result (λ e. S.may_fail (S.known commits.old) e
+            ⊎ S.Error.from_gives alloc_error e) }
     {
         match field {
             ParentEdge::GraphPosition(parent) => {
                 self.enqueue_known(parent, place, number)?;
                 Ok(())
             }
-            _ => self.visit_field(field, place),
-        }
-    }
-
-    /// Goes over the parents that a parent field of the commit at a place names.
-    fn visit_field(&mut self, field: ParentEdge, place: u32) -> Result<(), AllocError>
-        requires search { IsSearching self.old }
-        requires read { AreRead self.old }
-        requires place { place < length (queued_by self.old) }
-        requires field { NamesParents self.old.graph.now (commit_in (queued_by self.old) place)
-            field }
-        ensures graph { self.new.graph.now ≡ self.old.graph.now }
-        ensures search { OnOk result (IsSearching self.new) }
-        ensures read { OnOk result (AreRead self.new) }
-        ensures goes_on { OnOk result (GoesOn self.old self.new place) }
-        ensures named { OnOk result ((q : ℕ)
-            → Names self.old.graph.now (commit_in (queued_by self.old) place) field q
-            → self.old.least ≤ generation_at (history_of self.old.graph.now) q
-            → IsQueued (queued_by self.new) q) }
-    {
-        match field {
-            ParentEdge::None => Ok(()),
-            ParentEdge::GraphPosition(parent) => {
-                self.enqueue(parent, place)?;
-                Ok(())
-            }
-            ParentEdge::ExtraEdgeIndex(index) => {
-                let layer = layer_of(self.graph, self.commit_at(place));
-                self.visit_list(layer, index, place)?;
-                Ok(())
-            }
+            _ => self.visit_field(commits, field, place),
         }
     }
 }

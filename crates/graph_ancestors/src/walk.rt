@@ -1,43 +1,51 @@
 //! A search breadth first, which finds shortest walks.
 
-ghost use Rattle.std.specs.Prelude.{◌≡◌, ◌+◌, ◌<◌, ◌≤◌, ℕ, length, IfOk};
-ghost use Rattle.graph_walks.specs.History.{generation_at};
-ghost use Rattle.graph_walks.specs.Walks.{IsWalkBetween};
-ghost use Rattle.graph_format.specs.StoredHistory.{history_of};
-ghost use Rattle.gix_commitgraph.specs.Graph.{total};
-ghost use Rattle.graph_ancestors.specs.WalkAnswer.{IsAnswer, numbers_of};
-ghost use Rattle.graph_ancestors.specs.Queue.{commit_in, Depth};
-ghost use Rattle.graph_ancestors.specs.Search.{queued_by, IsIdle, IsSearching};
+ghost use Rattle.std.specs.Prelude.{◌≡◌, ◌⊎◌, ◌+◌, ◌<◌, ◌≤◌, ℕ, List, length, IfOk, IfErr};
+ghost use Rattle.std.specs.Prelude.{alloc_error};
+ghost use Rattle.graph_walks.specs.History.{Node, generation_at};
+ghost use Rattle.graph_walks.specs.Walks.{CountWalks, IsWalkBetween};
+ghost use Rattle.graph_ancestors.specs.WalkAnswer.{IsAnyAnswer, IsAnswer, MayLead, numbers_of};
+ghost use Rattle.graph_ancestors.specs.Queue.{commit_in, child_in, IsQueue, Depth};
+ghost use Rattle.graph_ancestors.specs.Search.{queued_by, IsIdle, Keeps};
+ghost use Rattle.graph_ancestors.specs.Source.{Told};
 
 use crate::Reached;
 use crate::ahead::Ahead;
 use crate::search::Search;
+use crate::source::CommitSource;
+use gix_commitgraph::Position;
 use gix_commitgraph::law::walk::generations_never_rise_along_walks;
-use gix_commitgraph::{GENERATION_NUMBER_MAX, Position};
 use std::alloc::AllocError;
 
-impl<'g> Search<'g> {
+impl Search {
     /// A shortest walk from one commit to another, whose generation number is below that of the
     /// first, or at the cap as that is.
-    pub(crate) fn shortest_walk(
+    pub(crate) fn shortest_walk<S: CommitSource>(
         &mut self,
+        commits: &mut S,
         from: Position,
         to: Position,
         least: u32,
-    ) -> Result<Reached, AllocError>
+    ) -> Result<Reached, S::Error>
         requires idle { IsIdle self.old }
-        requires from { from.0 < total self.old.graph.now }
-        requires to { to.0 < total self.old.graph.now }
-        requires least { least ≡ generation_at (history_of self.old.graph.now) to.0 }
-        requires above { least ≤ generation_at (history_of self.old.graph.now) from.0 }
-        requires allowed { generation_at (history_of self.old.graph.now) from.0
-            ≤ generation_at (history_of self.old.graph.now) to.0
-            → GENERATION_NUMBER_MAX ≤ generation_at (history_of self.old.graph.now) from.0 }
-        ensures graph { self.new.graph.now ≡ self.old.graph.now }
-        ensures answer { IfOk result (IsAnswer (history_of self.old.graph.now) from.0 to.0) }
+        requires from { from.0 < S.count (S.known commits.old) }
+        requires least { (t : Told) → S.says commits.old t
+            → least ≡ generation_at t.history to.0 }
+        requires above { Keeps (S.says commits.old) least from.0 }
+        requires allowed { (t : Told) → S.says commits.old t → MayLead t.history from.0 to.0 }
+        ensures known { S.known commits.new ≡ S.known commits.old }
+        ensures kept { (t : Told) → S.says commits.new t → S.says commits.old t }
+        ensures visits { IfOk result (λ reached.
+            reached.visits ≤ S.count (S.known commits.old)) }
+        ensures answer { IfOk result (λ reached. (t : Told) → S.says commits.new t
+            → IsAnyAnswer t.history from.0 to.0 reached) }
+        ensures right { IfOk result (λ reached. (t : Told) → S.says commits.new t
+            → CountWalks t.history → IsAnswer t.history from.0 to.0 reached) }
+        ensures failed { IfErr result (λ e. S.may_fail (S.known commits.old) e
+            ⊎ S.Error.from_gives alloc_error e) }
     {
         generations_never_rise_along_walks();
-        self.begin(from, least)?;
+        self.begin(commits.num_commits(), from, least)?;
         let mut ahead = Ahead::new(self.alloc);
         let mut visits: u32 = 0;
         while (visits as usize) < self.len() {
@@ -50,19 +58,21 @@ impl<'g> Search<'g> {
                     visits,
                 });
             }
-            let (fields, number) = self.fields_at(place, &mut ahead)?;
-            self.visit_known(fields, number, place)?;
+            let (fields, number) = self.fields_at(commits, place, &mut ahead)?;
+            self.visit_known(commits, fields, number, place)?;
         }
         Ok(Reached { walk: None, visits })
     }
 
     /// The walk by which the commit at a place of the queue was reached.
     fn walk_to(&self, place: u32) -> Result<Vec<Position>, AllocError>
-        requires search { IsSearching self.now }
+        requires earlier { (i : ℕ) → 0 < i → i < length (queued_by self.now)
+            → child_in (queued_by self.now) i < i }
         requires place { place < length (queued_by self.now) }
-        ensures walk { IfOk result (λ w. IsWalkBetween (history_of self.now.graph.now)
-            (commit_in (queued_by self.now) 0) (commit_in (queued_by self.now) place)
-            (numbers_of w.items)) }
+        ensures walk { IfOk result (λ w. (history : List Node) (least : ℕ)
+            → IsQueue history least (queued_by self.now)
+            → IsWalkBetween history (commit_in (queued_by self.now) 0)
+            (commit_in (queued_by self.now) place) (numbers_of w.items)) }
         ensures steps { IfOk result (λ w.
             (d : ℕ) × Depth (queued_by self.now) place d × (length w.items ≡ d + 1)) }
     {

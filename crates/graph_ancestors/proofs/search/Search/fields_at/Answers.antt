@@ -3,26 +3,26 @@ use Rattle.graph_ancestors.proofs.AheadLemmas.{fields_ahead, number_ahead}
 use Rattle.graph_ancestors.proofs.search.Search.fields_at.Goals as goal
 
 pub returns-then-place-ahead-clause-fields : goal.returns-then-place-ahead-clause-fields
-returns-then-place-ahead-clause-fields c =
+returns-then-place-ahead-clause-fields g c =
     let ahead = c.args.ahead.now in
-    fields_ahead c.args.self.now ahead (c.args.place - ahead.first) c.args.place c.index.result.now c.requires.ahead
+    fields_ahead _ _ _ _ c.args.self.now ahead (c.args.place - ahead.first) c.args.place c.index.result.now c.requires.ahead
     (omega (arith, c.if-place-ahead.true, c.len.ensures)) c.index.ensures (omega (arith, c.if-ahead-place.true))
 
 pub returns-then-place-ahead-clause-number : goal.returns-then-place-ahead-clause-number
-returns-then-place-ahead-clause-number c =
+returns-then-place-ahead-clause-number g c =
     let ahead = c.args.ahead.now in
     let number = c.index-then-place-ahead in
-    number_ahead c.args.self.now ahead (c.args.place - ahead.first) number.result.now c.index.result.now c.requires.ahead
+    number_ahead _ _ _ _ c.args.self.now ahead (c.args.place - ahead.first) number.result.now c.index.result.now c.requires.ahead
     (omega (arith, c.if-place-ahead.true, c.len.ensures)) c.index.ensures number.ensures
 
 pub returns-clause-fields : goal.returns-clause-fields
-returns-clause-fields c =
+returns-clause-fields g c =
     let read = c.in_ok-read_from.ensures in
-    fields_ahead c.args.self.now c.read_from.new.ahead 0 c.args.place c.index-2.result.now read.ahead read.some c.index-2.ensures
-    (omega (arith, read.first))
+    fields_ahead _ _ _ _ c.args.self.now c.read_from.new.ahead 0 c.args.place c.index-2.result.now read.ahead read.some
+    c.index-2.ensures (omega (arith, read.first))
 
 pub returns-clause-number : goal.returns-clause-number
-returns-clause-number c =
+returns-clause-number g c =
     let read = c.in_ok-read_from.ensures in
-    number_ahead c.args.self.now c.read_from.new.ahead 0 c.index-3.result.now c.index-2.result.now read.ahead read.some
+    number_ahead _ _ _ _ c.args.self.now c.read_from.new.ahead 0 c.index-3.result.now c.index-2.result.now read.ahead read.some
     c.index-2.ensures c.index-3.ensures

@@ -1,220 +1,230 @@
-use Rattle.std.proofs.Common.{◌≡◌, ◌≢◌, ℕ, ◌≤◌, ◌∷◌, ◌++◌, [], List, length, get_or, None, refl, sym, ap, ◌∙◌}
-use Rattle.std.proofs.Common.{subst, subst₂, inl, inr, ⊎_elim, arith}
+use Rattle.std.proofs.Common.{◌≡◌, ◌≢◌, ℕ, ◌∷◌, ◌++◌, [], None, refl, sym, ap, ◌∙◌}
+use Rattle.std.proofs.Common.{subst, inl, inr, ⊎_elim, arith}
 use Rattle.std.proofs.lemmas.Bool.{false≢true}
-use Rattle.graph_format.specs.Layer.{Layer}
-use Rattle.graph_format.specs.StoredHistory.{history_of}
-use Rattle.graph_format.specs.Parents.{extra_edge_of}
-use Rattle.graph_walks.specs.History.{generation_at}
-use Rattle.graph_ancestors.specs.Commits.{list_in}
 use Rattle.graph_ancestors.specs.Marks.{IsMarked, marked_at, bound_at}
-use Rattle.graph_ancestors.specs.Queue.{commit_in, IsQueued}
+use Rattle.graph_ancestors.specs.Queue.{commit_in}
 use Rattle.graph_ancestors.specs.Search.{queued_by, IsRead}
+use Rattle.graph_ancestors.specs.Source.{Told}
 use Rattle.graph_ancestors.specs.declared.words.WordMarks.{WordMarks}
-use Rattle.graph_ancestors.proofs.ListLemmas.{read_from, read_extends, read_stops, reading_within, reading_goes_on}
-use Rattle.graph_ancestors.proofs.ListLemmas.{next_is_parent, few_words}
-use Rattle.graph_ancestors.proofs.ListLemmas.{GoesOver, goes_over_internal, goes_over_last, goes_over_marked, named_are_queued}
+use Rattle.graph_ancestors.proofs.ListLemmas.{read_from, read_extends, read_stops, word_is_parent, list_goes_on}
+use Rattle.graph_ancestors.proofs.ListLemmas.{GoesOver, goes_over_internal, goes_over_last, word_marked, named_are_queued}
 use Rattle.graph_ancestors.proofs.QueueLemmas.{extends_refl, commit_extends}
-use Rattle.graph_ancestors.proofs.SearchLemmas.{goes_on_trans, are_read_from}
+use Rattle.graph_ancestors.proofs.SearchLemmas.{goes_on_trans, searching_kept, are_read_from}
 use Rattle.graph_ancestors.proofs.search.Search.visit_list.Goals as goal
+use Rattle.graph_ancestors.proofs.search.Search.visit_list.Given.{Over}
 use Rattle.graph_ancestors.proofs.search.Search.visit_list.Goals.{In_ok-set}
 
-pub loop-words-init : goal.loop-words-init
-loop-words-init c =
+pub layer_of-layer-requires : goal.layer_of-layer-requires
+layer_of-layer-requires g c =
+    omega (arith, c.requires.search.queue.within c.args.place c.requires.place, c.commit_at-pos.ensures)
+
+pub words_of-count-requires-clause-listed : goal.words_of-count-requires-clause-listed
+words_of-count-requires-clause-listed g c = rw c.commit_at-pos.ensures c.requires.listed
+
+pub loop-pos-init : goal.loop-pos-init
+loop-pos-init g c =
     let s = c.args.self.now in
-    let h = history_of s.graph.now in
     let r = c.requires in
     record {
-      graph = refl;
+      known = refl;
+      kept = λ t said. said;
       search = record {
-        graph = r.search.graph;
-        sound = r.search.sound;
         few = r.search.few;
         room = r.search.room;
+        counted = r.search.counted;
         queue = r.search.queue;
       };
-      goes_on = record { graph = refl; least = refl; stack = refl; extends = extends_refl (queued_by s) c.args.place };
-      list = c.list_of-words.ensures;
+      goes_on = record { least = refl; stack = refl; extends = extends_refl (queued_by s) c.args.place };
       room = c.in_ok-grow_to.ensures.room;
-      others = λ i apart. rw (c.grow_to.ensures.marked i) (r.read i);
-      read = rw (c.grow_to.ensures.marked c.args.layer)
-          (read_from h s.least (queued_by s) (list_in s.graph.now c.args.layer) (marked_at s.words.layers.items c.args.layer)
-          c.args.index (r.read c.args.layer));
-      reading = r.reading;
+      within = c.words_of-count.ensures.there;
+      listed = r.listed;
+      told = λ t said. r.told t said _ (rw (← c.commit_at-pos.ensures) c.layer_of-layer.ensures);
+      others = λ t i said apart. rw (c.grow_to.ensures.marked i) (r.read t said i);
+      read = λ t said. rw (c.grow_to.ensures.marked c.layer_of-layer.result)
+          (read_from t.history s.least (queued_by s) (t.lists c.layer_of-layer.result)
+          (marked_at s.words.layers.items c.layer_of-layer.result) c.args.index (r.read t said c.layer_of-layer.result));
       begun = inr refl;
     }
 
-pub is_marked-requires : goal.is_marked-requires
-is_marked-requires c =
-    let inv = c.loop-words.invariant in
-    omega (arith, reading_within _ _ _ _ inv.reading, ap length inv.list, inv.room)
+pub listed_parent-requires-clause-lies : goal.listed_parent-requires-clause-lies
+listed_parent-requires-clause-lies g c = rw c.loop-pos.invariant.known c.layer_of-layer.ensures
 
-pub bounds-words-next : goal.bounds-words-next
-bounds-words-next c =
-    let inv = c.loop-words.invariant in
-    omega (arith, reading_within _ _ _ _ inv.reading, ap length inv.list)
+pub listed_parent-requires-clause-listed : goal.listed_parent-requires-clause-listed
+listed_parent-requires-clause-listed g c =
+    rw (c.loop-pos.invariant.known, c.commit_at-pos.ensures) c.loop-pos.invariant.listed
 
 pub enqueue-requires-clause-search : goal.enqueue-requires-clause-search
-enqueue-requires-clause-search c = c.loop-words.invariant.search
+enqueue-requires-clause-search g c =
+    rw (c.listed_parent.ensures.known, c.loop-pos.invariant.known)
+    (searching_kept _ _ _ c.listed_parent.ensures.kept c.loop-pos.self c.loop-pos.invariant.search)
 
 pub enqueue-requires-clause-child : goal.enqueue-requires-clause-child
-enqueue-requires-clause-child c = omega (arith, c.requires.place, c.loop-words.invariant.goes_on.extends.longer)
+enqueue-requires-clause-child g c = omega (arith, c.requires.place, c.loop-pos.invariant.goes_on.extends.longer)
+
+pub enqueue-requires-clause-commit : goal.enqueue-requires-clause-commit
+enqueue-requires-clause-commit g c =
+    rw (c.parent_of.ensures, c.listed_parent.ensures.known) c.in_ok-word.ensures.word.commit
 
 pub enqueue-requires-clause-parent : goal.enqueue-requires-clause-parent
-enqueue-requires-clause-parent c =
+enqueue-requires-clause-parent g c = λ t said.
     let s = c.args.self.now in
-    let l = c.loop-words in
+    let l = c.loop-pos in
     let inv = l.invariant in
-    let says = sym (c.from_raw-edge.ensures ∙ ap (λ (xs : List ℕ). extra_edge_of (get_or xs l.next 0)) inv.list) in
+    let was = c.listed_parent.ensures.kept t said in
+    let read = c.in_ok-word.ensures.word in
     rw (
-      inv.graph,
       c.parent_of.ensures,
-      commit_extends (queued_by s) (queued_by l.self) c.args.place c.args.place
-          inv.goes_on.extends c.requires.place,
+      commit_extends (queued_by s) (queued_by l.self) c.args.place c.args.place inv.goes_on.extends c.requires.place,
     )
-    (next_is_parent (history_of s.graph.now) (list_in s.graph.now c.args.layer) (commit_in (queued_by s) c.args.place) l.next
-    inv.reading c.from_raw-edge.result says)
+    (word_is_parent t (commit_in (queued_by s) c.args.place) c.layer_of-layer.result l.next _ (read.told t said)
+    (inv.told t was) (omega (arith, inv.search.counted t was, rw inv.known at read.commit)))
 
 pub set-requires-clause-bound : goal.set-requires-clause-bound
-set-requires-clause-bound c =
-    let inv = c.loop-words.invariant in
+set-requires-clause-bound g c =
+    let inv = c.loop-pos.invariant in
     omega (
       arith,
-      reading_within _ _ _ _ inv.reading,
-      ap length inv.list,
+      inv.within,
       inv.room,
-      ap (λ (w : WordMarks). bound_at w.layers.items c.args.layer) c.enqueue.ensures.words,
+      ap (λ (w : WordMarks). bound_at w.layers.items c.layer_of-layer.result) c.enqueue.ensures.words,
     )
 
 pub set-requires-clause-clear : goal.set-requires-clause-clear
-set-requires-clause-clear c =
-    rw c.enqueue.ensures.words (λ is. false≢true (sym c.loop-words-test.true ∙ c.is_marked.ensures.1 is))
-
-pub overflow_add-next : goal.overflow_add-next
-overflow_add-next c =
-    let inv = c.loop-words.invariant in
-    omega (
-      arith,
-      reading_within _ _ _ _ inv.reading,
-      few_words c.args.self.now.graph.now c.args.layer c.requires.search.graph.opened,
-    )
-
-pub loop-words-smaller : goal.loop-words-smaller
-loop-words-smaller c =
-    let inv = c.loop-words.invariant in
-    omega (arith, reading_within _ _ _ _ inv.reading, ap length inv.list)
+set-requires-clause-clear g c =
+    rw c.enqueue.ensures.words (λ is. false≢true (sym c.loop-pos-test.true ∙ c.is_marked.ensures.1 is))
 
 -- Once the word that is next was gone over:
-module _ (c : In_ok-set) where
-  over : GoesOver (history_of c.args.self.now.graph.now) c.args.self.now.least (queued_by c.loop-words.self)
-      (queued_by c.enqueue.new.self) (list_in c.args.self.now.graph.now c.args.layer)
-      (marked_at c.loop-words.self.words.layers.items c.args.layer) (marked_at c.set.new.self.layers.items c.args.layer)
-      c.loop-words.next c.from_raw-edge.result
-  over =
-      let l = c.loop-words in
+module _ (g : Over) (c : In_ok-set g) where
+  -- what the source says now, it said before
+  before : (t : Told) → g.S.CommitSource.says c.enqueue.new.commits t → g.S.CommitSource.says c.loop-pos.commits t
+  before t said = c.listed_parent.ensures.kept t (c.enqueue.ensures.kept t said)
+
+  over : (t : Told) → g.S.CommitSource.says c.enqueue.new.commits t
+      → GoesOver t.history c.loop-pos.self.least (queued_by c.loop-pos.self)
+      (queued_by c.enqueue.new.self) (t.lists c.layer_of-layer.result)
+      (marked_at c.loop-pos.self.words.layers.items c.layer_of-layer.result)
+      (marked_at c.set.new.self.layers.items c.layer_of-layer.result)
+      c.loop-pos.next c.in_ok-word.word
+  unfolding before
+  over t said =
+      let l = c.loop-pos in
       let e = c.in_ok-enqueue.ensures in
       record {
         child = c.args.place;
         extends = e.goes_on.extends;
-        read = l.invariant.read;
+        read = l.invariant.read t (c.listed_parent.ensures.kept t (c.enqueue.ensures.kept t said));
         marks = c.in_ok-set.ensures.marked
-            ∙ ap (λ (w : WordMarks). marked_at w.layers.items c.args.layer ++ record { number = l.next; mark = 0 } ∷ [])
+            ∙ ap (λ (w : WordMarks).
+            marked_at w.layers.items c.layer_of-layer.result ++ record { number = l.next; mark = 0 } ∷ [])
             c.enqueue.ensures.words;
-        says = sym (c.from_raw-edge.ensures ∙ ap (λ (xs : List ℕ). extra_edge_of (get_or xs l.next 0)) l.invariant.list);
+        says = sym (c.in_ok-word.ensures.word.told t (c.enqueue.ensures.kept t said)).says;
         parent = c.parent_of.result;
         names = c.parent_of.ensures;
-        queues = subst₂ (λ (layers : List Layer) (least : ℕ). least ≤ generation_at (history_of layers) c.parent_of.result.0
-            → IsQueued (queued_by c.enqueue.new.self) c.parent_of.result.0) l.invariant.graph l.invariant.goes_on.least e.queued;
+        queues = e.queued t said;
       }
 
-  -- the lists of the other layers
-  others_read : (i : ℕ) → i ≢ c.args.layer
-      → IsRead (history_of c.args.self.now.graph.now) c.args.self.now.least (queued_by c.enqueue.new.self)
-      (list_in c.args.self.now.graph.now i) (marked_at c.set.new.self.layers.items i) None
-  others_read i apart =
-      rw (c.in_ok-set.ensures.others i apart, c.enqueue.ensures.words)
-      (read_extends _ _ _ _ _ (queued_by c.enqueue.new.self) c.args.place None c.in_ok-enqueue.ensures.goes_on.extends
-      (c.loop-words.invariant.others i apart))
+  -- the word of the index is marked
+  begun_marked : IsMarked (marked_at c.set.new.self.layers.items c.layer_of-layer.result) c.args.index
+  begun_marked =
+      let l = c.loop-pos in
+      word_marked (marked_at l.self.words.layers.items c.layer_of-layer.result)
+      (marked_at c.set.new.self.layers.items c.layer_of-layer.result) l.next
+      (c.in_ok-set.ensures.marked
+      ∙ ap (λ (w : WordMarks). marked_at w.layers.items c.layer_of-layer.result ++ record { number = l.next; mark = 0 } ∷ [])
+      c.enqueue.ensures.words)
+      c.args.index l.invariant.begun
 
-pub loop-words-preserved : goal.loop-words-preserved
-loop-words-preserved c =
-    let here = goal.at.loop-words-preserved c in
+  -- the lists of the other layers
+  others_read : (t : Told) (i : ℕ) → g.S.CommitSource.says c.enqueue.new.commits t → i ≢ c.layer_of-layer.result
+      → IsRead t.history c.enqueue.new.self.least (queued_by c.enqueue.new.self)
+      (t.lists i) (marked_at c.set.new.self.layers.items i) None
+  others_read t i said apart =
+      rw (c.in_ok-enqueue.ensures.goes_on.least, c.in_ok-set.ensures.others i apart, c.enqueue.ensures.words)
+      (read_extends _ _ _ _ _ (queued_by c.enqueue.new.self) c.args.place None c.in_ok-enqueue.ensures.goes_on.extends
+      (c.loop-pos.invariant.others t i (c.listed_parent.ensures.kept t (c.enqueue.ensures.kept t said)) apart))
+
+pub loop-pos-preserved : goal.loop-pos-preserved
+loop-pos-preserved g c =
+    let here = goal.at.loop-pos-preserved g c in
     let s = c.args.self.now in
-    let l = c.loop-words in
+    let l = c.loop-pos in
     let inv = l.invariant in
     let e = c.in_ok-enqueue.ensures in
-    let one = over here.In_ok-set in
+    let search = rw (c.listed_parent.ensures.known, inv.known) at e.search in
+    let next = rw (c.in-Internal.is, inv.known, c.commit_at-pos.ensures, ← c.words_of-count.ensures.words) at
+    c.in_ok-word.ensures.word.next in
     record {
-      graph = c.enqueue.ensures.graph ∙ inv.graph;
-      search = record {
-        graph = e.search.graph;
-        sound = e.search.sound;
-        few = e.search.few;
-        room = e.search.room;
-        queue = e.search.queue;
-      };
+      known = c.enqueue.ensures.known ∙ c.listed_parent.ensures.known ∙ inv.known;
+      kept = λ t said. inv.kept t (c.listed_parent.ensures.kept t (c.enqueue.ensures.kept t said));
+      search = record { few = search.few; room = search.room; counted = search.counted; queue = search.queue };
       goes_on =
           (let both = goes_on_trans s l.self c.enqueue.new.self c.args.place inv.goes_on e.goes_on in
-          record { graph = both.graph; least = both.least; stack = both.stack; extends = both.extends });
-      list = inv.list;
+          record { least = both.least; stack = both.stack; extends = both.extends });
       room = omega (
         arith,
         inv.room,
-        c.set.ensures.bounds c.args.layer,
-        ap (λ (w : WordMarks). bound_at w.layers.items c.args.layer) c.enqueue.ensures.words,
+        c.set.ensures.bounds c.layer_of-layer.result,
+        ap (λ (w : WordMarks). bound_at w.layers.items c.layer_of-layer.result) c.enqueue.ensures.words,
       );
-      others = others_read here.In_ok-set;
-      read = goes_over_internal one;
-      reading =
-          reading_goes_on (history_of s.graph.now) (list_in s.graph.now c.args.layer) (commit_in (queued_by s) c.args.place)
-          l.next inv.reading c.in-Internal.field-0 (one.says ∙ c.in-Internal.is);
-      begun = inl (goes_over_marked one c.args.index inv.begun);
+      within = next.0;
+      listed = next.1;
+      told = λ t said.
+          let read = c.in_ok-word.ensures.word.told t (c.enqueue.ensures.kept t said) in
+          list_goes_on t (commit_in (queued_by s) c.args.place) c.layer_of-layer.result l.next c.in_ok-word.word read
+          (inv.told t (c.listed_parent.ensures.kept t (c.enqueue.ensures.kept t said))) c.in-Internal.field-0
+          c.in-Internal.is;
+      others = others_read g here.In_ok-set;
+      read = λ t said. rw e.goes_on.least (goes_over_internal (over g here.In_ok-set t said));
+      begun = inl (begun_marked g here.In_ok-set);
     }
 
 pub returns-in-Last-clause-read : goal.returns-in-Last-clause-read
-returns-in-Last-clause-read c =
-    let here = goal.at.returns-in-Last-clause-read c in
-    let s = c.args.self.now in
-    let inv = c.loop-words.invariant in
-    are_read_from (record c.enqueue.new.self { words = c.set.new.self }) s.graph.now s.least c.args.layer
-    (c.enqueue.ensures.graph ∙ inv.graph)
-    (c.in_ok-enqueue.ensures.goes_on.least ∙ inv.goes_on.least)
-    (others_read here.In_ok-set)
-    (goes_over_last (over here.In_ok-set) c.in-Last.field-0 c.in-Last.is)
+returns-in-Last-clause-read g c =
+    let here = goal.at.returns-in-Last-clause-read g c in
+    are_read_from _ (record c.enqueue.new.self { words = c.set.new.self }) c.layer_of-layer.result
+    (others_read g here.In_ok-set)
+    (λ t said. rw c.in_ok-enqueue.ensures.goes_on.least
+    (goes_over_last (over g here.In_ok-set t said) c.in-Last.field-0 c.in-Last.is))
 
 pub returns-in-Last-clause-goes_on : goal.returns-in-Last-clause-goes_on
-returns-in-Last-clause-goes_on c =
+returns-in-Last-clause-goes_on g c =
     let both =
-    goes_on_trans c.args.self.now c.loop-words.self c.enqueue.new.self c.args.place c.loop-words.invariant.goes_on
+    goes_on_trans c.args.self.now c.loop-pos.self c.enqueue.new.self c.args.place c.loop-pos.invariant.goes_on
     c.in_ok-enqueue.ensures.goes_on in
-    record { graph = both.graph; least = both.least; stack = both.stack; extends = both.extends }
+    record { least = both.least; stack = both.stack; extends = both.extends }
 
 pub returns-in-Last-clause-named : goal.returns-in-Last-clause-named
-returns-in-Last-clause-named c = λ q contained high.
-    let one = over (goal.at.returns-in-Last-clause-named c).In_ok-set in
+returns-in-Last-clause-named g c = λ t q said contained high.
+    let one = over g (goal.at.returns-in-Last-clause-named g c).In_ok-set t said in
+    let inv = c.loop-pos.invariant in
     named_are_queued _ _ _ _ _ (goes_over_last one c.in-Last.field-0 c.in-Last.is) c.args.index
-    (goes_over_marked one c.args.index c.loop-words.invariant.begun) q contained high
+    (begun_marked g (goal.at.returns-in-Last-clause-named g c).In_ok-set) q
+    (contained c.layer_of-layer.result (rw (← c.commit_at-pos.ensures) c.layer_of-layer.ensures))
+    (omega (arith, high, inv.goes_on.least))
+
+pub returns-clause-search : goal.returns-clause-search
+returns-clause-search g c = c.loop-pos.invariant.search
 
 pub returns-clause-read : goal.returns-clause-read
-returns-clause-read c =
-    let s = c.args.self.now in
-    let l = c.loop-words in
-    let inv = l.invariant in
-    are_read_from l.self s.graph.now s.least c.args.layer inv.graph inv.goes_on.least inv.others
-    (read_stops (history_of s.graph.now) s.least (queued_by l.self) (list_in s.graph.now c.args.layer)
-    (marked_at l.self.words.layers.items c.args.layer) l.next inv.read (c.is_marked.ensures.0 c.loop-words-test.false))
+returns-clause-read g c =
+    let l = c.loop-pos in
+    are_read_from _ l.self c.layer_of-layer.result l.invariant.others
+    (λ t said.
+    read_stops t.history l.self.least (queued_by l.self) (t.lists c.layer_of-layer.result)
+    (marked_at l.self.words.layers.items c.layer_of-layer.result) l.next (l.invariant.read t said)
+    (c.is_marked.ensures.0 c.loop-pos-test.false))
 
 pub returns-clause-named : goal.returns-clause-named
-returns-clause-named c = λ q contained high.
-    let s = c.args.self.now in
-    let l = c.loop-words in
+returns-clause-named g c = λ t q said contained high.
+    let l = c.loop-pos in
     let inv = l.invariant in
-    let h = history_of s.graph.now in
-    let list = list_in s.graph.now c.args.layer in
-    let marked = marked_at l.self.words.layers.items c.args.layer in
-    let at = c.is_marked.ensures.0 c.loop-words-test.false in
-    named_are_queued h s.least (queued_by l.self) list marked
-    (read_stops h s.least (queued_by l.self) list marked l.next inv.read at) c.args.index
+    let list = t.lists c.layer_of-layer.result in
+    let marked = marked_at l.self.words.layers.items c.layer_of-layer.result in
+    let at = c.is_marked.ensures.0 c.loop-pos-test.false in
+    named_are_queued t.history l.self.least (queued_by l.self) list marked
+    (read_stops t.history l.self.least (queued_by l.self) list marked l.next (inv.read t said) at) c.args.index
     (⊎_elim
     (λ (old : IsMarked marked c.args.index). old)
     (λ (here : c.args.index ≡ l.next). subst (IsMarked marked) (sym here) at)
-    inv.begun) q contained high
+    inv.begun) q (contained c.layer_of-layer.result (rw (← c.commit_at-pos.ensures) c.layer_of-layer.ensures))
+    (omega (arith, high, inv.goes_on.least))

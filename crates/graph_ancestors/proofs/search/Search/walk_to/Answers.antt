@@ -1,6 +1,5 @@
 use Rattle.std.proofs.Common.{◌≡◌, ℕ, length, sym, ap, ◌∙◌, subst₂, List, arith}
 use Rattle.std.proofs.lemmas.List.{length_push}
-use Rattle.graph_format.specs.StoredHistory.{history_of}
 use Rattle.graph_walks.specs.Walks.{IsWalkBetween}
 use Rattle.graph_ancestors.specs.WalkAnswer.{numbers_of}
 use Rattle.graph_ancestors.specs.Queue.{commit_in}
@@ -13,15 +12,15 @@ pub loop-reached-preserved : goal.loop-reached-preserved
 loop-reached-preserved c =
     let s = c.args.self.now in
     let l = c.loop-reached in
-    let queue = c.requires.search.queue in
     let pushed = c.in_ok-push.ensures.items in
     let reached = c.child_at-reached.result in
     let child = sym c.child_at-reached.ensures in
     record {
-      within = omega (arith, queue.earlier l.reached c.loop-reached-test.true l.invariant.within, child);
-      walk = one_back (history_of s.graph.now) s.least (queued_by s) l.reached c.args.place reached
+      within = omega (arith, c.requires.earlier l.reached c.loop-reached-test.true l.invariant.within, child);
+      walk = λ h least queue.
+          one_back h least (queued_by s) l.reached c.args.place reached
           c.commit_at-in-loop-reached.result l.walk.items c.push.new.self.items queue c.loop-reached-test.true l.invariant.within
-          child c.commit_at-in-loop-reached.ensures pushed l.invariant.walk;
+          child c.commit_at-in-loop-reached.ensures pushed (l.invariant.walk h least queue);
       steps = λ d depth.
           let more =
           one_step_more (queued_by s) l.reached c.args.place reached (length l.walk.items) c.loop-reached-test.true child
@@ -30,12 +29,11 @@ loop-reached-preserved c =
     }
 
 pub returns-clause-walk : goal.returns-clause-walk
-returns-clause-walk c =
+returns-clause-walk c = λ h least queue.
     let s = c.args.self.now in
     let l = c.loop-reached in
-    let h = history_of s.graph.now in
     let first : l.reached ≡ 0 = omega (arith, c.loop-reached-test.false) in
-    let walk = l.invariant.walk in
+    let walk = l.invariant.walk h least queue in
     let between = between_from_path h (commit_in (queued_by s) l.reached) (commit_in (queued_by s) c.args.place) walk.0 walk.2 in
     let whole = ap numbers_of c.reverse.ensures.items ∙ walk.1 in
     subst₂ (λ (k : ℕ) (xs : List ℕ). IsWalkBetween h (commit_in (queued_by s) k) (commit_in (queued_by s) c.args.place) xs) first

@@ -1,6 +1,6 @@
-use Rattle.std.proofs.Common.{◌≡◌, ℕ, ◌+◌, ◌<◌, length}
-use Rattle.graph_format.specs.StoredHistory.{history_of}
-use Rattle.graph_ancestors.specs.Queue.{Depth}
+use Rattle.std.proofs.Common.{◌≡◌, ℕ, ◌+◌, ◌<◌, List, length}
+use Rattle.graph_walks.specs.History.{Node}
+use Rattle.graph_ancestors.specs.Queue.{IsQueue, Depth}
 use Rattle.graph_ancestors.specs.Search.{queued_by}
 use Rattle.graph_ancestors.proofs.StepLemmas.{Gathers}
 use Rattle.graph_ancestors.proofs.search.Search.walk_to.Given as goal
@@ -9,7 +9,8 @@ use Rattle.graph_ancestors.proofs.search.Search.walk_to.Given as goal
 abbrev pub invariant-loop-reached : goal.invariant-loop-reached
 invariant-loop-reached l = record {
   within : l.reached < length (queued_by l.self);
-  walk : Gathers (history_of l.self.graph.now) (queued_by l.self) l.reached l.place l.walk.items;
+  walk : (history : List Node) (least : ℕ) → IsQueue history least (queued_by l.self)
+      → Gathers history (queued_by l.self) l.reached l.place l.walk.items;
   steps : (d : ℕ) → Depth (queued_by l.self) l.reached d → (n : ℕ) × Depth (queued_by l.self) l.place n
       × (length l.walk.items + d ≡ n + 1);
 }

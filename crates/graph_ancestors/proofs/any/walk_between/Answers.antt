@@ -1,0 +1,64 @@
+use Rattle.std.proofs.Common.{◌≡◌, ◌<◌, ℕ, List, ◌∷◌, [], length, refl, sym, ap, subst, eqb-true, arith}
+use Rattle.graph_walks.specs.Walks.{IsWalkBetween}
+use Rattle.graph_ancestors.specs.WalkAnswer.{IsShortestWalk, IsAtOrAbove, numbers_of}
+use Rattle.graph_ancestors.specs.Cardinality.{AtLeast}
+use Rattle.graph_ancestors.proofs.KnownAnswerLemmas.{one_walk, one_is_shortest, one_is_visited, none_is_visited, none_is_above}
+use Rattle.graph_ancestors.proofs.any.walk_between.Goals as goal
+
+pub returns-then-eq-clause-answer : goal.returns-then-eq-clause-answer
+returns-then-eq-clause-answer g c = λ t said.
+    let h = t.history in
+    let p = c.args.from.0 in
+    let same : p ≡ c.args.to.0 = eqb-true p c.args.to.0 (sym c.if-eq.ensures) in
+    let within : p < length h = omega (
+      arith,
+      c.num_commits-commits.ensures.told t said,
+      c.num_commits-commits.ensures.count,
+      c.requires.from,
+    ) in
+    let walk : numbers_of c.in_ok-walk.walk.items ≡ p ∷ [] = ap numbers_of c.in_ok-walk.ensures in
+    record {
+      walk = subst (λ (xs : List ℕ). IsWalkBetween h p c.args.to.0 xs) (sym walk)
+          (subst (λ (q : ℕ). IsWalkBetween h p q (p ∷ [])) same (one_walk h p within));
+      visits = subst (λ (q : ℕ). AtLeast 1 (IsAtOrAbove h p q)) same (one_is_visited h p within);
+    }
+
+pub returns-then-eq-clause-right : goal.returns-then-eq-clause-right
+returns-then-eq-clause-right g c = λ t said right.
+    let h = t.history in
+    let p = c.args.from.0 in
+    let same : p ≡ c.args.to.0 = eqb-true p c.args.to.0 (sym c.if-eq.ensures) in
+    let within : p < length h = omega (
+      arith,
+      c.num_commits-commits.ensures.told t said,
+      c.num_commits-commits.ensures.count,
+      c.requires.from,
+    ) in
+    let walk : numbers_of c.in_ok-walk.walk.items ≡ p ∷ [] = ap numbers_of c.in_ok-walk.ensures in
+    record {
+      walk = subst (λ (xs : List ℕ). IsShortestWalk h p c.args.to.0 xs) (sym walk)
+          (subst (λ (q : ℕ). IsShortestWalk h p q (p ∷ [])) same (one_is_shortest h p within));
+      none = tt;
+      visits = subst (λ (q : ℕ). AtLeast 1 (IsAtOrAbove h p q)) same (one_is_visited h p within);
+      walk_visits = omega (arith, ap length c.in_ok-walk.ensures);
+      none_visits = tt;
+      no_visits = λ apart low below. absurd (apart same);
+    }
+
+pub returns-in_default-clause-answer : goal.returns-in_default-clause-answer
+returns-in_default-clause-answer g c = λ t said.
+    record { walk = tt; visits = none_is_visited (IsAtOrAbove t.history c.args.from.0 c.args.to.0) }
+
+pub returns-in_default-clause-right : goal.returns-in_default-clause-right
+returns-in_default-clause-right g c = λ t said right.
+    let h = t.history in
+    let never_rises = λ (p q : ℕ). c.generations_never_rise_along_walks.ensures h p q right in
+    record {
+      walk = tt;
+      none = (rw c.in_default.is at c.in_ok-least.ensures.none) t said right;
+      visits = none_is_visited (IsAtOrAbove h c.args.from.0 c.args.to.0);
+      walk_visits = tt;
+      none_visits = none_is_above h c.args.from.0 c.args.to.0 never_rises
+          ((rw c.in_default.is at c.in_ok-least.ensures.below) t said);
+      no_visits = λ apart low below. refl;
+    }
