@@ -2,6 +2,8 @@ pub mod NewIdSteps
 pub mod NullSteps
 pub mod NumberSteps
 pub mod PlaceSteps
+pub mod MixedSteps
+pub mod SearchSteps
 pub mod OrderSteps
 pub mod KnownSteps
 pub mod RefusalSteps

@@ -5,6 +5,7 @@
 mod below;
 mod check;
 mod commit;
+mod guide;
 mod levels_below;
 mod new_layer;
 mod numbers;
