@@ -19,8 +19,10 @@ pub mod DistinctSteps
 pub mod SumSteps
 pub mod WordSteps
 pub mod PlanSteps
+pub mod PlanOfSteps
 pub mod CycleSteps
 pub mod AcyclicSteps
 pub mod ReasonSteps
 pub mod FitSteps
 pub mod WriteSteps
+pub mod ViewSteps

@@ -8,6 +8,7 @@ mod commit;
 mod guide;
 mod levels_below;
 mod new_layer;
+mod new_plan;
 mod numbers;
 mod order;
 mod plan;
