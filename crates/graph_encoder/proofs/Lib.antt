@@ -1,3 +1,5 @@
+pub mod RowSteps
+pub mod RoomSteps
 pub mod Parts
 pub mod Names
 pub mod BuiltTable

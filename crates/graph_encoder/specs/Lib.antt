@@ -1,4 +1,5 @@
 pub mod Plan
+pub mod Rows
 pub mod ExtraEdges
 pub mod DateOffsets
 pub mod Chunks

@@ -8,12 +8,13 @@ ghost use Rattle.graph_encoder.specs.Written.{ids_of, planned_body, planned_file
 
 use crate::edges::push_edges;
 use crate::fan::push_fan;
-use crate::offsets::{push_large_offsets, push_offset_words};
+use crate::offsets::{offsets_or_none, push_large_offsets, push_offset_words};
 use crate::plan::LayerPlan;
 use crate::push::{push_commit_ids, push_id, push_ids};
 use crate::records::push_records;
 use crate::sizes::{ChunkSize, chunk_count, chunk_sizes, first_offset, total_size};
 use crate::table::{push_header, push_table};
+use crate::view::PlanView;
 use gix_hash_core::digest;
 use std::alloc::{AllocError, Global};
 
@@ -36,32 +37,52 @@ pub fn build(alloc: Global, plan: &LayerPlan) -> Result<Vec<u8>, AllocError>
     ensures layout { IfOk result (λ bytes. bytes.items ≡ planned_file plan.now) }
     ensures layer { IfOk result (λ bytes. (path : List ℕ) → IsFileOf plan.now bytes.items path) }
 {
+    build_view(alloc, plan)
+}
+
+/// The same file of what a plan can be read off.
+///
+/// # Errors
+///
+/// `AllocError` where an allocation failed.
+pub fn build_view<P: PlanView>(alloc: Global, plan: &P) -> Result<Vec<u8>, AllocError>
+    requires { IsPlan (P.as_plan plan.now) }
+    ensures layout { IfOk result (λ bytes. bytes.items ≡ planned_file (P.as_plan plan.now)) }
+    ensures layer { IfOk result (λ bytes. (path : List ℕ)
+        → IsFileOf (P.as_plan plan.now) bytes.items path) }
+{
     let chunks = chunk_sizes(plan);
     let body = first_offset(chunk_count(&chunks)) + total_size(&chunks);
-    let mut file = Vec::with_capacity(alloc, body + plan.kind.len_in_bytes())?;
+    let kind = plan.kind();
+    let mut file = Vec::with_capacity(alloc, body + kind.len_in_bytes())?;
     push_body(&mut file, plan, &chunks)?;
-    let checksum = digest(plan.kind, &file);
+    let checksum = digest(kind, &file);
     push_id(&mut file, &checksum)?;
     Ok(file)
 }
 
 /// Adds everything but the trailer.
-fn push_body(file: &mut Vec<u8>, plan: &LayerPlan, chunks: &[ChunkSize]) -> Result<(), AllocError>
-    requires plan { IsPlan plan.now }
-    requires sizes { chunks.now ≡ sizes_of plan.now }
-    ensures body { OnOk result (file.new.items ≡ file.old.items ++ planned_body plan.now) }
+fn push_body<P: PlanView>(
+    file: &mut Vec<u8>,
+    plan: &P,
+    chunks: &[ChunkSize],
+) -> Result<(), AllocError>
+    requires plan { IsPlan (P.as_plan plan.now) }
+    requires sizes { chunks.now ≡ sizes_of (P.as_plan plan.now) }
+    ensures body { OnOk result
+        (file.new.items ≡ file.old.items ++ planned_body (P.as_plan plan.now)) }
     ensures bytes { OnOk result
-        (All (λ id. slice_index id 0 < 256) (ids_of plan.now.commits.items)) }
+        (All (λ id. slice_index id 0 < 256) (ids_of (P.as_plan plan.now).commits.items)) }
 {
     let count = chunk_count(chunks);
     push_header(file, plan, count)?;
     push_table(file, chunks, first_offset(count))?;
-    push_fan(file, &plan.commits)?;
-    push_commit_ids(file, &plan.commits)?;
-    push_records(file, &plan.commits)?;
-    push_offset_words(file, plan.offsets())?;
-    push_large_offsets(file, plan.offsets())?;
-    push_edges(file, &plan.commits)?;
-    push_ids(file, &plan.bases)?;
+    push_fan(file, plan)?;
+    push_commit_ids(file, plan)?;
+    push_records(file, plan)?;
+    push_offset_words(file, offsets_or_none(plan))?;
+    push_large_offsets(file, offsets_or_none(plan))?;
+    push_edges(file, plan)?;
+    push_ids(file, plan.bases())?;
     Ok(())
 }

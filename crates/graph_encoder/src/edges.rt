@@ -4,10 +4,11 @@
 ghost use Rattle.std.specs.Prelude.{◌≡◌, ◌+◌, ◌<◌, ◌++◌, ◌↔◌, IsTrue, OnOk, length, All};
 ghost use Rattle.graph_encoder.specs.ExtraEdges.{extra_words, all_extra_words, top_bit, no_parent};
 ghost use Rattle.graph_encoder.specs.ExtraEdges.{first_field, second_field};
+ghost use Rattle.graph_encoder.specs.Plan.{IsPlan};
 ghost use Rattle.graph_encoder.specs.Written.{words_bytes};
 
-use crate::plan::PlanCommit;
 use crate::push::push_word;
+use crate::view::PlanView;
 use std::alloc::AllocError;
 
 /// The field of a missing parent.
@@ -32,24 +33,25 @@ pub(crate) fn extra_words_len(parents: &[u32]) -> usize
 }
 
 /// How many extra words these commits have together.
-pub(crate) fn count_extra_words(commits: &[PlanCommit]) -> usize
-    requires { length (all_extra_words commits.now) < top_bit }
-    ensures { result ≡ length (all_extra_words commits.now) }
+pub(crate) fn count_extra_words<P: PlanView>(plan: &P) -> usize
+    requires { length (all_extra_words (P.as_plan plan.now).commits.items) < top_bit }
+    ensures { result ≡ length (all_extra_words (P.as_plan plan.now).commits.items) }
 {
     let mut words = 0;
-    for commit in commits {
-        words += extra_words_len(&commit.parents);
+    for place in 0..plan.commit_count() {
+        words += extra_words_len(plan.row(place).parents);
     }
     words
 }
 
 /// Whether the index of each extra word fits in a field beside the top bit.
-pub(crate) fn has_few_extra_words(commits: &[PlanCommit]) -> bool
-    ensures { IsTrue result ↔ (length (all_extra_words commits.now) < top_bit) }
+pub(crate) fn has_few_extra_words<P: PlanView>(plan: &P) -> bool
+    ensures { IsTrue result
+        ↔ (length (all_extra_words (P.as_plan plan.now).commits.items) < top_bit) }
 {
     let mut words = 0;
-    for commit in commits {
-        words += extra_words_len(&commit.parents);
+    for place in 0..plan.commit_count() {
+        words += extra_words_len(plan.row(place).parents);
         if words >= EXTRA_WORDS_LIMIT {
             return false;
         }
@@ -88,13 +90,13 @@ pub(crate) fn push_extra_words(file: &mut Vec<u8>, parents: &[u32]) -> Result<()
 }
 
 /// Adds the extra words of these commits.
-pub(crate) fn push_edges(file: &mut Vec<u8>, commits: &[PlanCommit]) -> Result<(), AllocError>
-    requires { All (λ commit. All (λ parent. parent < no_parent) commit.parents.items) commits.now }
+pub(crate) fn push_edges<P: PlanView>(file: &mut Vec<u8>, plan: &P) -> Result<(), AllocError>
+    requires { IsPlan (P.as_plan plan.now) }
     ensures { OnOk result (file.new.items
-        ≡ file.old.items ++ words_bytes (all_extra_words commits.now)) }
+        ≡ file.old.items ++ words_bytes (all_extra_words (P.as_plan plan.now).commits.items)) }
 {
-    for commit in commits {
-        push_extra_words(file, &commit.parents)?;
+    for place in 0..plan.commit_count() {
+        push_extra_words(file, plan.row(place).parents)?;
     }
     Ok(())
 }

@@ -12,9 +12,13 @@ mod offsets;
 mod plan;
 mod push;
 mod records;
+mod row;
 mod sizes;
 mod table;
+mod view;
 
-pub use builder::build;
+pub use builder::{build, build_view};
 pub use law::planned_files_say_their_plans;
-pub use plan::{LayerPlan, PlanCommit};
+pub use plan::{LayerPlan, PlanCommit, is_buildable};
+pub use row::PlanRow;
+pub use view::PlanView;

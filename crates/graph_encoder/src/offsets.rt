@@ -2,13 +2,15 @@
 //! "Generation Data" and "Generation Data Overflow".)
 
 ghost use Rattle.std.specs.Prelude.{◌≡◌, ◌+◌, ◌<◌, ◌≤◌, ◌++◌, ◌↔◌, IsTrue, OnOk, length};
-ghost use Rattle.std.specs.Prelude.{if◌then◌else◌};
+ghost use Rattle.std.specs.Prelude.{if◌then◌else◌, [], unwrap_or};
 ghost use Rattle.graph_encoder.specs.ExtraEdges.{top_bit};
 ghost use Rattle.graph_encoder.specs.DateOffsets.{is_large, large_offsets, offset_words};
+ghost use Rattle.graph_encoder.specs.DateOffsets.{offsets_of};
 ghost use Rattle.graph_encoder.specs.Written.{words_bytes, longs_bytes};
 
 use crate::edges::TOP_BIT;
 use crate::push::{push_long, push_word};
+use crate::view::PlanView;
 use std::alloc::AllocError;
 
 /// An offset from this one on has no room beside a word's top bit.
@@ -70,4 +72,14 @@ pub(crate) fn push_large_offsets(file: &mut Vec<u8>, offsets: &[u64]) -> Result<
         }
     }
     Ok(())
+}
+
+/// The offsets of a plan, none of them where it has no dates.
+pub(crate) fn offsets_or_none<P: PlanView>(plan: &P) -> &[u64]
+    ensures { result.now ≡ unwrap_or (offsets_of (P.as_plan plan.now)) [] }
+{
+    match plan.offsets() {
+        Some(offsets) => offsets,
+        None => &[],
+    }
 }

@@ -1,11 +1,15 @@
 //! What a file is to hold.
 
-ghost use Rattle.std.specs.Prelude.{◌≡◌, ◌↔◌, IsTrue, IfOk, IfSome, All, [], length, Option, None};
-ghost use Rattle.std.specs.Prelude.{unwrap_or};
+ghost use Rattle.std.specs.Prelude.{◌≡◌, ◌↔◌, IsTrue, IfOk, IfSome, All, length, Option, None};
 ghost use Rattle.gix_hash_core.specs.Kind.{id_len};
-ghost use Rattle.graph_encoder.specs.Plan.{AreOffsets};
+ghost use Rattle.graph_encoder.specs.DateOffsets.{offsets_of};
+ghost use Rattle.graph_encoder.specs.Plan.{IsPlan, IsPlannedCommit, AreOffsets};
+ghost use Rattle.graph_encoder.specs.Rows.{IsRowOf};
+ghost use Rattle.graph_encoder.specs.declared.plan.PlanCommit.{PlanCommit};
 
 use crate::edges::{NO_PARENT, has_few_extra_words};
+use crate::row::PlanRow;
+use crate::view::PlanView;
 use gix_hash_core::{Kind, ObjectId};
 use std::alloc::{AllocError, Global};
 
@@ -53,8 +57,7 @@ const MAX_BASES: usize = 255;
 const COMMITS_LIMIT: usize = 2147483648;
 
 impl LayerPlan {
-    ghost use Rattle.graph_encoder.specs.Plan.{IsPlan, AreOffsets};
-    ghost use Rattle.graph_encoder.specs.DateOffsets.{offsets_of};
+    ghost use Rattle.graph_encoder.specs.Plan.{IsPlan};
 
     /// The plan of a layer of this kind on these bases, without commits and without dates.
     ///
@@ -83,48 +86,93 @@ impl LayerPlan {
     pub fn is_buildable(&self) -> bool
         ensures { IsTrue result ↔ IsPlan self.now }
     {
-        self.bases.len() <= MAX_BASES
-            && are_of_kind(&self.bases, self.kind)
-            && self.commits.len() < COMMITS_LIMIT
-            && self.commits.iter().all(|commit| commit.fits(self.kind))
-            && has_few_extra_words(&self.commits)
-            && self.has_offsets_of_all()
+        is_buildable(self)
+    }
+}
+
+/// A plan is read off itself.
+impl PlanView for LayerPlan {
+    ghost use Rattle.graph_encoder.specs.declared.plan.LayerPlan.{LayerPlan};
+
+    ghost as_plan = { λ plan. plan };
+
+    fn kind(&self) -> Kind {
+        self.kind
     }
 
-    /// Whether there is an offset for each commit, if there are any.
-    fn has_offsets_of_all(&self) -> bool
-        ensures { IsTrue result
-            ↔ (IfSome (offsets_of self.now) (AreOffsets (length self.now.commits.items))) }
-    {
-        match &self.date_offsets {
-            Some(offsets) => are_offsets(offsets, self.commits.len()),
-            None => true,
+    fn bases(&self) -> &[ObjectId] {
+        &self.bases
+    }
+
+    fn commit_count(&self) -> usize {
+        self.commits.len()
+    }
+
+    fn row(&self, place: usize) -> PlanRow<'_> {
+        let commit = &self.commits[place];
+        PlanRow {
+            id: &commit.id,
+            tree: &commit.tree,
+            parents: &commit.parents,
+            generation: commit.generation,
+            time: commit.time,
         }
     }
 
-    /// The date offsets, none of them for a plan without dates.
-    pub(crate) fn offsets(&self) -> &[u64]
-        ensures { result.now ≡ unwrap_or (offsets_of self.now) [] }
-    {
+    fn offsets(&self) -> Option<&[u64]> {
         match &self.date_offsets {
-            Some(offsets) => offsets,
-            None => &[],
+            Some(offsets) => Some(offsets),
+            None => None,
         }
     }
 }
 
-impl PlanCommit {
-    ghost use Rattle.graph_encoder.specs.Plan.{IsPlannedCommit};
+/// Whether a file can hold all that a plan lists, as [`LayerPlan::is_buildable`] says.
+pub fn is_buildable<P: PlanView>(plan: &P) -> bool
+    ensures { IsTrue result ↔ IsPlan (P.as_plan plan.now) }
+{
+    plan.bases().len() <= MAX_BASES
+        && are_of_kind(plan.bases(), plan.kind())
+        && plan.commit_count() < COMMITS_LIMIT
+        && all_fit(plan)
+        && has_few_extra_words(plan)
+        && has_offsets_of_all(plan)
+}
 
-    /// Whether a record can hold it.
-    fn fits(&self, kind: Kind) -> bool
-        ensures { IsTrue result ↔ IsPlannedCommit kind self.now }
-    {
-        is_of_kind(&self.id, kind)
-            && is_of_kind(&self.tree, kind)
-            && self.parents.iter().all(|parent| *parent < NO_PARENT)
-            && self.generation <= MAX_GENERATION
-            && self.time <= MAX_TIME
+/// Whether records can hold all commits.
+fn all_fit<P: PlanView>(plan: &P) -> bool
+    ensures { IsTrue result ↔ All (IsPlannedCommit (P.as_plan plan.now).kind)
+        (P.as_plan plan.now).commits.items }
+{
+    let kind = plan.kind();
+    for place in 0..plan.commit_count() {
+        if !fits(plan.row(place), kind) {
+            return false;
+        }
+    }
+    true
+}
+
+/// Whether a record can hold a commit.
+fn fits(row: PlanRow<'_>, kind: Kind) -> bool
+    ensures { (commit : PlanCommit) → IsRowOf commit row.entry
+        → (IsTrue result ↔ IsPlannedCommit kind commit) }
+{
+    is_of_kind(row.id, kind)
+        && is_of_kind(row.tree, kind)
+        && row.parents.iter().all(|parent| *parent < NO_PARENT)
+        && row.generation <= MAX_GENERATION
+        && row.time <= MAX_TIME
+}
+
+/// Whether there is an offset for each commit, if there are any.
+fn has_offsets_of_all<P: PlanView>(plan: &P) -> bool
+    ensures { IsTrue result ↔ (IfSome (offsets_of (P.as_plan plan.now))
+        (AreOffsets (length (P.as_plan plan.now).commits.items))) }
+{
+    match plan.offsets() {
+        Some(offsets) => are_offsets(offsets, plan.commit_count()),
+        None => true,
     }
 }
 

@@ -4,7 +4,7 @@ ghost use Rattle.std.specs.Prelude.{◌≡◌, ◌++◌, OnOk};
 ghost use Rattle.graph_encoder.specs.Chunks.{word_bytes, long_bytes};
 ghost use Rattle.graph_encoder.specs.Written.{ids_of, ids_bytes};
 
-use crate::plan::PlanCommit;
+use crate::view::PlanView;
 use gix_hash_core::ObjectId;
 use std::alloc::AllocError;
 
@@ -42,11 +42,12 @@ pub(crate) fn push_ids(file: &mut Vec<u8>, ids: &[ObjectId]) -> Result<(), Alloc
 }
 
 /// Adds the bytes of the ids of these commits, one after another.
-pub(crate) fn push_commit_ids(file: &mut Vec<u8>, commits: &[PlanCommit]) -> Result<(), AllocError>
-    ensures { OnOk result (file.new.items ≡ file.old.items ++ ids_bytes (ids_of commits.now)) }
+pub(crate) fn push_commit_ids<P: PlanView>(file: &mut Vec<u8>, plan: &P) -> Result<(), AllocError>
+    ensures { OnOk result (file.new.items
+        ≡ file.old.items ++ ids_bytes (ids_of (P.as_plan plan.now).commits.items)) }
 {
-    for commit in commits {
-        push_id(file, &commit.id)?;
+    for place in 0..plan.commit_count() {
+        push_id(file, plan.row(place).id)?;
     }
     Ok(())
 }

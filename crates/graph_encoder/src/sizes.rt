@@ -7,8 +7,8 @@ ghost use Rattle.graph_encoder.specs.Chunks.{table_len};
 ghost use Rattle.graph_encoder.specs.DateOffsets.{offsets_of};
 
 use crate::edges::count_extra_words;
-use crate::offsets::count_large;
-use crate::plan::LayerPlan;
+use crate::offsets::{count_large, offsets_or_none};
+use crate::view::PlanView;
 
 /// The fan has 256 numbers of four bytes.
 const FAN_SIZE: usize = 1024;
@@ -33,13 +33,13 @@ pub(crate) struct ChunkSize {
 }
 
 /// All chunks that the plan's file may have, in their order.
-pub(crate) fn chunk_sizes(plan: &LayerPlan) -> [ChunkSize; 7]
-    requires { IsPlan plan.now }
-    ensures { result ≡ sizes_of plan.now }
+pub(crate) fn chunk_sizes<P: PlanView>(plan: &P) -> [ChunkSize; 7]
+    requires { IsPlan (P.as_plan plan.now) }
+    ensures { result ≡ sizes_of (P.as_plan plan.now) }
 {
-    let id_len = plan.kind.len_in_bytes();
-    let commits = plan.commits.len();
-    let words = count_extra_words(&plan.commits);
+    let id_len = plan.kind().len_in_bytes();
+    let commits = plan.commit_count();
+    let words = count_extra_words(plan);
     [
         sized(*b"OIDF", Some(FAN_SIZE)),
         sized(*b"OIDL", Some(id_len * commits)),
@@ -47,10 +47,10 @@ pub(crate) fn chunk_sizes(plan: &LayerPlan) -> [ChunkSize; 7]
         sized(*b"GDA2", offsets_size(plan)),
         sized(
             *b"GDO2",
-            unless_zero(LONG_LEN * count_large(plan.offsets())),
+            unless_zero(LONG_LEN * count_large(offsets_or_none(plan))),
         ),
         sized(*b"EDGE", unless_zero(WORD_LEN * words)),
-        sized(*b"BASE", unless_zero(id_len * plan.bases.len())),
+        sized(*b"BASE", unless_zero(id_len * plan.bases().len())),
     ]
 }
 
@@ -69,11 +69,12 @@ fn unless_zero(size: usize) -> Option<usize>
 }
 
 /// The size of "Generation Data", which is there where the plan has dates.
-fn offsets_size(plan: &LayerPlan) -> Option<usize>
-    requires { IsPlan plan.now }
-    ensures { result ≡ option_map (λ offsets. 4 * length offsets) (offsets_of plan.now) }
+fn offsets_size<P: PlanView>(plan: &P) -> Option<usize>
+    requires { IsPlan (P.as_plan plan.now) }
+    ensures { result
+        ≡ option_map (λ offsets. 4 * length offsets) (offsets_of (P.as_plan plan.now)) }
 {
-    match &plan.date_offsets {
+    match plan.offsets() {
         Some(offsets) => Some(WORD_LEN * offsets.len()),
         None => None,
     }

@@ -4,9 +4,9 @@ ghost use Rattle.std.specs.Prelude.{◌≡◌, ◌+◌, ◌<◌, ◌≤◌, ◌^
 ghost use Rattle.graph_encoder.specs.Sizes.{bytes_in, entry_bytes, table_by_sizes, total_size};
 ghost use Rattle.graph_encoder.specs.Written.{header};
 
-use crate::plan::LayerPlan;
 use crate::push::push_long;
 use crate::sizes::ChunkSize;
+use crate::view::PlanView;
 use gix_hash_core::Kind;
 use std::alloc::AllocError;
 
@@ -19,21 +19,22 @@ const END_ID: [u8; 4] = [0; 4];
 
 /// Adds the header.
 #[tactic(auto, unfolding(crate::specs::Written::header))]
-pub(crate) fn push_header(
+pub(crate) fn push_header<P: PlanView>(
     file: &mut Vec<u8>,
-    plan: &LayerPlan,
+    plan: &P,
     chunks: u8,
 ) -> Result<(), AllocError>
-    requires { length plan.now.bases.items ≤ 255 }
-    ensures { let bases = length plan.now.bases.items in
-        OnOk result (file.new.items ≡ file.old.items ++ header plan.now.kind chunks bases) }
+    requires { length (P.as_plan plan.now).bases.items ≤ 255 }
+    ensures { let bases = length (P.as_plan plan.now).bases.items in
+        OnOk result (file.new.items
+        ≡ file.old.items ++ header (P.as_plan plan.now).kind chunks bases) }
 {
-    let kind = match plan.kind {
+    let kind = match plan.kind() {
         Kind::Sha1 => 1,
         Kind::Sha256 => 2,
     };
     file.extend_from_slice(&SIGNATURE)?;
-    file.extend_from_slice(&[VERSION, kind, chunks, plan.bases.len() as u8])
+    file.extend_from_slice(&[VERSION, kind, chunks, plan.bases().len() as u8])
 }
 
 /// Adds the entry of a chunk at this offset, if it is there, and returns where the next one begins.

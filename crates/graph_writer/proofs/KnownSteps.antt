@@ -83,11 +83,10 @@ pub below-bound : (layers : List Layer) (id : List ℕ) (start n : ℕ) (answer 
 below-bound layers id start n None total_is is = tt
 below-bound layers id start n (Some p) total_is is = omega (arith, below-within layers id p (sym is))
 
-pub below-ids : (layers : List Layer) (id : List ℕ) (Q : List (List ℕ) → Type 0) (answer : Option ℕ)
-    → answer ≡ scan (graph_ids layers) id
-    → IfSome answer (λ p. (sorted : List (List ℕ)) → Q sorted → slice_get (graph_ids layers ++ sorted) p ≡ Some id)
-below-ids layers id Q None is = tt
-below-ids layers id Q (Some p) is = λ sorted hold. old-at layers sorted id p (sym is)
+pub below-ids : (layers : List Layer) (sorted : List (List ℕ)) (id : List ℕ) (answer : Option ℕ)
+    → answer ≡ scan (graph_ids layers) id → IfSome answer (λ p. slice_get (graph_ids layers ++ sorted) p ≡ Some id)
+below-ids layers sorted id None is = tt
+below-ids layers sorted id (Some p) is = old-at layers sorted id p (sym is)
 
 pub if-none : {X : Type 0} (o : Option X) (P : Type 0) → IfNone o P → o ≡ None → P
 if-none None P h is = h

@@ -2,6 +2,8 @@ pub mod NewIdSteps
 pub mod NullSteps
 pub mod NumberSteps
 pub mod PlaceSteps
+pub mod MixedSteps
+pub mod SearchSteps
 pub mod OrderSteps
 pub mod KnownSteps
 pub mod RefusalSteps
@@ -17,8 +19,10 @@ pub mod DistinctSteps
 pub mod SumSteps
 pub mod WordSteps
 pub mod PlanSteps
+pub mod PlanOfSteps
 pub mod CycleSteps
 pub mod AcyclicSteps
 pub mod ReasonSteps
 pub mod FitSteps
 pub mod WriteSteps
+pub mod ViewSteps

@@ -5,8 +5,10 @@
 mod below;
 mod check;
 mod commit;
+mod guide;
 mod levels_below;
 mod new_layer;
+mod new_plan;
 mod numbers;
 mod order;
 mod plan;

@@ -1,7 +1,7 @@
 //! What a new layer is to say of its commits.
 
 ghost use Rattle.std.specs.Prelude.{◌≡◌, ◌<◌, ◌+◌, ◌≤◌, ℕ, IfOk, IfErr, Some, None, length, map};
-ghost use Rattle.std.specs.Prelude.{slice_get};
+ghost use Rattle.std.specs.Prelude.{All, slice_get};
 ghost use Rattle.gix_chunk_core.specs.FirstFault.{first_below};
 ghost use Rattle.gix_commitgraph.specs.Graph.{graph_ids, total};
 ghost use Rattle.graph_format.specs.Reports.{Reports};
@@ -10,13 +10,11 @@ ghost use Rattle.graph_levels.specs.ParentLists.{commit_count, parent_list};
 ghost use Rattle.graph_writer.specs.NewCommits.{layers_of_below};
 ghost use Rattle.graph_writer.specs.WriteRefusal.{kind_to_write, below_at, new_layer_refusal};
 ghost use Rattle.graph_writer.specs.WriteRefusal.{plain_refusal, MayRefuseNewLayer};
-ghost use Rattle.graph_writer.specs.declared.order.Place.{Place};
 
 use crate::below::check_new;
 use crate::check::check_each;
 use crate::commit::{NewCommit, WriteError};
-use crate::numbers::numbers_of;
-use crate::order::{Place, places_of, ranks_of};
+use crate::order::order_of;
 use crate::resolve::Known;
 use gix_commitgraph::MAX_COMMITS;
 use gix_hash_core::Kind;
@@ -55,22 +53,20 @@ impl NewLayer {
     {
         let start = number_below(below);
         check_alone(below, commits)?;
-        let numbers = numbers_of(alloc, commits)?;
+        let order = order_of(alloc, commits)?;
         check_all_new(below, commits)?;
         if commits.len() > MAX_COMMITS as usize - start as usize {
             return Err(WriteError::TooManyCommits);
         }
-        let places = places_of(alloc, commits)?;
-        let ranks = ranks_of(alloc, &places)?;
         let known = Known {
             below,
             start,
             commits,
-            numbers: &numbers,
-            ranks: &ranks,
+            order: &order,
         };
-        let parents = known.resolve(alloc)?;
-        Ok(in_order(alloc, &places, &parents)?)
+        let lists = known.resolve(alloc)?;
+        let parents = in_order(alloc, &order, &lists)?;
+        Ok(NewLayer { order, parents })
     }
 }
 
@@ -122,23 +118,16 @@ fn number_below(below: Option<&Checked<'_>>) -> u32
     }
 }
 
-/// The layer with commits at these places, whose parents are listed in the order in which they
-/// came.
-fn in_order(alloc: Global, places: &[Place], lists: &ParentLists) -> Result<NewLayer, AllocError>
-    requires { (p : ℕ) (place : Place) → slice_get places.now p ≡ Some place
-        → place.commit < commit_count lists.now }
-    ensures listed { IfOk result (λ new. commit_count new.parents ≡ length places.now) }
-    ensures order { IfOk result (λ new.
-        new.order.items ≡ map (λ place. place.commit) places.now) }
-    ensures parents { IfOk result (λ new. (p : ℕ) (place : Place)
-        → slice_get places.now p ≡ Some place
-        → parent_list new.parents p ≡ parent_list lists.now place.commit) }
+/// Lists in this order of their numbers.
+fn in_order(alloc: Global, order: &[usize], lists: &ParentLists) -> Result<ParentLists, AllocError>
+    requires { All (λ i. i < commit_count lists.now) order.now }
+    ensures listed { IfOk result (λ parents. commit_count parents ≡ length order.now) }
+    ensures parents { IfOk result (λ parents. (p i : ℕ) → slice_get order.now p ≡ Some i
+        → parent_list parents p ≡ parent_list lists.now i) }
 {
-    let mut order = Vec::with_capacity(alloc, places.len())?;
     let mut parents = ParentLists::new(alloc);
-    for place in places {
-        order.push(place.commit)?;
-        parents.push(lists.of(place.commit))?;
+    for number in order {
+        parents.push(lists.of(*number))?;
     }
-    Ok(NewLayer { order, parents })
+    Ok(parents)
 }

@@ -1,19 +1,14 @@
 //! What the file of a new layer is to hold.
 
 ghost use Rattle.std.specs.Prelude.{◌≡◌, ◌+◌, ◌<◌, ◌≤◌, ◌^◌, ℕ, true, All, IfOk, IfSome};
-ghost use Rattle.std.specs.Prelude.{IfNone, IsSomeAnd, Some, false, length, map, slice_get};
-ghost use Rattle.std.specs.Prelude.{slice_index};
+ghost use Rattle.std.specs.Prelude.{IfNone, false, length, map, slice_index};
 ghost use Rattle.graph_levels.specs.OnTop.{level_at};
-ghost use Rattle.graph_levels.specs.ParentLists.{commit_count, parent_list};
 ghost use Rattle.graph_writer.specs.NewCommits.{layers_of_below, new_times};
-ghost use Rattle.graph_writer.specs.PlannedCommits.{IsPlanOf, AreOffsetsOf};
-ghost use Rattle.graph_writer.specs.declared.commit.NewCommit.{NewCommit};
+ghost use Rattle.graph_writer.specs.PlannedCommits.{AreOffsetsOf};
 
 use crate::commit::NewCommit;
-use crate::new_layer::NewLayer;
 use gix_commitgraph::File;
 use gix_hash_core::ObjectId;
-use graph_encoder::PlanCommit;
 use graph_history::Checked;
 use graph_levels::Level;
 use std::alloc::{AllocError, Global};
@@ -58,50 +53,6 @@ fn checksums_of(alloc: Global, layers: &[File]) -> Result<Vec<ObjectId>, AllocEr
         checksums.push(layer.checksum().to_owned())?;
     }
     Ok(checksums)
-}
-
-/// What the file holds of each commit, in their order.
-pub(crate) fn planned_commits(
-    alloc: Global,
-    commits: &[NewCommit],
-    new: &NewLayer,
-    levels: &[Level],
-) -> Result<Vec<PlanCommit>, AllocError>
-    requires each { All (λ i. i < length commits.now) new.now.order.items }
-    requires listed { commit_count new.now.parents ≡ length new.now.order.items }
-    requires levels { length levels.now ≡ length new.now.order.items }
-    ensures as_many { IfOk result (λ planned.
-        length planned.items ≡ length new.now.order.items) }
-    ensures each { IfOk result (λ planned. (p i : ℕ) (commit : NewCommit)
-        → slice_get new.now.order.items p ≡ Some i → slice_get commits.now i ≡ Some commit
-        → IsSomeAnd (slice_get planned.items p) (IsPlanOf commit
-        (parent_list new.now.parents p) (level_at levels.now p).generation)) }
-{
-    let mut planned = Vec::with_capacity(alloc, new.order.len())?;
-    for place in 0..new.order.len() {
-        let commit = &commits[new.order[place]];
-        let generation = levels[place].generation;
-        planned.push(planned_commit(alloc, commit, new.parents.of(place), generation)?)?;
-    }
-    Ok(planned)
-}
-
-/// What the file holds of one commit.
-fn planned_commit(
-    alloc: Global,
-    commit: &NewCommit,
-    parents: &[u32],
-    generation: u32,
-) -> Result<PlanCommit, AllocError>
-    ensures { IfOk result (IsPlanOf commit.now parents.now generation) }
-{
-    Ok(PlanCommit {
-        id: commit.id,
-        tree: commit.tree,
-        parents: Vec::from_slice(alloc, parents)?,
-        generation,
-        time: commit.time,
-    })
 }
 
 /// For each commit how many seconds its corrected date is past its time, if the layer is to have

@@ -12,11 +12,12 @@ ghost use Rattle.graph_writer.specs.WriteRefusal.{parent_at};
 ghost use Rattle.graph_writer.specs.declared.commit.NewCommit.{NewCommit};
 
 use crate::commit::{NewCommit, WriteError};
+use crate::guide::{Guesses, Guide};
 use gix_hash_core::ObjectId;
 use graph_history::Checked;
 use graph_levels::ParentLists;
 use std::alloc::{AllocError, Global};
-use std::collections::HashMap;
+use std::cmp::Ordering;
 
 /// Where each commit stands whose id a parent may have.
 #[derive(Clone, Copy, Drop)]
@@ -27,34 +28,58 @@ pub(crate) struct Known<'a> {
     pub(crate) start: u32,
     /// The commits that are handed in.
     pub(crate) commits: &'a [NewCommit],
-    /// The number of each among them, by its id.
-    pub(crate) numbers: &'a HashMap<ObjectId, usize>,
-    /// The place of each in the order of their ids, by its number.
-    pub(crate) ranks: &'a [u32],
+    /// Their numbers, in the order of their ids.
+    pub(crate) order: &'a [usize],
 }
 
 impl Known<'_> {
-    ghost use Rattle.graph_writer.specs.Known.{IsKnown, ids_below, is_unknown_to, HoldRanks};
+    ghost use Rattle.graph_writer.specs.Known.{IsKnown, ids_below, new_ids_in_order};
+    ghost use Rattle.graph_writer.specs.Known.{is_unknown_to, all_ids};
 
-    /// The number of the commit with an id among those that are handed in.
-    fn number_of(&self, id: &ObjectId) -> Option<usize>
+    /// The place of the commit with an id among those that are handed in, in the order of ids.
+    fn search(&self, id: &ObjectId) -> Option<usize>
         requires { IsKnown self.now }
-        ensures { result ≡ scan (new_ids self.now.commits.now) id.now }
+        ensures some { IfSome result (λ place.
+            slice_get (new_ids_in_order self.now) place ≡ Some id.now) }
+        ensures none { is_none result ≡ is_none (scan (new_ids self.now.commits.now) id.now) }
     {
-        self.numbers.get(id).copied()
+        let mut low = 0;
+        let mut high = self.order.len();
+        while low < high {
+            let middle = low + (high - low) / 2;
+            match self.commits[self.order[middle]].id.cmp(id) {
+                Ordering::Equal => return Some(middle),
+                Ordering::Less => low = middle + 1,
+                Ordering::Greater => high = middle,
+            }
+        }
+        None
+    }
+
+    /// The same, where this place is looked at first.
+    fn place_of(&self, id: &ObjectId, guess: u32) -> Option<usize>
+        requires { IsKnown self.now }
+        ensures some { IfSome result (λ place.
+            slice_get (new_ids_in_order self.now) place ≡ Some id.now) }
+        ensures none { is_none result ≡ is_none (scan (new_ids self.now.commits.now) id.now) }
+    {
+        let place = guess as usize;
+        if place < self.order.len() && self.commits[self.order[place]].id == *id {
+            Some(place)
+        } else {
+            self.search(id)
+        }
     }
 
     /// The position of the commit with an id.
-    fn position_of(&self, id: &ObjectId) -> Option<u32>
+    fn position_of(&self, id: &ObjectId, guess: u32) -> Option<u32>
         requires { IsKnown self.now }
         ensures none { is_none result ≡ is_unknown_to self.now id.now }
         ensures within { IfSome result (λ p. p < self.now.start + length self.now.commits.now) }
-        ensures id { IfSome result (λ p. (sorted : List (List ℕ))
-            → HoldRanks self.now sorted
-            → slice_get (ids_below self.now ++ sorted) p ≡ Some id.now) }
+        ensures id { IfSome result (λ p. slice_get (all_ids self.now) p ≡ Some id.now) }
     {
-        match self.number_of(id) {
-            Some(number) => Some(self.start + self.ranks[number]),
+        match self.place_of(id, guess) {
+            Some(place) => Some(self.start + place as u32),
             None => self.position_below(id),
         }
     }
@@ -68,11 +93,25 @@ impl Known<'_> {
         Some(pos.0)
     }
 
+    /// For each parent of each commit in turn, the place where it may stand in the order of ids.
+    fn guesses(&self, alloc: Global) -> Result<Vec<u32>, AllocError> {
+        let guide = Guide::of(alloc, self.commits, self.order)?;
+        let mut guesses = Vec::new(alloc);
+        for commit in self.commits {
+            for id in &commit.parents {
+                guesses.push(guide.guess(id))?;
+            }
+        }
+        Ok(guesses)
+    }
+
     /// Puts the positions of a commit's parents in place of those that are there. The answer is the
-    /// number of the first parent that is not known, if there is one.
+    /// number of the first parent that is not known, if there is one. The guesses are taken one by
+    /// one.
     fn put_parents(
         &self,
         commit: &NewCommit,
+        guesses: &mut Guesses<'_>,
         positions: &mut Vec<u32>,
     ) -> Result<Option<usize>, AllocError>
         requires { IsKnown self.now }
@@ -80,15 +119,13 @@ impl Known<'_> {
             unknown ≡ position (is_unknown_to self.now) commit.now.parents.items) }
         ensures within { IfOk result (λ unknown. IfNone unknown
             (All (λ p. p < self.now.start + length self.now.commits.now) positions.new.items)) }
-        ensures ids { IfOk result (λ unknown. IfNone unknown ((sorted : List (List ℕ))
-            → HoldRanks self.now sorted
-            → HoldIds (ids_below self.now ++ sorted) positions.new.items
-            commit.now.parents.items)) }
+        ensures ids { IfOk result (λ unknown. IfNone unknown
+            (HoldIds (all_ids self.now) positions.new.items commit.now.parents.items)) }
     {
         positions.clear();
         let parents = commit.parents.as_slice();
         for (number, id) in parents.iter().enumerate() {
-            match self.position_of(id) {
+            match self.position_of(id, guesses.next()) {
                 Some(position) => positions.push(position)?,
                 None => return Ok(Some(number)),
             }
@@ -103,9 +140,9 @@ impl Known<'_> {
             commit_count lists ≡ length self.now.commits.now) }
         ensures within { IfOk result (λ lists. (i : ℕ) → i < commit_count lists
             → All (λ p. p < self.now.start + length self.now.commits.now) (parent_list lists i)) }
-        ensures ids { IfOk result (λ lists. (sorted : List (List ℕ)) → HoldRanks self.now sorted
-            → (i : ℕ) (commit : NewCommit) → slice_get self.now.commits.now i ≡ Some commit
-            → HoldIds (ids_below self.now ++ sorted) (parent_list lists i) commit.parents.items) }
+        ensures ids { IfOk result (λ lists.
+            (i : ℕ) (commit : NewCommit) → slice_get self.now.commits.now i ≡ Some commit
+            → HoldIds (all_ids self.now) (parent_list lists i) commit.parents.items) }
         ensures found { IfOk result (λ _.
             first_below (parent_at (ids_below self.now) self.now.commits.now)
             (length self.now.commits.now) ≡ None) }
@@ -113,10 +150,12 @@ impl Known<'_> {
             ⊎ (first_below (parent_at (ids_below self.now) self.now.commits.now)
             (length self.now.commits.now) ≡ Some e)) }
     {
+        let places = self.guesses(alloc)?;
+        let mut guesses = Guesses::of(&places);
         let mut lists = ParentLists::new(alloc);
         let mut positions = Vec::new(alloc);
         for (number, commit) in self.commits.iter().enumerate() {
-            match self.put_parents(commit, &mut positions)? {
+            match self.put_parents(commit, &mut guesses, &mut positions)? {
                 Some(parent) => return Err(WriteError::Parent(number, parent)),
                 None => lists.push(&positions)?,
             }

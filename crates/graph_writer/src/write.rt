@@ -16,8 +16,9 @@ ghost use Rattle.graph_writer.specs.WrittenLayers.{IsWritten};
 use crate::commit::{NewCommit, WriteError};
 use crate::levels_below::LevelsBelow;
 use crate::new_layer::{NewLayer, kind_to_write};
-use crate::plan::{checksums_below, offsets_of, planned_commits, times_in_order};
-use graph_encoder::{LayerPlan, build};
+use crate::new_plan::NewPlan;
+use crate::plan::{checksums_below, offsets_of, times_in_order};
+use graph_encoder::{build_view, is_buildable};
 use graph_history::Checked;
 use graph_levels::{Level, LevelsError, levels};
 use graph_walks::GENERATION_NUMBER_MAX;
@@ -50,19 +51,21 @@ pub fn write_layer(
     let known = LevelsBelow::of(alloc, below)?;
     let times = times_in_order(alloc, commits, &new.order)?;
     let own = own_levels(alloc, &known.levels, &new, &times)?;
-    let plan = LayerPlan {
+    let plan = NewPlan {
         kind: kind_to_write(below, commits),
         bases: checksums_below(alloc, below)?,
-        commits: planned_commits(alloc, commits, &new, &own)?,
-        date_offsets: offsets_of(alloc, known.have_dates, &times, &own)?,
+        commits,
+        new: &new,
+        levels: &own,
+        offsets: offsets_of(alloc, known.have_dates, &times, &own)?,
     };
     if plan.bases.len() > MOST_BELOW {
         return Err(WriteError::TooManyLayers);
     }
-    if !plan.is_buildable() {
+    if !is_buildable(&plan) {
         return Err(WriteError::TooManyEdges);
     }
-    Ok(build(alloc, &plan)?)
+    Ok(build_view(alloc, &plan)?)
 }
 
 /// The levels of the commits of a new layer, given those of the commits below.

@@ -3,4 +3,4 @@ use Rattle.graph_encoder.specs.Written.{words_bytes}
 use Rattle.graph_encoder.proofs.fan.push_fan.Given as goal
 
 abbrev pub invariant-loop-count : goal.invariant-loop-count
-invariant-loop-count l = l.file.items ≡ l.initial.file.items ++ words_bytes (take l.count-index l.count-items)
+invariant-loop-count g l = l.file.items ≡ l.initial.file.items ++ words_bytes (take l.count-index l.count-items)

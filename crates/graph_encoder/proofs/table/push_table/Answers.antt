@@ -1,4 +1,4 @@
-use Rattle.std.proofs.Common.{◌≡◌, ◌+◌, ◌∙◌, refl, ap, drop, get_or, arith}
+use Rattle.std.proofs.Common.{◌+◌, ◌∙◌, refl, ap, drop, get_or, arith}
 use Rattle.graph_encoder.specs.Sizes.{bytes_in, total_size}
 use Rattle.graph_encoder.proofs.SizeLemmas.{no_chunk, total-step, table-step}
 use Rattle.graph_encoder.proofs.table.push_table.Goals as goal

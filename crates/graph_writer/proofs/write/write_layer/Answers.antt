@@ -1,27 +1,22 @@
-use Rattle.std.proofs.Common.{◌≡◌, ◌<◌, ◌≤◌, ◌^◌, ℕ, true, false, List, Option, Some, None, IsSomeAnd, map, length}
-use Rattle.std.proofs.Common.{get_or, slice_get}
-use Rattle.std.proofs.Common.{option_map, sym, ap, ◌∙◌, subst, ⊎_elim, arith}
+use Rattle.std.proofs.Common.{◌≡◌, ◌≤◌, ◌^◌, ℕ, true, false, List, Option, Some, None, map, length, get_or}
+use Rattle.std.proofs.Common.{option_map, sym, ap, ◌∙◌, subst, arith}
 use Rattle.std.specs.Prelude.{IfSome, IfNone, MatchOption}
-use Rattle.std.proofs.lemmas.Bool.{cases_lt}
 use Rattle.std.proofs.lemmas.List.{length-map}
 use Rattle.std.proofs.lemmas.Result.{err_from_is_err_and}
 use Rattle.graph_walks.specs.Dates.{AreRight}
 use Rattle.graph_walks.specs.Generations.{AreLocal}
 use Rattle.graph_walks.specs.History.{Node}
 use Rattle.graph_format.specs.Layer.{Layer}
-use Rattle.graph_encoder.specs.DateOffsets.{offsets_of}
-use Rattle.graph_encoder.specs.Plan.{IsPlan, AreOffsets}
-use Rattle.graph_encoder.specs.declared.plan.LayerPlan.{LayerPlan}
-use Rattle.graph_levels.specs.OnTop.{FitTogether, HasOnTop, HasLevelGenerations, HasLevelDates, level_at}
+use Rattle.graph_encoder.specs.Plan.{AreOffsets}
+use Rattle.graph_levels.specs.OnTop.{FitTogether, HasOnTop, HasLevelGenerations, HasLevelDates}
 use Rattle.graph_levels.specs.OnTop.{AreClosedBelow, HasNoCycleOnTop}
-use Rattle.graph_levels.specs.ParentLists.{parent_list}
 use Rattle.graph_levels.specs.declared.level.Level.{Level}
 use Rattle.graph_writer.specs.Cycles.{HaveNoCycle}
 use Rattle.graph_writer.specs.LevelsBelow.{AreLevelsBelow}
 use Rattle.graph_writer.specs.NewCommits.{layers_of_below, new_times}
 use Rattle.graph_writer.specs.NewLayers.{IsNewLayer}
 use Rattle.graph_writer.specs.OwnLevels.{MayHaveNoLevels}
-use Rattle.graph_writer.specs.PlannedCommits.{IsPlanOf, AreOffsetsOf}
+use Rattle.graph_writer.specs.PlannedCommits.{AreOffsetsOf}
 use Rattle.graph_writer.specs.WriteRefusal.{new_layer_refusal}
 use Rattle.graph_writer.specs.WritingRefusal.{word_count}
 use Rattle.graph_writer.specs.declared.commit.NewCommit.{NewCommit}
@@ -29,10 +24,9 @@ use Rattle.graph_writer.specs.declared.levels_below.LevelsBelow.{LevelsBelow}
 use Rattle.graph_writer.specs.declared.new_layer.NewLayer.{NewLayer}
 use Rattle.graph_writer.proofs.AcyclicSteps.{acyclic}
 use Rattle.graph_writer.proofs.FitSteps.{fit-together}
-use Rattle.graph_writer.proofs.PlanSteps.{all-words, is-plan}
 use Rattle.graph_writer.proofs.ReasonSteps.{refused-new, refused-dates, refused-levels, refused-layers}
 use Rattle.graph_writer.proofs.ReasonSteps.{refused-edges}
-use Rattle.graph_writer.proofs.WriteSteps.{HasOffsets, written}
+use Rattle.graph_writer.proofs.ViewSteps.{few-words, many-words, view-written}
 use Rattle.graph_writer.proofs.write.write_layer.Goals as goal
 
 -- a list that may be missing
@@ -103,56 +97,36 @@ returns-then-len-gt-MOST_BELOW-clause-refusal c =
       length-map layers (λ (l : Layer). l.checksum),
     ))
 
+-- so few layers are below
+few-below : (layers : List Layer) (bases : List (List ℕ)) (n : ℕ) → bases ≡ map (λ (l : Layer). l.checksum) layers
+    → n ≡ length bases → n ≤ 255 → length layers ≤ 255
+few-below layers bases n same counted few =
+    omega (arith, few, counted, ap length same, length-map layers (λ (l : Layer). l.checksum))
+
 pub returns-then-not-is_buildable-clause-refusal : goal.returns-then-not-is_buildable-clause-refusal
 returns-then-not-is_buildable-clause-refusal c =
     let layers : List Layer = layers_of_below c.args.below in
     let commits : List NewCommit = c.args.commits.now in
-    let new = c.in_ok-new.new in
     let own : List Level = c.in_ok-own.own.items in
-    let times : List ℕ = c.in_ok-times.times.items in
-    let plan : LayerPlan = record {
-      kind = c.kind_to_write.result;
-      bases = c.in_ok-checksums_below.field-0;
-      commits = c.in_ok-planned_commits.field-0;
-      date_offsets = c.in_ok-offsets_of.field-0;
-    } in
-    let planned =
-    subst (λ (ls : List Level). (p i : ℕ) (commit : NewCommit) → slice_get new.order.items p ≡ Some i
-    → slice_get commits i ≡ Some commit
-    → IsSomeAnd (slice_get plan.commits.items p) (IsPlanOf commit (parent_list new.parents p) (level_at ls p).generation))
-    c.deref-4.ensures.value c.in_ok-planned_commits.ensures.each in
     let match_offsets =
     match-items (λ v. v.items) c.in_ok-offsets_of.field-0 (c.in_ok-known.known.have_dates ≡ false)
     (λ offsets. (c.in_ok-known.known.have_dates ≡ true) × AreOffsetsOf c.deref-5.result.now c.deref-6.result.now offsets)
     c.in_ok-offsets_of.ensures.some c.in_ok-offsets_of.ensures.none in
-    let size : length plan.commits.items ≡ length c.deref-6.result.now =
-    c.in_ok-planned_commits.ensures.as_many
-    ∙ c.in_ok-new.ensures.layer.as_many
+    let size : length c.in_ok-new.new.order.items ≡ length c.deref-6.result.now =
+    c.in_ok-new.ensures.layer.as_many
     ∙ sym c.in_ok-new.ensures.layer.listed
     ∙ sym c.in_ok-own.ensures.len
     ∙ sym (ap length c.deref-6.ensures.value) in
     let few : length layers ≤ 255 =
-    omega (
-      arith,
-      c.if-len-gt-MOST_BELOW.false,
-      c.len.ensures,
-      ap length c.in_ok-checksums_below.ensures,
-      length-map layers (λ (l : Layer). l.checksum),
-    ) in
+    few-below layers c.in_ok-checksums_below.field-0.items c.len.result c.in_ok-checksums_below.ensures
+    (c.len.ensures ∙ c.in_ok-checksums_below.field-0.ok.0) c.if-len-gt-MOST_BELOW.false in
     let bound : 2 ^ 31 ≤ word_count commits =
-    ⊎_elim
-    (λ (less : word_count commits < 2 ^ 31).
-    let yes_it_is : c.is_buildable.result ≡ true =
-    c.is_buildable.ensures.1
-    (is-plan layers commits new c.in_ok-new.ensures.layer own plan c.in_ok-planned_commits.ensures.as_many planned
-    c.in_ok-new.ensures.accepted c.in_ok-known.known c.in_ok-known.ensures.levels c.kind_to_write.ensures
-    c.in_ok-checksums_below.ensures few c.in_ok-own.ensures.len (λ p lt. (c.in_ok-own.ensures.bounds p lt).0)
-    (offsets-fit (offsets_of plan) _ _ c.deref-5.result.now c.deref-6.result.now (length plan.commits.items) size match_offsets)
-    less) in
-    let no_it_is : c.is_buildable.result ≡ false = c.if-not-is_buildable.true in
-    absurd (cc))
-    (λ (many : 2 ^ 31 ≤ word_count commits). many)
-    (cases_lt (word_count commits) (2 ^ 31)) in
+    many-words _ c.is_buildable.result layers own c.is_buildable.ensures c.if-not-is_buildable.true c.deref-4.ensures.value
+    c.in_ok-new.ensures.layer c.in_ok-new.ensures.accepted c.in_ok-known.known c.in_ok-known.ensures.levels
+    c.kind_to_write.ensures c.in_ok-checksums_below.ensures few c.in_ok-own.ensures.len
+    (λ p lt. (c.in_ok-own.ensures.bounds p lt).0)
+    (offsets-fit (option_map (λ v. v.items) c.in_ok-offsets_of.field-0) _ _ c.deref-5.result.now c.deref-6.result.now
+    (length c.in_ok-new.new.order.items) size match_offsets) in
     refused-edges layers commits c.in_ok-new.ensures.accepted c.in_ok-known.ensures.levels.accepted
     (no-cycle-left layers commits c.in_ok-new.new c.in_ok-new.ensures.layer c.in_ok-new.ensures.accepted
     c.in_ok-known.known c.in_ok-known.ensures.levels c.deref-2.result.now c.deref-2.ensures.value c.in_ok-own.ensures.acyclic)
@@ -166,24 +140,16 @@ returns-clause-written c path =
     let known = c.in_ok-known.known in
     let own : List Level = c.in_ok-own.own.items in
     let times : List ℕ = c.in_ok-times.times.items in
-    let plan : LayerPlan = record {
-      kind = c.kind_to_write.result;
-      bases = c.in_ok-checksums_below.field-0;
-      commits = c.in_ok-planned_commits.field-0;
-      date_offsets = c.in_ok-offsets_of.field-0;
-    } in
-    let planned =
-    subst (λ (ls : List Level). (p i : ℕ) (commit : NewCommit) → slice_get new.order.items p ≡ Some i
-    → slice_get commits i ≡ Some commit
-    → IsSomeAnd (slice_get plan.commits.items p) (IsPlanOf commit (parent_list new.parents p) (level_at ls p).generation))
-    c.deref-4.ensures.value c.in_ok-planned_commits.ensures.each in
     let match_offsets =
     match-items (λ v. v.items) c.in_ok-offsets_of.field-0 (known.have_dates ≡ false)
     (λ offsets. (known.have_dates ≡ true) × AreOffsetsOf c.deref-5.result.now c.deref-6.result.now offsets)
     c.in_ok-offsets_of.ensures.some c.in_ok-offsets_of.ensures.none in
-    let has : HasOffsets known times own plan =
-    subst (λ (ts : List ℕ). HasOffsets known ts own plan) c.deref-5.ensures.value
-    (subst (λ (ls : List Level). HasOffsets known c.deref-5.result.now ls plan) c.deref-6.ensures.value match_offsets) in
+    let Has : List ℕ → List Level → Type 0 =
+    λ ts ls. MatchOption (option_map (λ v. v.items) c.in_ok-offsets_of.field-0) (known.have_dates ≡ false)
+    (λ offsets. (known.have_dates ≡ true) × AreOffsetsOf ts ls offsets) in
+    let has : Has times own =
+    subst (λ (ts : List ℕ). Has ts own) c.deref-5.ensures.value
+    (subst (λ (ls : List Level). Has c.deref-5.result.now ls) c.deref-6.ensures.value match_offsets) in
     let local =
     subst (λ (ls : List Level). (history : List Node) → HasOnTop history (length ls) new.parents
     → HasLevelGenerations history ls own → AreLocal history) c.deref-2.ensures.value c.in_ok-own.ensures.generations in
@@ -194,57 +160,30 @@ returns-clause-written c path =
     → HasOnTop history (length c.deref-2.result.now) new.parents
     → HasLevelDates history ts ds c.deref-2.result.now own all → AreRight history ts ds) c.deref-3.ensures.value
     c.in_ok-own.ensures.dates) in
-    let found = c.in_ok-build.ensures.layer path in (
-      found.0,
-      found.1,
-      written layers commits new c.in_ok-new.ensures.layer c.in_ok-new.ensures.accepted known c.in_ok-known.ensures.levels times
-          (c.in_ok-times.ensures ∙ ap (map (λ (i : ℕ). get_or (new_times commits) i 0)) c.deref.ensures.value)
-          own c.in_ok-own.ensures.len local right plan c.kind_to_write.ensures c.in_ok-checksums_below.ensures
-          (omega (
-            arith,
-            c.if-len-gt-MOST_BELOW.false,
-            c.len.ensures,
-            ap length c.in_ok-checksums_below.ensures,
-            length-map layers (λ (l : Layer). l.checksum),
-          ))
-          c.in_ok-planned_commits.ensures.as_many planned has c.in_ok-build.field-0.items path found.0 found.1 found.2,
-    )
+    view-written _ c.in_ok-build_view.field-0.items path (c.in_ok-build_view.ensures.layer path) layers
+    c.in_ok-new.ensures.layer c.in_ok-new.ensures.accepted known
+    c.in_ok-known.ensures.levels times
+    (c.in_ok-times.ensures ∙ ap (map (λ (i : ℕ). get_or (new_times commits) i 0)) c.deref.ensures.value)
+    own c.deref-4.ensures.value c.in_ok-own.ensures.len local right c.kind_to_write.ensures c.in_ok-checksums_below.ensures
+    (few-below layers c.in_ok-checksums_below.field-0.items c.len.result c.in_ok-checksums_below.ensures
+    (c.len.ensures ∙ c.in_ok-checksums_below.field-0.ok.0) c.if-len-gt-MOST_BELOW.false)
+    has
 
 pub returns-clause-accepted : goal.returns-clause-accepted
 returns-clause-accepted c =
     let layers : List Layer = layers_of_below c.args.below in
     let commits : List NewCommit = c.args.commits.now in
-    let new = c.in_ok-new.new in
-    let own : List Level = c.in_ok-own.own.items in
-    let plan : LayerPlan = record {
-      kind = c.kind_to_write.result;
-      bases = c.in_ok-checksums_below.field-0;
-      commits = c.in_ok-planned_commits.field-0;
-      date_offsets = c.in_ok-offsets_of.field-0;
-    } in
-    let planned =
-    subst (λ (ls : List Level). (p i : ℕ) (commit : NewCommit) → slice_get new.order.items p ≡ Some i
-    → slice_get commits i ≡ Some commit
-    → IsSomeAnd (slice_get plan.commits.items p) (IsPlanOf commit (parent_list new.parents p) (level_at ls p).generation))
-    c.deref-4.ensures.value c.in_ok-planned_commits.ensures.each in
-    let is : IsPlan plan = c.is_buildable.ensures.0 c.if-not-is_buildable.false in
     record {
       new = c.in_ok-new.ensures.accepted;
       dates = c.in_ok-known.ensures.levels.accepted;
       acyclic =
-          no-cycle-left layers commits new c.in_ok-new.ensures.layer c.in_ok-new.ensures.accepted
+          no-cycle-left layers commits c.in_ok-new.new c.in_ok-new.ensures.layer c.in_ok-new.ensures.accepted
           c.in_ok-known.known c.in_ok-known.ensures.levels c.deref-2.result.now c.deref-2.ensures.value
           c.in_ok-own.ensures.acyclic;
-      layers_below = omega (
-        arith,
-        c.if-len-gt-MOST_BELOW.false,
-        c.len.ensures,
-        ap length c.in_ok-checksums_below.ensures,
-        length-map layers (λ (l : Layer). l.checksum),
-      );
-      edges = omega (
-        arith,
-        is.few_words,
-        all-words layers commits new c.in_ok-new.ensures.layer own plan c.in_ok-planned_commits.ensures.as_many planned,
-      );
+      layers_below =
+          few-below layers c.in_ok-checksums_below.field-0.items c.len.result c.in_ok-checksums_below.ensures
+          (c.len.ensures ∙ c.in_ok-checksums_below.field-0.ok.0) c.if-len-gt-MOST_BELOW.false;
+      edges =
+          few-words _ layers c.in_ok-own.own.items (c.is_buildable.ensures.0 c.if-not-is_buildable.false) c.deref-4.ensures.value
+          c.in_ok-new.ensures.layer;
     }

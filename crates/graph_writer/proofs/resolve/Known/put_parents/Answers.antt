@@ -3,7 +3,7 @@ use Rattle.std.proofs.Common.{position, sym, ap, ◌∙◌, arith, add-one, belo
 use Rattle.std.proofs.Math.Seq.{take-suc}
 use Rattle.std.proofs.lemmas.List.{get_or_default, map_push}
 use Rattle.std.proofs.lemmas.List.Elements.{All-push, All-same}
-use Rattle.graph_writer.specs.Known.{ids_below, is_unknown_to}
+use Rattle.graph_writer.specs.Known.{is_unknown_to, all_ids}
 use Rattle.graph_writer.proofs.KnownSteps.{position-at, position-none}
 use Rattle.graph_writer.proofs.resolve.Known.put_parents.Goals as goal
 
@@ -38,13 +38,13 @@ loop-number-preserved c =
       within =
           All-same (λ (q : ℕ). q < k.start + length k.commits.now) c.push.new.self.items (old ++ c.in-Some.position ∷ []) pushed
           (All-push (λ (q : ℕ). q < k.start + length k.commits.now) old c.in-Some.position inv.within c.in-Some.ensures.within);
-      ids = λ sorted hold.
-          let f : ℕ → Option (List ℕ) = slice_get (ids_below k ++ sorted) in
+      ids =
+          let f : ℕ → Option (List ℕ) = slice_get (all_ids k) in
           let some : List ℕ → Option (List ℕ) = λ id. Some id in
           ap (map f) pushed
           ∙ map_push f old c.in-Some.position
-          ∙ ap (λ (os : List (Option (List ℕ))). os ++ f c.in-Some.position ∷ []) (inv.ids sorted hold)
-          ∙ ap (λ (o : Option (List ℕ)). map some (take n xs) ++ o ∷ []) (c.in-Some.ensures.id sorted hold ∙ ap some (sym read))
+          ∙ ap (λ (os : List (Option (List ℕ))). os ++ f c.in-Some.position ∷ []) inv.ids
+          ∙ ap (λ (o : Option (List ℕ)). map some (take n xs) ++ o ∷ []) (c.in-Some.ensures.id ∙ ap some (sym read))
           ∙ sym (map_push some (take n xs) (get_or xs n []))
           ∙ ap (map some) (sym taken);
     }

@@ -1,5 +1,5 @@
-use Rattle.std.proofs.Common.{◌≡◌, ◌+◌, ◌<◌, ◌++◌, ℕ, List, [], Some, All, false, length, map, take, slice_get, get_or}
-use Rattle.graph_writer.specs.Known.{ids_below, is_unknown_to, HoldRanks}
+use Rattle.std.proofs.Common.{◌≡◌, ◌+◌, ◌<◌, ℕ, [], Some, All, false, length, map, take, slice_get, get_or}
+use Rattle.graph_writer.specs.Known.{is_unknown_to, all_ids}
 use Rattle.graph_writer.proofs.resolve.Known.put_parents.Given as goal
 
 abbrev pub invariant-loop-number : goal.invariant-loop-number
@@ -7,6 +7,5 @@ invariant-loop-number l = record {
   parents : l.parents ≡ l.commit.parents.items;
   known : (k : ℕ) → k < l.number → is_unknown_to l.self (get_or l.parents k []) ≡ false;
   within : All (λ p. p < l.self.start + length l.self.commits.now) l.positions.items;
-  ids : (sorted : List (List ℕ)) → HoldRanks l.self sorted
-      → map (slice_get (ids_below l.self ++ sorted)) l.positions.items ≡ map (λ id. Some id) (take l.number l.parents);
+  ids : map (slice_get (all_ids l.self)) l.positions.items ≡ map (λ id. Some id) (take l.number l.parents);
 }

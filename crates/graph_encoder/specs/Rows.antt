@@ -1,0 +1,17 @@
+-- The commits of a plan, one by one. (gitformat-commit-graph, "Commit Data".)
+use Rattle.std.specs.Prelude.{◌≡◌, ℕ, Some, slice_get}
+use Rattle.graph_encoder.specs.declared.plan.LayerPlan.{LayerPlan}
+use Rattle.graph_encoder.specs.declared.plan.PlanCommit.{PlanCommit}
+use Rattle.graph_encoder.specs.declared.row.PlanRow.{PlanRow}
+
+-- The row says what the commit says.
+pub record IsRowOf (commit : PlanCommit) (row : PlanRow) : Type 0 where
+  pub id : row.id.now ≡ commit.id
+  pub tree : row.tree.now ≡ commit.tree
+  pub parents : row.parents.now ≡ commit.parents.items
+  pub generation : row.generation ≡ commit.generation
+  pub time : row.time ≡ commit.time
+
+-- The row says what the plan's commit at this place says.
+abbrev pub IsRowAt : LayerPlan → ℕ → PlanRow → Type 0
+IsRowAt plan p row = (commit : PlanCommit) → slice_get plan.commits.items p ≡ Some commit → IsRowOf commit row

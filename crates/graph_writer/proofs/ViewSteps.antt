@@ -1,0 +1,98 @@
+-- The plan that is read off new commits: when a file can hold it, and what its file says.
+use Rattle.std.proofs.Common.{◌≡◌, ◌↔◌, IsTrue, Bool, true, false, ℕ, ◌^◌, ◌<◌, ◌≤◌, List, Some, None, map, length, IsSomeAnd}
+use Rattle.std.proofs.Common.{slice_get, get_or, option_map, sym, subst, ⊎_elim, arith}
+use Rattle.std.specs.Prelude.{IfSome, MatchOption}
+use Rattle.std.proofs.lemmas.Bool.{cases_lt}
+use Rattle.graph_walks.specs.Dates.{AreRight}
+use Rattle.graph_walks.specs.Generations.{AreLocal}
+use Rattle.graph_walks.specs.History.{Node}
+use Rattle.graph_walks.specs.declared.TheConstants.{GENERATION_NUMBER_MAX}
+use Rattle.graph_format.specs.Layer.{Layer, IsLayer}
+use Rattle.graph_encoder.specs.Plan.{IsPlan, AreOffsets}
+use Rattle.graph_encoder.specs.Said.{IsFileOf}
+use Rattle.graph_levels.specs.OnTop.{HasOnTop, HasLevelGenerations, HasLevelDates, level_at}
+use Rattle.graph_levels.specs.ParentLists.{commit_count, parent_list}
+use Rattle.graph_levels.specs.declared.level.Level.{Level}
+use Rattle.graph_writer.specs.LevelsBelow.{AreLevelsBelow}
+use Rattle.graph_writer.specs.NewCommits.{new_times}
+use Rattle.graph_writer.specs.NewLayers.{IsNewLayer}
+use Rattle.graph_writer.specs.PlannedCommits.{IsPlanOf, AreOffsetsOf, plan_of}
+use Rattle.graph_writer.specs.WriteRefusal.{new_layer_refusal, kind_to_write}
+use Rattle.graph_writer.specs.WritingRefusal.{word_count}
+use Rattle.graph_writer.specs.WrittenLayers.{IsWrittenLayer}
+use Rattle.graph_writer.specs.declared.commit.NewCommit.{NewCommit}
+use Rattle.graph_writer.specs.declared.levels_below.LevelsBelow.{LevelsBelow}
+use Rattle.graph_writer.specs.declared.new_plan.NewPlan.{NewPlan}
+use Rattle.graph_writer.proofs.PlanOfSteps.{planned-count, planned-each}
+use Rattle.graph_writer.proofs.PlanSteps.{all-words, is-plan}
+use Rattle.graph_writer.proofs.WriteSteps.{written}
+
+-- what is planned of each commit, by the levels that the plan has
+view-planned : (plan : NewPlan) (own : List Level) → plan.levels.now ≡ own → (p i : ℕ) (commit : NewCommit)
+    → slice_get plan.new.now.order.items p ≡ Some i → slice_get plan.commits.now i ≡ Some commit
+    → IsSomeAnd (slice_get (plan_of plan).commits.items p)
+    (IsPlanOf commit (parent_list plan.new.now.parents p) (level_at own p).generation)
+view-planned plan own same =
+    subst
+    (λ (ls : List Level). (p i : ℕ) (commit : NewCommit) → slice_get plan.new.now.order.items p ≡ Some i
+    → slice_get plan.commits.now i ≡ Some commit
+    → IsSomeAnd (slice_get (plan_of plan).commits.items p)
+    (IsPlanOf commit (parent_list plan.new.now.parents p) (level_at ls p).generation))
+    same (planned-each plan)
+
+-- a plan that a file can hold has few extra edges
+pub few-words : (plan : NewPlan) (layers : List Layer) (own : List Level) → IsPlan (plan_of plan) → plan.levels.now ≡ own
+    → IsNewLayer layers plan.commits.now plan.new.now → word_count plan.commits.now < 2 ^ 31
+few-words plan layers own is same is_new =
+    omega (
+      arith,
+      is.few_words,
+      all-words layers plan.commits.now plan.new.now is_new own (plan_of plan) (planned-count plan)
+          (view-planned plan own same),
+    )
+
+-- and one that no file can hold has too many
+pub many-words : (plan : NewPlan) (b : Bool) (layers : List Layer) (own : List Level) → (IsTrue b ↔ IsPlan (plan_of plan))
+    → b ≡ false → plan.levels.now ≡ own → IsNewLayer layers plan.commits.now plan.new.now
+    → new_layer_refusal layers plan.commits.now ≡ None → (known : LevelsBelow) → AreLevelsBelow layers known
+    → plan.kind ≡ kind_to_write layers plan.commits.now → plan.bases.items ≡ map (λ l. l.checksum) layers
+    → length layers ≤ 255 → length own ≡ commit_count plan.new.now.parents
+    → ((p : ℕ) → p < length own → (level_at own p).generation ≤ GENERATION_NUMBER_MAX)
+    → IfSome (option_map (λ v. v.items) plan.offsets) (AreOffsets (length plan.new.now.order.items))
+    → 2 ^ 31 ≤ word_count plan.commits.now
+unfolding plan_of
+many-words plan b layers own told no_it_is same is_new none known below kind bases fits leveled capped offsets =
+    ⊎_elim
+    (λ (less : word_count plan.commits.now < 2 ^ 31).
+    let sized : IfSome (option_map (λ v. v.items) plan.offsets) (AreOffsets (length (plan_of plan).commits.items)) =
+    subst (λ (n : ℕ). IfSome (option_map (λ v. v.items) plan.offsets) (AreOffsets n)) (sym (planned-count plan)) offsets in
+    let yes_it_is : b ≡ true =
+    told.1
+    (is-plan layers plan.commits.now plan.new.now is_new own (plan_of plan) (planned-count plan) (view-planned plan own same)
+    none known below kind bases fits leveled capped sized less) in
+    absurd (cc))
+    (λ (many : 2 ^ 31 ≤ word_count plan.commits.now). many)
+    (cases_lt (word_count plan.commits.now) (2 ^ 31))
+
+-- its file is one of a layer with the commits
+pub view-written : (plan : NewPlan) (bytes path : List ℕ) → IsFileOf (plan_of plan) bytes path → (layers : List Layer)
+    → IsNewLayer layers plan.commits.now plan.new.now → new_layer_refusal layers plan.commits.now ≡ None
+    → (known : LevelsBelow) → AreLevelsBelow layers known → (times : List ℕ)
+    → times ≡ map (λ i. get_or (new_times plan.commits.now) i 0) plan.new.now.order.items → (own : List Level)
+    → plan.levels.now ≡ own → length own ≡ commit_count plan.new.now.parents
+    → ((history : List Node) → HasOnTop history (length known.levels.items) plan.new.now.parents
+    → HasLevelGenerations history known.levels.items own → AreLocal history)
+    → ((history : List Node) (ts ds : List ℕ) → HasOnTop history (length known.levels.items) plan.new.now.parents
+    → HasLevelDates history ts ds known.levels.items own times → AreRight history ts ds)
+    → plan.kind ≡ kind_to_write layers plan.commits.now → plan.bases.items ≡ map (λ l. l.checksum) layers
+    → length layers ≤ 255
+    → MatchOption (option_map (λ v. v.items) plan.offsets) (known.have_dates ≡ false)
+    (λ offsets. (known.have_dates ≡ true) × AreOffsetsOf times own offsets)
+    → (layer : Layer) × IsLayer bytes path layer × IsWrittenLayer layers plan.commits.now layer
+unfolding plan_of
+view-written plan bytes path file layers is_new none known below times timed own same leveled local right kind bases few has = (
+  file.0,
+  file.1,
+  written layers plan.commits.now plan.new.now is_new none known below times timed own leveled local right (plan_of plan) kind
+      bases few (planned-count plan) (view-planned plan own same) has bytes path file.0 file.1 file.2,
+)
