@@ -1,0 +1,3 @@
+pub mod GraphCommits
+pub mod MergedCommits
+pub mod SameCommits
