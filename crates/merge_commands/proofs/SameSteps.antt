@@ -1,5 +1,5 @@
 -- The layer of the commits of a graph says what the graph says.
-use Rattle.std.proofs.Common.{◌≡◌, ◌<◌, ◌++◌, ℕ, List, [], ◌∷◌, Option, Some, None, length, map, slice_get, sym, ap, ◌∙◌}
+use Rattle.std.proofs.Common.{◌≡◌, ℕ, List, [], ◌∷◌, Option, Some, None, map, slice_get, sym, ap, ◌∙◌}
 use Rattle.std.proofs.Common.{append-nil, arith, subst}
 use Rattle.std.specs.Prelude.{IsSomeAnd}
 use Rattle.std.proofs.lemmas.Option.{slice_get_within, same_Some}
@@ -7,7 +7,7 @@ use Rattle.graph_format.specs.Format.{Record}
 use Rattle.graph_format.specs.Layer.{Layer}
 use Rattle.graph_format.specs.Parents.{parents_of}
 use Rattle.graph_format.specs.declared.Position.{Position}
-use Rattle.gix_commitgraph.specs.Graph.{graph_ids, total}
+use Rattle.gix_commitgraph.specs.Graph.{graph_ids}
 use Rattle.gix_commitgraph.proofs.layers.GraphLemmas.{counted}
 use Rattle.gix_commitgraph.proofs.lookup.ElementLemmas.{some-place}
 use Rattle.graph_writer.specs.NewCommits.{HoldIds}
@@ -46,8 +46,7 @@ same_commits layers commits layer are written =
           let place = some-place commits p (omega (arith, inside, are.as_many, (counted layers).ids)) in
           let is = are.each p place.0 place.1 in
           let found = written.commits.each p place.0 place.1 in
-          let same : place.0.id ≡ id = same_Some place.0.id id (sym is.id ∙ at) in
-          (
+          let same : place.0.id ≡ id = same_Some place.0.id id (sym is.id ∙ at) in (
             found.0,
             found.1 ∙ ap (λ (i : List ℕ). Some i) same,
             implied (slice_get layer.records found.0) (SaysNewCommit (graph_ids (layer ∷ [])) layer place.0)
