@@ -28,11 +28,12 @@ named_alone help version name (command.Objects path None) is = let e = is in cc
 named_alone help version name (command.Objects path (Some range)) is = let e = is.2 in cc
 named_alone help version name (command.Write None) is = let e = is in inr (inr (inr cc))
 named_alone help version name (command.Write (Some path)) is = let e = is in cc
+named_alone help version name (command.Merge path) is = let e = is in cc
 
 -- a name that asks with a path
 pub named_with_path : (help version name path : List ℕ) (asked : Command) → AskAfterName help version (name ∷ path ∷ []) asked
     → (name ≡ codes "check") ⊎ (name ≡ codes "show") ⊎ (name ≡ codes "ask") ⊎ (name ≡ codes "ids") ⊎ (name ≡ codes "objects")
-    ⊎ (name ≡ codes "write")
+    ⊎ (name ≡ codes "write") ⊎ (name ≡ codes "merge")
 named_with_path help version name path (command.Help text) is = elim is.0 [ inl e ↦ cc | inr e ↦ cc ]
 named_with_path help version name path (command.Version text) is = let e = is.0 in cc
 named_with_path help version name path (command.IsAncestor at first second) is = let e = is in cc
@@ -47,7 +48,8 @@ named_with_path help version name path (command.Ids at (Some range)) is = let e 
 named_with_path help version name path (command.Objects at None) is = let e = is in inr (inr (inr (inr (inl cc))))
 named_with_path help version name path (command.Objects at (Some range)) is = let e = is.2 in cc
 named_with_path help version name path (command.Write None) is = let e = is in cc
-named_with_path help version name path (command.Write (Some at)) is = let e = is in inr (inr (inr (inr (inr cc))))
+named_with_path help version name path (command.Write (Some at)) is = let e = is in inr (inr (inr (inr (inr (inl cc)))))
+named_with_path help version name path (command.Merge at) is = let e = is in inr (inr (inr (inr (inr (inr cc)))))
 
 some_of : {A : Type 0} (xs : List A) → (xs ≡ [] → ⊥) → 1 ≤ length xs
 some_of [] some = absurd (some refl)
@@ -97,6 +99,7 @@ named_with_ids help version name path first others (command.Objects at (Some ran
     inr (inl (inr cc, just_one others is.1 rest, (is.1, range, rest, subst (λ (t : List ℕ). SpellsRange t is.1 range) from is.3)))
 named_with_ids help version name path first others (command.Write None) is = let e = is in cc
 named_with_ids help version name path first others (command.Write (Some at)) is = let e = is in cc
+named_with_ids help version name path first others (command.Merge at) is = let e = is in cc
 
 -- no words after the program's name ask for nothing
 pub none_asked : (help version : List ℕ) (asked : Command) → AskAfterName help version [] asked → ⊥
@@ -115,6 +118,7 @@ none_asked help version (command.Objects path None) is = let e = is in cc
 none_asked help version (command.Objects path (Some range)) is = let e = is.2 in cc
 none_asked help version (command.Write None) is = let e = is in cc
 none_asked help version (command.Write (Some path)) is = let e = is in cc
+none_asked help version (command.Merge path) is = let e = is in cc
 
 -- four words and more, of which the last three are known
 pub four_words : (words : List (String Global)) (b c d : String Global)

@@ -14,6 +14,7 @@ use Rattle.object_commands.specs.CommitIds.{MayListIds, ids_text, ids_status}
 use Rattle.object_commands.specs.ComparedObjects.{MayCompareObjects, objects_text, objects_status}
 use Rattle.question_commands.specs.Asking.{MayAsk, ask_text, ask_status}
 use Rattle.write_commands.specs.WrittenCommits.{MayWriteLayer, written_text, written_status}
+use Rattle.merge_commands.specs.MergedCommits.{MayMerge}
 use Rattle.history_commands.specs.Check.{MayFindInAll, check_text, check_status}
 use Rattle.history_commands.specs.IsAncestor.{IsTold, is_ancestor_text, is_ancestor_status}
 use Rattle.history_commands.specs.MergeBases.{MayCompare, merge_base_text, merge_base_ids_text, merge_base_status}
@@ -45,6 +46,7 @@ AskAfterName help version words (command.Objects path (Some range)) =
     (from to : List ℕ) × (words ≡ codes "objects" ∷ path.now ∷ from ∷ to ∷ []) × SpellsRange from to range
 AskAfterName help version words (command.Write None) = words ≡ codes "write" ∷ []
 AskAfterName help version words (command.Write (Some path)) = words ≡ codes "write" ∷ path.now ∷ []
+AskAfterName help version words (command.Merge path) = words ≡ codes "merge" ∷ path.now ∷ []
 
 -- the words of a command line ask for this command; the first of them is the program's own name
 abbrev pub AskHistorytool : List ℕ → List ℕ → List (List ℕ) → Command → Type 0
@@ -91,3 +93,5 @@ HistorytoolMayWrite (command.Objects path range) input unread IsLeftAlone MayOpe
 HistorytoolMayWrite (command.Write path) input unread IsLeftAlone MayOpenAt before after old new status =
     WritesAnswer written_text written_status
     (MayWriteLayer (option_map (λ p. p.now) path) IsLeftAlone (λ at. MayOpenAt at before after) input unread) old new status
+HistorytoolMayWrite (command.Merge path) input unread IsLeftAlone MayOpenAt before after old new status =
+    WritesAnswer written_text written_status (MayMerge (MayOpenAt path.now before after)) old new status

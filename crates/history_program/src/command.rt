@@ -15,6 +15,7 @@ use graph_folder::folder::Folder;
 use history_commands::run::{
     run_check, run_is_ancestor, run_merge_base, run_merge_base_ids, run_walk,
 };
+use merge_commands::run_merge;
 use object_commands::{PositionRange, run_ids, run_objects};
 use question_commands::asking::run_ask;
 use show_commands::run::run_show;
@@ -105,6 +106,11 @@ pub enum Command<'a> {
         /// The path of the graph on which it is to lie; none, where it is to lie on none.
         path: Option<&'a str>,
     },
+    /// The commits of the graph are to be written as one layer.
+    Merge {
+        /// The path of the graph.
+        path: &'a str,
+    },
 }
 
 /// What `historytool` tells of itself.
@@ -167,6 +173,7 @@ impl<'a> Command<'a> {
             "ids" => Some(Command::Ids { path, range: None }),
             "objects" => Some(Command::Objects { path, range: None }),
             "write" => Some(Command::Write { path: Some(path) }),
+            "merge" => Some(Command::Merge { path }),
             _ => None,
         }
     }
@@ -330,6 +337,7 @@ impl Run for Command<'_> {
                 run_objects(alloc, input, folder, path, range, output)
             }
             Command::Write { path } => run_write(alloc, input, folder, path, output),
+            Command::Merge { path } => run_merge(alloc, folder, path, output),
         }
     }
 }

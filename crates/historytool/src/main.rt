@@ -1,6 +1,6 @@
 //! `historytool`: answers questions about the histories of Git's commit-graphs, by the ids of two
 //! commits or more, checks what such graphs say of dates and of changed paths, compares them with
-//! their commits, and writes layers of commits.
+//! their commits, and writes layers of commits, given ones or those of a graph.
 //!
 //! The exit status is 0 where the answer is yes, a walk, merge bases, ids, a right graph or a
 //! layer, 1 where it is no or none, where an id is not there or where something was refused, and 2
@@ -18,12 +18,12 @@ use std::{env, io};
 const USAGE: &str = "usage: historytool is-ancestor PATH HEX HEX | walk PATH HEX HEX \
     | merge-base PATH HEX HEX.. | merge-base-ids PATH HEX HEX.. | check PATH \
     | show PATH | ask PATH | ids PATH [FROM TO] | objects PATH [FROM TO] | write [PATH] \
-    | --help | --version";
+    | merge PATH | --help | --version";
 
 const HELP: &str = "usage: historytool is-ancestor PATH HEX HEX | walk PATH HEX HEX \
     | merge-base PATH HEX HEX.. | merge-base-ids PATH HEX HEX.. | check PATH \
     | show PATH | ask PATH | ids PATH [FROM TO] | objects PATH [FROM TO] | write [PATH] \
-    | --help | --version\n\
+    | merge PATH | --help | --version\n\
     \n\
     PATH is a commit-graph file, a folder with a chain of them, or an info folder.\n\
     HEX is the id of a commit in hexadecimal.\n\
@@ -54,6 +54,8 @@ const HELP: &str = "usage: historytool is-ancestor PATH HEX HEX | walk PATH HEX 
     write           the file of a layer with the commits on standard input, which\n\
     \x20               git cat-file --batch writes, for the top of the graph at PATH,\n\
     \x20               or else of none\n\
+    merge           the file of one layer with the commits of the graph, once that\n\
+    \x20               was found right; without changed-path filters\n\
     \n\
     The exit status is 0 for yes, a walk, merge bases, ids, a graph that is right,\n\
     questions that were answered or a layer, 1 for any other answer, and 2 for wrong\n\

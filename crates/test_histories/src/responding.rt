@@ -50,6 +50,8 @@ const ROWS: &[(&[&str], u8, &str, &str)] = &[
     (&["write", "nowhere"], 1, "refused open 1\n", ""),
     (&["write", "file"], 1, "refused write 9\n", ""),
     (&["write", "file", CS], 2, "", "usage\n"),
+    (&["merge", "nowhere"], 1, "refused open 1\n", ""),
+    (&["merge"], 2, "", "usage\n"),
     (&[], 2, "", "usage\n"),
     (&["walk", "file", CS], 2, "", "usage\n"),
     (&["merge-base", "file", CS], 2, "", "usage\n"),

@@ -117,6 +117,10 @@ class HistoryProgram(AnyProgram):
         """The answer to `write` of the bytes of a stream, on top of the graph at a path, or of none."""
         return self.run("write", *path, input=stream, **streams)
 
+    def merge(self, path, **streams):
+        """The answer to `merge` of a path."""
+        return self.run("merge", path, stdin=subprocess.DEVNULL, **streams)
+
 
 class FilterProgram(AnyProgram):
     """The program of the crate `test_filters`."""

@@ -1,0 +1,3 @@
+pub mod SameSteps
+pub mod PlainSteps
+pub mod ReasonSteps

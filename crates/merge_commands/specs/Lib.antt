@@ -1,0 +1,4 @@
+pub mod GraphCommits
+pub mod MergedCommits
+pub mod SameCommits
+pub mod MergeReasons
