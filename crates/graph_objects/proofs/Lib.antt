@@ -11,3 +11,4 @@ pub mod MatchLemmas
 pub mod RightStreamLemmas
 pub mod RefusedOnceLemmas
 pub mod CommitWalkLemmas
+pub mod WrittenLemmas

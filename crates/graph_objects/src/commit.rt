@@ -7,15 +7,15 @@ ghost use Rattle.graph_format.specs.Parents.{items_of};
 ghost use Rattle.graph_layer.specs.Commit.{commit_layer, commit_pos, commit_parents};
 ghost use Rattle.graph_layer.specs.Commit.{layer_and_position};
 ghost use Rattle.gix_commitgraph.specs.Graph.{graph_commits};
-ghost use Rattle.graph_objects.specs.Matching.{Matches};
+ghost use Rattle.graph_objects.specs.Matching.{Matches, SaysAsRecorded};
 ghost use Rattle.graph_objects.specs.Mismatches.{Mismatches, IsAmiss, Agree};
 
 use crate::Mismatch;
-use crate::parents::differing_parent;
-use commit_objects::{CommitObject, object_id};
+use crate::parents::{behind_parents, differing_parent};
+use commit_objects::{CommitObject, behind_line, object_id, older_time};
 use gix_commitgraph::Graph;
 use gix_commitgraph::file::Commit;
-use gix_hash_core::{ObjectId, oid};
+use gix_hash_core::{Kind, ObjectId, oid};
 
 /// Compares a commit of the graph with bytes.
 pub(crate) fn matches_commit(
@@ -36,9 +36,28 @@ pub(crate) fn matches_commit(
     if !is_same(&id, commit.id()) {
         return Err(Mismatch::OtherContents);
     }
+    if is_as_written(graph, kind, commit, contents) {
+        return Ok(());
+    }
     match CommitObject::parse(kind, contents) {
         Ok(object) => compare(graph, commit, &object),
         Err(_) => Err(Mismatch::Unreadable),
+    }
+}
+
+/// Whether a commit of the graph is as Git writes these bytes, which needs no decoding: with ids in
+/// lower-case digits, and the time that Git up to 2.40 reads.
+fn is_as_written(graph: &Graph, kind: Kind, commit: Commit<'_>, contents: &[u8]) -> bool
+    ensures { IsTrue result
+        → SaysAsRecorded graph.now kind (commit_layer commit.entry) (commit_pos commit.entry)
+        contents.now }
+{
+    let Some(lines) = behind_line(kind, b"tree ", commit.root_tree_id(), contents) else {
+        return false;
+    };
+    match behind_parents(graph, kind, commit.iter_parents(), lines) {
+        Some(rest) => older_time(rest) == commit.committer_timestamp(),
+        None => false,
     }
 }
 

@@ -3,6 +3,7 @@ use Rattle.graph_format.specs.Layer.{Layer}
 use Rattle.graph_layer.specs.Commit.{commit_layer, commit_pos}
 use Rattle.gix_hash_core.specs.Oid.{oid_bytes}
 use Rattle.graph_objects.proofs.CommitLemmas.{of_layer, few_of_commit, contents_yes, contents_no, finish}
+use Rattle.graph_objects.proofs.WrittenLemmas.{matched_as_recorded}
 use Rattle.graph_objects.proofs.commit.matches_commit.Goals as goal
 
 pub returns-then-not-is_same : goal.returns-then-not-is_same
@@ -14,6 +15,18 @@ returns-then-not-is_same c =
     contents_no layer kind (commit_pos c.args.commit) c.args.contents.now (oid_bytes c.id.result)
     c.object_id-id.result c.is_same.result same c.id.ensures
     c.object_id-id.ensures c.is_same.ensures c.if-not-is_same.true
+
+pub returns-then-is_as_written : goal.returns-then-is_as_written
+returns-then-is_as_written c =
+    let layer = commit_layer c.args.commit in
+    let kind = c.object_hash-kind.result in
+    let same = of_layer (λ (l : Layer). l.kind ≡ kind) c.args.graph.now c.requires.0 (commit_pos c.args.commit)
+    layer c.object_hash-kind.ensures.kind c.requires.1 in
+    let contents = contents_yes layer kind (commit_pos c.args.commit) c.args.contents.now (oid_bytes c.id.result)
+    c.object_id-id.result c.is_same.result same
+    c.id.ensures c.object_id-id.ensures c.is_same.ensures c.if-not-is_same.false in
+    matched_as_recorded c.args.graph.now kind layer (commit_pos c.args.commit) c.args.contents.now same contents
+    (c.is_as_written.ensures c.if-is_as_written.true)
 
 pub compare-requires : goal.compare-requires
 compare-requires c = record {
