@@ -12,3 +12,5 @@ pub mod RightStreamLemmas
 pub mod RefusedOnceLemmas
 pub mod CommitWalkLemmas
 pub mod WrittenLemmas
+pub mod ObjectLemmas
+pub mod BufferLemmas

@@ -11,7 +11,7 @@ use Rattle.commit_objects.specs.CommitContents.{parent_word, tree_word}
 use Rattle.commit_objects.specs.Lines.{BeginsWithLine, BeginsWithWord}
 use Rattle.commit_objects.specs.Time.{older_time}
 use Rattle.commit_objects.proofs.ParentLemmas.{says_of}
-use Rattle.graph_objects.specs.Lines.{NamesInLines}
+use Rattle.graph_objects.specs.ParentLines.{NamesInLines}
 use Rattle.graph_objects.specs.Matching.{AreContents, Matches, SaysAsRecorded, ids_of_items}
 
 -- what holds of the lines and parents that are left holds of all

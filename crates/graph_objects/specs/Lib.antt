@@ -1,6 +1,6 @@
 pub mod Matching
 pub mod Mismatches
-pub mod Lines
+pub mod ParentLines
 pub mod Reading
 pub mod BatchEntry
 pub mod Stream

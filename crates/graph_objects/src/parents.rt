@@ -9,7 +9,7 @@ ghost use Rattle.gix_commitgraph.specs.Graph.{graph_ids};
 ghost use Rattle.graph_objects.specs.Matching.{id_of_item, ids_of_items, recorded_parents};
 ghost use Rattle.graph_objects.specs.Matching.{each_known};
 ghost use Rattle.graph_objects.specs.Mismatches.{DifferFirstAt};
-ghost use Rattle.graph_objects.specs.Lines.{NamesInLines};
+ghost use Rattle.graph_objects.specs.ParentLines.{NamesInLines};
 
 use crate::commit::is_same;
 use commit_objects::{CommitObject, Parents, behind_line};
