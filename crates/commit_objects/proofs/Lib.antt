@@ -1,3 +1,4 @@
 pub mod LineLemmas
 pub mod ParentLemmas
 pub mod TimeLemmas
+pub mod WrittenLemmas

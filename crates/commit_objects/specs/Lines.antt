@@ -2,7 +2,7 @@
 use Rattle.std.specs.Prelude.{◌≡◌, ◌<◌, ℕ, zero, suc, ◌+◌, ◌*◌, ◌/◌, List, [], ◌∷◌, ◌++◌, length, take, drop}
 use Rattle.std.specs.List.{AllZip, concat}
 use Rattle.std.specs.Result.{result_unwrap_or}
-use Rattle.hex.specs.Hex.{decode_of}
+use Rattle.hex.specs.Hex.{decode_of, encode_lower}
 use Rattle.gix_hash_core.specs.declared.kind.Kind.{Kind}
 use Rattle.gix_hash_core.specs.Kind.{id_len}
 use Rattle.gix_hash_core.specs.Hexadecimal.{SpellsId}
@@ -17,6 +17,11 @@ pub record BeginsWithLine (kind : Kind) (word bytes id next : List ℕ) : Type 0
   pub spells : SpellsId digits id
   pub sized : length id ≡ id_len kind
   pub whole : bytes ≡ word ++ (digits ++ 10 ∷ next)
+
+-- The bytes begin with the line of an id as Git writes it, in lower-case digits, and this is next.
+pub record BeginsAsWritten (kind : Kind) (word bytes id next : List ℕ) : Type 0 where
+  pub sized : length id ≡ id_len kind
+  pub whole : bytes ≡ word ++ (encode_lower id ++ 10 ∷ next)
 
 -- the bytes are a line for each of these parents, and then a rest with which the lines end
 abbrev pub AreLinesAndRest : Kind → List ℕ → List (List ℕ) → List ℕ → Type 0

@@ -10,8 +10,10 @@ mod line;
 mod parents;
 mod parse;
 mod time;
+mod written;
 
 pub use digest::object_id;
 pub use parents::Parents;
 pub use parse::{CommitObject, Unreadable};
-pub use time::leading_number;
+pub use time::{leading_number, older_time};
+pub use written::{behind_line, spells};

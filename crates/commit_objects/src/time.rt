@@ -28,9 +28,10 @@ fn newer_date(rest: &[u8]) -> Option<&[u8]>
     behind_last_byte(b'>', line)
 }
 
-/// The time as Git up to 2.40 reads it, from what follows the parents.
+/// The committer's time, in seconds since 1970-01-01 00:00:00 UTC, as Git up to 2.40 reads it from
+/// what follows the lines of the parents. It is 0 where Git finds none.
 #[tactic(auto, unfolding(crate::specs::Time::older_time))]
-pub(crate) fn older_time(rest: &[u8]) -> u64
+pub fn older_time(rest: &[u8]) -> u64
     ensures { result ≡ spec.older_time rest.now }
 {
     match older_date(rest) {

@@ -13,8 +13,8 @@ use Rattle.gix_commitgraph.specs.Graph.{IsGraph, graph_commits}
 use Rattle.gix_commitgraph.proofs.layers.GraphLemmas.{commit-lies}
 use Rattle.commit_objects.specs.CommitContents.{Said, Says}
 use Rattle.commit_objects.specs.Object.{object_id_of}
-use Rattle.graph_objects.specs.Matching.{AreContents, Matches}
-use Rattle.graph_objects.specs.Mismatches.{Agree, IsAmiss, Mismatches}
+use Rattle.graph_objects.specs.Matching.{AreContents, Matches, MatchesAt}
+use Rattle.graph_objects.specs.Mismatches.{Agree, IsAmiss, Mismatches, MismatchesAt}
 use Rattle.graph_objects.specs.declared.Mismatch.{Mismatch}
 use Rattle.graph_objects.specs.declared.Mismatch.TheVariants.{OtherContents, Unreadable, Tree, Parent, Time}
 
@@ -76,3 +76,11 @@ finish layers layer pos bytes said (Err Unreadable) contents says amiss = absurd
 finish layers layer pos bytes said (Err Tree) contents says amiss = (contents, (said, says, amiss))
 finish layers layer pos bytes said (Err (Parent index)) contents says amiss = (contents, (said, says, amiss))
 finish layers layer pos bytes said (Err Time) contents says amiss = (contents, (said, says, amiss))
+
+-- the same of the commit at a position of the graph
+pub at_place : (layers : List Layer) (p : ℕ) (bytes : List ℕ) (layer : Layer) (pos : ℕ) (r : Result Unit Mismatch)
+    → slice_get (graph_commits layers) p ≡ Some (layer, pos)
+    → MatchResult r (λ _. Matches layers layer pos bytes) (Mismatches layers layer pos bytes)
+    → MatchResult r (λ _. MatchesAt layers p bytes) (MismatchesAt layers p bytes)
+at_place layers p bytes layer pos (Ok x) here answer = rw here answer
+at_place layers p bytes layer pos (Err mismatch) here answer = rw here answer

@@ -11,3 +11,6 @@ pub mod MatchLemmas
 pub mod RightStreamLemmas
 pub mod RefusedOnceLemmas
 pub mod CommitWalkLemmas
+pub mod WrittenLemmas
+pub mod ObjectLemmas
+pub mod BufferLemmas

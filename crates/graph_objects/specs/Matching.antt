@@ -1,5 +1,6 @@
 -- When the record of a commit in a graph says what the bytes of the commit say.
 use Rattle.std.specs.Prelude.{◌≡◌, ℕ, List, map, slice_get, Option, Some, None, Result, Ok, Err, IsSomeAnd}
+use Rattle.gix_hash_core.specs.declared.kind.Kind.{Kind}
 use Rattle.graph_format.specs.Layer.{Layer, record_at}
 use Rattle.graph_format.specs.Parents.{parents_of, items_of}
 use Rattle.graph_format.specs.declared.Position.{Position}
@@ -28,6 +29,12 @@ each_known ids = map (λ id. Some id) ids
 -- the bytes are those that the id is the digest of
 abbrev pub AreContents : Layer → ℕ → List ℕ → Type 0
 AreContents layer pos bytes = slice_get layer.ids pos ≡ Some (object_id_of layer.kind bytes)
+
+-- the bytes say what the record of the commit at a position of a layer says
+abbrev pub SaysAsRecorded : List Layer → Kind → Layer → ℕ → List ℕ → Type 0
+SaysAsRecorded layers kind layer pos bytes =
+    (said : Said) × Says kind bytes said × ((record_at layer pos).tree ≡ said.tree)
+    × (recorded_parents layers layer pos ≡ each_known said.parents) × IsTime said.rest (record_at layer pos).time
 
 -- The commit at a position of a layer of the graph is the one with these bytes, and its record says what they say.
 pub record Matches (layers : List Layer) (layer : Layer) (pos : ℕ) (bytes : List ℕ) : Type 0 where

@@ -1,7 +1,8 @@
 //! Bytes of a stream that were read and not yet looked at.
 
-ghost use Rattle.std.specs.Prelude.{◌≡◌, ◌↔◌, ◌<◌, ◌≤◌, ◌+◌, [], drop, length, vec_capacity};
-ghost use Rattle.std.specs.Prelude.{IsTrue, IfOk, IfErr, OnOk, false};
+ghost use Rattle.std.specs.Prelude.{◌≡◌, ◌↔◌, ◌<◌, ◌≤◌, ◌+◌, ◌-◌, [], drop, length};
+ghost use Rattle.std.specs.Prelude.{IsTrue, IfOk, IfErr, OnErr, OnOk, false};
+ghost use Rattle.std.specs.Prelude.{slice_range, slice_set};
 ghost use Rattle.std.specs.Io.KnownBytes.{Keeps, IsAtEnd, prepend_known};
 ghost use Rattle.std.specs.Io.{StartsWith};
 ghost use Rattle.graph_objects.specs.Reading.{IsFillError};
@@ -11,39 +12,39 @@ use std::alloc::{AllocError, Global};
 use std::io::Read;
 use std::marker::Model;
 
-/// How many bytes one read asks for.
-pub(crate) const PIECE: usize = 64 * 1024;
+/// For how many bytes there is room at first.
+pub(crate) const ROOM: usize = 128 * 1024;
 
 /// Bytes that a reader gave and that were not looked at yet. A contract sees them as a list.
 #[derive(Drop)]
 pub struct Buffer {
+    // what a read has filled, and may fill
     bytes: Vec<u8>,
-    // where the bytes begin that were not looked at
+    // where the bytes stand that were not looked at
     start: usize,
-    // what one read fills
-    piece: Vec<u8>,
+    end: usize,
 }
 
 impl Model for Buffer {
-    ghost use Rattle.std.specs.Prelude.{List, ℕ, ◌≤◌, ◌≡◌, drop, length, vec_capacity};
+    ghost use Rattle.std.specs.Prelude.{List, ℕ, ◌≤◌, length, slice_range};
 
     ghost Value = { List ℕ };
 
-    ghost view = { λ b. drop b.start b.bytes.items };
+    ghost view = { λ b. slice_range b.bytes.items b.start b.end };
 
-    ghost invariant = { λ b. (b.start ≤ length b.bytes.items) × (length b.piece.items ≡ 65536)
-        × (131072 ≤ vec_capacity b.bytes) };
+    ghost invariant = { λ b. (b.start ≤ b.end) × (b.end ≤ length b.bytes.items)
+        × (131072 ≤ length b.bytes.items) };
 }
 
 impl Buffer {
-    /// No bytes, with room for two pieces. `AllocError` comes where there is no memory for that.
+    /// No bytes. `AllocError` comes where there is no memory for the first ones.
     pub fn new(alloc: Global) -> Result<Buffer, AllocError>
         ensures { IfOk result (λ buffer. buffer ≡ []) }
     {
         Ok(Buffer {
-            bytes: Vec::with_capacity(alloc, 2 * PIECE)?,
+            bytes: vec![in alloc; 0; ROOM]?,
             start: 0,
-            piece: vec![in alloc; 0; PIECE]?,
+            end: 0,
         })
     }
 
@@ -51,7 +52,7 @@ impl Buffer {
     pub fn bytes(&self) -> &[u8]
         ensures { result.now ≡ self.now }
     {
-        &self.bytes[self.start..]
+        &self.bytes[self.start..self.end]
     }
 
     /// Takes bytes away from the front.
@@ -62,18 +63,29 @@ impl Buffer {
         self.start += count;
     }
 
+    /// Puts another byte in a place.
+    pub(crate) fn put(&mut self, place: usize, byte: u8)
+        requires { place < length self.old }
+        ensures { self.new ≡ slice_set self.old place byte }
+    {
+        let at = self.start + place;
+        self.bytes[at] = byte;
+    }
+
     /// Keeps a byte until the next read, so that the work is done by which it came about.
     pub(crate) fn keep(&mut self, byte: u8)
         ensures { self.new ≡ self.old }
     {
-        self.piece[0] = byte;
+        if self.end < self.bytes.len() {
+            self.bytes[self.end] = byte;
+        }
     }
 
     /// Whether more than `more` bytes stand behind the first `place`.
     fn has(&self, place: usize, more: usize) -> bool
         ensures { IsTrue result ↔ (place + more < length self.now) }
     {
-        let count = self.bytes.len() - self.start;
+        let count = self.end - self.start;
         place < count && more < count - place
     }
 
@@ -114,30 +126,42 @@ impl Buffer {
             → (self.new ≡ self.old) × IsAtEnd (R.remaining reader.new)) }
         ensures error { IfErr result (IsFillError (length self.old)) }
     {
-        let count = reader
-            .read(&mut self.piece)
-            .map_err(|_| ObjectsError::Device)?;
-        if count == 0 {
-            return Ok(false);
-        }
-        drop_front(&mut self.bytes, self.start);
-        self.start = 0;
-        self.bytes
-            .extend_from_slice(&self.piece[..count])
-            .map_err(|_| ObjectsError::OutOfMemory)?;
-        Ok(true)
+        let (start, end) = make_room(&mut self.bytes, self.start, self.end)?;
+        self.start = start;
+        self.end = end;
+        let Ok(count) = reader.read(&mut self.bytes[self.end..]) else {
+            return Err(ObjectsError::Device);
+        };
+        self.end += count;
+        Ok(count > 0)
     }
 }
 
-/// Takes bytes away from the front.
-fn drop_front(bytes: &mut Vec<u8>, count: usize)
-    requires { count ≤ length bytes.old.items }
-    ensures items { bytes.new.items ≡ drop count bytes.old.items }
-    ensures room { vec_capacity bytes.new ≡ vec_capacity bytes.old }
+/// Makes room behind what stands from `from` up to and without `to`, and answers where that stands
+/// now. Where nothing follows it, it is put to the front, and where it stands there already, there
+/// is room for twice as many bytes. `OutOfMemory` comes where there is no memory for that.
+fn make_room(bytes: &mut Vec<u8>, from: usize, to: usize) -> Result<(usize, usize), ObjectsError>
+    requires order { from ≤ to }
+    requires within { to ≤ length bytes.old.items }
+    requires many { 131072 ≤ length bytes.old.items }
+    ensures same { IfOk result (λ place. slice_range bytes.new.items place.0 place.1
+        ≡ slice_range bytes.old.items from to) }
+    ensures order { IfOk result (λ place. place.0 ≤ place.1) }
+    ensures room { IfOk result (λ place. place.1 < length bytes.new.items) }
+    ensures many { 131072 ≤ length bytes.new.items }
+    ensures err { OnErr result (bytes.new.items ≡ bytes.old.items) }
+    ensures error { IfErr result (IsFillError (to - from)) }
 {
-    if count > 0 {
-        let left = bytes.len() - count;
-        bytes.copy_within(count.., 0);
-        bytes.truncate(left);
+    if to < bytes.len() {
+        return Ok((from, to));
     }
+    if from > 0 {
+        bytes.copy_within(from..to, 0);
+        return Ok((0, to - from));
+    }
+    let room = 2 * bytes.len();
+    bytes
+        .resize(room, 0)
+        .map_err(|_| ObjectsError::OutOfMemory)?;
+    Ok((from, to))
 }

@@ -1,44 +1,85 @@
 //! One commit and its bytes.
 
 ghost use Rattle.std.specs.Prelude.{◌≡◌, ◌↔◌, ◌≤◌, ◌^◌, ℕ, Some, length, slice_get};
-ghost use Rattle.std.specs.Prelude.{IsTrue, MatchResult};
+ghost use Rattle.std.specs.Prelude.{◌<◌, All, IsTrue, MatchResult, drop};
 ghost use Rattle.gix_hash_core.specs.Oid.{oid_bytes};
 ghost use Rattle.graph_format.specs.Parents.{items_of};
 ghost use Rattle.graph_layer.specs.Commit.{commit_layer, commit_pos, commit_parents};
 ghost use Rattle.graph_layer.specs.Commit.{layer_and_position};
-ghost use Rattle.gix_commitgraph.specs.Graph.{graph_commits};
-ghost use Rattle.graph_objects.specs.Matching.{Matches};
-ghost use Rattle.graph_objects.specs.Mismatches.{Mismatches, IsAmiss, Agree};
+ghost use Rattle.gix_commitgraph.specs.Graph.{graph_commits, total};
+ghost use Rattle.commit_objects.specs.Object.{object_id_of, object_of};
+ghost use Rattle.graph_objects.specs.Matching.{Matches, MatchesAt, SaysAsRecorded};
+ghost use Rattle.graph_objects.specs.Mismatches.{Mismatches, MismatchesAt, IsAmiss, Agree};
 
 use crate::Mismatch;
-use crate::parents::differing_parent;
-use commit_objects::{CommitObject, object_id};
-use gix_commitgraph::Graph;
+use crate::parents::{behind_parents, differing_parent};
+use commit_objects::{CommitObject, behind_line, older_time};
 use gix_commitgraph::file::Commit;
-use gix_hash_core::{ObjectId, oid};
+use gix_commitgraph::{Graph, Position};
+use gix_hash_core::{Kind, ObjectId, digest, oid};
 
-/// Compares a commit of the graph with bytes.
+/// Compares the commit at a position with a commit object, of which so many bytes stand before its
+/// contents. It is digested where it stands.
+pub(crate) fn matches_object(
+    graph: &Graph,
+    pos: Position,
+    object: &[u8],
+    head: usize,
+) -> Result<(), Mismatch>
+    requires within { pos.0 < total graph.now }
+    requires head { head ≤ length object.now }
+    requires object { object.now ≡ object_of (drop head object.now) }
+    ensures { MatchResult result (λ _. MatchesAt graph.now pos.0 (drop head object.now))
+        (MismatchesAt graph.now pos.0 (drop head object.now)) }
+{
+    let kind = graph.object_hash();
+    let id = digest(kind, object);
+    matches_commit(graph, kind, graph.commit_at(pos), &id, &object[head..])
+}
+
+/// Compares a commit of a graph of this kind with the contents of a commit object that has this id.
 pub(crate) fn matches_commit(
     graph: &Graph,
+    kind: Kind,
     commit: Commit<'_>,
+    id: &ObjectId,
     contents: &[u8],
 ) -> Result<(), Mismatch>
-    requires { (p : ℕ)
+    requires kind { All (λ layer. layer.kind ≡ kind) graph.now }
+    requires commit { (p : ℕ)
         × (slice_get (graph_commits graph.now) p ≡ Some (layer_and_position commit)) }
+    requires id { id.now ≡ object_id_of kind contents.now }
     ensures { MatchResult result
         (λ _. Matches graph.now (commit_layer commit.entry) (commit_pos commit.entry) contents.now)
         (Mismatches graph.now (commit_layer commit.entry) (commit_pos commit.entry) contents.now) }
 {
     // its contract says besides that each layer was opened
     let _commits = graph.num_commits();
-    let kind = graph.object_hash();
-    let id = object_id(kind, contents);
-    if !is_same(&id, commit.id()) {
+    if !is_same(id, commit.id()) {
         return Err(Mismatch::OtherContents);
+    }
+    if is_as_written(graph, kind, commit, contents) {
+        return Ok(());
     }
     match CommitObject::parse(kind, contents) {
         Ok(object) => compare(graph, commit, &object),
         Err(_) => Err(Mismatch::Unreadable),
+    }
+}
+
+/// Whether a commit of the graph is as Git writes these bytes, which needs no decoding: with ids in
+/// lower-case digits, and the time that Git up to 2.40 reads.
+fn is_as_written(graph: &Graph, kind: Kind, commit: Commit<'_>, contents: &[u8]) -> bool
+    ensures { IsTrue result
+        → SaysAsRecorded graph.now kind (commit_layer commit.entry) (commit_pos commit.entry)
+        contents.now }
+{
+    let Some(lines) = behind_line(kind, b"tree ", commit.root_tree_id(), contents) else {
+        return false;
+    };
+    match behind_parents(graph, kind, commit.iter_parents(), lines) {
+        Some(rest) => older_time(rest) == commit.committer_timestamp(),
+        None => false,
     }
 }
 

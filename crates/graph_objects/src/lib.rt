@@ -17,6 +17,7 @@ pub mod line;
 mod parents;
 mod stream;
 
+use commit_objects::object_id;
 pub use error::{EntryError, ObjectsError};
 use gix_commitgraph::{Graph, Position};
 pub use stream::check_objects;
@@ -54,5 +55,7 @@ pub fn matches(graph: &Graph, pos: Position, contents: &[u8]) -> Result<(), Mism
     ensures { MatchResult result (λ _. MatchesAt graph.now pos.0 contents.now)
         (MismatchesAt graph.now pos.0 contents.now) }
 {
-    commit::matches_commit(graph, graph.commit_at(pos), contents)
+    let kind = graph.object_hash();
+    let id = object_id(kind, contents);
+    commit::matches_commit(graph, kind, graph.commit_at(pos), &id, contents)
 }

@@ -148,8 +148,5 @@ pub fn are_digits(text: &[u8]) -> bool
 pub fn spells(text: &[u8], id: oid<'_>) -> bool
     ensures { IsTrue result ↔ (text.now ≡ encode_lower (oid_bytes id.entry)) }
 {
-    let mut digits = [0u8; 64];
-    let digits = &mut digits[..2 * id.as_bytes().len()];
-    hex::encode_to_slice(id.as_bytes(), digits).unwrap();
-    text == &*digits
+    commit_objects::spells(text, id)
 }

@@ -1,7 +1,7 @@
 //! The parents of a commit, by its record and by its bytes.
 
 ghost use Rattle.std.specs.Prelude.{◌≡◌, ◌↔◌, ◌≤◌, ◌^◌, Some, length, option_map, slice_get};
-ghost use Rattle.std.specs.Prelude.{IsTrue, MatchOption};
+ghost use Rattle.std.specs.Prelude.{IfSome, IsTrue, MatchOption};
 ghost use Rattle.graph_format.specs.Parents.{items_of};
 ghost use Rattle.graph_layer.specs.Commit.{commit_layer, commit_pos, commit_parents};
 ghost use Rattle.graph_layer.specs.RemainingParents.{parents_left};
@@ -9,13 +9,14 @@ ghost use Rattle.gix_commitgraph.specs.Graph.{graph_ids};
 ghost use Rattle.graph_objects.specs.Matching.{id_of_item, ids_of_items, recorded_parents};
 ghost use Rattle.graph_objects.specs.Matching.{each_known};
 ghost use Rattle.graph_objects.specs.Mismatches.{DifferFirstAt};
+ghost use Rattle.graph_objects.specs.ParentLines.{NamesInLines};
 
 use crate::commit::is_same;
-use commit_objects::{CommitObject, Parents};
+use commit_objects::{CommitObject, Parents, behind_line};
 use gix_commitgraph::file::Commit;
 use gix_commitgraph::file::commit::{ParentError, Parents as RecordedParents};
 use gix_commitgraph::{Graph, Position};
-use gix_hash_core::ObjectId;
+use gix_hash_core::{Kind, ObjectId};
 
 /// The least number of a parent, counted from 0, at which a record and a commit differ.
 pub(crate) fn differing_parent(
@@ -30,6 +31,39 @@ pub(crate) fn differing_parent(
         (DifferFirstAt recorded (each_known object.now.parents)) }
 {
     first_difference(graph, commit.iter_parents(), object.parents())
+}
+
+/// What follows the lines of the parents that are left of a record, where bytes begin with these as
+/// Git writes them, and more follows, which begins with no line of a parent.
+pub(crate) fn behind_parents<'a>(
+    graph: &Graph,
+    kind: Kind,
+    mut recorded: RecordedParents<'_>,
+    lines: &'a [u8],
+) -> Option<&'a [u8]>
+    ensures { IfSome result (λ rest.
+        NamesInLines graph.now kind (parents_left recorded.entry) lines.now rest.now) }
+{
+    let mut rest = lines;
+    while let Some(item) = recorded.next() {
+        let Ok(pos) = item else {
+            return None;
+        };
+        if pos.0 >= graph.num_commits() {
+            return None;
+        }
+        let Some(next) = behind_line(kind, b"parent ", graph.id_at(pos), rest) else {
+            return None;
+        };
+        rest = next;
+    }
+    if rest.is_empty() {
+        return None;
+    }
+    if rest.starts_with(b"parent ") {
+        return None;
+    }
+    Some(rest)
 }
 
 /// The least number at which the parents that are left of both differ.

@@ -3,15 +3,18 @@
 ghost use Rattle.std.specs.Prelude.{◌≡◌, ◌⊎◌, ◌<◌, ◌≤◌, Err, IfErr, IfOk, IfSome, OnOk};
 ghost use Rattle.std.specs.Io.KnownBytes.{IsAtEnd, Keeps, prepend_known};
 ghost use Rattle.gix_commitgraph.specs.Graph.{total};
+ghost use Rattle.graph_objects.specs.Matching.{MatchesAt};
+ghost use Rattle.graph_objects.specs.Mismatches.{MismatchesAt};
 ghost use Rattle.graph_objects.specs.Stream.{IsStreamOf, MayRefuseStream, HasLong};
-ghost use Rattle.std.specs.Prelude.{nat_lt, if◌then◌else◌};
+ghost use Rattle.std.specs.Prelude.{◌+◌, MatchResult, nat_lt, if◌then◌else◌, drop, length, take};
 ghost use Rattle.graph_objects.specs.BatchEntry.{longest_line};
 ghost use Rattle.graph_objects.specs.Taking.{MayStop, TakesEntry, FindsHead};
 
 use crate::buffer::Buffer;
+use crate::commit::matches_object;
 use crate::error::{EntryError, ObjectsError};
 use crate::line::{LINE, commit_size, line_end};
-use crate::{ahead, matches};
+use crate::{Mismatch, ahead};
 use gix_commitgraph::{Graph, Position};
 use std::alloc::Global;
 use std::io::Read;
@@ -86,13 +89,37 @@ fn check_next<R: Read>(
     if rest[size] != b'\n' {
         return Err(ObjectsError::Entry(pos, EntryError::NoEntry));
     }
-    match matches(graph, pos, &rest[..size]) {
+    match matches_entry(graph, pos, buffer, line, size) {
         Ok(()) => {
             buffer.consume(line + 1 + size + 1);
             Ok(())
         }
         Err(mismatch) => Err(ObjectsError::Entry(pos, EntryError::Mismatch(mismatch))),
     }
+}
+
+/// Compares the commit at a position with the entry at the front, whose line has so many bytes and
+/// tells this size. The line ends with a line feed where the commit object, of which all the rest
+/// stands there, has a byte 00. So it gets that byte, and is no copy.
+fn matches_entry(
+    graph: &Graph,
+    pos: Position,
+    buffer: &mut Buffer,
+    line: usize,
+    size: usize,
+) -> Result<(), Mismatch>
+    requires within { pos.0 < total graph.now }
+    requires found { FindsHead graph.now pos.0 buffer.old line size }
+    requires whole { line + 1 + size ≤ length buffer.old }
+    ensures result { MatchResult result
+        (λ _. MatchesAt graph.now pos.0 (take size (drop (line + 1) buffer.old)))
+        (MismatchesAt graph.now pos.0 (take size (drop (line + 1) buffer.old))) }
+    ensures behind { drop (line + 1) buffer.new ≡ drop (line + 1) buffer.old }
+{
+    let start = 2 * graph.id_at(pos).as_bytes().len() + 1;
+    buffer.put(line, 0);
+    let object = &buffer.bytes()[start..line + 1 + size];
+    matches_object(graph, pos, object, line + 1 - start)
 }
 
 /// The length of the next line, and the size that it tells of the commit at a position.

@@ -21,10 +21,22 @@ returns-then-rest-size-ne10-clause-err g c =
     (g.R.Read.remaining c.fill.new.reader) view
     kept line size found within (rw (c.bytes.ensures, take_rest view (line + 1)) at c.if-rest-size-ne10.true)
 
+pub matches_entry-requires : goal.matches_entry-requires
+matches_entry-requires g c =
+    let view : List ℕ = c.fill.new.self in
+    let line = c.in_ok-line.line in
+    record {
+      within = c.requires;
+      found = head_grown c.args.graph.now c.args.pos.0 c.next_size.new.buffer view line c.in_ok-line.size
+          c.in_ok-fill.ensures.grows c.in_ok-line.ensures.told;
+      whole = omega (arith, c.in_ok-fill.ensures.enough.0 c.if-not-branch.false);
+    }
+
 pub returns-in-Ok-clause-ok : goal.returns-in-Ok-clause-ok
 returns-in-Ok-clause-ok g c =
     let layers = c.args.graph.now in
     let view : List ℕ = c.fill.new.self in
+    let after : List ℕ = c.matches_entry.new.buffer in
     let line = c.in_ok-line.line in
     let size = c.in_ok-line.size in
     let tail = drop (line + 1) view in
@@ -39,11 +51,12 @@ returns-in-Ok-clause-ok g c =
     let entry = entry_front layers c.args.pos.0 view line size found within
     (rw (c.bytes.ensures, take_rest view (line + 1)) at c.if-rest-size-ne10.false) in
     let left : c.consume.new.self ≡ drop (size + 1) tail =
-    c.consume.ensures ∙ ap (λ n. drop n view) (omega arith) ∙ sym (drop-drop (size + 1) (line + 1) view) in
+    c.consume.ensures ∙ ap (λ n. drop n after) (omega arith) ∙ sym (drop-drop (size + 1) (line + 1) after)
+    ∙ ap (drop (size + 1)) c.in-Ok.ensures.behind in
     rw left
     (taken layers c.args.pos.0 (prepend_known c.args.buffer.now (g.R.Read.remaining c.args.reader.now))
     (g.R.Read.remaining c.fill.new.reader) view
-    (take size tail) (drop (size + 1) tail) kept entry (rw (c.bytes.ensures, take_rest view (line + 1)) at c.in-Ok.ensures))
+    (take size tail) (drop (size + 1) tail) kept entry c.in-Ok.ensures.result)
 
 pub returns-in-Err-clause-err : goal.returns-in-Err-clause-err
 returns-in-Err-clause-err g c =
@@ -59,4 +72,4 @@ returns-in-Err-clause-err g c =
     mismatch_stop layers c.args.pos (prepend_known c.args.buffer.now (g.R.Read.remaining c.args.reader.now))
     (g.R.Read.remaining c.fill.new.reader) view
     kept line size c.in-Err.mismatch found within (rw (c.bytes.ensures, take_rest view (line + 1)) at c.if-rest-size-ne10.false)
-    (rw (c.bytes.ensures, take_rest view (line + 1)) at c.in-Err.ensures)
+    c.in-Err.ensures.result
