@@ -5,14 +5,17 @@ as many, and what `reload` takes.
 usage: python3 bench/asking.py FOLDER [NUMBER]
 
 FOLDER keeps the million commits of bench/topics.py and a program for further runs; making them takes minutes. NUMBER is how
-many questions are asked in one run, 100,000 without it. The pairs are of the newest 1,000 commits.
+many questions are asked in one run, 100,000 without it, and a tenth of that for merge bases. The pairs are of the newest 1,000
+commits.
 
 A line a kind of question, in microseconds for one. The first number is processor time of the program itself, so beside reading
 and writing, which the system does. The second is all processor time. Of both, the least of some runs with questions less the
-least of some without any. The third is that of the library's own calls, with both ids looked up, by bench/asking/main.rt.txt,
-which is proved and built by LLVM, and then the ratio of the first to it. Then what Git takes for one, in all its processor
-time and in elapsed time: `git cat-file --batch-command` in one process, `git merge-base --is-ancestor` and `git merge-base
---all` in a process each.
+least of some without any. The third is that of the library's own calls that find the same, by bench/asking/main.rt.txt, which
+is proved and built by LLVM: both ids are looked up, and the ids of a walk's commits and of merge bases are taken. Then the
+ratio of the first to it. Runs of both are made in turn. Then what Git takes for one, in all its processor time and in elapsed
+time: `git cat-file --batch-command` in one process, `git merge-base --is-ancestor` and `git merge-base --all` in a process
+each, for the first 2,000 pairs. Between them, how much memory a run needs at most, with few questions and with ten times as
+many.
 
 Then `reload`: a chain of ten layers with a million commits gets a layer of 1,000. The processor time that this takes, of the
 program itself and in all, beside that of a run that opens and checks the eleven layers; the least of some. And how many
@@ -36,7 +39,9 @@ RUNS = 5
 NEAR = 1000
 LATER = 1000
 """So many commits are in the layer that is new."""
-PROCESSES = 200
+SLOWER = 10
+"""For merge bases so many times fewer questions are asked."""
+PROCESSES = 2000
 """For so many pairs Git is asked in a process each."""
 LIBRARIES = ["gix_hash_core", "gix_commitgraph", "graph_history", "anyhow"]
 
@@ -51,20 +56,25 @@ def main(folder, number="100000"):
     program, calls = common.program("historytool"), common.our_program(folder, "asking", LIBRARIES)
     common.print_load()
     with tempfile.TemporaryDirectory() as scratch:
-        pairs, no_pairs = (os.path.join(scratch, name) for name in ("pairs", "none"))
-        for file, ids in ((pairs, near), (no_pairs, [])):
-            with open(file, "wb") as target:
-                target.write(bytes.fromhex("".join(map("".join, ids))))
+        pairs = os.path.join(scratch, "pairs-%d")
+        for count in (0, number // SLOWER, number):
+            with open(pairs % count, "wb") as target:
+                target.write(bytes.fromhex("".join(map("".join, near[:count]))))
         print("%-34s %8s %8s %8s %7s" % ("us", "own", "all", "library", "ratio"))
-        nothing = least([program, "ask", path], "")
         for word, asked in (("find", singles), ("parents", singles), ("is-ancestor", near), ("walk", near), ("merge-base", near)):
-            lines = "".join("%s %s\n" % (word, ids if asked is singles else " ".join(ids)) for ids in asked)
-            ours = beyond(least([program, "ask", path], lines), nothing, number)
+            count = number // SLOWER if word == "merge-base" else number
+            lines = "".join("%s %s\n" % (word, ids if asked is singles else " ".join(ids)) for ids in asked[:count])
+            runs = [([program, "ask", path], text) for text in (lines, "")]
+            if asked is near:
+                runs += [([calls, word, file, path], "") for file in (pairs % count, pairs % 0)]
+            some, none, *found = least(runs)
+            ours = beyond(some, none, count)
             if asked is singles:
                 print("%-34s %8.2f %8.2f" % (word, *ours), flush=True)
                 continue
-            own = beyond(least([calls, word, pairs, path], ""), least([calls, word, no_pairs, path], ""), number)[0]
+            own = beyond(*found, count)[0]
             print("%-34s %8.2f %8.2f %8.2f %7.2f" % (word, *ours, own, ours[0] / own), flush=True)
+    print_memory(program, path, near)
     print_git(made, singles, near)
     print_reload(program, *grown(folder, made))
 
@@ -74,14 +84,15 @@ def beyond(some, none, number):
     return [1e6 * (one - other) / number for one, other in zip(some, none)]
 
 
-def least(command, text):
-    """The least processor seconds of some runs of a command with this input: of the program itself, and in all."""
-    runs = [used(command, text) for _ in range(RUNS)]
-    return [min(run[at] for run in runs) for at in range(2)]
+def least(runs):
+    """For each of these commands with its input, which are run in turn, the least processor seconds of some runs: of the program
+    itself, and in all."""
+    taken = [[used(*run) for run in runs] for _ in range(RUNS)]
+    return [[min(times[place][at] for times in taken) for at in range(2)] for place in range(len(runs))]
 
 
 def used(command, text):
-    """The processor seconds of one run: of the program itself, in all, and the seconds that pass."""
+    """The processor seconds of one run: of the program itself, in all, and the seconds that pass; and its KiB of memory at most."""
     with tempfile.TemporaryFile() as file:
         file.write(text.encode())
         file.seek(0)
@@ -91,15 +102,24 @@ def used(command, text):
         run.returncode = os.waitstatus_to_exitcode(status)
         if run.returncode > 1:
             raise RuntimeError("%s: status %d" % (command, run.returncode))
-        return usage.ru_utime, usage.ru_utime + usage.ru_stime, time.perf_counter() - start
+        return usage.ru_utime, usage.ru_utime + usage.ru_stime, time.perf_counter() - start, usage.ru_maxrss
+
+
+def print_memory(program, path, near):
+    """How many KiB a run of all kinds of questions about pairs needs at most, of a hundredth of the pairs and of a tenth."""
+    peaks = []
+    for count in (len(near) // 100, len(near) // 10):
+        lines = ["%s %s\n" % (word, " ".join(ids)) for ids in near[:count] for word in ("is-ancestor", "walk", "merge-base")]
+        peaks.append(used([program, "ask", path], "".join(lines))[3])
+    print("KiB at most, %d and %d questions: %d and %d" % (3 * (len(near) // 100), 3 * (len(near) // 10), *peaks), flush=True)
 
 
 def print_git(made, singles, near):
     """What Git takes for one."""
     git = ["git", "-C", made.folder]
-    nothing = least([*git, "cat-file", "--batch-command"], "")
-    some = least([*git, "cat-file", "--batch-command"], "".join("info %s\n" % one for one in singles))
-    print("%-34s %8.2f %8.2f" % ("git cat-file --batch-command, info", *beyond(some, nothing, len(singles))), flush=True)
+    command = [*git, "cat-file", "--batch-command"]
+    some, none = least([(command, "".join("info %s\n" % one for one in singles)), (command, "")])
+    print("%-34s %8.2f %8.2f" % ("git cat-file --batch-command, info", *beyond(some, none, len(singles))), flush=True)
     for words in (["--is-ancestor"], ["--all"]):
         runs = [used([*git, "merge-base", *words, *pair], "") for pair in near[:PROCESSES]]
         taken = [1e6 * sum(run[at] for run in runs) / PROCESSES for at in range(3)]

@@ -1,6 +1,6 @@
-//! Readers and writers that fail.
+//! Readers and writers that fail, and writers that are not flushed.
 
-use crate::fixtures::{Changing, FIVE};
+use crate::fixtures::{Changing, FIVE, Flushed, ask};
 use graph_commands::line::WriteFailed;
 use graph_vectors::{Sink, Source};
 use question_commands::asking::run_ask;
@@ -53,5 +53,20 @@ fn reports_each_write_that_fails(rt: HostRuntime) {
         let answer = run_ask(alloc, &mut reader, &mut folder, "graph", &mut out);
         assert_eq!(&rt; answer, Err(WriteFailed));
         assert!(&rt; whole.text().starts_with(out.text()), "{write}");
+    }
+}
+
+#[test]
+fn reports_each_flush_that_fails(rt: HostRuntime) {
+    let alloc = rt.alloc();
+    let asked = (ASKED, usize::MAX);
+    let mut whole = Flushed::new(alloc);
+    let answer = ask(&rt, alloc, &[FIVE], asked, &mut whole);
+    assert_eq!(&rt; answer.map(|asked| asked.status), Ok(0));
+    for (flush, flushed) in whole.flushes.iter().enumerate() {
+        let mut out = Flushed::failing(alloc, Some(flush));
+        let answer = ask(&rt, alloc, &[FIVE], asked, &mut out);
+        assert_eq!(&rt; answer, Err(WriteFailed));
+        assert_eq!(&rt; out.text().len(), *flushed);
     }
 }

@@ -9,7 +9,7 @@ use graph_vectors::{Row, Source, file_of_rows};
 use question_commands::asking::{Asked, run_ask};
 use std::alloc::{AllocError, Global};
 use std::io;
-use std::io::Write;
+use std::io::{ErrorKind, Write};
 use std::process::Abort;
 
 pub(crate) const A: &str = "1111111111111111111111111111111111111111";
@@ -98,14 +98,21 @@ pub(crate) struct Flushed {
     bytes: Vec<u8>,
     /// How many bytes it had at each flush.
     pub(crate) flushes: Vec<usize>,
+    fails_at: Option<usize>,
 }
 
 impl Flushed {
     /// An empty writer.
     pub(crate) fn new(alloc: Global) -> Flushed {
+        Flushed::failing(alloc, None)
+    }
+
+    /// An empty writer, of which a flush may fail. Their numbers count from 0.
+    pub(crate) fn failing(alloc: Global, fails_at: Option<usize>) -> Flushed {
         Flushed {
             bytes: Vec::new(alloc),
             flushes: Vec::new(alloc),
+            fails_at,
         }
     }
 
@@ -122,6 +129,9 @@ impl Write for Flushed {
     }
 
     fn flush(&mut self) -> io::Result<()> {
+        if self.fails_at == Some(self.flushes.len()) {
+            return Err(io::Error::from(ErrorKind::Other));
+        }
         self.flushes.push(self.bytes.len())?;
         Ok(())
     }
