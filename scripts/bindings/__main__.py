@@ -304,6 +304,9 @@ def fields(name, compiler, archive, scratch):
         file.write_bytes(data)
         rows, _ = layout.without_visits(run(program, file).stdout.splitlines())
         expect(f"{name}: each field, {fault}", ["dates", *dates] in rows, rows)
+        code, position, layer, expected, _ = dates
+        written = ["written", code, position, 0, 0, layer, expected, 0, 0, 0]
+        expect(f"{name}: no layer on {fault}", written in rows, rows)
     whole = [layer.read_bytes() for layer in layers_of(chain(scratch, "sha1"))]
     for fault, layers, error, verdict in layout.layered(whole):
         files = [scratch / compiler / f"changed-{number}" for number in range(len(layers))]
