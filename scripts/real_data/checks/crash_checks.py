@@ -19,14 +19,12 @@ LIBRARY = os.path.join(os.path.dirname(os.path.dirname(os.path.abspath(__file__)
 LOCKED = "git cgraph: the commit-graph is locked\n"
 
 CASES = {
-    "a file, where there is none": ([], []),
-    "a file over a file": ([["write"]], []),
-    "a file over a chain": ([["write", "--split"]], []),
-    "a layer on a chain": ([["write", "--split"]], ["--split"]),
-    "a layer on a file": ([["write"]], ["--split"]),
-    "a layer that takes in a file": ([["write"], 4], ["--split"]),
+    "a file over a file": ([], []),
+    "a file over a chain": (["--split"], []),
+    "a layer on a chain": (["--split"], ["--split"]),
+    "a layer on a file": ([], ["--split"]),
 }
-"""The commands that are run before some commits more are made, how many if not one, and the options of the one that is killed."""
+"""The options by which the old commit-graph is written, and those of the command that is killed, after a commit more."""
 
 
 class Killed:
@@ -88,10 +86,8 @@ def check_case(results, killed, title, before, options):
     repository, title = killed.repository, "git cgraph write, %s" % title
     history = shapes.diamonds(3)
     repository.add(history[:7])
-    os.makedirs(repository.info_path(), exist_ok=True)
-    for words in before[:1]:
-        killed.installed.ask(killed.way, *words)
-    repository.add(history[: 10 if before[1:] else 8], 7)
+    killed.installed.ask(killed.way, "write", *before)
+    repository.add(history[:8], 7)
     old = killed.stands()
     with tempfile.TemporaryDirectory() as kept:
         tree = os.path.join(kept, "info")
@@ -106,11 +102,12 @@ def check_case(results, killed, title, before, options):
             ended, _ = killed.run(options, at)
             if ended.returncode != -signal.SIGKILL or killed.stands() not in (old, new):
                 wrong.append((at, ended, killed.stands()))
-            states.setdefault(killed.files(), at)
+            if killed.files() not in states:
+                states[killed.files()] = at
+                shutil.copytree(repository.info_path(), os.path.join(kept, str(at)))
         results.check("%s, killed before each of %d calls" % (title, calls), "%r" % wrong[0] if wrong else None)
         for at in states.values():
-            killed.lay(tree)
-            killed.run(options, at)
+            killed.lay(os.path.join(kept, str(at)))
             results.check("%s, goes on after call %d" % (title, at - 1), goes_on(killed, options, new, files))
 
 

@@ -5,7 +5,7 @@ Git's, bit by bit, and Git finds them right and answers from them as before. Als
 import os
 import resource
 import shutil
-import subprocess
+import signal
 import threading
 
 from checks.cgraph_checks import Installed, Way
@@ -60,7 +60,7 @@ class Pair:
 
     def other_answer(self):
         """A complaint where Git answers otherwise with the commit-graph than without."""
-        tips = self.git("for-each-ref", "--format=%(objectname)", "refs/heads", folder=self.folders[0]).split()
+        tips = self.git("for-each-ref", "--format=%(objectname)", folder=self.folders[0]).split()
         for words in (["log", "--graph", "--all", "--format=%H"], ["merge-base", "--all", tips[0], tips[-1]]):
             answers = [self.installed.git(Way(self.folders[0]), "-c", "core.commitGraph=" + use, *words) for use in ("true", "false")]
             if answers[0] != answers[1]:
@@ -162,23 +162,27 @@ def check_gone(installed, results, pair, ids):
     results.check("%s, git cgraph write --split, before commits go" % kind, pair.write("--split")[1])
     for copy in pair.folders:
         tips = pair.git("for-each-ref", "--format=%(refname)", folder=copy).split()
-        kept = pair.git("commit-tree", "-m", "kept", "-p", ids[5], ids[5] + "^{tree}", folder=copy).strip()
         for tip in tips:
             pair.git("update-ref", "-d", tip, folder=copy)
-        pair.git("update-ref", "refs/heads/kept", kept, folder=copy)
+        add_commit(installed, copy, ids[5], 0)
         pair.git("repack", "-adq", folder=copy)
         pair.git("prune", "--expire=now", folder=copy)
-    for number in range(8):
+    for number in range(1, 12):
         for copy in pair.folders:
-            person = ("-c", "user.name=A", "-c", "user.email=a@x")
-            date = ("GIT_COMMITTER_DATE", "GIT_AUTHOR_DATE")
-            way = Way(copy, **dict.fromkeys(date, "%d +0000" % (2000000000 + number)))
-            words = (*person, "commit-tree", "-m", "more", "-p", "kept", "kept^{tree}")
-            more = installed.git(way, *words).out.strip()
-            pair.git("update-ref", "refs/heads/kept", more, folder=copy)
+            add_commit(installed, copy, "refs/heads/more", number)
     answer, complaint = pair.write("--split")
     right = answer[0] == 0 and complaint is None
     results.check("%s, git cgraph write --split, where commits are gone" % kind, None if right else "it is %r: %s" % (answer, complaint))
+
+
+def add_commit(installed, folder, parent, number):
+    """Puts the branch `more` of a repository on a commit with this parent, and a time by its number."""
+    dates = dict.fromkeys(("GIT_COMMITTER_DATE", "GIT_AUTHOR_DATE"), "%d +0000" % (2000000000 + number))
+    person = ("-c", "user.name=A", "-c", "user.email=a@example.com")
+    made = installed.git(Way(folder, **dates), *person, "commit-tree", "-m", "more", "-p", parent, parent + "^{tree}")
+    moved = installed.git(Way(folder), "update-ref", "refs/heads/more", made.out.strip())
+    if made.status or moved.status:
+        raise RuntimeError(made.err + moved.err)
 
 
 def check_pools(installed, results, pool):
@@ -191,10 +195,7 @@ def check_pools(installed, results, pool):
         folders = ["%s, %s fork %d" % (pool.folder, who, len(before)) for who in ("our", "Git's")]
         for copy in folders:
             installed.git(Way(os.path.dirname(copy)), "clone", "-q", "--bare", "-s", pool.folder, copy)
-            words = ("commit-tree", "-m", "more", "-p", "tip-24", "tip-24^{tree}")
-            date = dict.fromkeys(("GIT_COMMITTER_DATE", "GIT_AUTHOR_DATE"), "2000000000 +0000")
-            more = installed.git(Way(copy, **date), "-c", "user.name=A", "-c", "user.email=a@x", *words).out.strip()
-            installed.git(Way(copy), "update-ref", "refs/heads/more", more)
+            add_commit(installed, copy, "refs/heads/tip-24", 0)
         pair = Pair(installed, folders)
         for options in (["--split"], []):
             title = "%s, git cgraph write %s in a fork of a pool with a %s" % (kind, " ".join(options), "chain" if before else "file")
@@ -210,40 +211,30 @@ def check_odd(installed, results, repository):
     """A commit with a time past 34 bits, and one whose bytes are not those of its id: it is named, and what stood stands."""
     ids = repository.add(shapes.linear(4))
     repository.write_graph()
-    before, way = files_below(repository.info_path()), Way(repository.folder)
-    tree = repository.git("rev-parse", ids[0] + "^{tree}").strip()
-    text = b"tree " + tree + b"\n" + AUTHOR + b"committer C <c@x> %d +0000\n\nmessage\n" % 2**34
-    late = repository.git("hash-object", "-t", "commit", "-w", "--stdin", "--literally", stdin=text).decode().strip()
-    repository.git("update-ref", "refs/heads/late", late)
-    for options in ([], ["--split"]):
-        answer = installed.ask(way, "write", *options)
-        right = answer.status == 1 and answer.out.startswith("refused write 4 commit ") and "git cgraph: the commit is %s\n" % late in answer.err
-        right = right and files_below(repository.info_path()) == before
-        title = " ".join(["%s, git cgraph write, of a time past 34 bits" % repository.object_format, *options])
-        results.check(title, None if right else "it is %r" % (answer,))
-    repository.git("update-ref", "-d", "refs/heads/late")
-    repository.git("unpack-objects", "-q", stdin=packed(repository))
-    other = repository.git("rev-parse", ids[0] + ":folder-0").decode().strip()
-    other = repository.git("commit-tree", "-m", "another", tree.decode()).decode().strip() if other else other
-    shutil.rmtree(os.path.join(repository.folder, "objects", "pack"))
-    os.mkdir(os.path.join(repository.folder, "objects", "pack"))
-    paths = [os.path.join(repository.folder, "objects", commit[:2], commit[2:]) for commit in (ids[1], other)]
-    os.remove(paths[0])
-    shutil.copy(paths[1], paths[0])
-    answer = installed.ask(way, "write")
-    right = answer.status == 1 and "git cgraph: the commit is %s\n" % ids[1] in answer.err and files_below(repository.info_path()) == before
-    results.check("%s, git cgraph write, of a damaged commit" % repository.object_format, None if right else "it is %r" % (answer,))
+    before, tree = files_below(repository.info_path()), repository.git("rev-parse", ids[0] + "^{tree}").strip()
+    late, damaged, other = (put_commit(repository, tree, time) for time in (2**34, 8, 9))
+    for name, commit, line in (("of a time past 34 bits", late, "refused write 4 commit "), ("that is damaged", damaged, "refused stream 5 entry ")):
+        repository.git("update-ref", "refs/heads/odd", commit)
+        if commit == damaged:
+            os.remove(loose(repository, damaged))
+            shutil.copy(loose(repository, other), loose(repository, damaged))
+        for options in ([], ["--split"]):
+            answer = installed.ask(Way(repository.folder), "write", *options)
+            right = answer.status == 1 and answer.out.startswith(line) and "git cgraph: the commit is %s\n" % commit in answer.err
+            right = right and files_below(repository.info_path()) == before
+            title = " ".join(["%s, git cgraph write, of a commit %s" % (repository.object_format, name), *options])
+            results.check(title, None if right else "it is %r" % (answer,))
 
 
-def packed(repository):
-    """The pack of all objects."""
-    folder = os.path.join(repository.folder, "objects", "pack")
-    repository.git("repack", "-adq")
-    path = next(os.path.join(folder, name) for name in os.listdir(folder) if name.endswith(".pack"))
-    content = read_bytes(path)
-    shutil.rmtree(folder)
-    os.mkdir(folder)
-    return content
+def put_commit(repository, tree, time):
+    """The id of a new commit with this time, in a file of its own."""
+    text = b"tree " + tree + b"\n" + AUTHOR + b"committer C <c@x> %d +0000\n\nmessage\n" % time
+    return repository.git("hash-object", "-t", "commit", "-w", "--stdin", "--literally", stdin=text).decode().strip()
+
+
+def loose(repository, commit):
+    """The path of the file of an object."""
+    return os.path.join(repository.folder, "objects", commit[:2], commit[2:])
 
 
 def check_writers(installed, results, repository):
@@ -266,7 +257,7 @@ def check_writers(installed, results, repository):
         verdicts = installed.ask(Way(repository.folder), "verify").status, repository.git_verdict()
         locks = [name for name in files_below(repository.info_path()) if name.endswith(".lock")]
         done = sum(not pair[1].status for pair in answers)
-        right = not wrong and verdicts == (0, (0, False)) and not locks and done >= ROUNDS
+        right = not wrong and verdicts == (0, (0, False)) and not locks and done >= 2
         title = "git cgraph write beside %s" % " ".join(["git", *words])
         results.check(title, None if right else "%d ended well; %r, %r, %r" % (done, wrong[:1], verdicts, locks))
 
@@ -294,5 +285,6 @@ def check_room(installed, results, repository):
 
 
 def limit():
-    """Lets no file become longer than a thousand bytes; Python has the signal for that ignored."""
-    resource.setrlimit(resource.RLIMIT_FSIZE, (1000, 1000))
+    """Lets no file become longer than the list of the ids is, and so no write of the commit-graph succeed to its end."""
+    signal.signal(signal.SIGXFSZ, signal.SIG_IGN)
+    resource.setrlimit(resource.RLIMIT_FSIZE, (5000, 5000))
