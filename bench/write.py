@@ -60,8 +60,8 @@ def make(path):
 
 
 def write_old(path, words, old):
-    """Has Git write the commit-graph of all commits but the newest thousand, as `rev-list` lists them."""
-    listed = subprocess.check_output(["git", "-C", path, "rev-list", "--topo-order", "--glob=refs/*"], text=True)
+    """Has Git write the commit-graph of all commits but the newest thousand."""
+    listed = subprocess.check_output(["git", "-C", path, "rev-list", "--date-order", "--glob=refs/*"], text=True)
     clear(path)
     tips = "".join(commit + "\n" for commit in listed.split()[NEW:])
     subprocess.run([*words, "--stdin-commits"], input=tips, text=True, check=True)

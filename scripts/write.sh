@@ -135,17 +135,38 @@ checksums() {
 # Lists the commits that references lead to and that do not stand in the commit-graph: `count` of them. What stands there was found
 # right, and has the ancestors of its commits, so that Git may go by it here.
 find_new() {
-    if ! list_by_graph >"$scratch/reachable" 2>"$scratch/errors"; then
-        cat "$scratch/errors" >&2
-        refuse_listing
-    elif ! list_stored >"$scratch/stored" || ! leave_out_stored; then
-        refuse_writing 'the ids could not be compared'
-    else
-        count=$(($(wc -l <"$scratch/new-ids")))
-    fi
+    list_by_graph tips --no-walk || return
+    for newest in 10000 100000 ''; do
+        if [ -n "$newest" ]; then
+            list_by_graph newest --parents --max-count=$newest && pick_new
+        else
+            list_by_graph reachable && leave_out_stored
+        fi
+        case $? in
+        0) count=$(($(wc -l <"$scratch/new-ids"))) && return ;;
+        3) ;;
+        *)
+            [ -n "$line" ] || refuse_writing 'the ids could not be compared'
+            return 1
+            ;;
+        esac
+    done
+}
+
+# Of the newest commits, lists those that are new. The status is 3 where there are more. The ids of each layer are in order.
+pick_new() {
+    { cat "$scratch/tips" && tr ' ' '\n' <"$scratch/newest"; } | LC_ALL=C sort -u -o "$scratch/asked" || return
+    from=0
+    for commits in $(sed 's/ .*//' "$scratch/layers"); do
+        in_place "$historytool" ids "$graph" $from $((from + commits)) | LC_ALL=C comm -12 "$scratch/asked" -
+        from=$((from + commits))
+    done >"$scratch/stored"
+    LC_ALL=C awk -f "$top/scripts/new_commits.awk" \
+        part=tips "$scratch/tips" part=newest "$scratch/newest" part=stored "$scratch/stored" >"$scratch/new-ids"
 }
 
 leave_out_stored() {
+    list_stored >"$scratch/stored" || return
     for list in reachable stored; do
         LC_ALL=C sort -o "$scratch/$list" "$scratch/$list" || return
     done
@@ -193,12 +214,14 @@ list_referenced() {
     )
 }
 
-# The same by the commit-graph, where Git has it.
+# Lists them into a file, by some options of `git rev-list`, and by the commit-graph where Git has it.
 list_by_graph() {
-    if [ -n "$named" ]; then
-        list_referenced
-    else
-        GIT_FLUSH=0 GIT_GRAFT_FILE=/dev/null/none git --no-replace-objects rev-list --glob='refs/*'
+    list=$1
+    shift
+    if ! GIT_FLUSH=0 GIT_GRAFT_FILE=/dev/null/none git --no-replace-objects ${named:+-c core.commitGraph=false} \
+        rev-list "$@" --glob='refs/*' >"$scratch/$list" 2>"$scratch/errors"; then
+        cat "$scratch/errors" >&2
+        refuse_listing
     fi
 }
 

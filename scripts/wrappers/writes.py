@@ -11,8 +11,8 @@ import tempfile
 import time
 
 import refusals
-from wrappers.clone import Clone, exactly, run
-from wrappers.json_answers import objects_in
+from wrappers.clone import TOP, Clone, exactly, run
+from wrappers.json_answers import AWKS, objects_in
 from wrappers.questions import SHELLS, ask, git, make_repository, said
 
 PROGRAM = r"""
@@ -66,6 +66,22 @@ REFUSED = {
 """What `historytool write` may answer of two commits, and the status of `git cgraph` then."""
 
 SHARED = ("umask", "group", "true", "all", "0640", "0660")
+
+
+NEWEST = {
+    ("", "", "a"): (0, ""),
+    ("a", "a", ""): (0, "a"),
+    ("a", "a b", "a b"): (0, ""),
+    ("b", "", "a b"): (0, ""),
+    ("c", "c a", "a b"): (0, "c"),
+    ("d", "d c,c a", "a b"): (0, "d c"),
+    ("d e", "d c,c a b", "a b e"): (0, "d c"),
+    ("d", "d c", "a b"): (3, "d"),
+    ("d e", "d c,c a", "a b"): (3, "d c"),
+    ("d", "d a c", "a b"): (3, "d"),
+    ("d", "d b,b c", "a b"): (0, "d"),
+}
+"""Tips, the newest commits with their parents, and what a commit-graph has; and the status of new_commits.awk and what it writes."""
 
 
 class Written:
@@ -130,6 +146,7 @@ def ids_in(content):
 def check_all(results):
     """The checks, in one repository."""
     with tempfile.TemporaryDirectory() as folder:
+        check_newest(results, folder)
         written = Written(folder)
         for shell in SHELLS[1:]:
             if shutil.which(shell[0]):
@@ -192,6 +209,24 @@ def split(sizes, number):
     while sizes and sizes[-1] <= 2 * number:
         sizes, number = sizes[:-1], number + sizes[-1]
     return [*sizes, number]
+
+
+def check_newest(results, folder):
+    """Which of the newest commits are new, and whether these are all, by each awk."""
+    program = os.path.join(TOP, "scripts", "new_commits.awk")
+    for awk in filter(lambda awk: shutil.which(awk[0]), AWKS):
+        wrong = []
+        for texts, (status, out) in NEWEST.items():
+            words = []
+            for part, text in zip(("tips", "newest", "stored"), texts):
+                path = os.path.join(folder, part)
+                with open(path, "w", encoding="ascii") as file:
+                    file.write("".join(line + "\n" for line in (text.split(",") if part == "newest" else text.split()) if line))
+                words += ["part=" + part, path]
+            answer = run([*awk, "-f", program, *words], {"PATH": os.environ["PATH"]})
+            if answer != (status, "".join(line + "\n" for line in out.split()), ""):
+                wrong.append((texts, answer))
+        results.check("the newest commits, by %s" % " ".join(awk), "%r" % wrong[0] if wrong else None)
 
 
 def check_told(results, written):
