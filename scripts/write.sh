@@ -286,6 +286,7 @@ judge_file() {
     0,*,1 | 141,*,1) judge_refused ;;
     *,141,0) refuse_writing 'historytool write did not read all commits' ;;
     0,0,*,0) fail "git cat-file ended with status $3" ;;
+    0,[1-9],*) refuse_full "$scratch" ;;
     0,* | 141,*) refuse_full "$single.lock" ;;
     *) refuse_listing ;;
     esac

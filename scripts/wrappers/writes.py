@@ -149,7 +149,7 @@ def check_all(results):
         check_newest(results, folder)
         written = Written(folder)
         for shell in SHELLS[1:]:
-            if shutil.which(shell[0]):
+            if shutil.which(shell[0]) and "--posix" not in shell:
                 check_file(results, written, shell)
                 check_layers(results, written, shell)
         for check in (check_told, check_locked, check_unused, check_refused, check_failures, check_objects, check_signals):
