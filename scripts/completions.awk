@@ -15,6 +15,7 @@ FILENAME ~ /commands$/ {
         about[command] = $0
         for (field = 1; field <= 5; field++) sub(/^[^ ]+ +/, "", about[command])
         sub(/ of the one file on standard input$/, "", about[command])
+        sub(/ the commits on standard input as a layer, .*/, " the commit-graph of all commits that references lead to", about[command])
     }
     next
 }

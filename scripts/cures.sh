@@ -176,6 +176,10 @@ is_hindered() {
 # there.
 diagnose() {
     file=''
+    if [ "$question" = write ]; then
+        diagnose_write
+        return
+    fi
     case $line in
     'refused open 7' | 'refused verify 10' | 'refused dates 6' | 'refused filters 10' | 'refused walk') is_absent=yes ;;
     'refused read '*) is_absent=yes ;;

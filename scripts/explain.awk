@@ -37,7 +37,7 @@ END {
 }
 
 function say_all() {
-    if (ENVIRON["COMMIT"] != "") say("the commit at position " value["P"] " is " ENVIRON["COMMIT"])
+    if (ENVIRON["COMMIT"] != "") say("the commit " (value["P"] == "" ? "" : "at position " value["P"] " ") "is " ENVIRON["COMMIT"])
     if (line ~ /^unknown /) say("id " value["N"] " is " nth_id(value["N"]))
     if (line ~ /^refused id / && no_id() != "") say("'" no_id() "' is not an id")
     if (best[line]) say(with_values(happened[line]))

@@ -152,8 +152,30 @@ is_scattered() {
 make_scratch() {
     [ -z "$scratch" ] || return 0
     scratch=$(mktemp -d) || leave 'no folder for files of a moment can be made'
-    trap 'rm -rf "$scratch"' EXIT
-    for signal in HUP INT TERM; do trap "rm -rf \"\$scratch\"; trap - $signal EXIT; kill -$signal \$\$" $signal; done
+    look_after
+}
+
+# Sees to it that whatever ends this leaves no such folder, and no lock that it made.
+look_after() {
+    trap clean_up EXIT
+    for signal in HUP INT TERM; do trap "clean_up; trap - $signal EXIT; kill -$signal \$\$" $signal; done
+}
+
+# Sees to it that a signal ends nothing for a moment.
+leave_alone() {
+    trap '' HUP INT TERM
+}
+
+clean_up() {
+    remove_locks
+    [ -z "$scratch" ] || rm -rf "$scratch"
+}
+
+remove_locks() {
+    for lock in "$single_lock" "$chain_lock"; do
+        [ -z "$lock" ] || rm -f "$lock"
+    done
+    single_lock='' chain_lock=''
 }
 
 # Makes a folder of links to the layers of a chain, as the programs look for them beside the chain file.
@@ -179,7 +201,7 @@ place_graph() {
     place=$home graph=info
     [ "$kind" = file ] || return 0
     case $word in
-    verify | check | distinct | show) graph=info/commit-graph ;;
+    verify | check | distinct | show | write) graph=info/commit-graph ;;
     ask) [ -z "$alone" ] || graph=info/commit-graph ;;
     *) is_there "$(chain_file)" || graph=info/commit-graph ;;
     esac

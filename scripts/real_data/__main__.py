@@ -41,6 +41,9 @@ NAME is a file of the folder `checks`, such as show_checks; without one, all are
   of damaged ones: of each refusal, and of what happens to files. By the commands that it gives all is right again.
 - `git cgraph` beside a process that writes the commit-graph anew all the time: no run refuses it. scripts/races makes more
   such runs.
+- `git cgraph write`, beside `git commit-graph write --reachable` in a copy of the same repository: the files are the same, bit by
+  bit, and Git answers from them as before. Two writers at once, and no room on the disk; and all processes killed before each
+  system call that changes a file, by killing.c: the old commit-graph or the new one is there.
 - a file of 300,000 commits, asked by each command, and with one fault late in it, which is named at its position.
 - surroundings that are hostile: streams, paths, chain files, and every amount of memory.
 

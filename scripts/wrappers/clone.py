@@ -6,14 +6,15 @@ import subprocess
 from typing import NamedTuple
 
 TOP = os.path.dirname(os.path.dirname(os.path.dirname(os.path.abspath(__file__))))
-TOOLS = ("sh", "awk", "cat", "chmod", "cp", "dirname", "find", "git", "id", "ln", "mkdir", "mktemp", "readlink", "rm", "rmdir")
-MORE_TOOLS = ("comm", "grep", "head", "od", "sed", "sleep", "sort", "stat", "tail", "touch", "tr", "wc")
+TOOLS = ("sh", "awk", "cat", "chmod", "cp", "dirname", "find", "git", "id", "ln", "mkdir", "mktemp", "mv", "readlink", "rm", "rmdir")
+MORE_TOOLS = ("comm", "grep", "head", "od", "sed", "sleep", "sort", "stat", "sync", "tail", "tee", "touch", "tr", "wc")
 PROGRAMS = ("graphtool", "historytool")
 COPIED = (
     *("git-cgraph", "graphtool", "historytool", "VERSION", "docs/MANUAL.md", "docs/REFUSALS.md"),
     *("docs/PROGRAMS.md", "scripts/programs.awk", "scripts/completions.awk"),
     *("scripts/answers.sh", "scripts/usage.sh", "scripts/repository.sh", "scripts/cures.sh", "scripts/commands"),
-    *("scripts/json.sh", "scripts/progress.sh", "scripts/objects.sh", "scripts/show.sh"),
+    *("scripts/json.sh", "scripts/progress.sh", "scripts/objects.sh", "scripts/show.sh", "scripts/locks.sh", "scripts/write.sh"),
+    "scripts/new_commits.awk",
     *("scripts/json.awk", "scripts/fields", "scripts/fields.awk", "scripts/explain.awk", "scripts/manual.awk", "scripts/alternates.awk"),
     *("scripts/install", "scripts/program", "scripts/library", "scripts/package", "bindings/c/commitgraph.h"),
     *("bindings/c/commitgraph.pc", "bindings/c/commitgraph.3", "bindings/c/commitgraph-config.cmake"),

@@ -64,7 +64,7 @@ class Compared:
 
     def __init__(self, folder):
         self.clone = Clone(folder)
-        for tool in ("env", "mv"):
+        for tool in ("env",):
             os.symlink(shutil.which(tool), os.path.join(self.clone.folder, "bin", tool))
         self.folder = os.fsdecode(make_repository(self.clone, os.path.join(folder, "own").encode()))
         person = ("-c", "user.name=A", "-c", "user.email=a@example.com")

@@ -26,6 +26,10 @@ ASKED = {
     "git cgraph verify -q --jo": {"--jobs"},
     "git cgraph find --objects": set(),
     "git cgraph merge-base --verb": {"--verbose"},
+    "git cgraph w": {"walk", "write"},
+    "git cgraph write --sp": {"--split"},
+    "git cgraph write --k": {"--keep-filters"},
+    "git cgraph verify --sp": set(),
     "git cgraph -C su": {"sub"},
     "git cgraph verify --object-dir su": {"sub"},
 }

@@ -25,9 +25,9 @@ REVISIONS = ("HEAD", "HEAD~1", "HEAD")
 WORDS = {
     command.word: (command.program, REVISIONS[: command.least() + command.takes_more()])
     for command in commands()
-    if command.by_git and command.word not in ("list", "show", "ask")
+    if command.by_git and command.word not in ("list", "show", "ask", "write")
 }
-"""The program that answers each word, and revisions after the word; `list`, `show` and `ask` are by themselves."""
+"""The program that answers each word, and revisions after the word; `list`, `show`, `ask` and `write` are by themselves."""
 
 ASKED = {"merge-base": "merge-base-ids"}
 """By which word a program is asked, where that is another."""
@@ -51,6 +51,9 @@ WRONG = {
     "'x' is no number of jobs from 1 to 99": ["verify", "--objects", "-jx"],
     "'--jobs' goes with '--objects'": ["verify", "--jobs", "2"],
     "'ask' takes no revision": ["ask", "HEAD"],
+    "'write' takes no revision": ["write", "HEAD"],
+    "'write' has no option '--changed-paths'": ["write", "--changed-paths"],
+    "'verify' has no option '--split'": ["verify", "--split"],
     "'ask' has no option '--json': each answer is some lines, and an empty one": ["--json", "ask"],
     "'ask' has no option '--quiet': its answers are all that it is asked for": ["ask", "-q"],
     "'ask' has no option '--progress'": ["ask", "--progress"],
@@ -157,7 +160,7 @@ def check_told(results, clone):
     """Help and version, alone and after each word, and outside a repository."""
     version = "git-cgraph " + read("VERSION")
     manual = read("docs", "MANUAL.md")
-    for word in (None, "list", "show", "ask", *WORDS):
+    for word in (None, "list", "show", "ask", "write", *WORDS):
         before = [word] if word else []
         helps = [ask(clone, [*before, option], clone.folder, ("sh",)) for option in ("--help", "-h")]
         answer = helps[0]
