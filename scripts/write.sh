@@ -190,12 +190,12 @@ choose_layers() {
     done
 }
 
-# Adds the commits of the layers that are taken in to those that are new, but for commits that are gone.
+# Adds the commits of the layers that are taken in to those that are new, each once, but for commits that are gone.
 take_in() {
     [ "$base" -lt "$total" ] || return 0
     in_place "$historytool" ids "$graph" "$base" "$total" >"$scratch/taken" &&
         git_alone cat-file --batch-check='%(objectname) %(objecttype)' --buffer <"$scratch/taken" >"$scratch/types" &&
-        sed -n 's/ commit$//p' "$scratch/types" >>"$scratch/new-ids" ||
+        sed -n 's/ commit$//p' "$scratch/types" >>"$scratch/new-ids" && LC_ALL=C sort -u -o "$scratch/new-ids" "$scratch/new-ids" ||
         refuse_writing 'the layers that stand could not be read'
 }
 
@@ -363,7 +363,7 @@ diagnose_write() {
     'refused stream '[1234]*) name_commit && diagnose_lost ;;
     'refused stream '*) name_commit && is_absent='' && { [ "${line#refused stream 5}" = "$line" ] || diagnose_damaged; } ;;
     'refused write '[34]' '*) name_commit && is_absent='' ;;
-    'refused write 7 '*) name_commit && write_one_file ;;
+    'refused write '[67]' '*) name_commit && write_one_file ;;
     'refused write 10 limit 3') write_one_file ;;
     'refused write '*) ;;
     'refused '*)
