@@ -27,7 +27,7 @@ use Rattle.graph_find.specs.Finding.{AnswersIn, FindsInChain}
 use Rattle.graph_find.specs.declared.answer.Search.{Search}
 use Rattle.graph_find.specs.declared.answer.Search.TheVariants.{Found, Missing, NotByParts}
 use Rattle.graph_find.specs.declared.chain.ChainLayer.{ChainLayer}
-use Rattle.graph_find.proofs.FoundInLayersLemmas.{none-refused}
+use Rattle.graph_find.proofs.FoundInLayersLemmas.{OpensTo, none-refused}
 use Rattle.graph_find.proofs.LayerLemmas.{keeps-head, opens-head}
 
 -- how many commits a head counts
@@ -116,29 +116,40 @@ module _ (known : Option Tree) where
         ∙ ap (λ (answer : Result (List Layer) OpenError). result_map (λ more. layer ∷ more) answer)
         (lines-opened (i + 1) names heads layers named.1 zip.1)
 
-  -- what is found in the layers of a chain's heads is found in the chain
-  chain-answers : (folder : List ℕ) (heads : List ChainLayer) (id : List ℕ) (search : Search)
-      → AreHeadsOfChain known folder heads → SayGraph heads → AnswersInLayers known heads id search
-      → AnswersIn known (λ (tree : Tree). chain_opened tree folder) (IsFromChain folder) id search
-  chain-answers folder heads id search chain says found =
-      let layers = found.layers in
+  -- the layers of a chain's heads make the graph of the chain
+  pub chain-opened : (folder : List ℕ) (heads : List ChainLayer) (layers : List Layer) → AreHeadsOfChain known folder heads
+      → SayGraph heads → AllZip (IsLayerOfChain known) heads layers
+      → OpensTo known (λ (tree : Tree). chain_opened tree folder) (IsFromChain folder) layers
+  chain-opened folder heads layers chain says each =
       let read = heads-read folder (lines chain.text) heads chain.each in
-      let counted = layers-counted heads layers found.each read in
-      let long = AllZip-long (IsLayerOfChain known) heads layers found.each in
+      let counted = layers-counted heads layers each read in
+      let long = AllZip-long (IsLayerOfChain known) heads layers each in
       let none = none-refused says.kind layers (omega (arith, says.some, long))
-      (omega (arith, says.few, counted)) (layers-alike says.kind heads layers found.each read says.alike) in
+      (omega (arith, says.few, counted)) (layers-alike says.kind heads layers each read says.alike) in
       record {
-        layers = layers;
         opens = λ tree there.
             let bytes : bytes_at tree (chain_path folder) ≡ Ok chain.text =
             ap (λ (o : Option (List ℕ)). ok_or o NotOpened) (chain.stands tree there) in
             ap (λ (r : Result (List ℕ) OpenError).
             and_then r (λ text. and_then (layers_of_lines tree folder (lines text)) graph_of_layers)) bytes
             ∙ ap (λ (r : Result (List Layer) OpenError). and_then r graph_of_layers)
-            (lines-opened tree there folder 0 (lines chain.text) heads layers chain.each found.each)
+            (lines-opened tree there folder 0 (lines chain.text) heads layers chain.each each)
             ∙ ap (λ r. graph_unless_refused r layers) none;
-        graph = graph-accepted layers none (layers-opened heads layers found.each read);
-        from = layers-from folder (lines chain.text) heads layers chain.each found.each;
+        graph = graph-accepted layers none (layers-opened heads layers each read);
+        from = layers-from folder (lines chain.text) heads layers chain.each each;
+      }
+
+  -- what is found in the layers of a chain's heads is found in the chain
+  chain-answers : (folder : List ℕ) (heads : List ChainLayer) (id : List ℕ) (search : Search)
+      → AreHeadsOfChain known folder heads → SayGraph heads → AnswersInLayers known heads id search
+      → AnswersIn known (λ (tree : Tree). chain_opened tree folder) (IsFromChain folder) id search
+  chain-answers folder heads id search chain says found =
+      let opened = chain-opened folder heads found.layers chain says found.each in
+      record {
+        layers = found.layers;
+        opens = opened.opens;
+        graph = opened.graph;
+        from = opened.from;
         answers = found.answers;
       }
 

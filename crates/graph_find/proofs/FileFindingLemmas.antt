@@ -13,12 +13,12 @@ use Rattle.gix_commitgraph.specs.OpenAlways.{IsFromFile}
 use Rattle.gix_commitgraph.specs.Opening.{file_opened, graph_of_layers, graph_unless_refused}
 use Rattle.gix_commitgraph.proofs.layers.LayerListLemmas.{graph-accepted}
 use Rattle.graph_find.specs.Finding.{Answers, AnswersIn, FindsInFile}
-use Rattle.graph_find.specs.LayerFinding.{AnswersInLayer, AnswersOfLayer, FindsInLayer}
+use Rattle.graph_find.specs.LayerFinding.{AnswersInLayer, AnswersOfLayer, FindsInLayer, IsLayerOfHead}
 use Rattle.graph_find.specs.ReadHead.{IsHead}
 use Rattle.graph_find.specs.declared.answer.Search.{Search}
 use Rattle.graph_find.specs.declared.answer.Search.TheVariants.{Found, Missing, NotByParts}
 use Rattle.graph_find.specs.declared.head.Head.{Head}
-use Rattle.graph_find.proofs.FoundInLayersLemmas.{Misses, answers-found, answers-missing, none-refused}
+use Rattle.graph_find.proofs.FoundInLayersLemmas.{Misses, OpensTo, answers-found, answers-missing, none-refused}
 use Rattle.graph_find.proofs.LayerLemmas.{keeps-head, opens-head}
 
 -- the answer of one layer is that of the graph
@@ -28,25 +28,36 @@ answers-one layer id (Found commit) there =
 answers-one layer id Missing there = answers-missing id (layer ∷ []) (All-cons (Misses id) layer [] there (All-nil (Misses id)))
 answers-one layer id NotByParts there = tt
 
+-- the layer of a head makes the graph of its file
+pub file-opened : (known : Option Tree) (path : List ℕ) (head : Head) → IsHead head → (layer : Layer)
+    → IsLayerOfHead known path head layer
+    → OpensTo known (λ (tree : Tree). file_opened tree path) (IsFromFile path) (layer ∷ [])
+file-opened known path head is layer of =
+    let keeps = keeps-head known path head is layer of in
+    let few : total (layer ∷ []) ≤ MAX_COMMITS = omega (arith, is.order.few, keeps.size) in
+    let none = none-refused head.layout.kind (layer ∷ []) (lit< tt) few
+    (All-cons (λ (l : Layer). l.kind ≡ head.layout.kind) layer [] keeps.kind
+    (All-nil (λ (l : Layer). l.kind ≡ head.layout.kind))) in
+    record {
+      opens = λ tree there.
+          ap (λ (r : Result Layer OpenError). and_then r (λ (l : Layer). graph_of_layers (l ∷ [])))
+          (opens-head known path head is layer of tree 0 there)
+          ∙ ap (λ r. graph_unless_refused r (layer ∷ [])) none;
+      graph = graph-accepted (layer ∷ []) none (All-cons IsOpened layer [] keeps.opened (All-nil IsOpened));
+      from = ap (λ (p : List ℕ). p ∷ []) keeps.path;
+    }
+
 module _ (known : Option Tree) (path : List ℕ) (head : Head) (is : IsHead head) (id : List ℕ) where
   file-answers : (search : Search) → AnswersInLayer known path head id search
       → AnswersIn known (λ (tree : Tree). file_opened tree path) (IsFromFile path) id search
   file-answers search found =
-      let layer = found.layer in
-      let keeps = keeps-head known path head is layer found.is in
-      let few : total (layer ∷ []) ≤ MAX_COMMITS = omega (arith, is.order.few, keeps.size) in
-      let none = none-refused head.layout.kind (layer ∷ []) (lit< tt) few
-      (All-cons (λ (l : Layer). l.kind ≡ head.layout.kind) layer [] keeps.kind
-      (All-nil (λ (l : Layer). l.kind ≡ head.layout.kind))) in
+      let opened = file-opened known path head is found.layer found.is in
       record {
-        layers = layer ∷ [];
-        opens = λ tree there.
-            ap (λ (r : Result Layer OpenError). and_then r (λ (l : Layer). graph_of_layers (l ∷ [])))
-            (opens-head known path head is layer found.is tree 0 there)
-            ∙ ap (λ r. graph_unless_refused r (layer ∷ [])) none;
-        graph = graph-accepted (layer ∷ []) none (All-cons IsOpened layer [] keeps.opened (All-nil IsOpened));
-        from = ap (λ (p : List ℕ). p ∷ []) keeps.path;
-        answers = answers-one layer id search found.answers;
+        layers = found.layer ∷ [];
+        opens = opened.opens;
+        graph = opened.graph;
+        from = opened.from;
+        answers = answers-one found.layer id search found.answers;
       }
 
   pub finds-in_file : (search : Search) → FindsInLayer known path head id search → FindsInFile known path id search

@@ -1,16 +1,19 @@
 -- what layers answer together
 use Rattle.std.proofs.Common.{◌≡◌, ℕ, ◌+◌, ◌-◌, ◌<◌, ◌≤◌, List, [], ◌∷◌, ◌++◌, All, length, Option, Some, None}
 use Rattle.std.proofs.Common.{slice_get, refl, sym, ap, subst, ◌∙◌, arith}
-use Rattle.std.specs.Prelude.{MatchOption}
+use Rattle.std.specs.Prelude.{MatchOption, Ok, Result}
+use Rattle.std.specs.Option.{ForSome}
 use Rattle.std.proofs.Math.Seq.{take-append_seam}
 use Rattle.std.proofs.lemmas.Option.{slice_get_within, slice_get-get_or, get_or_from_slice_get}
 use Rattle.gix_hash_core.specs.declared.kind.Kind.{Kind}
+use Rattle.graph_folder.specs.Tree.{Tree}
 use Rattle.graph_format.specs.Layer.{Layer}
 use Rattle.graph_format.specs.Lookup.{Found}
 use Rattle.graph_format.specs.declared.TheConstants.{MAX_COMMITS}
 use Rattle.graph_format.specs.declared.error.GraphError.{GraphError}
 use Rattle.graph_format.specs.declared.error.GraphError.TheVariants.{NoFiles, TooManyCommits, HashMismatch, OutOfMemory}
-use Rattle.gix_commitgraph.specs.Graph.{MakesGraph, start, total}
+use Rattle.graph_layer.specs.declared.opening.error.OpenError.{OpenError}
+use Rattle.gix_commitgraph.specs.Graph.{IsGraph, MakesGraph, start, total}
 use Rattle.gix_commitgraph.specs.GraphLaw.{IsRefusal}
 use Rattle.gix_commitgraph.specs.GraphLookup.{FoundIn}
 use Rattle.gix_commitgraph.specs.GraphRefusal.{graph_refusal, kind_at}
@@ -21,6 +24,13 @@ use Rattle.graph_find.specs.Finding.{Answers}
 use Rattle.graph_find.specs.LayerFinding.{AnswersOfLayer}
 use Rattle.graph_find.specs.declared.answer.FoundCommit.{FoundCommit}
 use Rattle.graph_find.specs.declared.answer.Search.TheVariants.{Found as found_at, Missing}
+
+-- The layers make a graph: where the tree is known, the one that an opener finds there.
+pub record OpensTo (known : Option Tree) (opened : Tree → Result (List Layer) OpenError) (IsFrom : List Layer → Type 0)
+    (layers : List Layer) : Type 0 where
+  pub opens : ForSome known (λ tree. opened tree ≡ Ok layers)
+  pub graph : IsGraph layers
+  pub from : IsFrom layers
 
 -- a layer in which the id is not found
 abbrev pub Misses : List ℕ → Layer → Type 0

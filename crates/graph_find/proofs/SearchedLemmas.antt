@@ -38,7 +38,7 @@ module _ (known : Option Tree) (heads : List ChainLayer) (id : List ℕ) where
   pub searched-none : SearchedTo known heads id 0 0
   searched-none = record { layers = []; each = tt; missed = All-nil (Misses id); counted = refl }
 
-  some-layers : (rest : List ChainLayer) → All (IsHeadOfLayer known) rest
+  pub some-layers : (rest : List ChainLayer) → All (IsHeadOfLayer known) rest
       → (layers : List Layer) × AllZip (IsLayerOfChain known) rest layers
   some-layers [] read = ([], tt)
   some-layers (head ∷ rest) read =

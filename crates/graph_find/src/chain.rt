@@ -17,14 +17,21 @@ use std::alloc::Global;
 
 /// The file of a layer, and its head.
 #[derive(Drop)]
-pub(crate) struct ChainLayer {
-    pub(crate) path: String,
-    pub(crate) head: Head,
+pub struct ChainLayer {
+    /// The path of the file.
+    pub path: String,
+    /// Its head.
+    pub head: Head,
 }
 
 /// The layers that the chain file of the folder names, the lowest first, if the head of each is
 /// read by parts and accepted.
-pub(crate) fn read_layers<T: Folder>(
+///
+/// # Errors
+///
+/// Those of a read of the chain file or of a layer: `NotOpened`, `Device` and `OutOfMemory`, the
+/// first that comes.
+pub fn read_layers<T: Folder>(
     alloc: Global,
     folder: &mut T,
     path: &str,
@@ -87,7 +94,7 @@ fn read_line<T: Folder>(
 }
 
 /// Whether layers with these heads make a graph.
-pub(crate) fn make_graph(layers: &[ChainLayer]) -> bool
+pub fn make_graph(layers: &[ChainLayer]) -> bool
     ensures { IsTrue result → SayGraph layers.now }
 {
     let Some(first) = layers.first() else {

@@ -12,17 +12,22 @@ use graph_format::layout::{Layout, layout_of_head};
 
 /// The first bytes of a file, up to the end of its fan, and where its parts lie.
 #[derive(Drop)]
-pub(crate) struct Head {
-    pub(crate) front: Vec<u8>,
-    pub(crate) len: usize,
-    pub(crate) layout: Layout,
+pub struct Head {
+    /// The first bytes.
+    pub front: Vec<u8>,
+    /// How many bytes the file has.
+    pub len: usize,
+    /// Where its parts lie.
+    pub layout: Layout,
 }
 
 /// The positions of the ids that begin with one byte: from `first` up to but not including `end`.
 #[derive(Clone, Copy)]
-pub(crate) struct Span {
-    pub(crate) first: u32,
-    pub(crate) end: u32,
+pub struct Span {
+    /// The first of them.
+    pub first: u32,
+    /// The one after the last.
+    pub end: u32,
 }
 
 /// The head of a file that has `len` bytes and begins with these, if it is accepted, and its fan,
@@ -78,7 +83,7 @@ impl Head {
     }
 
     /// The positions of the ids that begin with a byte.
-    pub(crate) fn span(&self, byte: u8) -> Span
+    pub fn span(&self, byte: u8) -> Span
         requires { IsHead self.now }
         ensures fan { (file : List ℕ) → BeginsWith file self.now.front.items self.now.len
             → IsBucketSpan (fan_of file) byte result }

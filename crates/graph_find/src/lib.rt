@@ -4,8 +4,8 @@
 
 mod answer;
 mod bucket;
-mod chain;
-mod head;
+pub mod chain;
+pub mod head;
 mod layer;
-mod reading;
+pub mod reading;
 pub mod search;

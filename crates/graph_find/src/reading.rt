@@ -17,7 +17,11 @@ use std::alloc::Global;
 const FRONT_LEN: usize = 8 + 256 * 12 + 1024;
 
 /// The head of the file at the path, if it is read by parts and accepted.
-pub(crate) fn read_head<T: Folder>(
+///
+/// # Errors
+///
+/// Those of a read of the file: `NotOpened`, `Device` and `OutOfMemory`.
+pub fn read_head<T: Folder>(
     alloc: Global,
     folder: &mut T,
     path: &str,
@@ -39,7 +43,11 @@ pub(crate) fn read_head<T: Folder>(
 }
 
 /// So many bytes of the file at the path, if the file still has its length.
-pub(crate) fn read_range<T: Folder>(
+///
+/// # Errors
+///
+/// Those of a read of the file: `NotOpened`, `Device` and `OutOfMemory`.
+pub fn read_range<T: Folder>(
     alloc: Global,
     folder: &mut T,
     path: &str,

@@ -1,0 +1,91 @@
+//! Opening a graph by parts.
+
+ghost use Rattle.std.specs.Prelude.{◌≡◌, All, IfErr, IfOk, IfSome, IsErrOf, None};
+ghost use Rattle.std.specs.Option.{ForSome};
+ghost use Rattle.graph_folder.specs.Tree.{file_at};
+ghost use Rattle.graph_folder.specs.Failures.{failures_after};
+ghost use Rattle.gix_commitgraph.specs.OpenAlways.{IsFromChain, IsFromFile};
+ghost use Rattle.gix_commitgraph.specs.Opening.{chain_opened, file_opened};
+ghost use Rattle.graph_find.specs.ReadHead.{IsHead};
+ghost use Rattle.graph_parts.specs.Shown.{ArePartsOf, AreUnread};
+
+use crate::layer::LayerParts;
+use crate::parts::GraphParts;
+use graph_find::chain::{ChainLayer, make_graph, read_layers};
+use graph_find::reading::read_head;
+use graph_folder::folder::{Folder, ReadError};
+use std::alloc::Global;
+
+/// The parts of the file at the path, as a graph of this file alone: its first bytes are read.
+/// `None` where the file is refused or is to be read whole: the graph is to be opened whole then.
+///
+/// # Errors
+///
+/// Those of a read of the file: `NotOpened`, `Device` and `OutOfMemory`. The folder's count of
+/// failures rises with `Device`.
+pub fn open_file_parts<T: Folder>(
+    alloc: Global,
+    folder: &mut T,
+    path: &str,
+) -> Result<Option<GraphParts>, ReadError>
+    ensures opened { IfOk result (λ answer. IfSome answer (ArePartsOf (T.tree folder.old)
+        (λ tree. file_opened tree path.now) (IsFromFile path.now))) }
+    ensures not_opened { ForSome (T.tree folder.old) (λ tree.
+        IsErrOf result ReadError.NotOpened → file_at tree path.now ≡ None) }
+    ensures tree { T.tree folder.new ≡ T.tree folder.old }
+    ensures failures { T.failure_count folder.new
+        ≡ failures_after result (T.failure_count folder.old) }
+{
+    let Some(head) = read_head(alloc, folder, path)? else {
+        return Ok(None);
+    };
+    let path = String::from_str(alloc, path).map_err(|_| ReadError::OutOfMemory)?;
+    let mut layers = Vec::new(alloc);
+    let layer = LayerParts::new(alloc, ChainLayer { path, head });
+    layers.push(layer).map_err(|_| ReadError::OutOfMemory)?;
+    Ok(Some(GraphParts { layers }))
+}
+
+/// The parts of the layers of the chain folder at the path: the chain file and the first bytes of
+/// each layer are read. `None` where a layer is refused or is to be read whole, or the layers make
+/// no graph: the chain is to be opened whole then.
+///
+/// # Errors
+///
+/// Those of a read of the chain file or of a layer: `NotOpened`, `Device` and `OutOfMemory`. The
+/// folder's count of failures rises with `Device`.
+pub fn open_chain_parts<T: Folder>(
+    alloc: Global,
+    folder: &mut T,
+    path: &str,
+) -> Result<Option<GraphParts>, ReadError>
+    ensures opened { IfOk result (λ answer. IfSome answer (ArePartsOf (T.tree folder.old)
+        (λ tree. chain_opened tree path.now) (IsFromChain path.now))) }
+    ensures tree { T.tree folder.new ≡ T.tree folder.old }
+    ensures failures { T.failure_count folder.new
+        ≡ failures_after result (T.failure_count folder.old) }
+{
+    let Some(files) = read_layers(alloc, folder, path)? else {
+        return Ok(None);
+    };
+    if !make_graph(&files) {
+        return Ok(None);
+    }
+    let layers = parts_of(alloc, files)?;
+    Ok(Some(GraphParts { layers }))
+}
+
+/// The parts of files, of which none was read.
+fn parts_of(alloc: Global, files: Vec<ChainLayer>) -> Result<Vec<LayerParts>, ReadError>
+    requires { All (λ file. IsHead file.head) files.items }
+    ensures parts { IfOk result (λ layers. AreUnread files.items layers.items) }
+    ensures memory { IfErr result (λ error. error ≡ ReadError.OutOfMemory) }
+{
+    let mut layers = Vec::new(alloc);
+    for file in files {
+        layers
+            .push(LayerParts::new(alloc, file))
+            .map_err(|_| ReadError::OutOfMemory)?;
+    }
+    Ok(layers)
+}

@@ -1,0 +1,208 @@
+//! The commits of a graph, of whose files parts are read.
+
+ghost use Rattle.std.specs.Prelude.{◌≡◌, ◌<◌, List, IfOk, IfSome, Option, Some, length};
+ghost use Rattle.std.specs.Prelude.{slice_get};
+ghost use Rattle.gix_hash_core.specs.Oid.{oid_bytes};
+ghost use Rattle.graph_folder.specs.Tree.{Tree};
+ghost use Rattle.graph_folder.specs.Failures.{failures_after};
+ghost use Rattle.graph_format.specs.Layer.{Layer};
+ghost use Rattle.gix_commitgraph.specs.Graph.{graph_ids, total};
+ghost use Rattle.gix_commitgraph.specs.GraphLaw.{LiesIn};
+ghost use Rattle.graph_parts.specs.Lookups.{LiesWithin, LooksUp};
+ghost use Rattle.graph_parts.specs.Shown.{AreGraphParts, SeesMore, Shows, commits_of_parts};
+ghost use Rattle.graph_parts.specs.Shown.{edge_count_at, files_of};
+ghost use Rattle.graph_parts.specs.Spots.{IsSpotOf};
+ghost use Rattle.graph_parts.specs.Stored.{StoresAt, StoresEdge};
+
+use crate::layer::LayerParts;
+pub use crate::layer::StoredCommit;
+pub use crate::lookup::Lookup;
+use gix_commitgraph::Position;
+use gix_commitgraph::file::commit::ExtraEdge;
+use gix_hash_core::{ObjectId, oid};
+use graph_folder::folder::{Folder, ReadError};
+use std::alloc::Global;
+
+/// Files that make a graph, and the parts of them that were read.
+///
+/// Each block that was read is kept, so a commit that is asked for again is not read again, and the
+/// memory grows with what is asked for. A call that reads answers `None` where a file no longer has
+/// the length that it had, or is to be read whole. Its errors are those of a read: `NotOpened`,
+/// `Device` and `OutOfMemory`, and the folder's count of failures rises with `Device`. More can be
+/// asked after each of them.
+#[derive(Drop)]
+pub struct GraphParts {
+    pub(crate) layers: Vec<LayerParts>,
+}
+
+/// A position within a layer.
+#[derive(Clone, Copy)]
+struct Spot {
+    layer: usize,
+    pos: u32,
+}
+
+impl GraphParts {
+    /// How many commits the graph has.
+    pub fn commits(&self) -> u32
+        requires { AreGraphParts self.now }
+        ensures count { result ≡ commits_of_parts self.now }
+        ensures total { (known : Option Tree) (layers : List Layer) → Shows known self.now layers
+            → result ≡ total layers }
+    {
+        let mut commits = 0;
+        for part in &self.layers {
+            commits += part.file.head.layout.commits;
+        }
+        commits
+    }
+
+    /// The layer in which a position lies, 0 for the lowest.
+    pub fn layer_of(&self, pos: Position) -> usize
+        requires parts { AreGraphParts self.now }
+        requires pos { pos.0 < commits_of_parts self.now }
+        ensures { (known : Option Tree) (layers : List Layer) → Shows known self.now layers
+            → (layer : Layer) × LiesIn layers pos.0 result layer }
+    {
+        self.spot_of(pos).layer
+    }
+
+    /// The layer of a position, and the position within it.
+    fn spot_of(&self, pos: Position) -> Spot
+        requires parts { AreGraphParts self.now }
+        requires pos { pos.0 < commits_of_parts self.now }
+        ensures { IsSpotOf (files_of self.now) pos.0 result }
+    {
+        let mut left = pos.0;
+        for (layer, part) in self.layers.iter().enumerate() {
+            let commits = part.file.head.layout.commits;
+            if left < commits {
+                return Spot { layer, pos: left };
+            }
+            left -= commits;
+        }
+        unreachable!()
+    }
+
+    /// What is stored of the commit at a position of the graph.
+    ///
+    /// # Errors
+    ///
+    /// Those of a read.
+    pub fn commit_at<T: Folder>(
+        &mut self,
+        alloc: Global,
+        folder: &mut T,
+        pos: Position,
+    ) -> Result<Option<StoredCommit>, ReadError>
+        requires parts { AreGraphParts self.old }
+        requires pos { pos.0 < commits_of_parts self.old }
+        ensures parts { AreGraphParts self.new }
+        ensures sees { SeesMore (T.tree folder.old) self.old self.new }
+        ensures stores { IfOk result (λ answer. IfSome answer (λ commit. (layers : List Layer)
+            → Shows (T.tree folder.old) self.new layers → StoresAt layers pos.0 commit)) }
+        ensures tree { T.tree folder.new ≡ T.tree folder.old }
+        ensures failures { T.failure_count folder.new
+            ≡ failures_after result (T.failure_count folder.old) }
+    {
+        let spot = self.spot_of(pos);
+        self.layers[spot.layer].commit_at(alloc, folder, spot.pos)
+    }
+
+    /// The id of the commit at a position of the graph.
+    ///
+    /// # Errors
+    ///
+    /// Those of a read.
+    pub fn id_at<T: Folder>(
+        &mut self,
+        alloc: Global,
+        folder: &mut T,
+        pos: Position,
+    ) -> Result<Option<ObjectId>, ReadError>
+        requires parts { AreGraphParts self.old }
+        requires pos { pos.0 < commits_of_parts self.old }
+        ensures parts { AreGraphParts self.new }
+        ensures sees { SeesMore (T.tree folder.old) self.old self.new }
+        ensures id { IfOk result (λ answer. IfSome answer (λ id. (layers : List Layer)
+            → Shows (T.tree folder.old) self.new layers
+            → slice_get (graph_ids layers) pos.0 ≡ Some id)) }
+        ensures tree { T.tree folder.new ≡ T.tree folder.old }
+        ensures failures { T.failure_count folder.new
+            ≡ failures_after result (T.failure_count folder.old) }
+    {
+        let spot = self.spot_of(pos);
+        self.layers[spot.layer].id_at(alloc, folder, spot.pos)
+    }
+
+    /// How many words the extra edge list of a layer has, 0 where it has no such list, and where
+    /// there is no such layer.
+    pub fn edges_of(&self, layer: usize) -> usize
+        requires { AreGraphParts self.now }
+        ensures { result ≡ edge_count_at self.now layer }
+    {
+        if self.layers.len() <= layer {
+            return 0;
+        }
+        self.layers[layer].edge_count()
+    }
+
+    /// What the word of an index in the extra edge list of a layer says.
+    ///
+    /// # Errors
+    ///
+    /// Those of a read.
+    pub fn edge_at<T: Folder>(
+        &mut self,
+        alloc: Global,
+        folder: &mut T,
+        layer: usize,
+        index: usize,
+    ) -> Result<Option<ExtraEdge>, ReadError>
+        requires parts { AreGraphParts self.old }
+        requires index { index < edge_count_at self.old layer }
+        ensures parts { AreGraphParts self.new }
+        ensures sees { SeesMore (T.tree folder.old) self.old self.new }
+        ensures says { IfOk result (λ answer. IfSome answer (λ edge. (layers : List Layer)
+            → Shows (T.tree folder.old) self.new layers → StoresEdge layers layer index edge)) }
+        ensures tree { T.tree folder.new ≡ T.tree folder.old }
+        ensures failures { T.failure_count folder.new
+            ≡ failures_after result (T.failure_count folder.old) }
+    {
+        self.layers[layer].edge_at(alloc, folder, index)
+    }
+
+    /// Looks up an id: in the layers from the lowest on, until it is found. Of the ids of a layer
+    /// that begin with the same byte, as many are compared as their number has binary digits.
+    ///
+    /// # Errors
+    ///
+    /// Those of a read.
+    pub fn position_of<T: Folder>(
+        &mut self,
+        alloc: Global,
+        folder: &mut T,
+        id: oid<'_>,
+    ) -> Result<Lookup, ReadError>
+        requires parts { AreGraphParts self.old }
+        ensures parts { AreGraphParts self.new }
+        ensures sees { SeesMore (T.tree folder.old) self.old self.new }
+        ensures within { IfOk result (LiesWithin (commits_of_parts self.old)) }
+        ensures answers { IfOk result (λ lookup. (layers : List Layer)
+            → Shows (T.tree folder.old) self.new layers
+            → LooksUp layers (oid_bytes id.entry) lookup) }
+        ensures tree { T.tree folder.new ≡ T.tree folder.old }
+        ensures failures { T.failure_count folder.new
+            ≡ failures_after result (T.failure_count folder.old) }
+    {
+        let mut start = 0;
+        for layer in 0..self.layers.len() {
+            match self.layers[layer].position_of(alloc, folder, id)? {
+                Lookup::Found(pos) => return Ok(Lookup::Found(Position(start + pos.0))),
+                Lookup::Missing => start += self.layers[layer].file.head.layout.commits,
+                Lookup::NotByParts => return Ok(Lookup::NotByParts),
+            }
+        }
+        Ok(Lookup::Missing)
+    }
+}
