@@ -11,7 +11,7 @@ use Rattle.std.proofs.Math.Nat.{mul-add, mul-le-mul_left}
 use Rattle.std.proofs.lemmas.Option.{same_Some, slice_get_read}
 use Rattle.graph_format.proofs.PieceLemmas.{slice_range-slice_range}
 use Rattle.graph_folder.specs.Tree.{Tree, file_at}
-use Rattle.graph_parts.specs.PieceBlocks.{AreOf, AreSized, HaveSameBlocks, Keeps, ReadsMore, block_len, block_start}
+use Rattle.graph_parts.specs.PieceBlocks.{AreOf, AreSized, HaveSameBlocks, HasBlock, ReadsMore, block_len, block_start}
 use Rattle.graph_parts.specs.declared.pieces.TheConstants.{BLOCK_LEN}
 use Rattle.graph_parts.specs.declared.pieces.Pieces.{Pieces}
 use Rattle.graph_parts.specs.declared.pieces.Place.{Place}
@@ -34,9 +34,9 @@ piece-fits place index within =
 -- One block more is kept, and it is of the same pieces.
 pub record Adds (old new : Pieces) (number : ℕ) (block : Vec ℕ Global) : Type 0 where
   pub place : new.place ≡ old.place
-  pub stays : (k : ℕ) (b : Vec ℕ Global) → Keeps old k b → Keeps new k b
-  pub only : (k : ℕ) (b : Vec ℕ Global) → Keeps new k b → Keeps old k b ⊎ ((k ≡ number) × (b ≡ block))
-  pub there : Keeps new number block
+  pub stays : (k : ℕ) (b : Vec ℕ Global) → HasBlock old k b → HasBlock new k b
+  pub only : (k : ℕ) (b : Vec ℕ Global) → HasBlock new k b → HasBlock old k b ⊎ ((k ≡ number) × (b ≡ block))
+  pub there : HasBlock new number block
 
 module _ (old new : Pieces) (number : ℕ) (block : Vec ℕ Global) (adds : Adds old new number block) where
   pub adds-kept : (file : List ℕ) → AreOf new file → AreOf old file
@@ -138,14 +138,14 @@ set-stays (z ∷ zs) (suc i) (suc j) x y is other = set-stays zs i j x y is (λ 
 
 -- a block is put where none is kept
 pub adds-set : (old grown new : Pieces) (number : ℕ) (block : Vec ℕ Global) → grown.place ≡ old.place → HaveSameBlocks old grown
-    → number < length grown.blocks.items → ((b : Vec ℕ Global) → Keeps grown number b → ⊥) → new.place ≡ grown.place
+    → number < length grown.blocks.items → ((b : Vec ℕ Global) → HasBlock grown number b → ⊥) → new.place ≡ grown.place
     → new.blocks.items ≡ set grown.blocks.items number (Some block) → Adds old new number block
 adds-set old grown new number block place same room none kept is = record {
   place = kept ∙ place;
   stays = λ k b keeps.
-      let here : Keeps grown k b = (same k b).1 keeps in
+      let here : HasBlock grown k b = (same k b).1 keeps in
       rw is (set-stays grown.blocks.items number k (Some block) (Some b) here
-      (λ e. none b (subst (λ (n : ℕ). Keeps grown n b) e here)));
+      (λ e. none b (subst (λ (n : ℕ). HasBlock grown n b) e here)));
   only = λ k b keeps.
       elim (set-either grown.blocks.items number k (Some block) (Some b) (rw is at keeps)) [
         | inl here ↦ inl ((same k b).0 here)
@@ -209,13 +209,13 @@ same-unless old now new false same is = same-items old now new same is
 
 -- a block was found, or none
 pub some-there : (pieces : Pieces) (number : ℕ) (o : Option (Vec ℕ Global)) → o ≡ get_or pieces.blocks.items number o
-    → number < length pieces.blocks.items → is_some o ≡ true → (block : Vec ℕ Global) × Keeps pieces number block
+    → number < length pieces.blocks.items → is_some o ≡ true → (block : Vec ℕ Global) × HasBlock pieces number block
 some-there pieces number None is within found = let clash : false ≡ true = found in cc
 some-there pieces number (Some block) is within found =
     (block, slice_get_read pieces.blocks.items (length pieces.blocks.items) number (Some block) refl within is)
 
 pub none-there : (pieces : Pieces) (number : ℕ) (o : Option (Vec ℕ Global)) → o ≡ get_or pieces.blocks.items number o
-    → number < length pieces.blocks.items → is_some o ≡ false → (block : Vec ℕ Global) → Keeps pieces number block → ⊥
+    → number < length pieces.blocks.items → is_some o ≡ false → (block : Vec ℕ Global) → HasBlock pieces number block → ⊥
 none-there pieces number (Some block) is within missed other keeps = let clash : true ≡ false = missed in cc
 none-there pieces number None is within missed other keeps =
     let here = slice_get_read pieces.blocks.items (length pieces.blocks.items) number None refl within is in

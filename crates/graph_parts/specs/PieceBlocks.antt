@@ -20,27 +20,27 @@ abbrev pub FitsIn : Place → ℕ → Type 0
 FitsIn place len = place.start + place.size * place.count ≤ len
 
 -- the block of this number is kept, with these bytes
-abbrev pub Keeps : Pieces → ℕ → Vec ℕ Global → Type 0
-Keeps pieces number block = slice_get pieces.blocks.items number ≡ Some (Some block)
+abbrev pub HasBlock : Pieces → ℕ → Vec ℕ Global → Type 0
+HasBlock pieces number block = slice_get pieces.blocks.items number ≡ Some (Some block)
 
 -- the block of a piece is kept
 abbrev pub HasPiece : Pieces → ℕ → Type 0
-HasPiece pieces index = (block : Vec ℕ Global) × Keeps pieces (index / BLOCK_LEN) block
+HasPiece pieces index = (block : Vec ℕ Global) × HasBlock pieces (index / BLOCK_LEN) block
 
 -- each block that is kept has its length
 abbrev pub AreSized : Pieces → Type 0
-AreSized pieces = (number : ℕ) (block : Vec ℕ Global) → Keeps pieces number block
+AreSized pieces = (number : ℕ) (block : Vec ℕ Global) → HasBlock pieces number block
     → length block.items ≡ block_len pieces.place number
 
 -- the blocks that are kept are those of a file
 abbrev pub AreOf : Pieces → List ℕ → Type 0
-AreOf pieces file = (number : ℕ) (block : Vec ℕ Global) → Keeps pieces number block
+AreOf pieces file = (number : ℕ) (block : Vec ℕ Global) → HasBlock pieces number block
     → slice_range file (block_start pieces.place number) (block_start pieces.place number + block_len pieces.place number)
     ≡ block.items
 
 -- the same blocks are kept
 abbrev pub HaveSameBlocks : Pieces → Pieces → Type 0
-HaveSameBlocks old new = (number : ℕ) (block : Vec ℕ Global) → Keeps new number block ↔ Keeps old number block
+HaveSameBlocks old new = (number : ℕ) (block : Vec ℕ Global) → HasBlock new number block ↔ HasBlock old number block
 
 -- More blocks may be kept: where the tree is known, those of the file at the path.
 pub record ReadsMore (known : Option Tree) (path : List ℕ) (old new : Pieces) : Type 0 where

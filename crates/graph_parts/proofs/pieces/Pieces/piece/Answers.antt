@@ -2,7 +2,7 @@
 use Rattle.std.proofs.Common.{◌≡◌, ℕ, ◌/◌, List, length, Option, Some, None, Vec, refl, sym, ap, ◌∙◌, arith}
 use Rattle.std.specs.Global.{Global}
 use Rattle.std.proofs.lemmas.Option.{same_Some, slice_get_read, slice_get_within}
-use Rattle.graph_parts.specs.PieceBlocks.{Keeps}
+use Rattle.graph_parts.specs.PieceBlocks.{HasBlock}
 use Rattle.graph_parts.proofs.BlockLemmas.{piece-fits, piece-of}
 use Rattle.graph_parts.proofs.pieces.Pieces.piece.Goals as goal
 
@@ -39,7 +39,7 @@ slice_bounds-result-end c =
     let items = c.args.self.now.blocks.items in
     let within = slice_get_within items (c.args.index / 128) (Some c.requires.kept.0) c.requires.kept.1 in
     let read = slice_get_read items (length items) (c.args.index / 128) c.index.result.now refl within c.index.ensures in
-    let keeps : Keeps c.args.self.now (c.args.index / 128) c.in-Some.block =
+    let keeps : HasBlock c.args.self.now (c.args.index / 128) c.in-Some.block =
     read ∙ ap (λ (o : Option (Vec ℕ Global)). Some o) c.in-Some.is in
     let long = c.requires.sized (c.args.index / 128) c.in-Some.block keeps in
     omega (
@@ -55,7 +55,7 @@ returns-clause-piece c = λ file of.
     let items = c.args.self.now.blocks.items in
     let within = slice_get_within items (c.args.index / 128) (Some c.requires.kept.0) c.requires.kept.1 in
     let read = slice_get_read items (length items) (c.args.index / 128) c.index.result.now refl within c.index.ensures in
-    let keeps : Keeps c.args.self.now (c.args.index / 128) c.in-Some.block =
+    let keeps : HasBlock c.args.self.now (c.args.index / 128) c.in-Some.block =
     read ∙ ap (λ (o : Option (Vec ℕ Global)). Some o) c.in-Some.is in
     piece-of c.args.self.now file c.deref.result.now c.args.index c.requires.index
     (of (c.args.index / 128) c.in-Some.block keeps ∙ sym c.deref.ensures.value)
