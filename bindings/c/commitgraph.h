@@ -355,8 +355,8 @@ cg_block cg_parents_from(cg_graph graph, uint32_t first, cg_parent_count *answer
  *   CG_CHECK_DUPLICATE_ID           its id stands at the earlier position `other` too: only where distinct ids are asked for;
  *   CG_OUT_OF_MEMORY                memory ran out before the check was done; and CG_CLOSED_GRAPH.
  * What is not named is 0, but for `called`: the number of commits that the check passed before the fault, or of all on CG_OK.
- * Whoever has something to say of each commit goes over so many, and what is refused among them comes first. It is 0 on
- * CG_OUT_OF_MEMORY and CG_CLOSED_GRAPH, and where cg_open_checked refuses. */
+ * To ask something of each commit during the check, go over this many commits in their order: what you refuse there comes before
+ * the fault. It is 0 on CG_OUT_OF_MEMORY and CG_CLOSED_GRAPH, and where cg_open_checked refuses. */
 typedef struct cg_verdict {
     uint32_t code, num_commits, longest, has_longest;
     uint32_t position, other, called;
