@@ -14,6 +14,7 @@ from functools import partial
 
 from checks import many
 from checks.object_checks import lay_chain
+from checks.program import LINES
 from checks.repeated_checks import LAYERS, PARENTS, Repeated
 from checks.runs import check_runs
 from checks.write_checks import CRISS_CROSS, is_file, lay_many
@@ -156,25 +157,29 @@ def check_all(histories, results):
         return
     parts = [(histories.path, start, min(PART, HISTORIES - start)) for start in range(0, HISTORIES, PART)]
     answers = many.in_processes(try_part, parts)
-    complaints = [complaint for complaint, _ in answers if complaint]
+    complaints = [complaint for complaint, _, _ in answers if complaint]
     results.check("merge, %d graphs at random" % HISTORIES, complaints[0] if complaints else None)
-    odd = sorted(KINDS.symmetric_difference(set().union(*(kinds for _, kinds in answers))))
+    LINES.update(("merge", line) for _, _, lines in answers for line in lines)
+    odd = sorted(KINDS.symmetric_difference(set().union(*(kinds for _, kinds, _ in answers))))
     results.check("merge, graphs at random, each kind of answer", "none or one has %s" % odd if odd else None)
 
 
 def try_part(program, start, count):
-    """Tries some graphs: a complaint or None, and the kinds of answers that had to come."""
-    kinds = set()
+    """Tries some graphs: a complaint or None, the kinds of answers that had to come, and the lines of refusals."""
+    kinds, lines = set(), set()
     with tempfile.TemporaryDirectory() as folder:
         bench, info = many.Bench(program, folder), os.path.join(folder, "info")
         for number in range(start, start + count):
             graph = further.graph(random.Random("merged %d" % number))
             trees.lay_out(info, trees.of_layers(graph.kind, graph.layers))
-            kind, complaint = tried(graph, *bench.run("merge", info))
+            status, text = bench.run("merge", info)
+            kind, complaint = tried(graph, status, text)
             kinds.add(kind)
             if complaint:
-                return "graph %d, %s: %s" % (number, kind, complaint), kinds
-    return None, kinds
+                return "graph %d, %s: %s" % (number, kind, complaint), kinds, lines
+            if status == 1:
+                lines.add(text.decode().rstrip("\n"))
+    return None, kinds, lines
 
 
 def tried(graph, status, text):
