@@ -1,6 +1,7 @@
 //! Files and folders by their paths, on a device that may fail a read.
 
-ghost use Rattle.std.specs.Prelude.{◌≡◌, ◌-◌, ℕ, Option, Some, None, IfOk, IsErrOf, min, length};
+ghost use Rattle.std.specs.Prelude.{◌≡◌, ◌↔◌, ◌-◌, ℕ, Option, Some, None, IfOk, IsErrOf, IsTrue};
+ghost use Rattle.std.specs.Prelude.{min, length};
 ghost use Rattle.std.specs.Option.{ForSome};
 ghost use Rattle.graph_folder.specs.Tree.{Tree, is_file, is_folder, file_at};
 ghost use Rattle.graph_folder.specs.Failures.{failures_after};
@@ -81,6 +82,21 @@ pub trait Folder {
         ensures tree { tree self.new ≡ tree self.old }
         ensures failures { failure_count self.new
             ≡ failures_after result (failure_count self.old) };
+
+    /// Whether the file at the path has these bytes, and no others. The errors are those of
+    /// [`Folder::read`], and counted as there.
+    fn has_bytes(&mut self, alloc: Global, path: &str, bytes: &[u8]) -> Result<bool, ReadError>
+        ensures same { ForSome (tree self.old) (λ t.
+            IfOk result (λ same. IsTrue same ↔ (file_at t path.now ≡ Some bytes.now))) }
+        ensures not_opened { ForSome (tree self.old) (λ t.
+            IsErrOf result ReadError.NotOpened → file_at t path.now ≡ None) }
+        ensures tree { tree self.new ≡ tree self.old }
+        ensures failures { failure_count self.new
+            ≡ failures_after result (failure_count self.old) }
+    {
+        let found = self.read(alloc, path)?;
+        Ok(found.as_slice() == bytes)
+    }
 
     /// The bytes of the file at the path from `start` on, at most `len` of them and none past the
     /// file's end, and the file's length. It is `None` where this file is to be read whole. The

@@ -1,4 +1,4 @@
--- Why bytes are no layer: the first of nineteen conditions that holds; their order is this crate's own. (Git's commit-graph
+-- Why bytes are no layer: the first condition that holds; their order is this crate's own. (Git's commit-graph
 -- format, "HEADER", "CHUNK LOOKUP", "CHUNK DATA" and "TRAILER".)
 use Rattle.std.specs.Prelude.{ℕ, ◌+◌, ◌-◌, ◌/◌, ◌%◌, Bool, false, not, ◌&&◌, List, length, take, slice_index, Option, Some, None}
 use Rattle.std.specs.Prelude.{option_map, is_none, nat_lt, ◌==◌, bytes_eq}

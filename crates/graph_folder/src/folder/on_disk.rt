@@ -1,12 +1,12 @@
 //! The file system as a folder.
 
-ghost use Rattle.std.specs.Prelude.{◌≡◌, ◌-◌, None, IsOk, IfOk, min, length};
+ghost use Rattle.std.specs.Prelude.{◌≡◌, ◌-◌, None, IsOk, IfOk, IsTrue, min, length};
 ghost use Rattle.graph_folder.specs.Failures.{failures_after};
 ghost use Rattle.graph_folder.specs.Parts.{IfPart};
 ghost use Rattle.graph_folder.specs.Reads.{AreAllOfFile, AreOfFileFrom};
 
 use super::exact::read_part_from;
-use super::whole::read_expected;
+use super::whole::{gives_bytes, read_expected};
 use super::{Folder, Part, ReadError};
 use std::alloc::{AllocError, Global};
 use std::fs;
@@ -39,6 +39,22 @@ impl<'r, R: Files> Disk<'r, R> {
             Err(_) => 0,
         };
         read_expected(alloc, &mut file, expected)
+    }
+
+    /// Whether the file at the path has these bytes. Where the host says another length, it has not.
+    fn compare_file(&self, alloc: Global, path: &str, bytes: &[u8]) -> Result<bool, ReadError>
+        ensures { IfOk result (λ same. IsTrue same
+            → AreAllOfFile R.File.remaining bytes.now) }
+    {
+        let mut file = fs::open(self.rt, path).map_err(|_| ReadError::NotOpened)?;
+        match file.metadata() {
+            Ok(metadata) if metadata.is_dir() => return Err(ReadError::NotOpened),
+            Ok(metadata) if metadata.is_file() && metadata.len() != bytes.len() as u64 => {
+                return Ok(false);
+            }
+            _ => {}
+        }
+        gives_bytes(alloc, &mut file, bytes)
     }
 
     /// A part of the file at the path, if the host says how long it is.
@@ -114,6 +130,19 @@ impl<'r, R: Files> Folder for Disk<'r, R> {
             ≡ failures_after result (⟦<Disk<'r, R> as Folder>⟧.failure_count self.old) }
     {
         let answer = self.read_file(alloc, path);
+        self.count_failure(&answer);
+        answer
+    }
+
+    /// Whether the file at the path has these bytes. `NotOpened` comes where the host does not open
+    /// it or calls it a folder, and `Device` where a later read fails.
+    fn has_bytes(&mut self, alloc: Global, path: &str, bytes: &[u8]) -> Result<bool, ReadError>
+        ensures same { IfOk result (λ same. IsTrue same
+            → AreAllOfFile R.File.remaining bytes.now) }
+        ensures failures { ⟦<Disk<'r, R> as Folder>⟧.failure_count self.new
+            ≡ failures_after result (⟦<Disk<'r, R> as Folder>⟧.failure_count self.old) }
+    {
+        let answer = self.compare_file(alloc, path, bytes);
         self.count_failure(&answer);
         answer
     }

@@ -1,6 +1,6 @@
 //! Whole reads.
 
-ghost use Rattle.std.specs.Prelude.{◌≡◌, ◌≢◌, ◌<◌, length, IfOk, IfErr, IfSome, OnOk};
+ghost use Rattle.std.specs.Prelude.{◌≡◌, ◌≢◌, ◌<◌, length, IfOk, IfErr, IfSome, IsTrue, OnOk};
 ghost use Rattle.std.specs.Io.KnownBytes.{Consumes, IsAtEnd};
 
 use super::ReadError;
@@ -59,5 +59,43 @@ fn read_by<R: Read>(
         bytes
             .extend_from_slice(&piece[..count])
             .map_err(|_| ReadError::OutOfMemory)?;
+    }
+}
+
+/// Whether the reader has these bytes to its end, and no others, however it cuts them. Any error of
+/// the reader is `Device`, and `OutOfMemory` comes where an allocation failed. `NotOpened` never
+/// comes.
+pub(super) fn gives_bytes<R: Read>(
+    alloc: Global,
+    reader: &mut R,
+    bytes: &[u8],
+) -> Result<bool, ReadError>
+    ensures same { IfOk result (λ same. IsTrue same
+        → IfSome (R.remaining reader.old) (λ all. bytes.now ≡ all)) }
+    ensures end { IfOk result (λ same. IsTrue same → IsAtEnd (R.remaining reader.new)) }
+    ensures opened { IfErr result (λ error. error ≢ ReadError.NotOpened) }
+{
+    let mut piece = vec![in alloc; 0; PIECE].map_err(|_| ReadError::OutOfMemory)?;
+    compare_by(reader, bytes, &mut piece)
+}
+
+/// Whether the reader has these bytes, as `gives_bytes` answers it, each read into this piece.
+fn compare_by<R: Read>(reader: &mut R, bytes: &[u8], piece: &mut [u8]) -> Result<bool, ReadError>
+    requires { 0 < length piece.old }
+    ensures same { IfOk result (λ same. IsTrue same
+        → IfSome (R.remaining reader.old) (λ all. bytes.now ≡ all)) }
+    ensures end { IfOk result (λ same. IsTrue same → IsAtEnd (R.remaining reader.new)) }
+    ensures opened { IfErr result (λ error. error ≢ ReadError.NotOpened) }
+{
+    let mut rest = bytes;
+    loop {
+        let count = reader.read(piece).map_err(|_| ReadError::Device)?;
+        if count == 0 {
+            return Ok(rest.is_empty());
+        }
+        match rest.strip_prefix(&piece[..count]) {
+            Some(after) => rest = after,
+            None => return Ok(false),
+        }
     }
 }

@@ -61,6 +61,13 @@ impl File {
         &self.path
     }
 
+    /// The bytes of the file.
+    pub fn bytes(&self) -> &[u8]
+        ensures { result.now ≡ bytes_of self.now }
+    {
+        &self.bytes
+    }
+
     /// The checksum as it is stored after the last chunk: the section "TRAILER". Whether it is the
     /// digest of the bytes before it is not known.
     pub fn checksum(&self) -> oid<'_>

@@ -24,3 +24,11 @@ read_part-tells g c = record {
   tree = search;
   failures = search;
 }
+
+pub has_bytes-tells : goal.has_bytes-tells
+has_bytes-tells g c = record {
+  same = λ t known. absurd (grind (arith, known));
+  not_opened = λ t known. absurd (grind (arith, known));
+  tree = search;
+  failures = search;
+}
