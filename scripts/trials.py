@@ -5,14 +5,15 @@ import glob
 import hashlib
 import os
 import subprocess
-from typing import NamedTuple
+from typing import List, NamedTuple
 
 from documents import lower_crates
 
 FILE = os.path.join("scripts", "edits.tried")
 HEAD = """\
-# When scripts/edits last tried the edits of each crate, on which commit, how many trials passed and failed, and digests
-# of the crate's texts and of those of the crates below it. scripts/edits writes this; scripts/edits --when reads it.
+# When scripts/edits last tried the edits and right bodies of each crate, on which commit, how many passed and failed, and
+# digests of the crate's texts and of those of the crates below it. Names at the end of a line are edits that are left, as
+# the run was cut off. scripts/edits writes this; scripts/edits --when reads it.
 """
 READ = ("src", "specs", "proofs")
 """The folders that a check of a crate above reads."""
@@ -21,39 +22,59 @@ OWN = (*READ, "edits", "must-pass")
 
 
 class Trial(NamedTuple):
-    """A run over all edits of a crate."""
+    """A run over all edits and right bodies of a crate; `left` names those of which nothing is known yet."""
 
     crate: str
     date: str
     commit: str
-    passed: str
-    failed: str
+    passed: int
+    failed: int
     own: str
     below: str
+    left: List[str]
 
 
 def recorded(top):
     """The last trial of each crate of a tree, by the crate's name."""
     path = os.path.join(top, FILE)
     lines = open(path, encoding="utf-8").read().split("\n") if os.path.exists(path) else []
-    return {line.split()[0]: Trial(*line.split()) for line in lines if line and not line.startswith("#")}
+    return {line.split()[0]: trial_of(*line.split()) for line in lines if line and not line.startswith("#")}
 
 
-def begin(top, crate):
-    """A trial of a crate that begins now, on the texts as they are, with nothing passed or failed yet."""
+def trial_of(crate, date, commit, passed, failed, own, below, *left):
+    """The trial of which these are the words of its line."""
+    return Trial(crate, date, commit, int(passed), int(failed), own, below, list(left))
+
+
+def begin(top, crate, names):
+    """A trial of a crate's edits and right bodies of these names, on the texts as they are: one that was cut off, if there
+    is one on the same texts, or else one with nothing passed or failed yet."""
     command = ["git", "-C", top, "rev-parse", "--short", "HEAD"]
     named = subprocess.run(command, stdout=subprocess.PIPE, stderr=subprocess.DEVNULL, check=False)
     commit = named.stdout.decode("ascii").strip() if named.returncode == 0 else "-"
-    return Trial(crate, datetime.date.today().isoformat(), commit, "0", "0", *digests(top, crate))
+    trial = Trial(crate, datetime.date.today().isoformat(), commit, 0, 0, *digests(top, crate), names)
+    earlier = recorded(top).get(crate, trial)
+    is_same = earlier.left and (earlier.own, earlier.below) == (trial.own, trial.below)
+    return trial._replace(passed=earlier.passed, failed=earlier.failed, left=earlier.left) if is_same else trial
 
 
-def record(top, trial, complaints):
-    """Keeps a trial that has ended with these complaints, each None for an edit that passed."""
-    failed = sum(complaint is not None for complaint in complaints)
-    trials = recorded(top)
-    trials[trial.crate] = trial._replace(passed=str(len(complaints) - failed), failed=str(failed))
-    with open(os.path.join(top, FILE), "w", encoding="utf-8") as file:
-        file.write(HEAD + "".join("%s\n" % " ".join(trials[crate]) for crate in sorted(trials)))
+def record(top, trial, name, complaint):
+    """The trial after one more edit, whose complaint is None if it passed. It is kept, so that a run may be cut off."""
+    if name in trial.left:
+        left = [other for other in trial.left if other != name]
+        is_wrong = complaint is not None
+        trial = trial._replace(passed=trial.passed + (not is_wrong), failed=trial.failed + is_wrong, left=left)
+    trials = {**recorded(top), trial.crate: trial}
+    path = os.path.join(top, FILE)
+    with open(path + ".new", "w", encoding="utf-8") as file:
+        file.write(HEAD + "".join("%s\n" % line_of(trials[crate]) for crate in sorted(trials)))
+    os.replace(path + ".new", path)
+    return trial
+
+
+def line_of(trial):
+    """The line of a trial."""
+    return " ".join(map(str, (*trial[:-1], *trial.left)))
 
 
 def due(top, crates):
@@ -73,7 +94,9 @@ def reason(trial, own, below):
         return tried + "and the crate changed since"
     if trial.below != below:
         return tried + "and a crate below it changed since"
-    return tried + "and %s failed" % trial.failed if trial.failed != "0" else None
+    if trial.left:
+        return tried + "and %d of them are left" % len(trial.left)
+    return tried + "and %d failed" % trial.failed if trial.failed else None
 
 
 def digests(top, crate):
