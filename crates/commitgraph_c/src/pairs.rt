@@ -121,7 +121,7 @@ fn answer_pair(searcher: &mut Searcher<'_>, pair: CgPair) -> Result<u8, u32>
     if pair.ancestor >= commits || pair.descendant >= commits {
         return Err(NO_SUCH_POSITION);
     }
-    match searcher.is_ancestor(Position(pair.descendant), Position(pair.ancestor)) {
+    match searcher.is_ancestor(Position(pair.ancestor), Position(pair.descendant)) {
         Ok(true) => Ok(1),
         Ok(false) => Ok(0),
         Err(_) => Err(OUT_OF_MEMORY),

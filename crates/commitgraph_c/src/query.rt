@@ -101,7 +101,7 @@ pub extern "C" fn cg_is_ancestor(
     if ancestor >= commits || descendant >= commits {
         return untold(NO_SUCH_POSITION);
     }
-    match checked.is_ancestor(alloc, Position(descendant), Position(ancestor)) {
+    match checked.is_ancestor(alloc, Position(ancestor), Position(descendant)) {
         Ok(found) => CgLeads { code: 0, found },
         Err(_) => untold(OUT_OF_MEMORY),
     }

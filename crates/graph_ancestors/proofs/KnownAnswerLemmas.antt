@@ -1,6 +1,6 @@
 -- The answers that are known without a search.
-use Rattle.std.proofs.Common.{ℕ, zero, suc, ◌<◌, ◌≤◌, List, [], ◌∷◌, length, get_or, refl, arith, inl, inr, ⊎_elim}
-use Rattle.std.proofs.Common.{Result, Ok, Err, OnErr}
+use Rattle.std.proofs.Common.{ℕ, zero, suc, ◌<◌, ◌≤◌, List, [], ◌∷◌, length, get_or, refl, ap, Some, arith, inl, inr}
+use Rattle.std.proofs.Common.{⊎_elim, ◌≡◌, Result, Ok, Err, OnErr}
 use Rattle.std.proofs.lemmas.Bool.{cases_lt}
 use Rattle.std.proofs.lemmas.Option.{none-some}
 use Rattle.graph_walks.specs.declared.TheConstants.{GENERATION_NUMBER_MAX}
@@ -9,26 +9,31 @@ use Rattle.graph_walks.specs.Walks.{IsWalkBetween, Reaches}
 use Rattle.graph_ancestors.specs.WalkAnswer.{IsShortestWalk, IsAtOrAbove, IsAbove, MayLead}
 use Rattle.graph_ancestors.specs.Cardinality.{AtLeast, AtMost}
 
-module _ (h : List Node) (p : ℕ) (within : p < length h) where
-  pub one_walk : IsWalkBetween h p p (p ∷ [])
-  one_walk = record { is_walk = within; first = refl; last = refl }
+-- of a commit itself, which is named by two positions
+module _ (h : List Node) (p q : ℕ) (same : p ≡ q) (within : p < length h) where
+  pub one_walk : IsWalkBetween h p q (p ∷ [])
+  one_walk = record { is_walk = within; first = refl; last = ap Some same }
 
-  not_shorter : (other : List ℕ) → IsWalkBetween h p p other → 1 ≤ length other
+  not_shorter : (other : List ℕ) → IsWalkBetween h p q other → 1 ≤ length other
   not_shorter [] walk = absurd (none-some p walk.first)
-  not_shorter (q ∷ rest) walk = omega arith
+  not_shorter (r ∷ rest) walk = omega arith
 
-  pub one_is_shortest : IsShortestWalk h p p (p ∷ [])
+  pub one_is_shortest : IsShortestWalk h p q (p ∷ [])
   one_is_shortest = record { between = one_walk; least = not_shorter }
 
-  one_at_or_above : (k d : ℕ) → k < 1 → IsAtOrAbove h p p (get_or (p ∷ []) k d)
-  one_at_or_above zero d lt = ((p ∷ [], one_walk), omega arith)
+  itself_at_or_above : IsAtOrAbove h p q p
+  itself_at_or_above =
+      ((p ∷ [], record { is_walk = within; first = refl; last = refl }), omega (arith, ap (generation_at h) same))
+
+  one_at_or_above : (k d : ℕ) → k < 1 → IsAtOrAbove h p q (get_or (p ∷ []) k d)
+  one_at_or_above zero d lt = itself_at_or_above
   one_at_or_above (suc k) d lt = absurd (omega arith)
 
   -- one visit, of the commit itself
-  pub one_is_visited : AtLeast 1 (IsAtOrAbove h p p)
+  pub one_is_visited : AtLeast 1 (IsAtOrAbove h p q)
   one_is_visited = (p ∷ [], refl, (λ i j d lt lt' same. absurd (omega arith)), one_at_or_above)
 
-  pub reaches_itself : Reaches h p p
+  pub reaches_itself : Reaches h p q
   reaches_itself = (p ∷ [], one_walk)
 
 -- no visit

@@ -83,13 +83,30 @@ impl AnySearcher {
             ⊎ (S.Error.from_gives alloc_error e × ((t : Told) → S.says commits.new t
             → (from.0 ≡ to.0) ⊎ MayLead t.history from.0 to.0))) }
     {
-        let answer = walk_between(&mut self.search, commits, from, to);
+        generations_never_rise_along_walks();
+        // The contract of `num_commits` says how many commits the source tells of.
+        let _commits = commits.num_commits();
+        if from == to {
+            let walk = walk_of(self.search.alloc, from)?;
+            return Ok(Reached {
+                walk: Some(walk),
+                visits: 1,
+            });
+        }
+        let Some(least) = least_number(commits, from, to)? else {
+            return Ok(Reached {
+                walk: None,
+                visits: 0,
+            });
+        };
+        let reached = self.search.shortest_walk(commits, from, to, least);
         self.search.clear();
-        answer
+        reached
     }
 
-    /// Whether a walk along parents leads from one commit to another, at positions that are below
-    /// the source's `num_commits()`: whether `to` is an ancestor of `from`, or the same commit.
+    /// Whether one commit is an ancestor of another, or the same commit, at positions that are
+    /// below the source's `num_commits()`: whether a walk along parents leads from `descendant` to
+    /// `ancestor`. They have the order of `git merge-base --is-ancestor`.
     ///
     /// The search goes depth first, first parents first. It visits and leaves out commits as
     /// [`AnySearcher::ancestor_walk`] does, and goes over no word of an extra edge list twice.
@@ -101,68 +118,34 @@ impl AnySearcher {
     pub fn is_ancestor<S: CommitSource>(
         &mut self,
         commits: &mut S,
-        from: Position,
-        to: Position,
+        ancestor: Position,
+        descendant: Position,
     ) -> Result<bool, S::Error>
-        requires from { from.0 < S.count (S.known commits.old) }
-        requires to { to.0 < S.count (S.known commits.old) }
+        requires ancestor { ancestor.0 < S.count (S.known commits.old) }
+        requires descendant { descendant.0 < S.count (S.known commits.old) }
         ensures known { S.known commits.new ≡ S.known commits.old }
         ensures kept { (t : Told) → S.says commits.new t → S.says commits.old t }
         ensures yes { IfOk result (λ found. (t : Told) → S.says commits.new t
-            → IsTrue found → Reaches t.history from.0 to.0) }
+            → IsTrue found → Reaches t.history descendant.0 ancestor.0) }
         ensures no { IfOk result (λ found. (t : Told) → S.says commits.new t
-            → CountWalks t.history → Reaches t.history from.0 to.0 → IsTrue found) }
-        ensures refused { IfErr result (λ e. (from.0 ≢ to.0)
+            → CountWalks t.history → Reaches t.history descendant.0 ancestor.0 → IsTrue found) }
+        ensures refused { IfErr result (λ e. (descendant.0 ≢ ancestor.0)
             × (S.may_fail (S.known commits.old) e
             ⊎ (S.Error.from_gives alloc_error e × ((t : Told) → S.says commits.new t
-            → MayLead t.history from.0 to.0)))) }
+            → MayLead t.history descendant.0 ancestor.0)))) }
     {
-        let answer = leads_to(&mut self.search, commits, from, to);
+        // The contract of `num_commits` says how many commits the source tells of.
+        let _commits = commits.num_commits();
+        if descendant == ancestor {
+            return Ok(true);
+        }
+        let Some(least) = least_number(commits, descendant, ancestor)? else {
+            return Ok(false);
+        };
+        let found = self.search.reaches(commits, descendant, ancestor, least);
         self.search.clear();
-        answer
+        found
     }
-}
-
-/// A shortest walk from one commit to another.
-fn walk_between<S: CommitSource>(
-    search: &mut Search,
-    commits: &mut S,
-    from: Position,
-    to: Position,
-) -> Result<Reached, S::Error>
-    requires idle { IsIdle search.old }
-    requires from { from.0 < S.count (S.known commits.old) }
-    requires to { to.0 < S.count (S.known commits.old) }
-    ensures known { S.known commits.new ≡ S.known commits.old }
-    ensures kept { (t : Told) → S.says commits.new t → S.says commits.old t }
-    ensures visits { IfOk result (λ reached.
-        reached.visits ≤ S.count (S.known commits.old)) }
-    ensures answer { IfOk result (λ reached. (t : Told) → S.says commits.new t
-        → IsAnyAnswer t.history from.0 to.0 reached) }
-    ensures right { IfOk result (λ reached. (t : Told) → S.says commits.new t
-        → CountWalks t.history → IsAnswer t.history from.0 to.0 reached) }
-    ensures refused { IfErr result (λ e.
-        ((from.0 ≢ to.0) × S.may_fail (S.known commits.old) e)
-        ⊎ (S.Error.from_gives alloc_error e × ((t : Told) → S.says commits.new t
-        → (from.0 ≡ to.0) ⊎ MayLead t.history from.0 to.0))) }
-{
-    generations_never_rise_along_walks();
-    // The contract of `num_commits` says how many commits the source tells of.
-    let _commits = commits.num_commits();
-    if from == to {
-        let walk = walk_of(search.alloc, from)?;
-        return Ok(Reached {
-            walk: Some(walk),
-            visits: 1,
-        });
-    }
-    let Some(least) = least_number(commits, from, to)? else {
-        return Ok(Reached {
-            walk: None,
-            visits: 0,
-        });
-    };
-    search.shortest_walk(commits, from, to, least)
 }
 
 /// The walk of one commit alone.
@@ -170,38 +153,6 @@ fn walk_of(alloc: Global, pos: Position) -> Result<Vec<Position>, AllocError>
     ensures { IfOk result (λ walk. walk.items ≡ pos ∷ []) }
 {
     Ok(vec![in alloc; pos]?)
-}
-
-/// Whether a walk leads from one commit to another.
-fn leads_to<S: CommitSource>(
-    search: &mut Search,
-    commits: &mut S,
-    from: Position,
-    to: Position,
-) -> Result<bool, S::Error>
-    requires idle { IsIdle search.old }
-    requires from { from.0 < S.count (S.known commits.old) }
-    requires to { to.0 < S.count (S.known commits.old) }
-    ensures known { S.known commits.new ≡ S.known commits.old }
-    ensures kept { (t : Told) → S.says commits.new t → S.says commits.old t }
-    ensures yes { IfOk result (λ found. (t : Told) → S.says commits.new t
-        → IsTrue found → Reaches t.history from.0 to.0) }
-    ensures no { IfOk result (λ found. (t : Told) → S.says commits.new t
-        → CountWalks t.history → Reaches t.history from.0 to.0 → IsTrue found) }
-    ensures refused { IfErr result (λ e. (from.0 ≢ to.0)
-        × (S.may_fail (S.known commits.old) e
-        ⊎ (S.Error.from_gives alloc_error e × ((t : Told) → S.says commits.new t
-        → MayLead t.history from.0 to.0)))) }
-{
-    // The contract of `num_commits` says how many commits the source tells of.
-    let _commits = commits.num_commits();
-    if from == to {
-        return Ok(true);
-    }
-    match least_number(commits, from, to)? {
-        Some(least) => search.reaches(commits, from, to, least),
-        None => Ok(false),
-    }
 }
 
 /// The generation number of a commit, where it allows a walk to it from another commit.

@@ -1,9 +1,10 @@
-//! Walks along parents to ancestors, in commit-graphs that are right.
+//! Walks along parents to ancestors, over any source of commits.
 //!
-//! A [`Searcher`] looks for walks from one commit to another in a graph that [`check`] accepts. It
-//! relies on the generation numbers, which the check has found right, and leaves out each commit
-//! whose number is too low to lead to the one that is looked for ("topological level" in Git's
-//! commit-graph design).
+//! An [`AnySearcher`] looks for walks from one commit to another, over any [`CommitSource`]. It
+//! leaves out each commit whose generation number is too low to lead to the one that is looked for
+//! ("topological level" in Git's commit-graph design). Where the numbers are right, its answers are
+//! exact. Where they are not, it ends all the same, and a walk that it answers is there. A
+//! [`Searcher`] does so in a graph in memory that [`check`] accepts, whose numbers are right.
 #![tactic(auto)]
 
 mod ahead;

@@ -79,8 +79,9 @@ impl<'g> Searcher<'g> {
         self.searcher.ancestor_walk(&mut self.commits, from, to)
     }
 
-    /// Whether a walk along parents leads from one commit to another, at positions that are below
-    /// the graph's `num_commits()`: whether `to` is an ancestor of `from`, or the same commit.
+    /// Whether one commit is an ancestor of another, or the same commit, at positions that are
+    /// below the graph's `num_commits()`: whether a walk along parents leads from `descendant` to
+    /// `ancestor`. They have the order of `git merge-base --is-ancestor`.
     ///
     /// The search goes depth first, first parents first. It visits and leaves out commits as
     /// [`Searcher::ancestor_walk`] does, and goes over no word of an extra edge list twice.
@@ -89,17 +90,22 @@ impl<'g> Searcher<'g> {
     ///
     /// An allocation failed: only where the commits are two, and their generation numbers allow a
     /// walk. The searcher can be asked again.
-    pub fn is_ancestor(&mut self, from: Position, to: Position) -> Result<bool, AllocError>
-        requires from { from.0 < total self.old }
-        requires to { to.0 < total self.old }
+    pub fn is_ancestor(
+        &mut self,
+        ancestor: Position,
+        descendant: Position,
+    ) -> Result<bool, AllocError>
+        requires ancestor { ancestor.0 < total self.old }
+        requires descendant { descendant.0 < total self.old }
         ensures graph { self.new ≡ self.old }
         ensures found { IfOk result (λ found.
-            IsTrue found ↔ Reaches (history_of self.old) from.0 to.0) }
-        ensures refused { OnErr result
-            ((from.0 ≢ to.0) × MayLead (history_of self.old) from.0 to.0) }
+            IsTrue found ↔ Reaches (history_of self.old) descendant.0 ancestor.0) }
+        ensures refused { OnErr result ((descendant.0 ≢ ancestor.0)
+            × MayLead (history_of self.old) descendant.0 ancestor.0) }
     {
         // The contract of `graph` says that the graph is right.
         let _graph = self.graph();
-        self.searcher.is_ancestor(&mut self.commits, from, to)
+        self.searcher
+            .is_ancestor(&mut self.commits, ancestor, descendant)
     }
 }

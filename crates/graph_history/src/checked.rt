@@ -129,8 +129,9 @@ impl<'g> Checked<'g> {
         Searcher::new(alloc, self.graph)
     }
 
-    /// Whether a walk along parents leads from one commit to another, at positions that are below
-    /// the graph's `num_commits()`: whether `to` is an ancestor of `from`, or `from` itself.
+    /// Whether one commit is an ancestor of another, or the same commit, at positions that are
+    /// below the graph's `num_commits()`: whether a walk along parents leads from `descendant` to
+    /// `ancestor`. They have the order of `git merge-base --is-ancestor`.
     ///
     /// # Errors
     ///
@@ -139,17 +140,17 @@ impl<'g> Checked<'g> {
     pub fn is_ancestor(
         &self,
         alloc: Global,
-        from: Position,
-        to: Position,
+        ancestor: Position,
+        descendant: Position,
     ) -> Result<bool, AllocError>
-        requires from { from.0 < total self.now.layers }
-        requires to { to.0 < total self.now.layers }
+        requires ancestor { ancestor.0 < total self.now.layers }
+        requires descendant { descendant.0 < total self.now.layers }
         ensures found { IfOk result (λ found.
-            IsTrue found ↔ Reaches (history_of self.now.layers) from.0 to.0) }
-        ensures refused { OnErr result
-            ((from.0 ≢ to.0) × MayLead (history_of self.now.layers) from.0 to.0) }
+            IsTrue found ↔ Reaches (history_of self.now.layers) descendant.0 ancestor.0) }
+        ensures refused { OnErr result ((descendant.0 ≢ ancestor.0)
+            × MayLead (history_of self.now.layers) descendant.0 ancestor.0) }
     {
-        self.searcher(alloc).is_ancestor(from, to)
+        self.searcher(alloc).is_ancestor(ancestor, descendant)
     }
 
     /// Looks for a shortest walk along parents from one commit to another, at positions that are

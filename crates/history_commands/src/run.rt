@@ -92,7 +92,7 @@ fn told_in(
     let Some(second) = graph.find(second) else {
         return Ok(Answer::SecondUnknown);
     };
-    match graph.is_ancestor(alloc, second, first) {
+    match graph.is_ancestor(alloc, first, second) {
         Ok(told) => Ok(Answer::Known(told)),
         Err(_) => Err(Refusal::Walk),
     }

@@ -203,7 +203,7 @@ fn is_ancestor(
     let Some(second) = graph.find(second) else {
         return Ok(Answer::SecondUnknown);
     };
-    match searcher.is_ancestor(second, first) {
+    match searcher.is_ancestor(first, second) {
         Ok(told) => Ok(Answer::Known(told)),
         Err(_) => Err(Refusal::Walk),
     }

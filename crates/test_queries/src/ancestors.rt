@@ -113,7 +113,7 @@ fn compare_row(rt: &impl Abort, alloc: Global, checked: &Checked<'_>, row: &Quer
     }
     let mut searcher = checked.searcher(alloc);
     let first = searcher.ancestor_walk(from, to).expect(rt, "memory");
-    let found = searcher.is_ancestor(from, to).expect(rt, "memory");
+    let found = searcher.is_ancestor(to, from).expect(rt, "memory");
     let again = searcher.ancestor_walk(from, to).expect(rt, "memory");
     assert!(rt; first.walk == answer.walk && again.walk == answer.walk);
     assert!(rt; first.visits == answer.visits && again.visits == answer.visits);

@@ -45,7 +45,7 @@ fn compare_right(rt: &impl Abort, alloc: Global, pushed: &Checked<'_>, options: 
     assert!(rt; pushed.num_commits() == 5 && pushed.outcome().longest_path_length == Some(3));
     let merge = pushed.position(3).expect(rt, "the merge");
     let root = pushed.position(0).expect(rt, "the root");
-    assert!(rt; pushed.is_ancestor(alloc, merge, root).expect(rt, "memory"));
+    assert!(rt; pushed.is_ancestor(alloc, root, merge).expect(rt, "memory"));
 }
 
 /// The second layer has an id of the first one. Where ids are to be distinct, it is refused, each

@@ -125,7 +125,7 @@ fn compare_walk(rt: &impl Abort, alloc: Global, checked: &Checked<'_>) {
     assert!(rt; reached.visits == LINE);
     let walk = reached.walk.expect(rt, "a walk");
     assert!(rt; walk.len() == LINE as usize);
-    let found = checked.is_ancestor(alloc, last, first);
+    let found = checked.is_ancestor(alloc, first, last);
     assert!(rt; found.expect(rt, "memory"));
 }
 

@@ -57,7 +57,7 @@ fn walk(rt: &impl Abort, searcher: &mut Searcher<'_>) {
 /// Asks whether there is one.
 fn search(rt: &impl Abort, searcher: &mut Searcher<'_>) {
     assert!(rt; LAST < searcher.graph().num_commits());
-    let found = searcher.is_ancestor(Position(LAST), Position(1));
+    let found = searcher.is_ancestor(Position(1), Position(LAST));
     assert!(rt; !found.expect(rt, "memory"));
 }
 

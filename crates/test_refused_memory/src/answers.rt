@@ -135,12 +135,12 @@ fn ask(rt: &HostRuntime, alloc: Global, query: Query, graph: &Graph) -> io::Resu
         return println!(rt; "no commits");
     };
     match query {
-        Query::IsAncestor => println!(rt; "{:?}", checked.is_ancestor(alloc, from, to)),
+        Query::IsAncestor => println!(rt; "{:?}", checked.is_ancestor(alloc, to, from)),
         Query::Walk => tell_walk(rt, checked.ancestor_walk(alloc, from, to)),
         Query::IsAncestorTwice => {
             let mut searcher = checked.searcher(alloc);
-            println!(rt; "{:?}", searcher.is_ancestor(from, to))?;
-            println!(rt; "{:?}", searcher.is_ancestor(from, to))
+            println!(rt; "{:?}", searcher.is_ancestor(to, from))?;
+            println!(rt; "{:?}", searcher.is_ancestor(to, from))
         }
         Query::WalkTwice => {
             let mut searcher = checked.searcher(alloc);

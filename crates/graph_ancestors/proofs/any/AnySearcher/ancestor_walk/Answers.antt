@@ -1,26 +1,20 @@
 use Rattle.std.proofs.Common.{◌≡◌, ◌<◌, ℕ, List, ◌∷◌, [], length, refl, sym, ap, subst, eqb-true, arith}
 use Rattle.graph_walks.specs.Walks.{IsWalkBetween}
 use Rattle.graph_ancestors.specs.WalkAnswer.{IsShortestWalk, IsAtOrAbove, numbers_of}
-use Rattle.graph_ancestors.specs.Cardinality.{AtLeast}
 use Rattle.graph_ancestors.proofs.KnownAnswerLemmas.{one_walk, one_is_shortest, one_is_visited, none_is_visited, none_is_above}
-use Rattle.graph_ancestors.proofs.any.walk_between.Goals as goal
+use Rattle.graph_ancestors.proofs.any.AnySearcher.ancestor_walk.Goals as goal
 
 pub returns-then-eq-clause-answer : goal.returns-then-eq-clause-answer
 returns-then-eq-clause-answer g c = λ t said.
     let h = t.history in
     let p = c.args.from.0 in
     let same : p ≡ c.args.to.0 = eqb-true p c.args.to.0 (sym c.if-eq.ensures) in
-    let within : p < length h = omega (
-      arith,
-      c.num_commits-commits.ensures.told t said,
-      c.num_commits-commits.ensures.count,
-      c.requires.from,
-    ) in
+    let told = c.num_commits-commits.ensures.told t said in
+    let within : p < length h = omega arith in
     let walk : numbers_of c.in_ok-walk.walk.items ≡ p ∷ [] = ap numbers_of c.in_ok-walk.ensures in
     record {
-      walk = subst (λ (xs : List ℕ). IsWalkBetween h p c.args.to.0 xs) (sym walk)
-          (subst (λ (q : ℕ). IsWalkBetween h p q (p ∷ [])) same (one_walk h p within));
-      visits = subst (λ (q : ℕ). AtLeast 1 (IsAtOrAbove h p q)) same (one_is_visited h p within);
+      walk = subst (λ (xs : List ℕ). IsWalkBetween h p c.args.to.0 xs) (sym walk) (one_walk h p c.args.to.0 same within);
+      visits = one_is_visited h p c.args.to.0 same within;
     }
 
 pub returns-then-eq-clause-right : goal.returns-then-eq-clause-right
@@ -28,18 +22,13 @@ returns-then-eq-clause-right g c = λ t said right.
     let h = t.history in
     let p = c.args.from.0 in
     let same : p ≡ c.args.to.0 = eqb-true p c.args.to.0 (sym c.if-eq.ensures) in
-    let within : p < length h = omega (
-      arith,
-      c.num_commits-commits.ensures.told t said,
-      c.num_commits-commits.ensures.count,
-      c.requires.from,
-    ) in
+    let told = c.num_commits-commits.ensures.told t said in
+    let within : p < length h = omega arith in
     let walk : numbers_of c.in_ok-walk.walk.items ≡ p ∷ [] = ap numbers_of c.in_ok-walk.ensures in
     record {
-      walk = subst (λ (xs : List ℕ). IsShortestWalk h p c.args.to.0 xs) (sym walk)
-          (subst (λ (q : ℕ). IsShortestWalk h p q (p ∷ [])) same (one_is_shortest h p within));
+      walk = subst (λ (xs : List ℕ). IsShortestWalk h p c.args.to.0 xs) (sym walk) (one_is_shortest h p c.args.to.0 same within);
       none = tt;
-      visits = subst (λ (q : ℕ). AtLeast 1 (IsAtOrAbove h p q)) same (one_is_visited h p within);
+      visits = one_is_visited h p c.args.to.0 same within;
       walk_visits = omega (arith, ap length c.in_ok-walk.ensures);
       none_visits = tt;
       no_visits = λ apart low below. absurd (apart same);
