@@ -91,7 +91,8 @@ sizes plan h =
 
 -- the sizes are no larger than an offset can be
 fits : (kind : Kind) (commits words bases : ℕ) → commits < 2147483648 → words < top_bit → bases ≤ 255
-    → 1024 + id_len kind * commits + record_len kind * commits + 16 * commits + 2 ^ 33 + (4 * words + id_len kind * bases) < 2 ^ 40
+    → 1024 + id_len kind * commits + record_len kind * commits + 16 * commits + 2 ^ 33 + (4 * words + id_len kind * bases)
+    < 2 ^ 40
 fits Sha1 commits words bases h e k = omega (arith, h, e, k)
 fits Sha256 commits words bases h e k = omega (arith, h, e, k)
 
