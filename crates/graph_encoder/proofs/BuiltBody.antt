@@ -9,7 +9,7 @@ use Rattle.graph_encoder.specs.Written.{header, ids_of, exact_fan, words_bytes, 
 use Rattle.graph_encoder.specs.Written.{possible_chunks, planned_chunks, planned_body}
 use Rattle.graph_encoder.specs.Sizes.{sizes_of, table_by_sizes}
 use Rattle.graph_encoder.proofs.BuiltFile.{length-header}
-use Rattle.graph_encoder.proofs.PlannedChunks.{offsets-bytes}
+use Rattle.graph_encoder.proofs.PlannedChunks.{offsets-bytes, filters_bytes, filters-bytes}
 use Rattle.graph_encoder.proofs.PlannedFile.{header_in}
 use Rattle.graph_encoder.proofs.PossibleChunks.{bytes_of_those, table_of_those, unless_empty-bytes}
 
@@ -25,7 +25,8 @@ parts plan =
     ++ (records_from 0 plan.commits.items
     ++ (words_bytes (offset_words (offsets_in plan))
     ++ (longs_bytes (large_offsets (offsets_in plan))
-    ++ (words_bytes (all_extra_words plan.commits.items) ++ ids_bytes plan.bases.items)))))
+    ++ (words_bytes (all_extra_words plan.commits.items)
+    ++ (filters_bytes plan.filters ++ ids_bytes plan.bases.items))))))
 
 bytes-planned : (plan : LayerPlan) → chunk_bytes (planned_chunks plan) ≡ parts plan
 bytes-planned plan =
@@ -36,33 +37,34 @@ bytes-planned plan =
       unless_empty-bytes (words_bytes (all_extra_words plan.commits.items)),
       unless_empty-bytes (ids_bytes plan.bases.items),
       append-nil (ids_bytes plan.bases.items),
+      filters-bytes plan.filters (ids_bytes plan.bases.items),
     ) refl
 
--- nine additions to a file
-nine-added : (old a b c d e g i j k f1 f2 f3 f4 f5 f6 f7 f8 f9 : List ℕ) → f1 ≡ old ++ a → f2 ≡ f1 ++ b → f3 ≡ f2 ++ c
-    → f4 ≡ f3 ++ d → f5 ≡ f4 ++ e → f6 ≡ f5 ++ g → f7 ≡ f6 ++ i → f8 ≡ f7 ++ j → f9 ≡ f8 ++ k
-    → f9 ≡ old ++ (a ++ (b ++ (c ++ (d ++ (e ++ (g ++ (i ++ (j ++ k))))))))
-nine-added old a b c d e g i j k f1 f2 f3 f4 f5 f6 f7 f8 f9 h1 h2 h3 h4 h5 h6 h7 h8 h9 =
-    rw (h9, h8, h7, h6, h5, h4, h3, h2, h1) (simp append_assoc)
+-- ten additions to a file
+ten-added : (old a b c d e g i j k l f1 f2 f3 f4 f5 f6 f7 f8 f9 f10 : List ℕ) → f1 ≡ old ++ a → f2 ≡ f1 ++ b → f3 ≡ f2 ++ c
+    → f4 ≡ f3 ++ d → f5 ≡ f4 ++ e → f6 ≡ f5 ++ g → f7 ≡ f6 ++ i → f8 ≡ f7 ++ j → f9 ≡ f8 ++ k → f10 ≡ f9 ++ l
+    → f10 ≡ old ++ (a ++ (b ++ (c ++ (d ++ (e ++ (g ++ (i ++ (j ++ (k ++ l)))))))))
+ten-added old a b c d e g i j k l f1 f2 f3 f4 f5 f6 f7 f8 f9 f10 h1 h2 h3 h4 h5 h6 h7 h8 h9 h10 =
+    rw (h10, h9, h8, h7, h6, h5, h4, h3, h2, h1) (simp append_assoc)
 
 -- the header, the table and the chunks, part by part
-pub body-added : (plan : LayerPlan) (count offset : ℕ) (old f1 f2 f3 f4 f5 f6 f7 f8 f9 : List ℕ)
+pub body-added : (plan : LayerPlan) (count offset : ℕ) (old f1 f2 f3 f4 f5 f6 f7 f8 f9 f10 : List ℕ)
     → count ≡ length (planned_chunks plan) → offset ≡ 8 + table_len count
     → f1 ≡ old ++ header plan.kind count (length plan.bases.items) → f2 ≡ f1 ++ table_by_sizes offset (sizes_of plan)
     → f3 ≡ f2 ++ words_bytes (exact_fan (ids_of plan.commits.items)) → f4 ≡ f3 ++ ids_bytes (ids_of plan.commits.items)
     → f5 ≡ f4 ++ records_from 0 plan.commits.items → f6 ≡ f5 ++ words_bytes (offset_words (offsets_in plan))
     → f7 ≡ f6 ++ longs_bytes (large_offsets (offsets_in plan))
-    → f8 ≡ f7 ++ words_bytes (all_extra_words plan.commits.items) → f9 ≡ f8 ++ ids_bytes plan.bases.items
-    → f9 ≡ old ++ planned_body plan
+    → f8 ≡ f7 ++ words_bytes (all_extra_words plan.commits.items) → f9 ≡ f8 ++ filters_bytes plan.filters
+    → f10 ≡ f9 ++ ids_bytes plan.bases.items → f10 ≡ old ++ planned_body plan
 unfolding planned_body with_chunks
-body-added plan count offset old f1 f2 f3 f4 f5 f6 f7 f8 f9 h k e1 e2 e3 e4 e5 e6 e7 e8 e9 =
+body-added plan count offset old f1 f2 f3 f4 f5 f6 f7 f8 f9 f10 h k e1 e2 e3 e4 e5 e6 e7 e8 e9 e10 =
     let place : offset ≡ length (header_in plan) + table_len (length (planned_chunks plan)) =
     omega (arith, h, k, length-header plan.kind (length (planned_chunks plan)) (length plan.bases.items)) in
-    nine-added old (header plan.kind count (length plan.bases.items)) (table_by_sizes offset (sizes_of plan))
+    ten-added old (header plan.kind count (length plan.bases.items)) (table_by_sizes offset (sizes_of plan))
     (words_bytes (exact_fan (ids_of plan.commits.items))) (ids_bytes (ids_of plan.commits.items))
     (records_from 0 plan.commits.items) (words_bytes (offset_words (offsets_in plan)))
     (longs_bytes (large_offsets (offsets_in plan))) (words_bytes (all_extra_words plan.commits.items))
-    (ids_bytes plan.bases.items) f1 f2 f3 f4 f5 f6 f7 f8 f9 e1 e2 e3 e4 e5 e6 e7 e8 e9
+    (filters_bytes plan.filters) (ids_bytes plan.bases.items) f1 f2 f3 f4 f5 f6 f7 f8 f9 f10 e1 e2 e3 e4 e5 e6 e7 e8 e9 e10
     ∙ ap (λ (bytes : List ℕ). old ++ (header plan.kind count (length plan.bases.items)
     ++ (table_by_sizes offset (sizes_of plan) ++ bytes))) (sym (bytes-planned plan))
     ∙ ap (λ (table : List ℕ). old ++ (header plan.kind count (length plan.bases.items)

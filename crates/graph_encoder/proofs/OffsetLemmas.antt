@@ -42,7 +42,7 @@ piece_at size f d (x ∷ xs) (suc i) front a b h e k l =
     (omega (arith, k, first, length-append front (f x))) (omega (arith, l, first, length-append front (f x)))
 
 -- a number is read where it was put
-word_in-words_bytes : (numbers : List ℕ) (i : ℕ) → i < length numbers → get_or numbers i 0 < 2 ^ 32
+pub word_in-words_bytes : (numbers : List ℕ) (i : ℕ) → i < length numbers → get_or numbers i 0 < 2 ^ 32
     → word_in (words_bytes numbers) i ≡ get_or numbers i 0
 unfolding words_bytes
 word_in-words_bytes numbers i h e =

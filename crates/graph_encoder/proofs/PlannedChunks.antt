@@ -1,6 +1,6 @@
 -- the chunks of a plan
-use Rattle.std.proofs.Common.{◌≡◌, ℕ, ◌-◌, ◌*◌, ◌/◌, ◌^◌, ◌<◌, ◌≤◌, List, [], ◌∷◌, length, drop, Option, Some, None}
-use Rattle.std.proofs.Common.{IfSome, MatchOption, All, refl, ap, ◌∙◌, arith}
+use Rattle.std.proofs.Common.{◌≡◌, ℕ, ◌+◌, ◌-◌, ◌*◌, ◌/◌, ◌^◌, ◌<◌, ◌≤◌, List, [], ◌∷◌, ◌++◌, length, drop, Option, Some, None}
+use Rattle.std.proofs.Common.{IfSome, MatchOption, All, refl, sym, ap, ◌∙◌, arith, append_assoc, length-append}
 use Rattle.std.proofs.lemmas.List.{map-id}
 use Rattle.gix_hash_core.specs.declared.kind.Kind.{Kind}
 use Rattle.gix_hash_core.specs.declared.kind.Kind.TheVariants.{Sha1, Sha256}
@@ -10,8 +10,9 @@ use Rattle.graph_format.specs.Parents.{listed}
 use Rattle.std.specs.Prelude.{unwrap_or, option_map}
 use Rattle.graph_encoder.specs.Chunks.{unless_empty}
 use Rattle.graph_encoder.specs.DateOffsets.{large_offsets, offset_words}
-use Rattle.graph_encoder.specs.Plan.{AreOffsets}
-use Rattle.graph_encoder.specs.Written.{words_bytes, longs_bytes, ids_bytes}
+use Rattle.graph_encoder.specs.Plan.{AreOffsets, AreFilters}
+use Rattle.graph_encoder.specs.Written.{words_bytes, longs_bytes, ids_bytes, filter_index, filter_data, numbers_before}
+use Rattle.graph_encoder.specs.declared.filters.PlanFilters.{PlanFilters}
 use Rattle.graph_encoder.proofs.OffsetLemmas.{length-longs_bytes, length-offset_words, large_offsets-few}
 use Rattle.graph_encoder.proofs.PossibleChunks.{unless_empty-some}
 use Rattle.graph_encoder.proofs.BuiltParents.{Hold}
@@ -79,6 +80,42 @@ offsets-small None n h = (omega arith, omega arith)
 offsets-small (Some offsets) n h = (
   omega (arith, length-words_bytes (offset_words offsets), length-offset_words offsets, h.count),
   omega (arith, length-longs_bytes (large_offsets offsets), large_offsets-few offsets, h.count),
+)
+
+-- the bytes of both chunks of filters, none where they are missing
+abbrev pub filters_bytes : Option PlanFilters → List ℕ
+filters_bytes o = unwrap_or (option_map (λ filters. filter_index filters ++ filter_data filters) o) []
+
+pub filters-bytes : (o : Option PlanFilters) (rest : List ℕ)
+    → unwrap_or (option_map filter_index o) [] ++ (unwrap_or (option_map filter_data o) [] ++ rest) ≡ filters_bytes o ++ rest
+filters-bytes None rest = refl
+filters-bytes (Some filters) rest = sym (append_assoc (filter_index filters) (filter_data filters) rest)
+
+-- how many bytes they have
+length-filter_data : (filters : PlanFilters) → length (filter_data filters) ≡ 12 + length filters.bytes.items
+length-filter_data filters =
+    length-append (words_bytes (numbers_before filters.numbers)) filters.bytes.items
+    ∙ ap (λ (n : ℕ). n + length filters.bytes.items)
+    (length-words_bytes (numbers_before filters.numbers))
+
+pub index-size : (o : Option PlanFilters)
+    → option_map length (option_map filter_index o) ≡ option_map (λ filters. 4 * length filters.ends.items) o
+index-size None = refl
+index-size (Some filters) = ap (λ (n : ℕ). Some n) (length-words_bytes filters.ends.items)
+
+pub data-size : (o : Option PlanFilters)
+    → option_map length (option_map filter_data o) ≡ option_map (λ filters. 12 + length filters.bytes.items) o
+data-size None = refl
+data-size (Some filters) = ap (λ (n : ℕ). Some n) (length-filter_data filters)
+
+-- they have at most so many
+pub filters-small : (o : Option PlanFilters) (n : ℕ) → IfSome o (AreFilters n)
+    → (unwrap_or (option_map length (option_map filter_index o)) 0 ≤ 4 * n)
+    × (unwrap_or (option_map length (option_map filter_data o)) 0 < 12 + 2 ^ 32)
+filters-small None n h = (omega arith, omega arith)
+filters-small (Some filters) n h = (
+  omega (arith, length-words_bytes filters.ends.items, h.count),
+  omega (arith, length-filter_data filters, h.room),
 )
 
 -- the edges hold the words

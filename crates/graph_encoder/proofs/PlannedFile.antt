@@ -26,7 +26,7 @@ use Rattle.graph_encoder.proofs.PossibleChunks.{unless_empty-len}
 use Rattle.graph_encoder.proofs.BuiltFile.{length-header, laid_file, IsHeaded, headed, table-laid, end-laid, chunk_of-laid}
 use Rattle.gix_hash_core.proofs.DigestLemmas.{digest_is_sized}
 use Rattle.graph_encoder.proofs.PlannedRecords.{length-records_from}
-use Rattle.graph_encoder.proofs.PlannedChunks.{offsets-small, length-ids_bytes}
+use Rattle.graph_encoder.proofs.PlannedChunks.{offsets-small, filters-small, length-ids_bytes}
 
 -- ids of commits
 pub All-map : {X Y : Type 0} (P : Y → Type 0) (f : X → Y) (xs : List X) → All (λ x. P (f x)) xs → All P (map f xs)
@@ -91,22 +91,25 @@ sizes plan h =
 
 -- the sizes are no larger than an offset can be
 fits : (kind : Kind) (commits words bases : ℕ) → commits < 2147483648 → words < top_bit → bases ≤ 255
-    → 1024 + id_len kind * commits + record_len kind * commits + 12 * commits + (4 * words + id_len kind * bases) < 2 ^ 40
+    → 1024 + id_len kind * commits + record_len kind * commits + 16 * commits + 2 ^ 33 + (4 * words + id_len kind * bases)
+    < 2 ^ 40
 fits Sha1 commits words bases h e k = omega (arith, h, e, k)
 fits Sha256 commits words bases h e k = omega (arith, h, e, k)
 
--- seven sizes together
-seven-small : (a b c d e f g n : ℕ) → a + b + c + d + e + f + g < n → fold (λ s x. s + x) 0 (a ∷ b ∷ c ∷ d ∷ e ∷ f ∷ g ∷ []) < n
-seven-small a b c d e f g n h = omega (arith, h)
+-- nine sizes together
+nine-small : (a b c d e f g i j n : ℕ) → a + b + c + d + e + f + g + i + j < n
+    → fold (λ s x. s + x) 0 (a ∷ b ∷ c ∷ d ∷ e ∷ f ∷ g ∷ i ∷ j ∷ []) < n
+nine-small a b c d e f g i j n h = omega (arith, h)
 
 pub sizes-small : (plan : LayerPlan) → IsPlan plan → total_size (sizes_of plan) < 2 ^ 40
 sizes-small plan h =
     let known = sizes plan h in
     let few = offsets-small (offsets_of plan) (length plan.commits.items) h.offsets in
+    let kept = filters-small plan.filters (length plan.commits.items) h.filters in
     let bases : length (ids_bytes plan.bases.items) ≡ id_len plan.kind * length plan.bases.items =
     length-ids_bytes plan.kind plan.bases.items h.bases in
-    seven-small (length (words_bytes (exact_fan (ids_of plan.commits.items)))) (length (ids_bytes (ids_of plan.commits.items)))
-    (length (records_from 0 plan.commits.items)) _ _ _ _ (2 ^ 40)
+    nine-small (length (words_bytes (exact_fan (ids_of plan.commits.items)))) (length (ids_bytes (ids_of plan.commits.items)))
+    (length (records_from 0 plan.commits.items)) _ _ _ _ _ _ (2 ^ 40)
     (omega (
       arith,
       known.fan,
@@ -114,6 +117,8 @@ sizes-small plan h =
       known.records,
       few.0,
       few.1,
+      kept.0,
+      kept.1,
       unless_empty-len (longs_bytes (large_offsets (unwrap_or (offsets_of plan) []))),
       unless_empty-len (words_bytes (all_extra_words plan.commits.items)),
       unless_empty-len (ids_bytes plan.bases.items),
@@ -124,7 +129,7 @@ sizes-small plan h =
     ))
 
 -- how many chunks there are
-pub chunks-few : (plan : LayerPlan) → length (planned_chunks plan) ≤ 7
+pub chunks-few : (plan : LayerPlan) → length (planned_chunks plan) ≤ 9
 chunks-few plan = few_there (possible_chunks plan)
 
 pub chunks-some : (plan : LayerPlan) → 3 ≤ length (planned_chunks plan)

@@ -5,8 +5,9 @@ use Rattle.std.proofs.lemmas.List.{take_at, drop_at, length-map}
 use Rattle.gix_hash_core.specs.declared.kind.Kind.{Kind}
 use Rattle.gix_hash_core.specs.Kind.{id_len}
 use Rattle.gix_hash_core.specs.Digest.{digest_of}
-use Rattle.std.specs.Prelude.{zip, codes}
+use Rattle.std.specs.Prelude.{zip, codes, option_map}
 use Rattle.graph_chunks.specs.GraphStoredDates.{HasDates, times_in, dates_in}
+use Rattle.graph_chunks.specs.StoredFilters.{index_in, data_in}
 use Rattle.graph_encoder.proofs.OffsetLemmas.{dates-said}
 use Rattle.graph_format.specs.Format.{Record, record_of, record_len, pieces, words, commits_of, table_of, chunk_of, fan_id}
 use Rattle.graph_format.specs.Format.{ids_id}
@@ -17,7 +18,7 @@ use Rattle.graph_encoder.specs.declared.plan.PlanCommit.{PlanCommit}
 use Rattle.graph_encoder.specs.ExtraEdges.{all_extra_words}
 use Rattle.graph_encoder.specs.Plan.{IsPlan}
 use Rattle.graph_encoder.specs.DateOffsets.{offsets_of}
-use Rattle.graph_encoder.specs.Written.{ids_of, exact_fan, planned_body, planned_file}
+use Rattle.graph_encoder.specs.Written.{ids_of, exact_fan, planned_body, planned_file, filter_index, filter_data}
 use Rattle.graph_encoder.specs.Said.{SaysPlan, IsFileOf}
 use Rattle.graph_encoder.proofs.Pieces.{words-words_bytes}
 use Rattle.graph_encoder.proofs.BuiltFan.{exact_fan-at, exact_fan-small, exact_fan-last, ids_up_to-rising}
@@ -103,6 +104,17 @@ named-edges plan h = chunk_of-planned plan edges_id h ∙ edges-unless (all_extr
 named-bases : (plan : LayerPlan) → IsPlan plan → chunk_of (planned_file plan) bases_id ≡ bases_bytes plan.bases.items
 named-bases plan h = chunk_of-planned plan bases_id h ∙ bases-unless plan.kind plan.bases.items h.bases
 
+-- the filters, if there are any
+index-planned : (plan : LayerPlan) (path : List ℕ) → IsPlan plan
+    → index_in (planned_layer plan path) ≡ option_map filter_index plan.filters
+unfolding planned_file
+index-planned plan path h = chunk_of-planned plan (codes "BIDX") h
+
+data-planned : (plan : LayerPlan) (path : List ℕ) → IsPlan plan
+    → data_in (planned_layer plan path) ≡ option_map filter_data plan.filters
+unfolding planned_file
+data-planned plan path h = chunk_of-planned plan (codes "BDAT") h
+
 -- the offsets of dates, if there are any
 dates-planned : (plan : LayerPlan) (path : List ℕ) → IsPlan plan
     → MatchOption (offsets_of plan) (HasDates (planned_layer plan path) → ⊥) (λ offsets.
@@ -181,6 +193,8 @@ says-planned plan path h =
       edges = edges-words (all_extra_words plan.commits.items) (all_extra_words-small plan.kind plan.commits.items h.commits);
       checksum = refl;
       dates = dates-planned plan path h;
+      index = index-planned plan path h;
+      filters = data-planned plan path h;
     }
 
 -- The law.

@@ -72,11 +72,13 @@ table-step chunks i offset next before now all h w k a =
     ∙ ap (λ (cs : List ChunkSize). before ++ table_by_sizes offset cs) (sym (drop_more chunks i no_chunk h))
     ∙ a
 
--- seven sizes are those of seven chunks
+-- nine sizes are those of nine chunks
 pub same_size : (s : ChunkSize) (c : PossibleChunk) → s.id ≡ c.id → s.size ≡ option_map length c.bytes → s ≡ size_if_there c
 same_size s c h e =
     ap (λ (id : List ℕ). record { id = id; size = s.size }) h ∙ ap (λ (size : Option ℕ). record { id = c.id; size = size }) e
 
-pub seven_same : (a b c d e f g a' b' c' d' e' f' g' : ChunkSize) → a ≡ a' → b ≡ b' → c ≡ c' → d ≡ d' → e ≡ e' → f ≡ f'
-    → g ≡ g' → ◌≡◌ {A = List ChunkSize} (a ∷ b ∷ c ∷ d ∷ e ∷ f ∷ g ∷ []) (a' ∷ b' ∷ c' ∷ d' ∷ e' ∷ f' ∷ g' ∷ [])
-seven_same a b c d e f g a' b' c' d' e' f' g' h1 h2 h3 h4 h5 h6 h7 = rw (h1, h2, h3, h4, h5, h6, h7) refl
+pub nine_same : (a b c d e f g i j a' b' c' d' e' f' g' i' j' : ChunkSize) → a ≡ a' → b ≡ b' → c ≡ c' → d ≡ d' → e ≡ e'
+    → f ≡ f' → g ≡ g' → i ≡ i' → j ≡ j' → ◌≡◌ {A = List ChunkSize} (a ∷ b ∷ c ∷ d ∷ e ∷ f ∷ g ∷ i ∷ j ∷ [])
+    (a' ∷ b' ∷ c' ∷ d' ∷ e' ∷ f' ∷ g' ∷ i' ∷ j' ∷ [])
+nine_same a b c d e f g i j a' b' c' d' e' f' g' i' j' h1 h2 h3 h4 h5 h6 h7 h8 h9 =
+    rw (h1, h2, h3, h4, h5, h6, h7, h8, h9) refl

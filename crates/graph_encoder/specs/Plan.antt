@@ -4,6 +4,7 @@ use Rattle.gix_hash_core.specs.declared.kind.Kind.{Kind}
 use Rattle.gix_hash_core.specs.Kind.{id_len}
 use Rattle.graph_encoder.specs.DateOffsets.{offsets_of}
 use Rattle.graph_encoder.specs.ExtraEdges.{no_parent, top_bit, all_extra_words}
+use Rattle.graph_encoder.specs.declared.filters.PlanFilters.{PlanFilters}
 use Rattle.graph_encoder.specs.declared.plan.LayerPlan.{LayerPlan}
 use Rattle.graph_encoder.specs.declared.plan.PlanCommit.{PlanCommit}
 
@@ -20,6 +21,11 @@ pub record AreOffsets (commits : ℕ) (offsets : List ℕ) : Type 0 where
   pub count : length offsets ≡ commits
   pub fit : All (λ offset. offset < 2 ^ 64) offsets
 
+-- There is a filter for each of so many commits, and where each ends fits in four bytes ("Bloom Filter Index").
+pub record AreFilters (commits : ℕ) (filters : PlanFilters) : Type 0 where
+  pub count : length filters.ends.items ≡ commits
+  pub room : length filters.bytes.items < 2 ^ 32
+
 -- What one file can hold: the header counts the bases in one byte ("HEADER"), and a field names an extra word in 31 bits
 -- ("Extra Edge List").
 pub record IsPlan (plan : LayerPlan) : Type 0 where
@@ -29,3 +35,4 @@ pub record IsPlan (plan : LayerPlan) : Type 0 where
   pub commits : All (IsPlannedCommit plan.kind) plan.commits.items
   pub few_words : length (all_extra_words plan.commits.items) < top_bit
   pub offsets : IfSome (offsets_of plan) (AreOffsets (length plan.commits.items))
+  pub filters : IfSome plan.filters (AreFilters (length plan.commits.items))

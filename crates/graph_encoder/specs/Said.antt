@@ -1,6 +1,6 @@
 -- When a layer says what a plan says. (gitformat-commit-graph, "CHUNK DATA" and "TRAILER".)
 use Rattle.std.specs.Prelude.{◌≡◌, ◌+◌, ◌<◌, ℕ, List, [], map, length, take, slice_index, slice_get, Option, Some, None}
-use Rattle.std.specs.Prelude.{IsSomeAnd, MatchOption}
+use Rattle.std.specs.Prelude.{IsSomeAnd, MatchOption, option_map}
 use Rattle.std.specs.List.{zip}
 use Rattle.gix_hash_core.specs.Digest.{digest_of}
 use Rattle.graph_format.specs.Format.{Record, words}
@@ -8,7 +8,8 @@ use Rattle.graph_format.specs.Layer.{Layer, IsLayer}
 use Rattle.graph_format.specs.Parents.{DecodedParents, parents_of}
 use Rattle.graph_encoder.specs.ExtraEdges.{top_bit, all_extra_words}
 use Rattle.graph_chunks.specs.GraphStoredDates.{HasDates, times_in, dates_in}
-use Rattle.graph_encoder.specs.Written.{ids_of, ids_up_to}
+use Rattle.graph_chunks.specs.StoredFilters.{index_in, data_in}
+use Rattle.graph_encoder.specs.Written.{ids_of, ids_up_to, filter_index, filter_data}
 use Rattle.graph_encoder.specs.DateOffsets.{offsets_of}
 use Rattle.graph_encoder.specs.declared.plan.LayerPlan.{LayerPlan}
 use Rattle.graph_encoder.specs.declared.plan.PlanCommit.{PlanCommit}
@@ -45,6 +46,9 @@ pub record SaysPlan (plan : LayerPlan) (layer : Layer) : Type 0 where
   -- the corrected dates are the times with these offsets, and are missing where the plan has none
   pub dates : MatchOption (offsets_of plan) (HasDates layer → ⊥) (λ offsets.
       HasDates layer × (dates_in layer ≡ map (λ pair. pair.0 + pair.1) (zip (times_in layer) offsets)))
+  -- the filters stand in both chunks, which are missing where the plan has none
+  pub index : index_in layer ≡ option_map filter_index plan.filters
+  pub filters : data_in layer ≡ option_map filter_data plan.filters
 
 -- The bytes are a file of a layer that says what the plan says.
 abbrev pub IsFileOf : LayerPlan → List ℕ → List ℕ → Type 0

@@ -9,6 +9,8 @@ use Rattle.graph_format.specs.Format.{signature, fan_id, ids_id, records_id, edg
 use Rattle.graph_encoder.specs.Chunks.{NamedChunk, PossibleChunk, unless_empty, those_there, word_bytes, long_bytes, with_chunks}
 use Rattle.graph_encoder.specs.ExtraEdges.{extra_words, all_extra_words, first_field, second_field}
 use Rattle.graph_encoder.specs.DateOffsets.{offsets_of, large_offsets, offset_words}
+use Rattle.graph_encoder.specs.declared.filters.FilterNumbers.{FilterNumbers}
+use Rattle.graph_encoder.specs.declared.filters.PlanFilters.{PlanFilters}
 use Rattle.graph_encoder.specs.declared.plan.LayerPlan.{LayerPlan}
 use Rattle.graph_encoder.specs.declared.plan.PlanCommit.{PlanCommit}
 
@@ -63,8 +65,20 @@ records_from index [] = []
 records_from index (commit ∷ commits) =
     record_bytes index commit ++ records_from (index + length (extra_words commit.parents.items)) commits
 
--- All chunks that the file of a plan may have, in their order. "Generation Data" is there where the plan has dates, the three
--- after it where they have bytes.
+-- "Bloom Filter Index": where the filter of each commit ends
+abbrev pub filter_index : PlanFilters → List ℕ
+filter_index filters = words_bytes filters.ends.items
+
+-- the version of the hash, the number of hashes, and that of bits for each path
+abbrev pub numbers_before : FilterNumbers → List ℕ
+numbers_before numbers = numbers.version ∷ numbers.hashes ∷ numbers.bits_per_entry ∷ []
+
+-- "Bloom Filter Data": three numbers, and then the filters
+abbrev pub filter_data : PlanFilters → List ℕ
+filter_data filters = words_bytes (numbers_before filters.numbers) ++ filters.bytes.items
+
+-- All chunks that the file of a plan may have, in their order. "Generation Data" is there where the plan has dates, both chunks
+-- of filters where it has filters, and the other three where they have bytes.
 abbrev pub possible_chunks : LayerPlan → List PossibleChunk
 possible_chunks plan =
     let commits = plan.commits.items in
@@ -74,6 +88,8 @@ possible_chunks plan =
     ∷ record { id = codes "GDA2"; bytes = option_map (λ offsets. words_bytes (offset_words offsets)) (offsets_of plan) }
     ∷ record { id = codes "GDO2"; bytes = unless_empty (longs_bytes (large_offsets (unwrap_or (offsets_of plan) []))) }
     ∷ record { id = edges_id; bytes = unless_empty (words_bytes (all_extra_words commits)) }
+    ∷ record { id = codes "BIDX"; bytes = option_map filter_index plan.filters }
+    ∷ record { id = codes "BDAT"; bytes = option_map filter_data plan.filters }
     ∷ record { id = bases_id; bytes = unless_empty (ids_bytes plan.bases.items) }
     ∷ []
 

@@ -8,6 +8,7 @@ ghost use Rattle.graph_encoder.specs.Written.{ids_of, planned_body, planned_file
 
 use crate::edges::push_edges;
 use crate::fan::push_fan;
+use crate::filters::push_filters;
 use crate::offsets::{offsets_or_none, push_large_offsets, push_offset_words};
 use crate::plan::LayerPlan;
 use crate::push::{push_commit_ids, push_id, push_ids};
@@ -20,13 +21,14 @@ use std::alloc::{AllocError, Global};
 
 /// The file of a plan that [`LayerPlan::is_buildable`]. Its chunks are `OIDF`, `OIDL`, `CDAT`, then
 /// `GDA2` if the plan has date offsets, then `GDO2` if one of them is 0x80000000 or more, then
-/// `EDGE` if some commit has more than two parents, then `BASE` if there is a base. Each begins
-/// where the one before ends, the first directly after the table. The second field of a commit with
-/// more than two parents is 0x80000000 plus the index of its first extra word. Its extra words are
-/// its parents from the second on, the last with the top bit set. The extra words of one commit
-/// follow those of the one before. The word of a commit in `GDA2` is its date offset, or, where
-/// that is 0x80000000 or more, 0x80000000 plus its index in `GDO2`. The trailer is the digest of
-/// all bytes before it.
+/// `EDGE` if some commit has more than two parents, then `BIDX` and `BDAT` if the plan has filters,
+/// then `BASE` if there is a base. Each begins where the one before ends, the first directly after
+/// the table. The second field of a commit with more than two parents is 0x80000000 plus the index
+/// of its first extra word. Its extra words are its parents from the second on, the last with the
+/// top bit set. The extra words of one commit follow those of the one before. The word of a commit
+/// in `GDA2` is its date offset, or, where that is 0x80000000 or more, 0x80000000 plus its index in
+/// `GDO2`. `BIDX` has the ends of the filters, `BDAT` the three numbers and then the bytes of the
+/// filters. The trailer is the digest of all bytes before it.
 /// (gitformat-commit-graph, "HEADER" to "TRAILER".)
 ///
 /// # Errors
@@ -83,6 +85,7 @@ fn push_body<P: PlanView>(
     push_offset_words(file, offsets_or_none(plan))?;
     push_large_offsets(file, offsets_or_none(plan))?;
     push_edges(file, plan)?;
+    push_filters(file, plan)?;
     push_ids(file, plan.bases())?;
     Ok(())
 }

@@ -1,12 +1,14 @@
 //! Writes a layer of a graph in Git's commit-graph format.
 //!
 //! A [`LayerPlan`] lists what a file is to hold, and [`build`] makes the file: a layer whose
-//! decoded values are the plan's. Its corrected dates are the times and offsets of the plan.
+//! decoded values are the plan's. Its corrected dates are the times and offsets of the plan, and
+//! its changed-path filters those of the plan.
 #![tactic(auto)]
 
 mod builder;
 mod edges;
 mod fan;
+mod filters;
 mod law;
 mod offsets;
 mod plan;
@@ -18,6 +20,7 @@ mod table;
 mod view;
 
 pub use builder::{build, build_view};
+pub use filters::{FilterNumbers, PlanFilters};
 pub use law::planned_files_say_their_plans;
 pub use plan::{LayerPlan, PlanCommit, is_buildable};
 pub use row::PlanRow;

@@ -3,11 +3,12 @@
 ghost use Rattle.std.specs.Prelude.{◌≡◌, ◌↔◌, IsTrue, IfOk, IfSome, All, length, Option, None};
 ghost use Rattle.gix_hash_core.specs.Kind.{id_len};
 ghost use Rattle.graph_encoder.specs.DateOffsets.{offsets_of};
-ghost use Rattle.graph_encoder.specs.Plan.{IsPlan, IsPlannedCommit, AreOffsets};
+ghost use Rattle.graph_encoder.specs.Plan.{IsPlan, IsPlannedCommit, AreOffsets, AreFilters};
 ghost use Rattle.graph_encoder.specs.Rows.{IsRowOf};
 ghost use Rattle.graph_encoder.specs.declared.plan.PlanCommit.{PlanCommit};
 
 use crate::edges::{NO_PARENT, has_few_extra_words};
+use crate::filters::PlanFilters;
 use crate::row::PlanRow;
 use crate::view::PlanView;
 use gix_hash_core::{Kind, ObjectId};
@@ -27,6 +28,9 @@ pub struct LayerPlan {
     /// For each commit how many seconds its corrected date is past its time, or `None` for a layer
     /// without corrected dates ("Generation Data").
     pub date_offsets: Option<Vec<u64>>,
+    /// The changed-path filters of the commits, or `None` for a layer without filters ("Bloom
+    /// Filter Index", "Bloom Filter Data").
+    pub filters: Option<PlanFilters>,
 }
 
 /// What a file is to hold for one commit ("Commit Data").
@@ -56,10 +60,13 @@ const MAX_BASES: usize = 255;
 /// A file has fewer commits than this.
 const COMMITS_LIMIT: usize = 2147483648;
 
+/// A file has fewer bytes of filters than this.
+const FILTER_BYTES_LIMIT: usize = 0x100000000;
+
 impl LayerPlan {
     ghost use Rattle.graph_encoder.specs.Plan.{IsPlan};
 
-    /// The plan of a layer of this kind on these bases, without commits and without dates.
+    /// The plan of a layer of this kind on these bases, without commits, dates and filters.
     ///
     /// # Errors
     ///
@@ -69,12 +76,14 @@ impl LayerPlan {
         ensures bases { IfOk result (λ plan. plan.bases.items ≡ bases.now) }
         ensures commits { IfOk result (λ plan. length plan.commits.items ≡ 0) }
         ensures dates { IfOk result (λ plan. plan.date_offsets ≡ None) }
+        ensures filters { IfOk result (λ plan. plan.filters ≡ None) }
     {
         Ok(LayerPlan {
             kind,
             bases: Vec::from_slice(alloc, bases)?,
             commits: Vec::new(alloc),
             date_offsets: None,
+            filters: None,
         })
     }
 
@@ -82,7 +91,8 @@ impl LayerPlan {
     /// bases and fewer than 2147483648 commits, each generation number is at most 1073741823 and
     /// each time at most 17179869183, each parent is below 0x70000000, and there are fewer than
     /// 2147483648 extra words, which are the parents from the second on of each commit that has
-    /// more than two. Where there are date offsets, there is one for each commit.
+    /// more than two. Where there are date offsets, there is one for each commit. Where there are
+    /// filters, there is an end for each commit, and they have fewer than 4294967296 bytes.
     pub fn is_buildable(&self) -> bool
         ensures { IsTrue result ↔ IsPlan self.now }
     {
@@ -125,6 +135,10 @@ impl PlanView for LayerPlan {
             None => None,
         }
     }
+
+    fn filters(&self) -> Option<&PlanFilters> {
+        self.filters.as_ref()
+    }
 }
 
 /// Whether a file can hold all that a plan lists, as [`LayerPlan::is_buildable`] says.
@@ -137,6 +151,7 @@ pub fn is_buildable<P: PlanView>(plan: &P) -> bool
         && all_fit(plan)
         && has_few_extra_words(plan)
         && has_offsets_of_all(plan)
+        && has_filters_of_all(plan)
 }
 
 /// Whether records can hold all commits.
@@ -181,6 +196,24 @@ fn are_offsets(offsets: &[u64], commits: usize) -> bool
     ensures { IsTrue result ↔ AreOffsets commits offsets.now }
 {
     offsets.len() == commits
+}
+
+/// Whether there is a filter for each commit, if there are any.
+fn has_filters_of_all<P: PlanView>(plan: &P) -> bool
+    ensures { IsTrue result ↔ (IfSome (P.as_plan plan.now).filters
+        (AreFilters (length (P.as_plan plan.now).commits.items))) }
+{
+    match plan.filters() {
+        Some(filters) => are_filters(filters, plan.commit_count()),
+        None => true,
+    }
+}
+
+/// Whether there is a filter for each of so many commits, and there is room for all.
+fn are_filters(filters: &PlanFilters, commits: usize) -> bool
+    ensures { IsTrue result ↔ AreFilters commits filters.now }
+{
+    filters.ends.len() == commits && filters.bytes.len() < FILTER_BYTES_LIMIT
 }
 
 fn is_of_kind(id: &ObjectId, kind: Kind) -> bool

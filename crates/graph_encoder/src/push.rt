@@ -2,7 +2,7 @@
 
 ghost use Rattle.std.specs.Prelude.{◌≡◌, ◌++◌, OnOk};
 ghost use Rattle.graph_encoder.specs.Chunks.{word_bytes, long_bytes};
-ghost use Rattle.graph_encoder.specs.Written.{ids_of, ids_bytes};
+ghost use Rattle.graph_encoder.specs.Written.{ids_of, ids_bytes, words_bytes};
 
 use crate::view::PlanView;
 use gix_hash_core::ObjectId;
@@ -14,6 +14,16 @@ pub(crate) fn push_word(file: &mut Vec<u8>, number: u32) -> Result<(), AllocErro
     ensures { OnOk result (file.new.items ≡ file.old.items ++ word_bytes number) }
 {
     file.extend_from_slice(&number.to_be_bytes())
+}
+
+/// Adds these numbers of four bytes, one after another.
+pub(crate) fn push_words(file: &mut Vec<u8>, numbers: &[u32]) -> Result<(), AllocError>
+    ensures { OnOk result (file.new.items ≡ file.old.items ++ words_bytes numbers.now) }
+{
+    for number in numbers {
+        push_word(file, *number)?;
+    }
+    Ok(())
 }
 
 /// Adds a number of eight bytes.

@@ -7,6 +7,7 @@ ghost use Rattle.graph_encoder.specs.Chunks.{table_len};
 ghost use Rattle.graph_encoder.specs.DateOffsets.{offsets_of};
 
 use crate::edges::count_extra_words;
+use crate::filters::{filter_data_size, filter_index_size};
 use crate::offsets::{count_large, offsets_or_none};
 use crate::view::PlanView;
 
@@ -33,7 +34,7 @@ pub(crate) struct ChunkSize {
 }
 
 /// All chunks that the plan's file may have, in their order.
-pub(crate) fn chunk_sizes<P: PlanView>(plan: &P) -> [ChunkSize; 7]
+pub(crate) fn chunk_sizes<P: PlanView>(plan: &P) -> [ChunkSize; 9]
     requires { IsPlan (P.as_plan plan.now) }
     ensures { result ≡ sizes_of (P.as_plan plan.now) }
 {
@@ -50,6 +51,8 @@ pub(crate) fn chunk_sizes<P: PlanView>(plan: &P) -> [ChunkSize; 7]
             unless_zero(LONG_LEN * count_large(offsets_or_none(plan))),
         ),
         sized(*b"EDGE", unless_zero(WORD_LEN * words)),
+        sized(*b"BIDX", filter_index_size(plan)),
+        sized(*b"BDAT", filter_data_size(plan)),
         sized(*b"BASE", unless_zero(id_len * plan.bases().len())),
     ]
 }

@@ -5,6 +5,7 @@ ghost use Rattle.graph_encoder.specs.DateOffsets.{offsets_of};
 ghost use Rattle.graph_encoder.specs.Rows.{IsRowAt};
 ghost use Rattle.graph_encoder.specs.declared.plan.LayerPlan.{LayerPlan};
 
+use crate::filters::PlanFilters;
 use crate::row::PlanRow;
 use gix_hash_core::{Kind, ObjectId};
 
@@ -33,4 +34,8 @@ pub trait PlanView {
     /// For each commit how many seconds its corrected date is past its time, if there are dates.
     fn offsets(&self) -> Option<&[u64]>
         ensures { option_map (λ offsets. offsets.now) result ≡ offsets_of (as_plan self.now) };
+
+    /// The changed-path filters of the commits, if there are any.
+    fn filters(&self) -> Option<&PlanFilters>
+        ensures { option_map (λ filters. filters.now) result ≡ (as_plan self.now).filters };
 }

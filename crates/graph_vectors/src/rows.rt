@@ -95,5 +95,6 @@ pub fn plan_of_rows(
         bases,
         commits,
         date_offsets: None,
+        filters: None,
     })
 }

@@ -15,7 +15,7 @@ use Rattle.graph_format.proofs.PieceLemmas.{get-map-range}
 use Rattle.gix_commitgraph.specs.Graph.{total}
 use Rattle.graph_encoder.specs.DateOffsets.{offsets_of}
 use Rattle.graph_encoder.specs.ExtraEdges.{extra_words, all_extra_words, no_parent}
-use Rattle.graph_encoder.specs.Plan.{IsPlan, IsPlannedCommit, AreOffsets}
+use Rattle.graph_encoder.specs.Plan.{IsPlan, IsPlannedCommit, AreOffsets, AreFilters}
 use Rattle.graph_encoder.specs.declared.plan.LayerPlan.{LayerPlan}
 use Rattle.graph_encoder.specs.declared.plan.PlanCommit.{PlanCommit}
 use Rattle.graph_levels.specs.OnTop.{level_at}
@@ -81,6 +81,7 @@ module _ (layers : List Layer) (commits : List NewCommit) (new : NewLayer) (is_n
       (fits : length layers ≤ 255) (leveled : length own ≡ commit_count new.parents)
       (capped : (p : ℕ) → p < length own → (level_at own p).generation ≤ GENERATION_NUMBER_MAX)
       (offsets : IfSome (offsets_of plan) (AreOffsets (length plan.commits.items)))
+      (filters : IfSome plan.filters (AreFilters (length plan.commits.items)))
       (words : word_count commits < 2 ^ 31) where
     of-kind : (id : List ℕ) → is_of_kind (kind_to_write layers commits) id ≡ true → length id ≡ id_len plan.kind
     of-kind id is = eqb-true (length id) (id_len (kind_to_write layers commits)) is ∙ ap id_len (sym kind)
@@ -118,4 +119,5 @@ module _ (layers : List Layer) (commits : List NewCommit) (new : NewLayer) (is_n
           (fits-record at.4 at.1 at.0 p inside at.3 at.6);
       few_words = omega (arith, all-words);
       offsets = offsets;
+      filters = filters;
     }

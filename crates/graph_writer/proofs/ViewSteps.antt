@@ -69,7 +69,7 @@ many-words plan b layers own told no_it_is same is_new none known below kind bas
     let yes_it_is : b ≡ true =
     told.1
     (is-plan layers plan.commits.now plan.new.now is_new own (plan_of plan) (planned-count plan) (view-planned plan own same)
-    none known below kind bases fits leveled capped sized less) in
+    none known below kind bases fits leveled capped sized tt less) in
     absurd (cc))
     (λ (many : 2 ^ 31 ≤ word_count plan.commits.now). many)
     (cases_lt (word_count plan.commits.now) (2 ^ 31))

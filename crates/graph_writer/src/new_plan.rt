@@ -7,7 +7,7 @@ ghost use Rattle.graph_levels.specs.ParentLists.{commit_count};
 use crate::commit::NewCommit;
 use crate::new_layer::NewLayer;
 use gix_hash_core::{Kind, ObjectId};
-use graph_encoder::{PlanRow, PlanView};
+use graph_encoder::{PlanFilters, PlanRow, PlanView};
 use graph_levels::Level;
 
 /// What the file of a new layer is to hold.
@@ -81,5 +81,9 @@ impl PlanView for NewPlan<'_> {
             Some(offsets) => Some(offsets),
             None => None,
         }
+    }
+
+    fn filters(&self) -> Option<&PlanFilters> {
+        None
     }
 }

@@ -139,6 +139,7 @@ fn built(
         bases: Vec::from_slice(alloc, bases).expect(rt, "memory"),
         commits,
         date_offsets: None,
+        filters: None,
     };
     file_of_plan(alloc, &plan).expect(rt, "a file")
 }
@@ -178,6 +179,7 @@ pub(super) fn line(rt: &impl Abort, alloc: Global, count: u32) -> Memory {
         bases: Vec::new(alloc),
         commits,
         date_offsets: None,
+        filters: None,
     };
     let mut memory = Memory::new(alloc);
     let file = file_of_plan(alloc, &plan).expect(rt, "a file");

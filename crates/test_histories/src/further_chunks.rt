@@ -44,6 +44,7 @@ fn planned(rt: &impl Abort, alloc: Global, rows: &[RightRow<'_>]) -> Vec<u8> {
         bases: Vec::new(alloc),
         commits,
         date_offsets: None,
+        filters: None,
     };
     file_of_plan(alloc, &plan).expect(rt, "a file")
 }

@@ -7,10 +7,10 @@ use std::alloc::Global;
 use std::process::Abort;
 
 /// Some bytes of a file, each with its place.
-type Places<'a> = &'a [(usize, &'a [u8])];
+pub type Places<'a> = &'a [(usize, &'a [u8])];
 
 /// Compares the size of a file, and some of its bytes.
-fn compare_bytes(rt: &impl Abort, file: &[u8], size: usize, places: Places<'_>) {
+pub fn compare_bytes(rt: &impl Abort, file: &[u8], size: usize, places: Places<'_>) {
     assert!(rt; file.len() == size);
     for (at, bytes) in places {
         assert!(rt; file.get(*at..).unwrap_or(&[]).starts_with(bytes));

@@ -11,6 +11,8 @@ mod chunk_tables;
 #[cfg(test)]
 mod commits;
 #[cfg(test)]
+mod filtered;
+#[cfg(test)]
 mod fixtures;
 #[cfg(test)]
 mod folders;

@@ -119,6 +119,7 @@ fn built(
         bases: Vec::from_slice(alloc, bases).expect(rt, "memory"),
         commits: Vec::new(alloc),
         date_offsets: None,
+        filters: None,
     };
     for (id, parents, generation, time) in records {
         let commit = PlanCommit {
@@ -180,6 +181,7 @@ pub(crate) fn line(rt: &impl Abort, alloc: Global, count: u32) -> Memory {
         bases: Vec::new(alloc),
         commits: Vec::new(alloc),
         date_offsets: None,
+        filters: None,
     };
     for number in 1..=count {
         let mut id = [0; 20];

@@ -67,6 +67,7 @@ fn sha256(rt: &impl Abort, alloc: Global) -> Vec<u8> {
         bases: Vec::new(alloc),
         commits,
         date_offsets: None,
+        filters: None,
     };
     file_of_plan(alloc, &plan).expect(rt, "a file")
 }

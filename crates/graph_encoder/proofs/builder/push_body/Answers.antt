@@ -33,7 +33,7 @@ push_offset_words-requires g c =
 pub returns-clause-body : goal.returns-clause-body
 returns-clause-body g c =
     let plan = g.P.PlanView.as_plan c.args.plan.now in
-    body-added plan c.chunk_count-count.result c.first_offset.result c.args.file.now.items _ _ _ _ _ _ _ _ _
+    body-added plan c.chunk_count-count.result c.first_offset.result c.args.file.now.items _ _ _ _ _ _ _ _ _ _
     (c.chunk_count-count.ensures ∙ ap number_there c.requires.sizes ∙ count_of_those (possible_chunks plan))
     c.first_offset.ensures
     c.in_ok-push_header.ensures
@@ -44,5 +44,5 @@ returns-clause-body g c =
     ∙ ap (λ offsets. c.push_records.new.file.items ++ words_bytes (offset_words offsets)) c.offsets_or_none.ensures)
     (c.in_ok-push_large_offsets.ensures
     ∙ ap (λ offsets. c.push_offset_words.new.file.items ++ longs_bytes (large_offsets offsets)) c.offsets_or_none-2.ensures)
-    c.in_ok-push_edges.ensures
-    (c.in_ok-push_ids.ensures ∙ ap (λ ids. c.push_edges.new.file.items ++ ids_bytes ids) c.bases.ensures)
+    c.in_ok-push_edges.ensures c.in_ok-push_filters.ensures
+    (c.in_ok-push_ids.ensures ∙ ap (λ ids. c.push_filters.new.file.items ++ ids_bytes ids) c.bases.ensures)

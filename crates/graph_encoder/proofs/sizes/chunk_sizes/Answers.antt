@@ -8,10 +8,10 @@ use Rattle.graph_encoder.specs.Written.{words_bytes, longs_bytes, ids_bytes, exa
 use Rattle.graph_format.specs.Format.{fan_id, ids_id, records_id}
 use Rattle.graph_encoder.proofs.OffsetLemmas.{length-longs_bytes, large_offsets-few}
 use Rattle.graph_encoder.proofs.Pieces.{length-words_bytes}
-use Rattle.graph_encoder.proofs.PlannedChunks.{offsets-size, offsets-few, length-ids_bytes}
+use Rattle.graph_encoder.proofs.PlannedChunks.{offsets-size, offsets-few, length-ids_bytes, index-size, data-size}
 use Rattle.graph_encoder.proofs.PlannedFile.{sizes}
 use Rattle.graph_encoder.proofs.PossibleChunks.{unless_empty-size}
-use Rattle.graph_encoder.proofs.SizeLemmas.{same_size, seven_same}
+use Rattle.graph_encoder.proofs.SizeLemmas.{same_size, nine_same}
 use Rattle.graph_encoder.proofs.sizes.chunk_sizes.Goals as goal
 
 pub count_large-requires : goal.count_large-requires
@@ -59,8 +59,8 @@ returns g c =
     ap (λ n. n * length c.bases.result.now) (c.len_in_bytes-id_len.ensures ∙ ap id_len c.kind.ensures)
     ∙ ap (λ n. id_len plan.kind * n) bases
     ∙ sym (length-ids_bytes plan.kind plan.bases.items c.requires.bases) in
-    seven_same c.sized.result c.sized-2.result c.sized-3.result c.sized-4.result c.sized-5.result c.sized-6.result
-    c.sized-7.result _ _ _ _ _ _ _
+    nine_same c.sized.result c.sized-2.result c.sized-3.result c.sized-4.result c.sized-5.result c.sized-6.result
+    c.sized-7.result c.sized-8.result c.sized-9.result _ _ _ _ _ _ _ _ _
     (same_size c.sized.result
     (record { id = fan_id; bytes = Some (words_bytes (exact_fan (ids_of plan.commits.items))) })
     c.sized.ensures.id (c.sized.ensures.size ∙ ap (λ n. Some n) (sym known.fan)))
@@ -78,5 +78,9 @@ returns g c =
     (c.sized-6.ensures.size ∙ c.unless_zero-2.ensures ∙ ap unless_zero edges
     ∙ sym (unless_empty-size (words_bytes (all_extra_words plan.commits.items)))))
     (same_size c.sized-7.result _ c.sized-7.ensures.id
-    (c.sized-7.ensures.size ∙ c.unless_zero-3.ensures ∙ ap unless_zero below
+    (c.sized-7.ensures.size ∙ c.filter_index_size.ensures ∙ sym (index-size plan.filters)))
+    (same_size c.sized-8.result _ c.sized-8.ensures.id
+    (c.sized-8.ensures.size ∙ c.filter_data_size.ensures ∙ sym (data-size plan.filters)))
+    (same_size c.sized-9.result _ c.sized-9.ensures.id
+    (c.sized-9.ensures.size ∙ c.unless_zero-3.ensures ∙ ap unless_zero below
     ∙ sym (unless_empty-size (ids_bytes plan.bases.items))))
