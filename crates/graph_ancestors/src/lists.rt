@@ -16,6 +16,10 @@ use gix_commitgraph::file::commit::ExtraEdge;
 impl Search {
     /// Goes over the words of the extra edge list in whose layer the commit at a place lies, from
     /// this index on to the last parent of the commit, or to a word that was gone over before.
+    ///
+    /// Few commits have such a list. This stays a call of its own, so that the others pay nothing
+    /// for it.
+    #[inline(never)]
     pub(crate) fn visit_list<S: CommitSource>(
         &mut self,
         commits: &mut S,
