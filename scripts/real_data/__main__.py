@@ -61,6 +61,7 @@ import inspect
 import os
 import sys
 import tempfile
+import time
 from concurrent.futures import ProcessPoolExecutor
 from functools import partial
 
@@ -73,26 +74,32 @@ from expected.differences import Differences
 from histories.repository import ID_LENGTH, Repository
 from results import Results
 
-PARTS = [*(("check_kind", kind) for kind in ID_LENGTH), ("check_all", None)]
-"""The functions that are called, each with the kind of hash for which it is called, if it is for one."""
+PARTS = [("check_all", None), *(("check_kind", kind) for kind in ID_LENGTH)]
+"""The functions that are called, each with the kind of hash for which it is called, if it is for one. The longest come first."""
+
+LONGEST = 12
+"""So many of the longest parts are printed at the end with their seconds."""
 
 
 def main(paths, every_value, names):
     """Runs all checks, or those of some files, on the programs at these paths, and answers the exit status."""
     given = [os.path.abspath(path) for path in paths], every_value
     results, differences, chosen = Results(), Differences(), names or all_names()
-    parts = [(name, *part) for part in PARTS for name in chosen if has(name, part[0])]
+    parts, times = [(name, *part) for part in PARTS for name in chosen if has(name, part[0])], []
     with ProcessPoolExecutor() as pool:
-        for part in [pool.submit(run_part, *given, *part) for part in parts]:
-            counted, seen, lines = part.result()
+        for part, ended in [(part, pool.submit(run_part, *given, *part)) for part in parts]:
+            counted, seen, lines, seconds = ended.result()
             results.add(counted)
             differences.add(seen)
             LINES.update(lines)
+            times.append((seconds, "%s %s" % (part[0], part[2] or "")))
     idle = sorted(set(chosen).difference(part[0] for part in parts))
     results.check("each file has checks", "none in %s" % ", ".join(idle) if idle else None)
     if not names:
         differences.check(results)
         rows.check_rows(results)
+    for seconds, part in sorted(times, reverse=True)[:LONGEST]:
+        print("%5.0f s  %s" % (seconds, part))
     return results.finish()
 
 
@@ -107,9 +114,11 @@ def has(name, function):
 
 
 def run_part(paths, every_value, name, function, kind):
-    """Calls a function of a file, in a process of its own: the results, where Git's verdict differs, and the first lines of all
-    answers. A new repository comes from a function `new` of its name, or of its kind of hash and its name.
+    """Calls a function of a file, in a process of its own: the results, where Git's verdict differs, the first lines of all
+    answers, and how many seconds it took. A new repository comes from a function `new` of its name, or of its kind of hash and its
+    name.
     """
+    started = time.monotonic()
     program, histories, asker = Program(paths[0]), HistoryProgram(paths[1]), FilterProgram(paths[2])
     results, differences = Results(), Differences()
     check = getattr(importlib.import_module("checks." + name), function)
@@ -127,7 +136,7 @@ def run_part(paths, every_value, name, function, kind):
             "every_value": every_value,
         }
         check(**{parameter: given[parameter] for parameter in inspect.signature(check).parameters if parameter in given})
-    return results, differences, LINES
+    return results, differences, LINES, time.monotonic() - started
 
 
 def new_repository(folder, object_format, name):

@@ -66,17 +66,22 @@ class Installed:
         return run(command, {**self.variables, **way.variables}, cwd=way.folder)
 
 
+def check_kind(programs, results, folder, new):
+    """The checks of each word, in repositories of one kind of hash."""
+    installed = Installed(os.path.join(folder, "installed"), programs)
+    check_kinds(installed, results, new("asked"))
+    check_split(installed, results, new("asked, split"))
+    show_checks.check_told(installed, results, os.path.join(folder, "shown"), new("asked, shown.git"), Way)
+    asked = new("asked questions.git")
+    ask_checks.check_by_git(installed, results, asked, Way(asked.folder))
+    results.check("git cgraph, each word, nothing is left over", installed.clone.left_over())
+
+
 def check_all(programs, results, folder, new):
-    """The checks of `git cgraph`; a new repository comes from a function of its object format and its name."""
+    """The other checks of `git cgraph`; a new repository comes from a function of its object format and its name."""
     installed = Installed(os.path.join(folder, "installed"), programs)
     complaint = None if installed.installation.status == 0 else "it is %r" % (installed.installation,)
     results.check("scripts/install, with the programs", complaint)
-    for kind in ("sha1", "sha256"):
-        check_kinds(installed, results, new(kind, "asked"))
-        check_split(installed, results, new(kind, "asked, split"))
-        show_checks.check_told(installed, results, os.path.join(folder, "shown, " + kind), new(kind, "asked, shown.git"), Way)
-        asked = new(kind, "asked questions.git")
-        ask_checks.check_by_git(installed, results, asked, Way(asked.folder))
     check_empty(installed, results, new("sha1", "asked, empty"))
     check_abbreviation(installed, results, new("sha1", "asked, abbreviations"))
     check_session(installed, results, os.path.join(folder, "repository"))
