@@ -9,12 +9,12 @@ ghost use Rattle.graph_commands.specs.WrittenAnswer.{WritesAnswer};
 ghost use Rattle.graph_commands.specs.OpenerAnswer.{MayOpen};
 ghost use Rattle.history_commands.specs.Check.{AreDatesFound, AreFiltersFound, MayFindInAll};
 ghost use Rattle.history_commands.specs.Check.{MayRefuseDates, MayRefuseFilters};
-ghost use Rattle.history_commands.specs.Check.{MayRefuseToCheck, MayRefuseToStart};
+ghost use Rattle.history_commands.specs.Check.{MayRefuseToCheck};
 ghost use Rattle.history_commands.specs.Check.{check_text, check_status, commits_line};
 ghost use Rattle.history_commands.specs.Check.{check_found_text};
 
+use crate::opening::open_checked;
 use gix_commitgraph::Graph;
-use gix_commitgraph::opening::open_in;
 use gix_commitgraph::verify::Outcome;
 use graph_chunks::dates::{CorrectedDates, DatesError};
 use graph_chunks::filters::{FiltersError, GraphFilters};
@@ -221,24 +221,6 @@ fn check<T: Folder>(
     let dates = count_dates(alloc, graph.as_checked().graph())?;
     let filters = count_filters(alloc, graph.as_checked().graph())?;
     Ok((graph, dates, filters))
-}
-
-/// Opens the graph at the path, and checks it.
-fn open_checked<T: Folder>(
-    alloc: Global,
-    folder: &mut T,
-    path: &str,
-) -> Result<CheckedGraph, Refusal>
-    ensures opened { IfOk result (λ graph.
-        MayOpen (T.tree folder.old) path.now (T.failure_count folder.old)
-        (T.failure_count folder.new) (Ok graph.layers)) }
-    ensures refused { IfErr result (MayRefuseToStart
-        (MayOpen (T.tree folder.old) path.now (T.failure_count folder.old)
-        (T.failure_count folder.new))) }
-    ensures tree { T.tree folder.new ≡ T.tree folder.old }
-{
-    let graph = open_in(alloc, folder, path)?;
-    Ok(CheckedGraph::new(alloc, graph)?)
 }
 
 /// How many commits have a corrected date, if each layer has dates, in a graph that is right.

@@ -7,6 +7,7 @@
 
 pub mod bases;
 mod check;
+pub mod opening;
 mod question;
 pub mod run;
 mod walk;

@@ -1,24 +1,21 @@
 //! The command `write`.
 
 ghost use Rattle.std.specs.Prelude.{◌≡◌, IfErr, IfOk, Ok, Err, option_map};
-ghost use Rattle.gix_commitgraph.specs.Sound.{Sound};
 ghost use Rattle.graph_commands.specs.OpenerAnswer.{MayOpen};
 ghost use Rattle.graph_commands.specs.WrittenAnswer.{WritesAnswer};
 ghost use Rattle.graph_writer.specs.NewCommits.{layers_of_below};
-ghost use Rattle.history_commands.specs.Check.{MayRefuseToStart};
 ghost use Rattle.write_commands.specs.WrittenCommits.{MayComeOf, MayWriteLayer, kind_below};
 ghost use Rattle.write_commands.specs.WrittenCommits.{written_text, written_status};
 
 use crate::read::read_commits;
 use crate::refusal::LayerRefusal;
-use gix_commitgraph::opening::open_in;
 use gix_hash_core::Kind;
 use graph_commands::line::{WriteFailed, write_line};
-use graph_commands::refusal::Refusal;
 use graph_commands::status::Status;
 use graph_folder::folder::Folder;
-use graph_history::{Checked, CheckedGraph};
+use graph_history::Checked;
 use graph_writer::write_layer;
+use history_commands::opening::open_checked;
 use std::alloc::Global;
 use std::io::{Read, Write};
 
@@ -84,25 +81,6 @@ fn layer_on<R: Read, T: Folder>(
             layer_of(alloc, reader, Some(&graph.as_checked()))
         }
     }
-}
-
-/// Opens the graph at the path, and checks it.
-fn open_checked<T: Folder>(
-    alloc: Global,
-    folder: &mut T,
-    path: &str,
-) -> Result<CheckedGraph, Refusal>
-    ensures opened { IfOk result (λ graph.
-        MayOpen (T.tree folder.old) path.now (T.failure_count folder.old)
-        (T.failure_count folder.new) (Ok graph.layers)) }
-    ensures right { IfOk result (λ graph. Sound graph.layers) }
-    ensures refused { IfErr result (MayRefuseToStart
-        (MayOpen (T.tree folder.old) path.now (T.failure_count folder.old)
-        (T.failure_count folder.new))) }
-    ensures tree { T.tree folder.new ≡ T.tree folder.old }
-{
-    let graph = open_in(alloc, folder, path)?;
-    Ok(CheckedGraph::new(alloc, graph)?)
 }
 
 /// The file of a layer with the commits that the reader gives, on top of a graph or on none.
