@@ -18,8 +18,9 @@ mod streams;
 mod trailer;
 
 pub use files::{file_of_plan, file_of_rows};
-pub use graph_encoder::{FilterNumbers, LayerPlan, PlanCommit, PlanFilters, build};
-pub use graph_encoder::planned_files_say_their_plans;
+pub use graph_encoder::{
+    FilterNumbers, LayerPlan, PlanCommit, PlanFilters, build, planned_files_say_their_plans,
+};
 pub use raw::{END, Entry, file_of_parts, file_of_zeros, words};
 pub use rows::{DIAMOND, OCTOPUS, Row, TEN, plan_of_rows, planned_commit};
 pub use streams::{Sink, Source};
