@@ -1,5 +1,5 @@
 -- Coats that change one at a time, and the queue beside them.
-use Rattle.std.proofs.Common.{◌≡◌, ◌≢◌, ◌⊎◌, ℕ, ◌<◌, ◌≤◌, zero, suc, List, [], ◌∷◌, ◌++◌, if◌then◌else◌, Bool, true, false, not}
+use Rattle.std.proofs.Common.{◌≡◌, ◌≢◌, ◌⊎◌, ℕ, ◌^◌, ◌<◌, ◌≤◌, zero, suc, List, [], ◌∷◌, ◌++◌, if◌then◌else◌, Bool, true, false, not}
 use Rattle.std.proofs.Common.{cond, length, set}
 use Rattle.std.proofs.Common.{◌+◌, get_or, All, Contains, IsPermutation, sum_by, count_by, refl, sym, ap, ◌∙◌, subst, inl, inr}
 use Rattle.std.proofs.Common.{⊎_elim, arith}
@@ -11,7 +11,7 @@ use Rattle.std.proofs.lemmas.List.Elements.{All-nil, All-cons, All-head, All-tai
 use Rattle.std.proofs.lemmas.List.Elements.{Contains-push_cases, Contains-append_left}
 use Rattle.std.proofs.lemmas.List.Quantifiers.{all_pairs_push}
 use Rattle.std.proofs.lemmas.List.Sorted.{All-permutation, Contains-permutation, length_permutation, first_le_from_greatest}
-use Rattle.std.proofs.lemmas.List.Sums.{sum_by-set, get_or-le-sum_by}
+use Rattle.std.proofs.lemmas.List.Sums.{sum_by-set, get_or-le-sum_by, count_by-le-length}
 use Rattle.graph_walks.specs.declared.TheConstants.{GENERATION_NUMBER_MAX}
 use Rattle.graph_walks.specs.History.{Node, IsParent, generation_at}
 use Rattle.graph_format.specs.declared.Position.{Position}
@@ -21,8 +21,8 @@ use Rattle.graph_history.specs.declared.paint.Paint.{Paint}
 use Rattle.graph_history.specs.declared.paint.Paint.TheVariants.{First, Others}
 use Rattle.graph_history.specs.Paint.{is_base, first_leads, others_lead, is_stale, is_painted, covers, joined, passed, unknown}
 use Rattle.graph_history.specs.Paint.{is_fresh, bare, coat_at, paint_at, is_queued, IsSo, IsPaint, Grows}
-use Rattle.graph_history.specs.Painting.{AreCandidates, IsSpread, IsSpreadBut, entry_cmp, IsEntry, IsWaiting, IsLevel, Joins}
-use Rattle.graph_history.specs.Painting.{Adds, IsDone}
+use Rattle.graph_history.specs.Painting.{AreCandidates, IsSpread, IsSpreadBut, entry_cmp, IsNumbered, IsWaiting, IsLevel}
+use Rattle.graph_history.specs.Painting.{Joins, JoinsNumbered, Adds, IsDone}
 use Rattle.graph_history.specs.Painting.{work}
 use Rattle.graph_history.proofs.ReachLemmas.{reaches_itself}
 use Rattle.graph_history.proofs.PaintLemmas.{grows_refl, grows_trans, grows_left, grows_right, covers_grows, joined_knows}
@@ -50,47 +50,45 @@ module _ (coats : List Coat) (p : ℕ) (coat : Coat) (within : p < length coats)
   coat_there : (q : ℕ) → q ≢ p → coat_at (set coats p coat) q ≡ coat_at coats q
   coat_there q apart = get_or-set_other coats p q coat bare apart
 
+-- a count goes on to fit where it was right
+pub recount_fits : (t : Coat → Bool) (coats : List Coat) (p : ℕ) (new : Coat) (count : ℕ) (was is : Bool) → p < length coats
+    → length coats < 2 ^ 32 → count ≡ count_by t coats → was ≡ t (coat_at coats p) → is ≡ t new
+    → count + cond {A = ℕ} is 1 0 < 2 ^ 32 + cond {A = ℕ} was 1 0
+recount_fits t coats p new count was is inside few counted is_was is_new =
+    let f : Coat → ℕ = λ m. cond (t m) 1 0 in
+    let sums = sum_by-set f coats p new bare inside in
+    let most = count_by-le-length t (set coats p new) in
+    let len = length-set coats p new in
+    let old : f (coat_at coats p) ≡ cond {A = ℕ} was 1 0 = ap (λ (b : Bool). cond {A = ℕ} b 1 0) (sym is_was) in
+    let now : f new ≡ cond {A = ℕ} is 1 0 = ap (λ (b : Bool). cond {A = ℕ} b 1 0) (sym is_new) in
+    omega arith
+
 one_or_none : (b : Bool) → cond {A = ℕ} b 1 0 + cond {A = ℕ} b 0 1 ≡ 1
 one_or_none true = refl
 one_or_none false = refl
 
 -- What is so after paint was added to a commit.
-pub record AddedBy (h : List Node) (a : ℕ) (bs : List ℕ) (p : ℕ) (x : Paint) (coats after : List Coat) (queue more : List (ℕ × ℕ))
-    (old : List ℕ) : Type 0 where
-  pub paint : IsPaint h a bs after
-  pub waiting : IsWaiting h after more
+pub record AddedBy (count p : ℕ) (x : Paint) (coats after : List Coat) (queue more : List (ℕ × ℕ)) (old : List ℕ) : Type 0 where
+  pub len : length after ≡ length coats
+  pub waiting : IsWaiting count after more
   pub candidates : AreCandidates after (if is_base (joined (paint_at coats p) x) then old ++ p ∷ [] else old)
   pub adds : Adds p x coats after
   pub here : coat_at after p ≡ record { paint = joined (paint_at coats p) x; queued = true }
-  pub level : (level : ℕ) → generation_at h p ≤ level → IsLevel h coats queue level → IsLevel h after more level
   pub work : work after more ≤ work coats queue
 
 -- Paint is added to a commit, which is then queued.
-module _ (h : List Node) (a : ℕ) (bs : List ℕ) (coats : List Coat) (queue more : List (ℕ × ℕ)) (p : ℕ) (x : Paint)
-    (paint : IsPaint h a bs coats) (waiting : IsWaiting h coats queue) (within : p < length h) (so : IsSo h a bs p x)
-    (joins : Joins h p queue more) (new : Coat) (is_new : new ≡ record { paint = joined (paint_at coats p) x; queued = true })
-    (after : List Coat) (is_after : after ≡ set coats p new) where
+module _ (count : ℕ) (coats : List Coat) (queue more : List (ℕ × ℕ)) (p : ℕ) (x : Paint) (coats_len : length coats ≡ count)
+    (waiting : IsWaiting count coats queue) (within : p < count) (joins : Joins p queue more) (new : Coat)
+    (is_new : new ≡ record { paint = joined (paint_at coats p) x; queued = true }) (after : List Coat)
+    (is_after : after ≡ set coats p new) where
   inside : p < length coats
-  inside = omega (arith, paint.coats_len)
+  inside = omega arith
 
   here : (q : ℕ) → q ≡ p → coat_at after q ≡ record { paint = joined (paint_at coats p) x; queued = true }
   here q e = ap (λ (ms : List Coat). coat_at ms q) is_after ∙ coat_here coats p new inside q e ∙ is_new
 
   there : (q : ℕ) → q ≢ p → coat_at after q ≡ coat_at coats q
   there q apart = ap (λ (ms : List Coat). coat_at ms q) is_after ∙ coat_there coats p new inside q apart
-
-  added_paint : IsPaint h a bs after
-  added_paint = record {
-    coats_len = ap length is_after ∙ length-set coats p new ∙ paint.coats_len;
-    each = λ q.
-        ⊎_elim
-        (λ (e : q ≡ p).
-        subst (IsSo h a bs q) (sym (ap (λ (m : Coat). m.paint) (here q e)))
-        (subst (λ (r : ℕ). IsSo h a bs r (joined (paint_at coats p) x)) (sym e)
-        (so_joined h a bs p (paint_at coats p) x (paint.each p) so)))
-        (λ (apart : q ≢ p). subst (IsSo h a bs q) (sym (ap (λ (m : Coat). m.paint) (there q apart))) (paint.each q))
-        (cases_eq q p);
-  }
 
   added : Adds p x coats after
   added = record {
@@ -111,15 +109,16 @@ module _ (h : List Node) (a : ℕ) (bs : List ℕ) (coats : List Coat) (queue mo
     others = there;
   }
 
-  added_waiting : length more ≡ length queue + cond (is_queued coats p) 0 1 → IsWaiting h after more
+  added_waiting : length more ≡ length queue + cond (is_queued coats p) 0 1 → IsWaiting count after more
   added_waiting len = record {
     order = joins.order waiting.order;
-    entries = joins.entries waiting.entries;
+    within = joins.within count within waiting.within;
     queued = λ q is.
         ⊎_elim
-        (λ (e : q ≡ p). subst (λ (r : ℕ). Contains more (generation_at h r, r)) (sym e) joins.holds)
+        (λ (e : q ≡ p). subst (λ (r : ℕ). (g : ℕ) × Contains more (g, r)) (sym e) joins.holds)
         (λ (apart : q ≢ p).
-        joins.keeps (generation_at h q, q) (waiting.queued q (sym (ap (λ (m : Coat). m.queued) (there q apart)) ∙ is)))
+        let was = waiting.queued q (sym (ap (λ (m : Coat). m.queued) (there q apart)) ∙ is) in
+        (was.0, joins.keeps (was.0, q) was.1))
         (cases_eq q p);
     count =
         let f : Coat → ℕ = λ m. cond m.queued 1 0 in
@@ -129,15 +128,6 @@ module _ (h : List Node) (a : ℕ) (bs : List ℕ) (coats : List Coat) (queue mo
         let flip = one_or_none (is_queued coats p) in
         let was = waiting.count in
         omega arith;
-  }
-
-  added_level : (level : ℕ) → generation_at h p ≤ level → IsLevel h coats queue level → IsLevel h after more level
-  added_level level low is = record {
-    above = λ q settled painted.
-        (let same = added.kept q settled in
-        is.above q (sym (ap (λ (m : Coat). m.queued) same) ∙ settled)
-        (subst (λ (m : Coat). is_painted m.paint ≡ true) same painted));
-    below = joins.below level low is.below;
   }
 
   -- where it is a merge base as far as is known, it becomes a candidate
@@ -206,15 +196,41 @@ module _ (h : List Node) (a : ℕ) (bs : List ℕ) (coats : List Coat) (queue mo
 
   pub added_by : length more ≡ length queue + cond (is_queued coats p) 0 1 → (candidates : List ℕ)
       → AreCandidates coats candidates → covers (paint_at coats p) x ≡ false
-      → AddedBy h a bs p x coats after queue more candidates
+      → AddedBy count p x coats after queue more candidates
   added_by len candidates are uncovered = record {
-    paint = added_paint;
+    len = ap length is_after ∙ length-set coats p new;
     waiting = added_waiting len;
     candidates = added_all candidates are uncovered;
     adds = added;
     here = here p refl;
-    level = added_level;
     work = added_work uncovered;
+  }
+
+-- What is so in a history.
+module _ {count p : ℕ} {x : Paint} {coats after : List Coat} {queue more : List (ℕ × ℕ)} {old : List ℕ}
+    (added : AddedBy count p x coats after queue more old) (h : List Node) where
+  pub added_paint : (a : ℕ) (bs : List ℕ) → IsPaint h a bs coats → IsSo h a bs p x → IsPaint h a bs after
+  added_paint a bs paint so = record {
+    coats_len = added.len ∙ paint.coats_len;
+    each = λ q.
+        ⊎_elim
+        (λ (e : q ≡ p).
+        subst (IsSo h a bs q) (sym (ap (paint_at after) e ∙ ap (λ (m : Coat). m.paint) added.here))
+        (subst (λ (r : ℕ). IsSo h a bs r (joined (paint_at coats p) x)) (sym e)
+        (so_joined h a bs p (paint_at coats p) x (paint.each p) so)))
+        (λ (apart : q ≢ p).
+        subst (IsSo h a bs q) (sym (ap (λ (m : Coat). m.paint) (added.adds.others q apart))) (paint.each q))
+        (cases_eq q p);
+  }
+
+  pub added_level : JoinsNumbered h p queue more → (level : ℕ) → generation_at h p ≤ level → IsLevel h coats queue level
+      → IsLevel h after more level
+  added_level joins level low is = record {
+    above = λ q settled painted.
+        (let same = added.adds.kept q settled in
+        is.above q (sym (ap (λ (m : Coat). m.queued) same) ∙ settled)
+        (subst (λ (m : Coat). is_painted m.paint ≡ true) same painted));
+    below = joins.below level low is.below;
   }
 
 -- The candidates, where no paint changes, and where nothing is known.
@@ -245,30 +261,39 @@ nothing_added coats p x covered = record {
 }
 
 -- The queue, where a commit was pushed, or stood already.
-pub joins_pushed : (h : List Node) (p : ℕ) (e : ℕ × ℕ) (old new : List (ℕ × ℕ)) → e ≡ (generation_at h p, p) → p < length h
-    → (IsHeap entry_cmp old → IsHeap entry_cmp new) → IsPermutation (e ∷ old) new → Joins h p old new
-joins_pushed h p e old new is within order moved = record {
+pub joins_pushed : (p g : ℕ) (old new : List (ℕ × ℕ)) → (IsHeap entry_cmp old → IsHeap entry_cmp new)
+    → IsPermutation ((g, p) ∷ old) new → Joins p old new
+joins_pushed p g old new order moved = record {
   order = order;
-  entries = λ all.
-      All-permutation (IsEntry h) (e ∷ old) new moved
-      (All-cons (IsEntry h) e old (subst (IsEntry h) (sym is) (within, refl)) all);
-  below = λ level low all.
-      All-permutation (λ (y : ℕ × ℕ). y.0 ≤ level) (e ∷ old) new moved
-      (All-cons (λ (y : ℕ × ℕ). y.0 ≤ level) e old (subst (λ (y : ℕ × ℕ). y.0 ≤ level) (sym is) low) all);
-  holds = subst (Contains new) is (Contains-permutation (e ∷ old) new e moved (at_head e old));
-  keeps = λ y has. Contains-permutation (e ∷ old) new y moved (in_tail e y old has);
-  longer = let len = length_permutation (e ∷ old) new moved in omega arith;
+  within = λ count lt all.
+      All-permutation (λ (y : ℕ × ℕ). y.1 < count) ((g, p) ∷ old) new moved
+      (All-cons (λ (y : ℕ × ℕ). y.1 < count) (g, p) old lt all);
+  holds = (g, Contains-permutation ((g, p) ∷ old) new (g, p) moved (at_head (g, p) old));
+  keeps = λ y has. Contains-permutation ((g, p) ∷ old) new y moved (in_tail (g, p) y old has);
+  longer = let len = length_permutation ((g, p) ∷ old) new moved in omega arith;
 }
 
-pub joins_already : (h : List Node) (p : ℕ) (old : List (ℕ × ℕ)) → Contains old (generation_at h p, p) → Joins h p old old
-joins_already h p old has = record {
+pub joins_already : (p g : ℕ) (old : List (ℕ × ℕ)) → Contains old (g, p) → Joins p old old
+joins_already p g old has = record {
   order = λ o. o;
-  entries = λ all. all;
-  below = λ level low all. all;
-  holds = has;
+  within = λ count lt all. all;
+  holds = (g, has);
   keeps = λ y was. was;
   longer = omega arith;
 }
+
+pub numbered_pushed : (h : List Node) (p g : ℕ) (old new : List (ℕ × ℕ)) → g ≡ generation_at h p
+    → IsPermutation ((g, p) ∷ old) new → JoinsNumbered h p old new
+numbered_pushed h p g old new is moved = record {
+  numbered = λ all.
+      All-permutation (IsNumbered h) ((g, p) ∷ old) new moved (All-cons (IsNumbered h) (g, p) old is all);
+  below = λ level low all.
+      All-permutation (λ (y : ℕ × ℕ). y.0 ≤ level) ((g, p) ∷ old) new moved
+      (All-cons (λ (y : ℕ × ℕ). y.0 ≤ level) (g, p) old (omega arith) all);
+}
+
+pub numbered_already : (h : List Node) (p : ℕ) (old : List (ℕ × ℕ)) → JoinsNumbered h p old old
+numbered_already h p old = record { numbered = λ all. all; below = λ level low all. all }
 
 -- What was passed on stays so, as paint is added.
 module _ (h : List Node) (a : ℕ) (bs : List ℕ) (p : ℕ) (x : Paint) (old new : List Coat) (adds : Adds p x old new) where
@@ -289,69 +314,45 @@ module _ (h : List Node) (a : ℕ) (bs : List ℕ) (p : ℕ) (x : Paint) (old ne
   }
 
 -- What is so after a commit was taken from the queue.
-pub record TakenBy (h : List Node) (a : ℕ) (bs : List ℕ) (coats after : List Coat) (queue rest : List (ℕ × ℕ)) (next : ℕ × ℕ)
-    : Type 0 where
+pub record TakenBy (count : ℕ) (coats after : List Coat) (queue rest : List (ℕ × ℕ)) (next : ℕ × ℕ) : Type 0 where
+  pub len : length after ≡ length coats
   pub same : (q : ℕ) → paint_at after q ≡ paint_at coats q
-  pub paint : IsPaint h a bs after
-  pub waiting : IsWaiting h after rest
+  pub waiting : IsWaiting count after rest
   pub here : is_queued after next.1 ≡ false
   pub there : (q : ℕ) → q ≢ next.1 → coat_at after q ≡ coat_at coats q
-  pub spread : IsSpreadBut h a bs after next.1
-  pub level : IsLevel h after rest (generation_at h next.1)
   pub work : work after rest < work coats queue
 
 -- A queue gives this entry next, and the rest of it stays.
-pub record IsNext (h : List Node) (a : ℕ) (bs : List ℕ) (coats : List Coat) (queue rest : List (ℕ × ℕ)) (next : ℕ × ℕ)
-    : Type 0 where
-  pub paint : IsPaint h a bs coats
-  pub spread : IsSpread h a bs coats
-  pub waiting : IsWaiting h coats queue
-  pub level : ℕ
-  pub levelled : IsLevel h coats queue level
+pub record IsNext (count : ℕ) (coats : List Coat) (queue rest : List (ℕ × ℕ)) (next : ℕ × ℕ) : Type 0 where
+  pub coats_len : length coats ≡ count
+  pub waiting : IsWaiting count coats queue
   pub moved : IsPermutation queue (next ∷ rest)
   pub order : IsHeap entry_cmp rest
   pub greatest : IsUpperBound entry_cmp next rest
 
 -- Its commit is taken from the queue.
-module _ {h : List Node} {a : ℕ} {bs : List ℕ} {coats : List Coat} {queue rest : List (ℕ × ℕ)} {next : ℕ × ℕ}
-    (is_next : IsNext h a bs coats queue rest next) where
-  open is_next use {paint, spread, waiting, level, levelled, moved, order, greatest}
+module _ {count : ℕ} {coats : List Coat} {queue rest : List (ℕ × ℕ)} {next : ℕ × ℕ}
+    (is_next : IsNext count coats queue rest next) where
+  open is_next use {coats_len, waiting, moved, order, greatest}
 
-  taken_entries : All (IsEntry h) (next ∷ rest)
-  taken_entries = All-permutation (IsEntry h) queue (next ∷ rest) moved waiting.entries
+  taken_within : All (λ e. e.1 < count) (next ∷ rest)
+  taken_within = All-permutation (λ (e : ℕ × ℕ). e.1 < count) queue (next ∷ rest) moved waiting.within
 
-  pub taken_entry : IsEntry h next
-  taken_entry = All-head (IsEntry h) next rest taken_entries
+  pub next_within : next.1 < count
+  next_within = All-head (λ (e : ℕ × ℕ). e.1 < count) next rest taken_within
 
   pub next_inside : next.1 < length coats
-  next_inside = let in' = taken_entry.0 in let len = paint.coats_len in omega arith
-
-  taken_low : next.0 ≤ level
-  taken_low =
-      All-head (λ (e : ℕ × ℕ). e.0 ≤ level) next rest
-      (All-permutation (λ (e : ℕ × ℕ). e.0 ≤ level) queue (next ∷ rest) moved levelled.below)
+  next_inside = let in' = next_within in let len = coats_len in omega arith
 
   rest_low : All (λ e. e.0 ≤ next.0) rest
   rest_low = first_le_from_greatest nat_cmp next rest greatest
 
-  pub all_low : (p : ℕ) → is_queued coats p ≡ true → generation_at h p ≤ next.0
-  all_low p queued =
-      All-contains (λ (e : ℕ × ℕ). e.0 ≤ next.0) (next ∷ rest) (generation_at h p, p)
+  queued_low : (g p : ℕ) → Contains queue (g, p) → g ≤ next.0
+  queued_low g p has =
+      All-contains (λ (e : ℕ × ℕ). e.0 ≤ next.0) (next ∷ rest) (g, p)
       (All-cons (λ (e : ℕ × ℕ). e.0 ≤ next.0) next rest (omega arith) rest_low)
-      (Contains-permutation queue (next ∷ rest) (generation_at h p, p) moved (waiting.queued p queued))
+      (Contains-permutation queue (next ∷ rest) (g, p) moved has)
 
-  -- where it may stop
-  pub stops : ((p : ℕ) → is_queued coats p ≡ true → is_stale (paint_at coats p) ≡ true) → next.0 < GENERATION_NUMBER_MAX
-      → IsDone h coats
-  stops stale low = record {
-    level = next.0;
-    above = λ p settled painted. (let high = levelled.above p settled painted in let le = taken_low in omega arith);
-    queued = stale;
-    below = all_low;
-    uncapped = λ p queued. (let le = all_low p queued in omega arith);
-  }
-
-  -- where it goes on
   module _ {coat : Coat} {after : List Coat} (is_coat : coat ≡ record { paint = paint_at coats next.1; queued = false })
       (is_after : after ≡ set coats next.1 coat) where
     taken_here : (q : ℕ) → q ≡ next.1 → coat_at after q ≡ record { paint = paint_at coats next.1; queued = false }
@@ -367,27 +368,20 @@ module _ {h : List Node} {a : ℕ} {bs : List ℕ} {coats : List Coat} {queue re
         (λ (apart : q ≢ next.1). ap (λ (m : Coat). m.paint) (taken_there q apart))
         (cases_eq q next.1)
 
-    taken_paint : IsPaint h a bs after
-    taken_paint = record {
-      coats_len = ap length is_after ∙ length-set coats next.1 coat ∙ paint.coats_len;
-      each = λ q. subst (IsSo h a bs q) (sym (same_paint q)) (paint.each q);
-    }
-
-    taken_waiting : is_queued coats next.1 ≡ true → IsWaiting h after rest
+    taken_waiting : is_queued coats next.1 ≡ true → IsWaiting count after rest
     taken_waiting queued = record {
       order = order;
-      entries = All-tail (IsEntry h) next rest taken_entries;
+      within = All-tail (λ (e : ℕ × ℕ). e.1 < count) next rest taken_within;
       queued = λ q is.
           ⊎_elim
           (λ (e : q ≡ next.1).
           absurd (both_ways (is_queued after q) (ap (λ (m : Coat). m.queued) (taken_here q e)) is))
           (λ (apart : q ≢ next.1).
+          let was = waiting.queued q (sym (ap (λ (m : Coat). m.queued) (taken_there q apart)) ∙ is) in
           ⊎_elim
-          (λ (at : next ≡ (generation_at h q, q)). absurd (apart (sym (ap (λ (y : ℕ × ℕ). y.1) at))))
-          (λ (later : Contains rest (generation_at h q, q)). later)
-          (head_or_tail next (generation_at h q, q) rest
-          (Contains-permutation queue (next ∷ rest) (generation_at h q, q) moved
-          (waiting.queued q (sym (ap (λ (m : Coat). m.queued) (taken_there q apart)) ∙ is)))))
+          (λ (at : next ≡ (was.0, q)). absurd (apart (sym (ap (λ (y : ℕ × ℕ). y.1) at))))
+          (λ (later : Contains rest (was.0, q)). (was.0, later))
+          (head_or_tail next (was.0, q) rest (Contains-permutation queue (next ∷ rest) (was.0, q) moved was.1)))
           (cases_eq q next.1);
       count =
           let f : Coat → ℕ = λ m. cond m.queued 1 0 in
@@ -400,32 +394,6 @@ module _ {h : List Node} {a : ℕ} {bs : List ℕ} {coats : List Coat} {queue re
           omega arith;
     }
 
-    taken_spread : IsSpreadBut h a bs after next.1
-    taken_spread = record {
-      first = ap first_leads (same_paint a) ∙ spread.first;
-      others = λ s start. ap others_lead (same_paint s) ∙ spread.others s start;
-      passes = λ p q other settled parent.
-          (let was = spread.passes p q (sym (ap (λ (m : Coat). m.queued) (taken_there p other)) ∙ settled) parent in
-          subst (λ (y : Paint). Grows (passed y) (paint_at after q)) (sym (same_paint p))
-          (subst (Grows (passed (paint_at coats p))) (sym (same_paint q)) was));
-    }
-
-    taken_level : IsLevel h after rest (generation_at h next.1)
-    taken_level = record {
-      above = λ q settled painted.
-          ⊎_elim
-          (λ (e : q ≡ next.1). let same = ap (generation_at h) e in omega arith)
-          (λ (apart : q ≢ next.1).
-          let high =
-          levelled.above q (sym (ap (λ (m : Coat). m.queued) (taken_there q apart)) ∙ settled)
-          (subst (λ (y : Paint). is_painted y ≡ true) (same_paint q) painted) in
-          let le = taken_low in
-          let is = taken_entry.1 in
-          omega arith)
-          (cases_eq q next.1);
-      below = subst (λ (g : ℕ). All (λ (e : ℕ × ℕ). e.0 ≤ g) rest) taken_entry.1 rest_low;
-    }
-
     taken_work : work after rest < work coats queue
     taken_work =
         let sums = sum_by-set (λ (m : Coat). unknown m.paint) coats next.1 coat bare next_inside in
@@ -435,24 +403,95 @@ module _ {h : List Node} {a : ℕ} {bs : List ℕ} {coats : List Coat} {queue re
         let len = length_permutation queue (next ∷ rest) moved in
         omega arith
 
-    pub taken_by : is_queued coats next.1 ≡ true → TakenBy h a bs coats after queue rest next
+    pub taken_by : is_queued coats next.1 ≡ true → TakenBy count coats after queue rest next
     taken_by queued = record {
+      len = ap length is_after ∙ length-set coats next.1 coat;
       same = same_paint;
-      paint = taken_paint;
       waiting = taken_waiting queued;
       here = ap (λ (m : Coat). m.queued) (taken_here next.1 refl);
       there = taken_there;
-      spread = taken_spread;
-      level = taken_level;
       work = taken_work;
     }
 
+  -- What is so in a history.
+  module _ (h : List Node) (numbered : All (IsNumbered h) queue) where
+    taken_numbered : All (IsNumbered h) (next ∷ rest)
+    taken_numbered = All-permutation (IsNumbered h) queue (next ∷ rest) moved numbered
+
+    pub next_number : next.0 ≡ generation_at h next.1
+    next_number = All-head (IsNumbered h) next rest taken_numbered
+
+    pub rest_numbered : All (IsNumbered h) rest
+    rest_numbered = All-tail (IsNumbered h) next rest taken_numbered
+
+    pub all_low : (p : ℕ) → is_queued coats p ≡ true → generation_at h p ≤ next.0
+    all_low p queued =
+        let has = waiting.queued p queued in
+        let is : has.0 ≡ generation_at h p = All-contains (IsNumbered h) queue (has.0, p) numbered has.1 in
+        let low = queued_low has.0 p has.1 in
+        omega arith
+
+    module _ {level : ℕ} (levelled : IsLevel h coats queue level) where
+      taken_low : next.0 ≤ level
+      taken_low =
+          All-head (λ (e : ℕ × ℕ). e.0 ≤ level) next rest
+          (All-permutation (λ (e : ℕ × ℕ). e.0 ≤ level) queue (next ∷ rest) moved levelled.below)
+
+      -- where it may stop
+      pub stops : ((p : ℕ) → is_queued coats p ≡ true → is_stale (paint_at coats p) ≡ true) → next.0 < GENERATION_NUMBER_MAX
+          → IsDone h coats
+      stops stale low = record {
+        level = next.0;
+        above = λ p settled painted. (let high = levelled.above p settled painted in let le = taken_low in omega arith);
+        queued = stale;
+        below = all_low;
+        uncapped = λ p queued. (let le = all_low p queued in omega arith);
+      }
+
+      -- where it goes on
+      pub taken_level : {after : List Coat} → TakenBy count coats after queue rest next
+          → IsLevel h after rest (generation_at h next.1)
+      taken_level {after} taken = record {
+        above = λ q settled painted.
+            ⊎_elim
+            (λ (e : q ≡ next.1). let same = ap (generation_at h) e in omega arith)
+            (λ (apart : q ≢ next.1).
+            let high =
+            levelled.above q (sym (ap (λ (m : Coat). m.queued) (taken.there q apart)) ∙ settled)
+            (subst (λ (y : Paint). is_painted y ≡ true) (taken.same q) painted) in
+            let le = taken_low in
+            let is = next_number in
+            omega arith)
+            (cases_eq q next.1);
+        below = subst (λ (g : ℕ). All (λ (e : ℕ × ℕ). e.0 ≤ g) rest) next_number rest_low;
+      }
+
+-- What is so in a history after it was taken.
+module _ {count : ℕ} {coats after : List Coat} {queue rest : List (ℕ × ℕ)} {next : ℕ × ℕ}
+    (taken : TakenBy count coats after queue rest next) (h : List Node) (a : ℕ) (bs : List ℕ) where
+  pub taken_paint : IsPaint h a bs coats → IsPaint h a bs after
+  taken_paint paint = record {
+    coats_len = taken.len ∙ paint.coats_len;
+    each = λ q. subst (IsSo h a bs q) (sym (taken.same q)) (paint.each q);
+  }
+
+  pub taken_spread : IsSpread h a bs coats → IsSpreadBut h a bs after next.1
+  taken_spread spread = record {
+    first = ap first_leads (taken.same a) ∙ spread.first;
+    others = λ s start. ap others_lead (taken.same s) ∙ spread.others s start;
+    passes = λ p q other settled parent.
+        (let was = spread.passes p q (sym (ap (λ (m : Coat). m.queued) (taken.there p other)) ∙ settled) parent in
+        subst (λ (y : Paint). Grows (passed y) (paint_at after q)) (sym (taken.same p))
+        (subst (Grows (passed (paint_at coats p))) (sym (taken.same q)) was));
+  }
+
 -- Where no coat is counted, none that is queued is fresh.
-pub none_fresh : (h : List Node) (coats : List Coat) (queue : List (ℕ × ℕ)) → IsWaiting h coats queue → length coats ≡ length h
+pub none_fresh : (count : ℕ) (coats : List Coat) (queue : List (ℕ × ℕ)) → IsWaiting count coats queue → length coats ≡ count
     → count_by is_fresh coats ≡ 0 → (p : ℕ) → is_queued coats p ≡ true → is_stale (paint_at coats p) ≡ true
-none_fresh h coats queue waiting len none p queued =
-    let entry = All-contains (IsEntry h) queue (generation_at h p, p) waiting.entries (waiting.queued p queued) in
-    let inside : p < length coats = omega (arith, entry.0) in
+none_fresh count coats queue waiting len none p queued =
+    let has = waiting.queued p queued in
+    let lt = All-contains (λ (e : ℕ × ℕ). e.1 < count) queue (has.0, p) waiting.within has.1 in
+    let inside : p < length coats = omega arith in
     let bound = get_or-le-sum_by (λ (m : Coat). cond (is_fresh m) 1 0) coats p bare inside in
     by_cases (is_stale (paint_at coats p)) refl bound where
       by_cases : (s : Bool) → is_stale (paint_at coats p) ≡ s → cond (is_fresh (coat_at coats p)) 1 0 ≤ count_by is_fresh coats
@@ -467,19 +506,19 @@ none_fresh h coats queue waiting len none p queued =
           absurd (omega arith)
 
 -- An empty queue.
-pub none_queued : (h : List Node) (coats : List Coat) (queue : List (ℕ × ℕ)) → IsWaiting h coats queue → length queue ≡ 0
+pub none_queued : (count : ℕ) (coats : List Coat) (queue : List (ℕ × ℕ)) → IsWaiting count coats queue → length queue ≡ 0
     → (p : ℕ) → is_queued coats p ≡ true → ⊥
-none_queued h coats queue waiting none p queued =
-    let has = waiting.queued p queued in let lt = has.1 in omega arith
+none_queued count coats queue waiting none p queued =
+    let has = waiting.queued p queued in let lt = has.1.1 in omega arith
 
-pub stops_empty : (h : List Node) (coats : List Coat) (queue : List (ℕ × ℕ)) (level : ℕ) → IsWaiting h coats queue
-    → IsLevel h coats queue level → length queue ≡ 0 → IsDone h coats
-stops_empty h coats queue level waiting levelled none = record {
+pub stops_empty : (h : List Node) (count : ℕ) (coats : List Coat) (queue : List (ℕ × ℕ)) (level : ℕ)
+    → IsWaiting count coats queue → IsLevel h coats queue level → length queue ≡ 0 → IsDone h coats
+stops_empty h count coats queue level waiting levelled none = record {
   level = level;
   above = levelled.above;
-  queued = λ p queued. absurd (none_queued h coats queue waiting none p queued);
-  below = λ p queued. absurd (none_queued h coats queue waiting none p queued);
-  uncapped = λ p queued. absurd (none_queued h coats queue waiting none p queued);
+  queued = λ p queued. absurd (none_queued count coats queue waiting none p queued);
+  below = λ p queued. absurd (none_queued count coats queue waiting none p queued);
+  uncapped = λ p queued. absurd (none_queued count coats queue waiting none p queued);
 }
 
 -- The beginning.

@@ -19,10 +19,10 @@ use Rattle.graph_history.specs.declared.paint.Coat.{Coat}
 use Rattle.graph_history.specs.declared.paint.Paint.{Paint}
 use Rattle.graph_history.specs.Paint.{is_painted, is_stale, is_fresh, is_visited, is_on_one_side, covers, joined, bare}
 use Rattle.graph_history.specs.Paint.{coat_at, paint_at, is_queued, IsSo, IsPaint}
-use Rattle.graph_history.specs.Painting.{IsLevel, IsEntry, entry_cmp, IsWaiting, IsKnownEdge, IsVisiting, IsPainted}
+use Rattle.graph_history.specs.Painting.{IsLevel, IsNumbered, entry_cmp, IsWaiting, IsKnownEdge, IsVisiting, IsPainted}
 use Rattle.graph_history.proofs.PaintLemmas.{joined_painted, joined_fresh, one_side_painted, one_side, painted_leads}
 use Rattle.graph_history.proofs.ReachLemmas.{proper_step, reaches_itself}
-use Rattle.graph_history.proofs.CoatLemmas.{IsNext, TakenBy, taken_entry, next_inside, all_low}
+use Rattle.graph_history.proofs.CoatLemmas.{IsNext, TakenBy, next_number, next_inside, all_low}
 use Rattle.graph_history.proofs.FoundLemmas.{counted_number, some_counted, tested_within}
 use Rattle.graph_ancestors.proofs.VisitLemmas.{no_more}
 
@@ -61,8 +61,7 @@ painted_queued h coats queue level p levelled low painted =
     (cases_Bool (is_queued coats p))
 
 -- The commit that is taken is marked as queued, since as many commits are as the queue has entries.
-module _ {h : List Node} {a : ℕ} {bs : List ℕ} {coats : List Coat} {queue rest : List (ℕ × ℕ)} {next : ℕ × ℕ}
-    (is_next : IsNext h a bs coats queue rest next) where
+module _ {n : ℕ} {coats : List Coat} {queue rest : List (ℕ × ℕ)} {next : ℕ × ℕ} (is_next : IsNext n coats queue rest next) where
   open is_next use {waiting, moved}
 
   place_in : (entries : List (ℕ × ℕ)) (g p : ℕ) → Contains entries (g, p) → Contains (map (λ (e : ℕ × ℕ). e.1) entries) p
@@ -71,14 +70,16 @@ module _ {h : List Node} {a : ℕ} {bs : List ℕ} {coats : List Coat} {queue re
   place_in (e ∷ es) g p (suc k, lt, at) =
       let more = place_in es g p (k, omega arith, at) in (suc more.0, (let lt' = more.1 in omega arith), more.2)
 
-  in_rest : is_queued coats next.1 ≡ false → (p : ℕ) → is_queued coats p ≡ true → Contains rest (generation_at h p, p)
-  in_rest unqueued p queued =
-      by_cases (Contains-permutation queue (next ∷ rest) (generation_at h p, p) moved (waiting.queued p queued)) where
-        by_cases : Contains (next ∷ rest) (generation_at h p, p) → Contains rest (generation_at h p, p)
-        by_cases (zero, lt, at) =
-            let same : next.1 ≡ p = ap (λ (x : ℕ × ℕ). x.1) at in
-            absurd (both_ways (is_queued coats p) (ap (is_queued coats) (sym same) ∙ unqueued) queued)
-        by_cases (suc k, lt, at) = (k, omega arith, at)
+  in_rest : is_queued coats next.1 ≡ false → (p : ℕ) → is_queued coats p ≡ true → (g : ℕ) × Contains rest (g, p)
+  in_rest unqueued p queued = (has.0, by_cases (Contains-permutation queue (next ∷ rest) (has.0, p) moved has.1)) where
+    has : (g : ℕ) × Contains queue (g, p)
+    has = waiting.queued p queued
+
+    by_cases : Contains (next ∷ rest) (has.0, p) → Contains rest (has.0, p)
+    by_cases (zero, lt, at) =
+        let same : next.1 ≡ p = ap (λ (x : ℕ × ℕ). x.1) at in
+        absurd (both_ways (is_queued coats p) (ap (is_queued coats) (sym same) ∙ unqueued) queued)
+    by_cases (suc k, lt, at) = (k, omega arith, at)
 
   pub next_queued : is_queued coats next.1 ≡ true
   next_queued =
@@ -91,7 +92,8 @@ module _ {h : List Node} {a : ℕ} {bs : List ℕ} {coats : List Coat} {queue re
       (λ p e. tested_within t refl coats p e) (count_by t coats) refl in
       let bound =
       no_more all.0 (map (λ (e : ℕ × ℕ). e.1) rest) all.1.once
-      (λ p contained. place_in rest (generation_at h p) p (in_rest unqueued p ((all.1.those p).0 contained))) in
+      (λ p contained.
+      let left = in_rest unqueued p ((all.1.those p).0 contained) in place_in rest left.0 p left.1) in
       let len = length_permutation queue (next ∷ rest) moved in
       let same = length-map rest (λ (e : ℕ × ℕ). e.1) in
       let was = waiting.count in
@@ -117,13 +119,16 @@ module _ (h : List Node) (a : ℕ) (bs : List ℕ) (coats : List Coat) (none : (
     count = sym (none_counted is_visited refl);
   }
 
-  pub waiting_none : (queue : List (ℕ × ℕ)) → queue ≡ [] → IsHeap entry_cmp queue → IsWaiting h coats queue
-  waiting_none queue empty order = record {
+  pub waiting_none : (count : ℕ) (queue : List (ℕ × ℕ)) → queue ≡ [] → IsHeap entry_cmp queue → IsWaiting count coats queue
+  waiting_none count queue empty order = record {
     order = order;
-    entries = subst (All (IsEntry h)) (sym empty) (All-nil (IsEntry h));
+    within = subst (All (λ (e : ℕ × ℕ). e.1 < count)) (sym empty) (All-nil (λ (e : ℕ × ℕ). e.1 < count));
     queued = λ p e. absurd (false≢true (sym (ap (λ (m : Coat). m.queued) (none p)) ∙ e));
     count = ap length empty ∙ sym (none_counted (λ (m : Coat). m.queued) refl);
   }
+
+  pub numbered_none : (queue : List (ℕ × ℕ)) → queue ≡ [] → All (IsNumbered h) queue
+  numbered_none queue empty = subst (All (IsNumbered h)) (sym empty) (All-nil (IsNumbered h))
 
   pub paint_none : length coats ≡ length h → IsPaint h a bs coats
   paint_none len = record {
@@ -216,10 +221,10 @@ module _ (h : List Node) (a : ℕ) (bs : List ℕ) (coats after : List Coat) (p 
   }
 
 -- A commit was taken from the queue, while one is fresh.
-module _ {h : List Node} {a : ℕ} {bs : List ℕ} {coats after : List Coat} {queue rest : List (ℕ × ℕ)} {next : ℕ × ℕ}
-    {visits : ℕ} {coat : Coat} (is_next : IsNext h a bs coats queue rest next)
+module _ {h : List Node} {a : ℕ} {bs : List ℕ} {n : ℕ} {coats after : List Coat} {queue rest : List (ℕ × ℕ)} {next : ℕ × ℕ}
+    {visits : ℕ} {coat : Coat} (is_next : IsNext n coats queue rest next) (numbered : All (IsNumbered h) queue)
     (is_coat : coat ≡ record { paint = paint_at coats next.1; queued = false }) (is_after : after ≡ set coats next.1 coat)
-    (taken : TakenBy h a bs coats after queue rest next) (queued : is_queued coats next.1 ≡ true)
+    (taken : TakenBy n coats after queue rest next) (queued : is_queued coats next.1 ≡ true)
     (some : 0 < count_by is_fresh coats) (visiting : IsVisiting h a bs coats visits) where
   settles : (q : ℕ) → is_queued coats q ≡ false → is_queued after q ≡ false
   settles q settled =
@@ -254,8 +259,8 @@ module _ {h : List Node} {a : ℕ} {bs : List ℕ} {coats after : List Coat} {qu
         let fresh = some_counted is_fresh coats some in
         let f = fresh.0 in
         let parts = and_parts (is_queued coats f) (not (is_stale (paint_at coats f))) fresh.1 in
-        let le = all_low is_next f parts.0 in
-        let at = (taken_entry is_next).1 in
+        let le = all_low is_next h numbered f parts.0 in
+        let at = next_number is_next h numbered in
         let same = ap (generation_at h) e in (
           f,
           keeps f (visiting.edge f (visiting.painted f parts.0) (not_true (is_stale (paint_at coats f)) parts.1)),

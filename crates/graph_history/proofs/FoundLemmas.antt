@@ -19,11 +19,12 @@ use Rattle.std.proofs.lemmas.Map.Made.{IsDistinct-from_AllPairs}
 use Rattle.graph_walks.specs.History.{Node}
 use Rattle.graph_format.specs.declared.Position.{Position}
 use Rattle.graph_ancestors.specs.WalkAnswer.{numbers_of}
-use Rattle.graph_history.specs.Bases.{AreMergeBases, IsAhead, IsBehind}
+use Rattle.graph_history.specs.Bases.{AreMergeBases, IsAhead, IsBehind, IsCommonAncestor}
 use Rattle.graph_ancestors.specs.Cardinality.{IsNumberOf}
 use Rattle.graph_history.specs.declared.paint.Coat.{Coat}
-use Rattle.graph_history.specs.Paint.{is_base, is_ahead, is_behind, first_leads, bare, coat_at, paint_at}
+use Rattle.graph_history.specs.Paint.{is_base, is_ahead, is_behind, first_leads, bare, coat_at, paint_at, IsPaint}
 use Rattle.graph_history.specs.Painting.{AreCandidates, AreBases, IsPainted}
+use Rattle.graph_history.proofs.PaintLemmas.{base_first, base_others}
 use Rattle.graph_history.proofs.ReachLemmas.{reaches_within}
 use Rattle.graph_ancestors.proofs.ListLemmas.{head_contained, tail_contained, contained_cases}
 
@@ -149,25 +150,39 @@ module _ (h : List Node) (a : ℕ) (bs : List ℕ) (coats : List Coat) (painted 
     );
   }
 
--- merge bases are commits
-pub bases_within : (h : List Node) (a : ℕ) (bs : List ℕ) (n : ℕ) (bases : List Position) → n ≡ length h
-    → AreMergeBases h a bs (numbers_of bases) → All (λ base. base.0 < n) bases
-bases_within h a bs n bases commits are =
-    below bases
-    (All-weaker (Contains (numbers_of bases)) (λ p. p < n)
-    (λ p contained. omega (arith, commits, reaches_within h a p ((are.those p).0 contained).common.0)) (numbers_of bases)
-    (All-contains_itself (numbers_of bases))) where
-      below : (xs : List Position) → All (λ p. p < n) (numbers_of xs) → All (λ (x : Position). x.0 < n) xs
-      below [] all = All-nil (λ (x : Position). x.0 < n)
-      below (x ∷ xs) all =
-          All-cons (λ (y : Position). y.0 < n) x xs (All-head (λ p. p < n) x.0 (numbers_of xs) all)
-          (below xs (All-tail (λ p. p < n) x.0 (numbers_of xs) all))
-
 -- The merge bases among the candidates.
 
 -- a commit of which something is known
 pub known_within : (coats : List Coat) (p : ℕ) → first_leads (paint_at coats p) ≡ true → p < length coats
 known_within coats p e = tested_within (λ (c : Coat). first_leads c.paint) refl coats p e
+
+positions_are : (P : ℕ → Type 0) (xs : List Position) → All P (numbers_of xs) → All (λ (x : Position). P x.0) xs
+positions_are P [] all = All-nil (λ (x : Position). P x.0)
+positions_are P (x ∷ xs) all =
+    All-cons (λ (y : Position). P y.0) x xs (All-head P x.0 (numbers_of xs) all)
+    (positions_are P xs (All-tail P x.0 (numbers_of xs) all))
+
+-- the commits that are merge bases as far as is known
+module _ (coats : List Coat) (bases : List Position) (are : AreBases coats (numbers_of bases)) where
+  bases_all : (P : ℕ → Type 0) → ((p : ℕ) → is_base (paint_at coats p) ≡ true → P p) → All (λ (x : Position). P x.0) bases
+  bases_all P holds =
+      positions_are P bases
+      (All-weaker (Contains (numbers_of bases)) P (λ p contained. holds p ((are.those p).0 contained)) (numbers_of bases)
+      (All-contains_itself (numbers_of bases)))
+
+  pub bases_below : (n : ℕ) → length coats ≡ n → All (λ (x : Position). x.0 < n) bases
+  bases_below n len =
+      bases_all (λ p. p < n)
+      (λ p base. let in' = known_within coats p (base_first (paint_at coats p) base) in omega arith)
+
+  pub bases_common : (h : List Node) (a : ℕ) (bs : List ℕ) → IsPaint h a bs coats
+      → All (λ (x : Position). IsCommonAncestor h a bs x.0) bases
+  bases_common h a bs paint =
+      bases_all (IsCommonAncestor h a bs)
+      (λ p base. (
+        (paint.each p).first (base_first (paint_at coats p) base),
+        (paint.each p).others (base_others (paint_at coats p) base),
+      ))
 
 filter_contains : (t : ℕ → Bool) (xs : List ℕ) (p : ℕ) → Contains xs p → t p ≡ true → Contains (filter t xs) p
 filter_contains t [] p contained met = absurd (let lt = contained.1 in omega arith)

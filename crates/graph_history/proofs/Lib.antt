@@ -16,3 +16,4 @@ pub mod BaseLawLemmas
 pub mod LowestLemmas
 pub mod LowerLemmas
 pub mod ReloadLemmas
+pub mod ComparisonLemmas

@@ -7,8 +7,8 @@ use Rattle.graph_format.specs.Parents.{extra_edge_of}
 use Rattle.graph_format.specs.declared.Position.{Position}
 use Rattle.graph_format.specs.declared.parents.ExtraEdge.{ExtraEdge}
 use Rattle.graph_format.specs.declared.parents.ExtraEdge.TheVariants as extra
-use Rattle.graph_format.specs.Layer.{Layer}
-use Rattle.graph_ancestors.specs.Commits.{named_by, named_from, list_in}
+use Rattle.graph_ancestors.specs.Commits.{named_by, named_from}
+use Rattle.graph_ancestors.specs.Source.{Told}
 use Rattle.graph_history.specs.declared.painting.Painting.{Painting}
 use Rattle.graph_history.specs.declared.trails.Trails.{Trails}
 use Rattle.graph_history.specs.declared.paint.Coat.{Coat}
@@ -219,11 +219,14 @@ module _ {coats more : List Coat} {list : List ℕ} {trail after : List Paint} {
         (cases_eq w next);
   }
 
+-- What was passed with paint up to the word that is next, was passed with it once that was.
+module _ (trail after : List Paint) (next : ℕ) (x : Paint) (here : trail_at after next ≡ joined (trail_at trail next) x)
+    (there : (w : ℕ) → w ≢ next → trail_at after w ≡ trail_at trail w) where
   pub begun_after : (index : ℕ) → Grows x (trail_at trail index) ⊎ (index ≡ next) → Grows x (trail_at after index)
   begun_after index begun =
       ⊎_elim
       (λ (e : index ≡ next).
-      subst (Grows x) (sym (at_next index e)) (grows_right (trail_at trail index) x))
+      subst (Grows x) (sym (ap (trail_at after) e ∙ here)) (grows_right (trail_at trail next) x))
       (λ (apart : index ≢ next).
       subst (Grows x) (sym (there index apart))
       (⊎_elim
@@ -233,44 +236,58 @@ module _ {coats more : List Coat} {list : List ℕ} {trail after : List Paint} {
       (cases_eq index next)
 
 -- Words were passed, and nothing else has changed.
-pub passes_with : (s : Painting) (t : Trails) (p : ℕ) (x : Paint) → PassesPaint s p x
-    → PassesPaint (record s { coats = record s.coats { trails = t } }) p x
-passes_with s t p x r = record {
+pub passes_with : (count : ℕ) (says : Told → Type 0) (s : Painting) (t : Trails) (p : ℕ) (x : Paint)
+    → PassesPaint count says s p x → PassesPaint count says (record s { coats = record s.coats { trails = t } }) p x
+passes_with count says s t p x r = record {
   painting = record {
-    graph = r.painting.graph;
-    sound = r.painting.sound;
-    commits = r.painting.commits;
     few = r.painting.few;
+    coats_len = r.painting.coats_len;
     counted = record {
       fresh = r.painting.counted.fresh;
       ahead = r.painting.counted.ahead;
       behind = r.painting.counted.behind;
     };
-    paint = r.painting.paint;
     waiting = r.painting.waiting;
     candidates = r.painting.candidates;
     touched = r.painting.touched;
     visits = r.painting.visits;
-    visiting = r.painting.visiting;
   };
   within = r.within;
-  so = r.so;
-  uncapped = r.uncapped;
-  painted = r.painted;
-  own = r.own;
   same = r.same;
-  spread = r.spread;
-  level = r.level;
+  told = λ u said.
+      (let was = r.told u said in
+      record {
+        painting = record {
+          paint = was.painting.paint;
+          numbered = was.painting.numbered;
+          visiting = was.painting.visiting;
+        };
+        so = was.so;
+        spread = was.spread;
+        in_order = λ right.
+            (let order = was.in_order right in
+            record { uncapped = order.uncapped; painted = order.painted; own = order.own; level = order.level });
+      });
+}
+
+-- More of the source was read.
+pub passes_kept : (count : ℕ) (says more : Told → Type 0) (s : Painting) (p : ℕ) (x : Paint)
+    → ((t : Told) → more t → says t) → PassesPaint count says s p x → PassesPaint count more s p x
+passes_kept count says more s p x kept r = record {
+  painting = r.painting;
+  within = r.within;
+  same = r.same;
+  told = λ t said. r.told t (kept t said);
 }
 
 -- the lists of all layers, where that of one was read
-pub are_passed_from : (coats : List Coat) (layers : List Layer) (trails : List (List Paint)) (layer : ℕ)
-    → ((i : ℕ) → i ≢ layer → IsPassed coats (list_in layers i) (trail_in trails i))
-    → IsPassed coats (list_in layers layer) (trail_in trails layer) → (i : ℕ)
-    → IsPassed coats (list_in layers i) (trail_in trails i)
-are_passed_from coats layers trails layer others here i =
+pub are_passed_from : (coats : List Coat) (lists : ℕ → List ℕ) (trails : List (List Paint)) (layer : ℕ)
+    → ((i : ℕ) → i ≢ layer → IsPassed coats (lists i) (trail_in trails i))
+    → IsPassed coats (lists layer) (trail_in trails layer) → (i : ℕ)
+    → IsPassed coats (lists i) (trail_in trails i)
+are_passed_from coats lists trails layer others here i =
     ⊎_elim
-    (λ (same : i ≡ layer). subst (λ (k : ℕ). IsPassed coats (list_in layers k) (trail_in trails k)) (sym same) here)
+    (λ (same : i ≡ layer). subst (λ (k : ℕ). IsPassed coats (lists k) (trail_in trails k)) (sym same) here)
     (λ (apart : i ≢ layer). others i apart)
     (cases_eq i layer)
 

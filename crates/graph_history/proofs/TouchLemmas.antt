@@ -5,7 +5,6 @@ use Rattle.std.proofs.Common.{inl, inr, ⊎_elim, arith}
 use Rattle.std.proofs.lemmas.Bool.{cases_eq}
 use Rattle.std.proofs.lemmas.List.Elements.{Contains-push, Contains-push_cases, Contains-append_left}
 use Rattle.std.proofs.lemmas.List.Sorted.{Contains-permutation}
-use Rattle.graph_walks.specs.History.{Node, generation_at}
 use Rattle.graph_history.specs.declared.paint.Coat.{Coat}
 use Rattle.graph_history.specs.Paint.{bare, coat_at}
 use Rattle.graph_history.specs.Painting.{IsTouched, AreTouched, Joins}
@@ -35,11 +34,11 @@ touched_changed coats after taken now_taken queue now_queued p here there stays 
     (touched q))
     (cases_eq q p)
 
-pub touched_added : (h : List Node) (coats after : List Coat) (taken : List ℕ) (queue more : List (ℕ × ℕ)) (p : ℕ)
-    → Joins h p queue more → ((q : ℕ) → q ≢ p → coat_at after q ≡ coat_at coats q)
+pub touched_added : (coats after : List Coat) (taken : List ℕ) (queue more : List (ℕ × ℕ)) (p : ℕ)
+    → Joins p queue more → ((q : ℕ) → q ≢ p → coat_at after q ≡ coat_at coats q)
     → AreTouched coats taken queue → AreTouched after taken more
-touched_added h coats after taken queue more p joins there touched =
-    touched_changed coats after taken taken queue more p (inr (inr (generation_at h p, joins.holds))) there
+touched_added coats after taken queue more p joins there touched =
+    touched_changed coats after taken taken queue more p (inr (inr joins.holds)) there
     (λ q apart t. t) (λ g q apart w. joins.keeps (g, q) w) touched
 
 -- An entry leaves the queue.

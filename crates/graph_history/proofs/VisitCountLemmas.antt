@@ -3,7 +3,7 @@ use Rattle.std.proofs.Common.{◌≡◌, ℕ, ◌+◌, ◌*◌, ◌<◌, ◌≤�
 use Rattle.std.proofs.Common.{sum_by, count_by, Contains, refl, ap, inl, inr, ⊎_elim, arith, lit<}
 use Rattle.std.proofs.lemmas.Bool.{true≢false, cases_Bool, both_ways, and_from}
 use Rattle.std.proofs.lemmas.List.Elements.{All-weaker, All-contains, All-contains_itself}
-use Rattle.std.proofs.lemmas.List.Sums.{sum_by-cons, sum_by-set}
+use Rattle.std.proofs.lemmas.List.Sums.{sum_by-cons, sum_by-set, count_by-le-length}
 use Rattle.graph_walks.specs.declared.TheConstants.{GENERATION_NUMBER_MAX}
 use Rattle.graph_walks.specs.History.{Node, generation_at}
 use Rattle.graph_ancestors.specs.Cardinality.{AtLeast, AtMost}
@@ -120,6 +120,13 @@ known_of_all (c ∷ cs) =
     let paints = sum_by-cons (λ (m : Coat). cond {A = ℕ} (is_painted m.paint) 1 0) c cs in
     let one = known_of_one c.paint in
     let rest = known_of_all cs in
+    omega arith
+
+pub visits_bound : (coats : List Coat) (visits : ℕ) → IsVisitCount coats visits → visits ≤ 3 * length coats
+visits_bound coats visits count =
+    let most = count.most in
+    let bound = known_of_all coats in
+    let painted = count_by-le-length (λ (m : Coat). is_painted m.paint) coats in
     omega arith
 
 module _ (h : List Node) (a : ℕ) (bs : List ℕ) (coats : List Coat) (visits : ℕ) (paint : IsPaint h a bs coats)

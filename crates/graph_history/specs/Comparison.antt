@@ -1,5 +1,6 @@
 -- what is answered where a commit is compared with some others
 use Rattle.std.specs.Prelude.{ℕ, ◌<◌, List, All}
+use Rattle.graph_walks.specs.History.{Node}
 use Rattle.graph_format.specs.Layer.{Layer}
 use Rattle.graph_format.specs.StoredHistory.{history_of}
 use Rattle.gix_commitgraph.specs.Graph.{total}
@@ -8,7 +9,15 @@ use Rattle.graph_history.specs.Bases.{AreMergeBases, IsAhead, IsBehind, AreVisit
 use Rattle.graph_ancestors.specs.Cardinality.{IsNumberOf}
 use Rattle.graph_history.specs.declared.bases.Comparison.{Comparison}
 
--- The merge bases of a commit and some others, how far they have come apart, and how many commits were visited for that.
+-- The merge bases of a commit of a history and some others, how far they have come apart, and how many commits were visited for
+-- that.
+pub record IsComparison (history : List Node) (first : ℕ) (others : List ℕ) (comparison : Comparison) : Type 0 where
+  pub bases : AreMergeBases history first others (numbers_of comparison.bases.positions.items)
+  pub visits : AreVisits history first others comparison.bases.visits
+  pub ahead : IsNumberOf comparison.divergence.ahead (IsAhead history first others)
+  pub behind : IsNumberOf comparison.divergence.behind (IsBehind history first others)
+
+-- Those of a graph.
 pub record IsComparisonOf (layers : List Layer) (first : ℕ) (others : List ℕ) (comparison : Comparison) : Type 0 where
   pub bases : AreMergeBases (history_of layers) first others (numbers_of comparison.bases.positions.items)
   pub within : All (λ base. base.0 < total layers) comparison.bases.positions.items

@@ -1,4 +1,4 @@
--- The state of a painting of a graph: the paint of all commits, and the queue of those that have not passed on all that is
+-- The state of a painting of a history: the paint of all commits, and the queue of those that have not passed on all that is
 -- known of them. For private contracts alone.
 use Rattle.std.specs.Prelude.{◌⊎◌, count_by}
 use Rattle.std.specs.Prelude.{◌≡◌, ◌≢◌, ◌↔◌, ℕ, ◌+◌, ◌*◌, ◌^◌, ◌<◌, ◌≤◌, true, false, List, All, AllPairs, Contains, length}
@@ -9,15 +9,14 @@ use Rattle.std.specs.Ordering.{nat_cmp, ordering_then}
 use Rattle.std.specs.declared.cmp.Ordering.{Ordering}
 use Rattle.graph_walks.specs.declared.TheConstants.{GENERATION_NUMBER_MAX}
 use Rattle.graph_walks.specs.History.{Node, IsParent, generation_at}
+use Rattle.graph_walks.specs.Walks.{CountWalks}
 use Rattle.graph_format.specs.Parents.{extra_edge_of}
-use Rattle.graph_format.specs.StoredHistory.{history_of}
 use Rattle.graph_format.specs.declared.Position.{Position}
 use Rattle.graph_format.specs.declared.parents.ExtraEdge.TheVariants as extra
-use Rattle.gix_commitgraph.specs.Graph.{IsGraph, total}
-use Rattle.gix_commitgraph.specs.Sound.{Sound}
 use Rattle.graph_ancestors.specs.WalkAnswer.{numbers_of}
 use Rattle.graph_history.specs.Bases.{IsMergeBase, IsAhead, IsBehind, IsStart, AreBelowCap}
-use Rattle.graph_ancestors.specs.Commits.{named_by, list_in}
+use Rattle.graph_ancestors.specs.Commits.{named_by}
+use Rattle.graph_ancestors.specs.Source.{Told}
 use Rattle.graph_history.specs.Paint.{is_on_one_side, is_visited, IsSo}
 use Rattle.graph_history.specs.Paint.{first_leads, others_lead, is_stale, is_painted, is_ahead, is_behind, is_base, passed}
 use Rattle.graph_history.specs.Paint.{known, unknown, bare}
@@ -44,14 +43,15 @@ pub record IsSpreadBut (history : List Node) (start : ℕ) (starts : List ℕ) (
 abbrev pub entry_cmp : ℕ × ℕ → ℕ × ℕ → Ordering
 entry_cmp x y = ordering_then (nat_cmp x.0 y.0) (nat_cmp x.1 y.1)
 
-abbrev pub IsEntry : List Node → ℕ × ℕ → Type 0
-IsEntry history e = (e.1 < length history) × (e.0 ≡ generation_at history e.1)
+-- an entry has the generation number of its commit
+abbrev pub IsNumbered : List Node → ℕ × ℕ → Type 0
+IsNumbered history e = e.0 ≡ generation_at history e.1
 
--- The queue has each commit that is marked as queued.
-pub record IsWaiting (history : List Node) (coats : List Coat) (queue : List (ℕ × ℕ)) : Type 0 where
+-- The queue, among so many commits, has each that is marked as queued.
+pub record IsWaiting (commits : ℕ) (coats : List Coat) (queue : List (ℕ × ℕ)) : Type 0 where
   pub order : IsHeap entry_cmp queue
-  pub entries : All (IsEntry history) queue
-  pub queued : (p : ℕ) → is_queued coats p ≡ true → Contains queue (generation_at history p, p)
+  pub within : All (λ e. e.1 < commits) queue
+  pub queued : (p : ℕ) → is_queued coats p ≡ true → (g : ℕ) × Contains queue (g, p)
   pub count : length queue ≡ count_by (λ coat. coat.queued) coats
 
 -- A generation number that no queued commit is above, and no painted one below that is not queued.
@@ -60,13 +60,17 @@ pub record IsLevel (history : List Node) (coats : List Coat) (queue : List (ℕ 
   pub below : All (λ e. e.0 ≤ level) queue
 
 -- A queue to which a commit was added, or that had it.
-pub record Joins (history : List Node) (p : ℕ) (old new : List (ℕ × ℕ)) : Type 0 where
+pub record Joins (p : ℕ) (old new : List (ℕ × ℕ)) : Type 0 where
   pub order : IsHeap entry_cmp old → IsHeap entry_cmp new
-  pub entries : All (IsEntry history) old → All (IsEntry history) new
-  pub below : (level : ℕ) → generation_at history p ≤ level → All (λ e. e.0 ≤ level) old → All (λ e. e.0 ≤ level) new
-  pub holds : Contains new (generation_at history p, p)
+  pub within : (count : ℕ) → p < count → All (λ e. e.1 < count) old → All (λ e. e.1 < count) new
+  pub holds : (g : ℕ) × Contains new (g, p)
   pub keeps : (e : ℕ × ℕ) → Contains old e → Contains new e
   pub longer : length new ≤ length old + 1
+
+-- It was added with its generation number.
+pub record JoinsNumbered (history : List Node) (p : ℕ) (old new : List (ℕ × ℕ)) : Type 0 where
+  pub numbered : All (IsNumbered history) old → All (IsNumbered history) new
+  pub below : (level : ℕ) → generation_at history p ≤ level → All (λ e. e.0 ≤ level) old → All (λ e. e.0 ≤ level) new
 
 -- The coats after paint was added to one commit.
 pub record Adds (p : ℕ) (paint : Paint) (old new : List Coat) : Type 0 where
@@ -124,20 +128,31 @@ AreTouched coats taken queue = (p : ℕ) → IsTouched coats taken queue p
 abbrev pub work : List Coat → List (ℕ × ℕ) → ℕ
 work coats queue = 2 * sum_by (λ coat. unknown coat.paint) coats + length queue
 
--- The state of a painting.
-pub record IsPainting (s : Painting) : Type 0 where
-  pub graph : IsGraph s.graph.now.layers
-  pub sound : Sound s.graph.now.layers
-  pub commits : total s.graph.now.layers ≡ length (history_of s.graph.now.layers)
-  pub few : length s.coats.all.items < 2 ^ 31
+-- The state of a painting among so many commits.
+pub record IsPainting (count : ℕ) (s : Painting) : Type 0 where
+  pub few : count < 2 ^ 32
+  pub coats_len : length s.coats.all.items ≡ count
   pub counted : IsCounted s.coats
-  pub paint : IsPaint (history_of s.graph.now.layers) s.first.0 (numbers_of s.others.now) s.coats.all.items
-  pub waiting : IsWaiting (history_of s.graph.now.layers) s.coats.all.items (heap_items s.queue)
+  pub waiting : IsWaiting count s.coats.all.items (heap_items s.queue)
   pub candidates : AreCandidates s.coats.all.items s.candidates.items
   pub touched : AreTouched s.coats.all.items s.taken.items (heap_items s.queue)
   pub visits : IsVisitCount s.coats.all.items s.visits
-  pub visiting : AreBelowCap (history_of s.graph.now.layers) s.first.0 (numbers_of s.others.now)
-      → IsVisiting (history_of s.graph.now.layers) s.first.0 (numbers_of s.others.now) s.coats.all.items s.visits
+
+-- What it knows is so in this history.
+pub record IsPaintingOf (history : List Node) (s : Painting) : Type 0 where
+  pub paint : IsPaint history s.first.0 (numbers_of s.others.now) s.coats.all.items
+  pub numbered : All (IsNumbered history) (heap_items s.queue)
+  pub visiting : CountWalks history → AreBelowCap history s.first.0 (numbers_of s.others.now)
+      → IsVisiting history s.first.0 (numbers_of s.others.now) s.coats.all.items s.visits
+
+-- Paint that may be added to a commit.
+pub record MayAdd (history : List Node) (s : Painting) (p : ℕ) (paint : Paint) : Type 0 where
+  pub painting : IsPaintingOf history s
+  pub so : IsSo history s.first.0 (numbers_of s.others.now) p paint
+  pub waits : CountWalks history → AreBelowCap history s.first.0 (numbers_of s.others.now)
+      → is_painted (paint_at s.coats.all.items p) ≡ true → is_queued s.coats.all.items p ≡ true
+  pub edge : CountWalks history → AreBelowCap history s.first.0 (numbers_of s.others.now) → is_stale paint ≡ false
+      → IsKnownEdge history s.first.0 (numbers_of s.others.now) s.coats.all.items p
 
 -- Of an extra edge list: each word was passed with no more paint than the commit that it names has, and, unless it names the
 -- last parent, than the word after it.
@@ -146,24 +161,31 @@ pub record IsPassed (coats : List Coat) (list : List ℕ) (trail : List Paint) :
   pub goes_on : (w : ℕ) (pos : Position) → extra_edge_of (slice_index list w) ≡ extra.Internal pos
       → Grows (trail_at trail w) (trail_at trail (w + 1))
 
--- so of the lists of all layers
-abbrev pub ArePassed : Painting → Type 0
-ArePassed s = (l : ℕ) → IsPassed s.coats.all.items (list_in s.graph.now.layers l) (trail_in s.coats.trails.layers.items l)
+-- so of the lists of all layers, as far as a source says them
+abbrev pub ArePassed : (Told → Type 0) → Painting → Type 0
+ArePassed says s = (t : Told) → says t → (l : ℕ) → IsPassed s.coats.all.items (t.lists l) (trail_in s.coats.trails.layers.items l)
 
--- A commit that was taken from the queue passes on what this paint says of it.
-pub record PassesPaint (s : Painting) (commit : ℕ) (paint : Paint) : Type 0 where
-  pub painting : IsPainting s
-  pub within : commit < length (history_of s.graph.now.layers)
-  pub so : IsSo (history_of s.graph.now.layers) s.first.0 (numbers_of s.others.now) commit paint
-  pub uncapped : AreBelowCap (history_of s.graph.now.layers) s.first.0 (numbers_of s.others.now)
-      → generation_at (history_of s.graph.now.layers) commit < GENERATION_NUMBER_MAX
-  pub painted : AreBelowCap (history_of s.graph.now.layers) s.first.0 (numbers_of s.others.now) → is_painted paint ≡ true
-  pub own : AreBelowCap (history_of s.graph.now.layers) s.first.0 (numbers_of s.others.now)
-      → is_queued s.coats.all.items commit ≡ false
+-- The order in which commits are visited is that of the generation numbers: where these are right, a commit that was taken from
+-- the queue stands above all that are there, and its parents are below it, or at the cap as it is.
+pub record PassesInOrder (history : List Node) (s : Painting) (commit : ℕ) (paint : Paint) : Type 0 where
+  pub uncapped : AreBelowCap history s.first.0 (numbers_of s.others.now) → generation_at history commit < GENERATION_NUMBER_MAX
+  pub painted : AreBelowCap history s.first.0 (numbers_of s.others.now) → is_painted paint ≡ true
+  pub own : AreBelowCap history s.first.0 (numbers_of s.others.now) → is_queued s.coats.all.items commit ≡ false
+  pub level : IsLevel history s.coats.all.items (heap_items s.queue) (generation_at history commit)
+
+-- A commit that was taken from the queue passes on what this paint says of it in a history.
+pub record PassesPaintOf (history : List Node) (s : Painting) (commit : ℕ) (paint : Paint) : Type 0 where
+  pub painting : IsPaintingOf history s
+  pub so : IsSo history s.first.0 (numbers_of s.others.now) commit paint
+  pub spread : IsSpreadBut history s.first.0 (numbers_of s.others.now) s.coats.all.items commit
+  pub in_order : CountWalks history → PassesInOrder history s commit paint
+
+-- so in each that a source of so many commits says
+pub record PassesPaint (count : ℕ) (says : Told → Type 0) (s : Painting) (commit : ℕ) (paint : Paint) : Type 0 where
+  pub painting : IsPainting count s
+  pub within : commit < count
   pub same : is_queued s.coats.all.items commit ≡ false → paint_at s.coats.all.items commit ≡ paint
-  pub spread : IsSpreadBut (history_of s.graph.now.layers) s.first.0 (numbers_of s.others.now) s.coats.all.items commit
-  pub level : IsLevel (history_of s.graph.now.layers) s.coats.all.items (heap_items s.queue)
-      (generation_at (history_of s.graph.now.layers) commit)
+  pub told : (t : Told) → says t → PassesPaintOf t.history s commit paint
 
 -- Paint was passed on.
 pub record PassesOn (old new : Painting) : Type 0 where

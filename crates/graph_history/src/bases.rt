@@ -8,12 +8,11 @@ ghost use Rattle.graph_history.specs.Bases.{AreMergeBases, IsAhead, IsBehind};
 ghost use Rattle.graph_history.specs.Bases.{AreVisits};
 ghost use Rattle.graph_history.specs.Comparison.{IsComparisonOf};
 ghost use Rattle.graph_ancestors.specs.Cardinality.{IsNumberOf};
-ghost use Rattle.graph_history.specs.Paint.{AreIdle};
 
+use crate::any::AnyComparer;
 use crate::checked::Checked;
-use crate::paint::Coats;
-use crate::painting::paint_from;
 use gix_commitgraph::Position;
+use graph_ancestors::InMemory;
 use std::alloc::{AllocError, Global};
 use std::marker::Model;
 
@@ -137,23 +136,16 @@ impl<'g> Checked<'g> {
 /// A contract sees it as the checked graph: its layers and the options of the check.
 #[derive(Drop)]
 pub struct Comparer<'c, 'g> {
-    alloc: Global,
     graph: &'c Checked<'g>,
-    /// The coats of all commits, idle between calls.
-    coats: Option<Coats>,
+    comparer: AnyComparer,
 }
 
 impl<'c, 'g> Model for Comparer<'c, 'g> {
-    ghost use Rattle.std.specs.Prelude.{IfSome};
-    ghost use Rattle.gix_commitgraph.specs.Graph.{total};
-    ghost use Rattle.graph_history.specs.Paint.{AreIdle};
     ghost use Rattle.graph_history.specs.RightGraph.{CheckedLayers};
 
     ghost Value = { CheckedLayers };
 
     ghost view = { λ a. a.graph.now };
-
-    ghost invariant = { λ a. IfSome a.coats (AreIdle (total a.graph.now.layers)) };
 }
 
 impl<'c, 'g> Comparer<'c, 'g> {
@@ -162,9 +154,8 @@ impl<'c, 'g> Comparer<'c, 'g> {
         ensures { result ≡ graph.now }
     {
         Comparer {
-            alloc,
             graph,
-            coats: None,
+            comparer: AnyComparer::new(alloc),
         }
     }
 
@@ -192,37 +183,7 @@ impl<'c, 'g> Comparer<'c, 'g> {
         ensures exact { IfOk result (IsComparisonOf self.old.layers first.0
             (numbers_of others.now)) }
     {
-        let coats = match self.coats.take() {
-            Some(coats) => coats,
-            None => Coats::new(self.alloc, self.graph.num_commits())?,
-        };
-        let (comparison, coats) = compared(self.alloc, coats, self.graph, first, others)?;
-        self.coats = Some(coats);
-        Ok(comparison)
+        let mut commits = InMemory::new(self.graph.graph());
+        self.comparer.compare(&mut commits, first, others)
     }
-}
-
-/// What a commit and some others have in common, and how far they have come apart; and the coats,
-/// which are idle before and after.
-fn compared(
-    alloc: Global,
-    coats: Coats,
-    graph: &Checked<'_>,
-    first: Position,
-    others: &[Position],
-) -> Result<(Comparison, Coats), AllocError>
-    requires idle { AreIdle (total graph.now.layers) coats }
-    requires first { first.0 < total graph.now.layers }
-    requires others { All (λ other. other.0 < total graph.now.layers) others.now }
-    ensures exact { IfOk result (λ answer.
-        IsComparisonOf graph.now.layers first.0 (numbers_of others.now) answer.0) }
-    ensures idle { IfOk result (λ answer. AreIdle (total graph.now.layers) answer.1) }
-{
-    let mut painting = paint_from(alloc, coats, graph, first, others)?;
-    let divergence = painting.divergence();
-    let visits = painting.visits();
-    let positions = painting.bases(alloc)?;
-    let bases = Bases { positions, visits };
-    let comparison = Comparison { bases, divergence };
-    Ok((comparison, painting.into_coats()))
 }

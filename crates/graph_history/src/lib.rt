@@ -6,12 +6,13 @@
 //! ancestor of another, and by which shortest walk along parents. A [`Searcher`] answers many such
 //! queries over one memory. A checked graph also says which merge bases some commits have, and how
 //! far they have come apart: a [`Comparison`] is both, and a [`Comparer`] makes many of them over
-//! one memory. Queries rely on the generation numbers, which the check has found right, and leave
-//! out each commit whose number is too low to lead to the one that is looked for ("topological
-//! level" in Git's commit-graph design).
+//! one memory; an [`AnyComparer`] over any source of commits. Queries rely on the generation
+//! numbers, which the check has found right, and leave out each commit whose number is too low to
+//! lead to the one that is looked for ("topological level" in Git's commit-graph design).
 #![tactic(auto)]
 
 mod access;
+mod any;
 mod bases;
 mod checked;
 pub mod law;
@@ -25,6 +26,7 @@ mod reload;
 mod shared;
 mod trails;
 
+pub use any::AnyComparer;
 pub use bases::{Bases, Comparer, Comparison, Divergence};
 pub use checked::Checked;
 pub use graph_ancestors::{NoFault, Reached, Searcher};

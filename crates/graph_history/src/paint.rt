@@ -164,6 +164,13 @@ impl Coats {
         })
     }
 
+    /// How many there are.
+    pub(crate) fn len(&self) -> usize
+        ensures { result ≡ length self.now.all.items }
+    {
+        self.all.len()
+    }
+
     /// The coat of a commit.
     pub(crate) fn at(&self, commit: Position) -> Coat
         requires { commit.0 < length self.now.all.items }
@@ -176,7 +183,7 @@ impl Coats {
     pub(crate) fn set(&mut self, commit: Position, coat: Coat)
         requires counted { IsCounted self.old }
         requires within { commit.0 < length self.old.all.items }
-        requires few { length self.old.all.items < 2 ^ 31 }
+        requires few { length self.old.all.items < 2 ^ 32 }
         ensures coats { self.new.all.items ≡ slice_set self.old.all.items commit.0 coat }
         ensures trails { self.new.trails ≡ self.old.trails }
         ensures counted { IsCounted self.new }
@@ -225,7 +232,7 @@ impl Coats {
 /// A count, after one of those that may be counted has changed.
 fn recounted(count: u32, was: bool, is: bool) -> u32
     requires was { cond was 1 0 ≤ count }
-    requires few { count < 2 ^ 31 }
+    requires few { count + cond is 1 0 < 2 ^ 32 + cond was 1 0 }
     ensures { result + cond was 1 0 ≡ count + cond is 1 0 }
 {
     match (was, is) {

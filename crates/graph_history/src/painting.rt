@@ -1,38 +1,37 @@
-//! To which commits of a graph a commit and some others lead, as paint that commits pass on to
-//! their parents.
+//! To which commits a commit and some others lead, as paint that commits pass on to their parents.
 
-ghost use Rattle.std.specs.Prelude.{◌+◌, true, false, cond};
-ghost use Rattle.std.specs.Prelude.{◌≡◌, ◌<◌, ◌≤◌, ◌++◌, ◌∷◌, if◌then◌else◌, ℕ, [], All, length};
-ghost use Rattle.std.specs.Prelude.{count_by, OnOk, IfOk};
-ghost use Rattle.std.specs.BinaryHeap.{heap_items};
-ghost use Rattle.graph_walks.specs.History.{generation_at};
-ghost use Rattle.graph_format.specs.StoredHistory.{history_of};
-ghost use Rattle.gix_commitgraph.specs.Graph.{total};
+ghost use Rattle.std.specs.Prelude.{◌+◌, ◌*◌, ◌^◌, ◌⊎◌, cond, alloc_error, IfErr};
+ghost use Rattle.std.specs.Prelude.{◌≡◌, ◌<◌, ◌≤◌, ◌++◌, ◌∷◌, if◌then◌else◌, ℕ, List, [], All};
+ghost use Rattle.std.specs.Prelude.{IsPermutation, length, count_by, OnOk, IfOk};
+ghost use Rattle.std.specs.BinaryHeap.{IsHeap, heap_items};
+ghost use Rattle.graph_walks.specs.History.{Node, generation_at};
+ghost use Rattle.graph_walks.specs.Walks.{CountWalks};
+ghost use Rattle.graph_ancestors.specs.Source.{Told};
 ghost use Rattle.graph_ancestors.specs.WalkAnswer.{numbers_of};
 ghost use Rattle.graph_history.specs.Bases.{AreBelowCap, AreVisits};
-ghost use Rattle.graph_history.specs.Painting.{IsKnownEdge, IsVisitCount, IsVisiting};
-ghost use Rattle.graph_history.specs.Paint.{is_painted, is_stale, is_queued};
-ghost use Rattle.graph_history.specs.Paint.{is_ahead, is_behind, is_base, bare, coat_at, paint_at};
-ghost use Rattle.graph_history.specs.Paint.{IsSo, IsCounted, IsPaint, AreIdle};
-ghost use Rattle.graph_history.specs.Painting.{IsSpread, IsLevel, Joins, Adds, ArePassed};
+ghost use Rattle.graph_history.specs.Painting.{IsVisitCount, IsVisiting};
+ghost use Rattle.graph_history.specs.Paint.{is_queued};
+ghost use Rattle.graph_history.specs.Paint.{is_ahead, is_behind, is_base, bare, coat_at};
+ghost use Rattle.graph_history.specs.Paint.{IsCounted, IsPaint, AreIdle};
+ghost use Rattle.graph_history.specs.Painting.{IsSpread, IsLevel, Joins, JoinsNumbered, Adds};
+ghost use Rattle.graph_history.specs.Painting.{ArePassed, IsPassed, MayAdd, IsPaintingOf};
 ghost use Rattle.graph_history.specs.Painting.{AreCandidates, IsDone, IsPainting, IsPainted};
-ghost use Rattle.graph_history.specs.Painting.{AreBases, AreTouched, work};
+ghost use Rattle.graph_history.specs.Painting.{AreBases, AreTouched, entry_cmp, work};
+ghost use Rattle.graph_history.specs.Trails.{trail_in};
 
 use crate::bases::Divergence;
-use crate::checked::Checked;
 use crate::paint::{Coat, Coats, Paint};
 use gix_commitgraph::law::walk::{
     generations_fall_along_walks, generations_never_rise_along_walks,
-    the_history_of_a_graph_is_that_of_its_layers,
 };
 use gix_commitgraph::{GENERATION_NUMBER_MAX, Position};
+use graph_ancestors::CommitSource;
 use std::alloc::{AllocError, Global};
 use std::collections::BinaryHeap;
 
-/// The painting of a graph from one of its commits and some others.
+/// The painting of commits from one of them and some others.
 #[derive(Drop)]
-pub(crate) struct Painting<'p, 'g> {
-    pub(crate) graph: &'p Checked<'g>,
+pub(crate) struct Painting<'p> {
     first: Position,
     others: &'p [Position],
     pub(crate) coats: Coats,
@@ -48,29 +47,22 @@ pub(crate) struct Painting<'p, 'g> {
     visits: u64,
 }
 
-impl<'p, 'g> Painting<'p, 'g> {
+impl<'p> Painting<'p> {
     /// A painting that knows nothing.
-    fn new(
-        alloc: Global,
-        coats: Coats,
-        graph: &'p Checked<'g>,
-        first: Position,
-        others: &'p [Position],
-    ) -> Painting<'p, 'g>
-        requires idle { AreIdle (total graph.now.layers) coats }
-        ensures graph { result.graph.now ≡ graph.now }
+    fn new(alloc: Global, coats: Coats, first: Position, others: &'p [Position]) -> Painting<'p>
+        requires idle { AreIdle (length coats.all.items) coats }
+        requires few { length coats.all.items < 2 ^ 32 }
         ensures first { result.first ≡ first }
         ensures others { result.others.now ≡ others.now }
-        ensures painting { IsPainting result }
-        ensures lists { ArePassed result }
+        ensures painting { IsPainting (length coats.all.items) result }
+        ensures told { (history : List Node) → length history ≡ length coats.all.items
+            → IsPaintingOf history result }
+        ensures lists { (t : Told) (l : ℕ) → IsPassed result.coats.all.items (t.lists l)
+            (trail_in result.coats.trails.layers.items l) }
         ensures bare { (p : ℕ) → coat_at result.coats.all.items p ≡ bare }
         ensures empty { heap_items result.queue ≡ [] }
     {
-        the_history_of_a_graph_is_that_of_its_layers();
-        // The contract of `num_commits` says that the layers make a graph.
-        let _commits = graph.num_commits();
         Painting {
-            graph,
             first,
             others,
             coats,
@@ -82,10 +74,15 @@ impl<'p, 'g> Painting<'p, 'g> {
     }
 
     /// Puts a commit into the queue, where it is not there.
-    fn enqueue(&mut self, commit: Position) -> Result<(), AllocError>
-        requires painting { IsPainting self.old }
-        requires within { commit.0 < total self.old.graph.now.layers }
-        ensures graph { self.new.graph.now ≡ self.old.graph.now }
+    fn enqueue<S: CommitSource>(
+        &mut self,
+        commits: &mut S,
+        commit: Position,
+    ) -> Result<(), S::Error>
+        requires painting { IsPainting (S.count (S.known commits.old)) self.old }
+        requires within { commit.0 < S.count (S.known commits.old) }
+        ensures known { S.known commits.new ≡ S.known commits.old }
+        ensures kept { (t : Told) → S.says commits.new t → S.says commits.old t }
         ensures first { self.new.first ≡ self.old.first }
         ensures others { self.new.others.now ≡ self.old.others.now }
         ensures coats { self.new.coats ≡ self.old.coats }
@@ -95,19 +92,24 @@ impl<'p, 'g> Painting<'p, 'g> {
         ensures len { OnOk result (length (heap_items self.new.queue)
             ≡ length (heap_items self.old.queue)
             + cond (is_queued self.old.coats.all.items commit.0) 0 1) }
-        ensures joins { OnOk result (Joins (history_of self.old.graph.now.layers) commit.0
-            (heap_items self.old.queue) (heap_items self.new.queue)) }
+        ensures joins { OnOk result
+            (Joins commit.0 (heap_items self.old.queue) (heap_items self.new.queue)) }
+        ensures numbered { OnOk result ((t : Told) → S.says commits.new t
+            → JoinsNumbered t.history commit.0 (heap_items self.old.queue)
+            (heap_items self.new.queue)) }
+        ensures failed { IfErr result (λ e. S.may_fail (S.known commits.old) e
+            ⊎ S.Error.from_gives alloc_error e) }
     {
-        if !self.coats.at(commit).queued {
-            let generation = self.graph.generation(commit);
-            self.queue.push((generation, commit.0))?;
+        if self.coats.at(commit).queued {
+            return Ok(());
         }
+        let generation = commits.generation_number(commit)?;
+        push_entry(&mut self.queue, (generation, commit.0))?;
         Ok(())
     }
 
     /// Adds a commit with this paint to the candidates, where that is the paint of a merge base.
     fn add_candidate(&mut self, commit: Position, paint: Paint) -> Result<(), AllocError>
-        ensures graph { self.new.graph.now ≡ self.old.graph.now }
         ensures first { self.new.first ≡ self.old.first }
         ensures others { self.new.others.now ≡ self.old.others.now }
         ensures coats { self.new.coats ≡ self.old.coats }
@@ -125,41 +127,41 @@ impl<'p, 'g> Painting<'p, 'g> {
     }
 
     /// Adds paint to a commit, and puts it into the queue where that says more than was known.
-    pub(crate) fn add(&mut self, commit: Position, paint: Paint) -> Result<(), AllocError>
-        requires painting { IsPainting self.old }
-        requires within { commit.0 < total self.old.graph.now.layers }
-        requires so { IsSo (history_of self.old.graph.now.layers) self.old.first.0
-            (numbers_of self.old.others.now) commit.0 paint }
-        requires waits { AreBelowCap (history_of self.old.graph.now.layers)
-            self.old.first.0 (numbers_of self.old.others.now)
-            → is_painted (paint_at self.old.coats.all.items commit.0) ≡ true
-            → is_queued self.old.coats.all.items commit.0 ≡ true }
-        requires edge { AreBelowCap (history_of self.old.graph.now.layers)
-            self.old.first.0 (numbers_of self.old.others.now)
-            → is_stale paint ≡ false → IsKnownEdge (history_of self.old.graph.now.layers)
-            self.old.first.0 (numbers_of self.old.others.now) self.old.coats.all.items commit.0 }
-        ensures graph { self.new.graph.now ≡ self.old.graph.now }
+    pub(crate) fn add<S: CommitSource>(
+        &mut self,
+        commits: &mut S,
+        commit: Position,
+        paint: Paint,
+    ) -> Result<(), S::Error>
+        requires painting { IsPainting (S.count (S.known commits.old)) self.old }
+        requires within { commit.0 < S.count (S.known commits.old) }
+        requires told { (t : Told) → S.says commits.old t
+            → MayAdd t.history self.old commit.0 paint }
+        ensures known { S.known commits.new ≡ S.known commits.old }
+        ensures kept { (t : Told) → S.says commits.new t → S.says commits.old t }
         ensures first { self.new.first ≡ self.old.first }
         ensures others { self.new.others.now ≡ self.old.others.now }
         ensures trails { self.new.coats.trails ≡ self.old.coats.trails }
-        ensures painting { OnOk result (IsPainting self.new) }
+        ensures painting { OnOk result (IsPainting (S.count (S.known commits.old)) self.new) }
+        ensures told { OnOk result ((t : Told) → S.says commits.new t
+            → IsPaintingOf t.history self.new) }
         ensures adds { OnOk result (Adds commit.0 paint self.old.coats.all.items
             self.new.coats.all.items) }
-        ensures level { OnOk result ((level : ℕ)
-            → generation_at (history_of self.old.graph.now.layers) commit.0 ≤ level
-            → IsLevel (history_of self.old.graph.now.layers) self.old.coats.all.items
-            (heap_items self.old.queue) level
-            → IsLevel (history_of self.old.graph.now.layers) self.new.coats.all.items
-            (heap_items self.new.queue) level) }
+        ensures level { OnOk result ((t : Told) (level : ℕ) → S.says commits.new t
+            → generation_at t.history commit.0 ≤ level
+            → IsLevel t.history self.old.coats.all.items (heap_items self.old.queue) level
+            → IsLevel t.history self.new.coats.all.items (heap_items self.new.queue) level) }
         ensures work { OnOk result (work self.new.coats.all.items (heap_items self.new.queue)
             ≤ work self.old.coats.all.items (heap_items self.old.queue)) }
+        ensures failed { IfErr result (λ e. S.may_fail (S.known commits.old) e
+            ⊎ S.Error.from_gives alloc_error e) }
     {
         let known = self.coats.at(commit).paint;
         if known.covers(paint) {
             return Ok(());
         }
         let paint = known.join(paint);
-        self.enqueue(commit)?;
+        self.enqueue(commits, commit)?;
         self.add_candidate(commit, paint)?;
         let queued = true;
         self.coats.set(commit, Coat { paint, queued });
@@ -168,36 +170,44 @@ impl<'p, 'g> Painting<'p, 'g> {
 
     /// Visits commits, those with the highest generation numbers first, until none that is queued
     /// can lead to a base.
-    fn run(&mut self) -> Result<(), AllocError>
-        requires painting { IsPainting self.old }
-        requires spread { IsSpread (history_of self.old.graph.now.layers) self.old.first.0
+    fn run<S: CommitSource>(&mut self, commits: &mut S) -> Result<(), S::Error>
+        requires painting { IsPainting (S.count (S.known commits.old)) self.old }
+        requires told { (t : Told) → S.says commits.old t → IsPaintingOf t.history self.old }
+        requires spread { (t : Told) → S.says commits.old t → IsSpread t.history self.old.first.0
             (numbers_of self.old.others.now) self.old.coats.all.items }
-        requires level { (level : ℕ) × IsLevel (history_of self.old.graph.now.layers)
-            self.old.coats.all.items (heap_items self.old.queue) level }
-        requires lists { ArePassed self.old }
-        ensures graph { self.new.graph.now ≡ self.old.graph.now }
+        requires level { (t : Told) → S.says commits.old t → CountWalks t.history → (level : ℕ)
+            × IsLevel t.history self.old.coats.all.items (heap_items self.old.queue) level }
+        requires lists { ArePassed (S.says commits.old) self.old }
+        ensures known { S.known commits.new ≡ S.known commits.old }
+        ensures kept { (t : Told) → S.says commits.new t → S.says commits.old t }
         ensures first { self.new.first ≡ self.old.first }
         ensures others { self.new.others.now ≡ self.old.others.now }
+        ensures len { OnOk result
+            (length self.new.coats.all.items ≡ S.count (S.known commits.old)) }
         ensures counted { OnOk result (IsCounted self.new.coats) }
         ensures touched { OnOk result (AreTouched self.new.coats.all.items self.new.taken.items
             (heap_items self.new.queue)) }
         ensures candidates { OnOk result (AreCandidates self.new.coats.all.items
             self.new.candidates.items) }
-        ensures paint { OnOk result (IsPaint (history_of self.old.graph.now.layers) self.old.first.0
-            (numbers_of self.old.others.now) self.new.coats.all.items) }
-        ensures spread { OnOk result (IsSpread (history_of self.old.graph.now.layers)
-            self.old.first.0 (numbers_of self.old.others.now) self.new.coats.all.items) }
-        ensures count { OnOk result (IsVisitCount self.new.coats.all.items self.new.visits) }
-        ensures visiting { OnOk result (AreBelowCap (history_of self.old.graph.now.layers)
-            self.old.first.0 (numbers_of self.old.others.now)
-            → IsVisiting (history_of self.old.graph.now.layers) self.old.first.0
-            (numbers_of self.old.others.now) self.new.coats.all.items self.new.visits) }
-        ensures done { OnOk result (IsDone (history_of self.old.graph.now.layers)
+        ensures paint { OnOk result ((t : Told) → S.says commits.new t
+            → IsPaint t.history self.old.first.0 (numbers_of self.old.others.now)
             self.new.coats.all.items) }
+        ensures spread { OnOk result ((t : Told) → S.says commits.new t
+            → IsSpread t.history self.old.first.0 (numbers_of self.old.others.now)
+            self.new.coats.all.items) }
+        ensures count { OnOk result (IsVisitCount self.new.coats.all.items self.new.visits) }
+        ensures visiting { OnOk result ((t : Told) → S.says commits.new t → CountWalks t.history
+            → AreBelowCap t.history self.old.first.0 (numbers_of self.old.others.now)
+            → IsVisiting t.history self.old.first.0 (numbers_of self.old.others.now)
+            self.new.coats.all.items self.new.visits) }
+        ensures done { OnOk result ((t : Told) → S.says commits.new t → CountWalks t.history
+            → IsDone t.history self.new.coats.all.items) }
+        ensures failed { IfErr result (λ e. S.may_fail (S.known commits.old) e
+            ⊎ S.Error.from_gives alloc_error e) }
     {
         generations_never_rise_along_walks();
         while let Some(next) = self.queue.pop() {
-            self.taken.push(next.1)?;
+            push_number(&mut self.taken, next.1)?;
             let is_below_cap = next.0 < GENERATION_NUMBER_MAX;
             if self.coats.fresh == 0 && is_below_cap {
                 return Ok(());
@@ -207,7 +217,7 @@ impl<'p, 'g> Painting<'p, 'g> {
             let queued = false;
             self.coats.set(commit, Coat { paint, queued });
             self.visits = self.visits.saturating_add(1);
-            self.visit(commit, paint)?;
+            self.visit(commits, commit, paint)?;
         }
         Ok(())
     }
@@ -275,35 +285,62 @@ impl<'p, 'g> Painting<'p, 'g> {
     }
 }
 
-/// Paints a graph from a commit and some others.
-pub(crate) fn paint_from<'p, 'g>(
+/// Paints commits from one of them and some others.
+pub(crate) fn paint_from<'p, S: CommitSource>(
     alloc: Global,
     coats: Coats,
-    graph: &'p Checked<'g>,
+    commits: &mut S,
     first: Position,
     others: &'p [Position],
-) -> Result<Painting<'p, 'g>, AllocError>
-    requires idle { AreIdle (total graph.now.layers) coats }
-    requires first { first.0 < total graph.now.layers }
-    requires others { All (λ other. other.0 < total graph.now.layers) others.now }
-    ensures commits { IfOk result (λ _. total graph.now.layers
-        ≡ length (history_of graph.now.layers)) }
+) -> Result<Painting<'p>, S::Error>
+    requires idle { AreIdle (S.count (S.known commits.old)) coats }
+    requires first { first.0 < S.count (S.known commits.old) }
+    requires others { All (λ other. other.0 < S.count (S.known commits.old)) others.now }
+    ensures known { S.known commits.new ≡ S.known commits.old }
+    ensures kept { (t : Told) → S.says commits.new t → S.says commits.old t }
+    ensures len { IfOk result (λ s. length s.coats.all.items ≡ S.count (S.known commits.old)) }
     ensures counted { IfOk result (λ s. IsCounted s.coats) }
     ensures touched { IfOk result (λ s. AreTouched s.coats.all.items s.taken.items
         (heap_items s.queue)) }
     ensures candidates { IfOk result (λ s. AreCandidates s.coats.all.items s.candidates.items) }
-    ensures painted { IfOk result (λ s. IsPainted (history_of graph.now.layers) first.0
-        (numbers_of others.now) s.coats.all.items) }
-    ensures visits { IfOk result (λ s. AreVisits (history_of graph.now.layers) first.0
-        (numbers_of others.now) s.visits) }
+    ensures paint { IfOk result (λ s. (t : Told) → S.says commits.new t
+        → IsPaint t.history first.0 (numbers_of others.now) s.coats.all.items) }
+    ensures most { IfOk result (λ s. s.visits ≤ 3 * S.count (S.known commits.old)) }
+    ensures painted { IfOk result (λ s. (t : Told) → S.says commits.new t → CountWalks t.history
+        → IsPainted t.history first.0 (numbers_of others.now) s.coats.all.items) }
+    ensures visits { IfOk result (λ s. (t : Told) → S.says commits.new t → CountWalks t.history
+        → AreVisits t.history first.0 (numbers_of others.now) s.visits) }
+    ensures failed { IfErr result (λ e. S.may_fail (S.known commits.old) e
+        ⊎ S.Error.from_gives alloc_error e) }
 {
     generations_never_rise_along_walks();
     generations_fall_along_walks();
-    let mut painting = Painting::new(alloc, coats, graph, first, others);
-    painting.add(first, Paint::First)?;
+    // The contract of `num_commits` says how many commits the source tells of.
+    let _commits = commits.num_commits();
+    let mut painting = Painting::new(alloc, coats, first, others);
+    painting.add(commits, first, Paint::First)?;
     for other in others {
-        painting.add(*other, Paint::Others)?;
+        painting.add(commits, *other, Paint::Others)?;
     }
-    painting.run()?;
+    painting.run(commits)?;
     Ok(painting)
+}
+
+/// Adds an entry to a queue.
+fn push_entry(queue: &mut BinaryHeap<(u32, u32)>, entry: (u32, u32)) -> Result<(), AllocError>
+    ensures order { OnOk result
+        (IsHeap entry_cmp (heap_items queue.old) → IsHeap entry_cmp (heap_items queue.new)) }
+    ensures moved { OnOk result
+        (IsPermutation (entry ∷ heap_items queue.old) (heap_items queue.new)) }
+{
+    queue.push(entry)?;
+    Ok(())
+}
+
+/// Adds a number.
+fn push_number(numbers: &mut Vec<u32>, number: u32) -> Result<(), AllocError>
+    ensures { OnOk result (numbers.new.items ≡ numbers.old.items ++ number ∷ []) }
+{
+    numbers.push(number)?;
+    Ok(())
 }

@@ -1,16 +1,15 @@
 //! How paint is passed on to the parents of a commit.
 
-ghost use Rattle.std.specs.Prelude.{◌≡◌, ◌<◌, ◌≤◌, ℕ, length, true, false, Contains, OnOk};
+ghost use Rattle.std.specs.Prelude.{◌≡◌, ◌⊎◌, ◌<◌, ◌≤◌, ℕ, length, true, false, Contains, OnOk};
+ghost use Rattle.std.specs.Prelude.{IfErr, alloc_error};
 ghost use Rattle.std.specs.BinaryHeap.{heap_items};
 ghost use Rattle.graph_walks.specs.History.{IsParent, generation_at};
-ghost use Rattle.graph_format.specs.StoredHistory.{history_of};
-ghost use Rattle.gix_commitgraph.specs.Graph.{total};
+ghost use Rattle.graph_walks.specs.Walks.{CountWalks};
+ghost use Rattle.graph_ancestors.specs.Commits.{named_from};
+ghost use Rattle.graph_ancestors.specs.Source.{Told, IsFieldRead, IsListTrue, FieldNames};
 ghost use Rattle.graph_ancestors.specs.WalkAnswer.{numbers_of};
-ghost use Rattle.graph_history.specs.Bases.{AreBelowCap};
-ghost use Rattle.graph_ancestors.specs.Commits.{IsReading, NamesParents, Names};
-ghost use Rattle.graph_ancestors.specs.Commits.{list_in, named_from};
-ghost use Rattle.graph_history.specs.Paint.{is_painted, is_queued, paint_at, passed, Grows};
-ghost use Rattle.graph_history.specs.Painting.{IsSpread, IsSpreadBut, IsLevel, IsPainting, work};
+ghost use Rattle.graph_history.specs.Paint.{is_queued, paint_at, passed, Grows};
+ghost use Rattle.graph_history.specs.Painting.{IsSpread, IsLevel, IsPainting, IsPaintingOf, work};
 ghost use Rattle.graph_history.specs.Painting.{ArePassed, PassesPaint, PassesOn};
 
 use crate::paint::Paint;
@@ -20,114 +19,127 @@ use gix_commitgraph::law::walk::{
     generations_fall_along_walks, generations_never_rise_along_walks,
 };
 use gix_commitgraph::{GENERATION_NUMBER_MAX, Position};
-use graph_ancestors::commits::{layer_of, list_of, parent_fields_of, parent_of};
-use std::alloc::AllocError;
+use graph_ancestors::CommitSource;
+use graph_ancestors::commits::parent_of;
 
-impl<'p, 'g> Painting<'p, 'g> {
+impl<'p> Painting<'p> {
     /// Passes on what is known of a commit that was taken from the queue.
-    pub(crate) fn visit(&mut self, commit: Position, paint: Paint) -> Result<(), AllocError>
-        requires painting { IsPainting self.old }
-        requires lists { ArePassed self.old }
-        requires within { commit.0 < total self.old.graph.now.layers }
-        requires paint { paint_at self.old.coats.all.items commit.0 ≡ paint }
-        requires taken { is_queued self.old.coats.all.items commit.0 ≡ false }
-        requires uncapped { AreBelowCap (history_of self.old.graph.now.layers)
-            self.old.first.0 (numbers_of self.old.others.now)
-            → generation_at (history_of self.old.graph.now.layers) commit.0
-            < GENERATION_NUMBER_MAX }
-        requires painted { AreBelowCap (history_of self.old.graph.now.layers)
-            self.old.first.0 (numbers_of self.old.others.now)
-            → is_painted paint ≡ true }
-        requires spread { IsSpreadBut (history_of self.old.graph.now.layers) self.old.first.0
-            (numbers_of self.old.others.now) self.old.coats.all.items commit.0 }
-        requires level { IsLevel (history_of self.old.graph.now.layers) self.old.coats.all.items
-            (heap_items self.old.queue)
-            (generation_at (history_of self.old.graph.now.layers) commit.0) }
-        ensures graph { self.new.graph.now ≡ self.old.graph.now }
+    pub(crate) fn visit<S: CommitSource>(
+        &mut self,
+        commits: &mut S,
+        commit: Position,
+        paint: Paint,
+    ) -> Result<(), S::Error>
+        requires passes { PassesPaint (S.count (S.known commits.old)) (S.says commits.old) self.old
+            commit.0 paint }
+        requires lists { ArePassed (S.says commits.old) self.old }
+        ensures known { S.known commits.new ≡ S.known commits.old }
+        ensures kept { (t : Told) → S.says commits.new t → S.says commits.old t }
         ensures first { self.new.first ≡ self.old.first }
         ensures others { self.new.others.now ≡ self.old.others.now }
-        ensures painting { OnOk result (IsPainting self.new) }
-        ensures lists { OnOk result (ArePassed self.new) }
-        ensures spread { OnOk result (IsSpread (history_of self.old.graph.now.layers)
-            self.old.first.0 (numbers_of self.old.others.now) self.new.coats.all.items) }
-        ensures level { OnOk result (IsLevel (history_of self.old.graph.now.layers)
-            self.new.coats.all.items (heap_items self.new.queue)
-            (generation_at (history_of self.old.graph.now.layers) commit.0)) }
+        ensures painting { OnOk result (IsPainting (S.count (S.known commits.old)) self.new) }
+        ensures told { OnOk result ((t : Told) → S.says commits.new t
+            → IsPaintingOf t.history self.new) }
+        ensures lists { OnOk result (ArePassed (S.says commits.new) self.new) }
+        ensures spread { OnOk result ((t : Told) → S.says commits.new t
+            → IsSpread t.history self.old.first.0 (numbers_of self.old.others.now)
+            self.new.coats.all.items) }
+        ensures level { OnOk result ((t : Told) → S.says commits.new t → CountWalks t.history
+            → IsLevel t.history self.new.coats.all.items (heap_items self.new.queue)
+            (generation_at t.history commit.0)) }
         ensures work { OnOk result (work self.new.coats.all.items (heap_items self.new.queue)
             ≤ work self.old.coats.all.items (heap_items self.old.queue)) }
+        ensures failed { IfErr result (λ e. S.may_fail (S.known commits.old) e
+            ⊎ S.Error.from_gives alloc_error e) }
     {
-        let (first, second) = parent_fields_of(self.graph.graph(), commit);
-        self.visit_field(first, commit, paint)?;
-        self.visit_field(second, commit, paint)?;
+        let fields = commits.parent_fields(commit)?;
+        self.visit_field(commits, fields.0, commit, paint)?;
+        self.visit_field(commits, fields.1, commit, paint)?;
         Ok(())
     }
 
     /// Passes on what is known of a commit to the parents that a parent field of it names.
-    fn visit_field(
+    fn visit_field<S: CommitSource>(
         &mut self,
+        commits: &mut S,
         field: ParentEdge,
         commit: Position,
         paint: Paint,
-    ) -> Result<(), AllocError>
-        requires passes { PassesPaint self.old commit.0 paint }
-        requires lists { ArePassed self.old }
-        requires field { NamesParents self.old.graph.now.layers commit.0 field }
-        ensures graph { self.new.graph.now ≡ self.old.graph.now }
+    ) -> Result<(), S::Error>
+        requires passes { PassesPaint (S.count (S.known commits.old)) (S.says commits.old) self.old
+            commit.0 paint }
+        requires lists { ArePassed (S.says commits.old) self.old }
+        requires field { let k = S.known commits.old in
+            IsFieldRead (S.count k) (S.is_listed k) (S.lies k) (S.says commits.old) commit.0
+            field }
+        ensures known { S.known commits.new ≡ S.known commits.old }
+        ensures kept { (t : Told) → S.says commits.new t → S.says commits.old t }
         ensures first { self.new.first ≡ self.old.first }
         ensures others { self.new.others.now ≡ self.old.others.now }
-        ensures passes { OnOk result (PassesPaint self.new commit.0 paint) }
-        ensures lists { OnOk result (ArePassed self.new) }
+        ensures passes { OnOk result (PassesPaint (S.count (S.known commits.old))
+            (S.says commits.new) self.new commit.0 paint) }
+        ensures lists { OnOk result (ArePassed (S.says commits.new) self.new) }
         ensures on { OnOk result (PassesOn self.old self.new) }
-        ensures named { OnOk result ((q : ℕ) → Names self.old.graph.now.layers commit.0 field q
+        ensures named { OnOk result ((t : Told) (q : ℕ) → S.says commits.new t
+            → FieldNames t.lists (S.lies (S.known commits.old) commit.0) field q
             → Grows (passed paint) (paint_at self.new.coats.all.items q)) }
+        ensures failed { IfErr result (λ e. S.may_fail (S.known commits.old) e
+            ⊎ S.Error.from_gives alloc_error e) }
     {
         match field {
             ParentEdge::None => Ok(()),
             ParentEdge::GraphPosition(parent) => {
-                self.pass(commit, paint, parent)?;
+                self.pass(commits, commit, paint, parent)?;
                 Ok(())
             }
             ParentEdge::ExtraEdgeIndex(index) => {
-                let layer = layer_of(self.graph.graph(), commit);
-                self.visit_list(layer, index, commit, paint)?;
+                self.visit_list(commits, index, commit, paint)?;
                 Ok(())
             }
         }
     }
 
-    /// Passes on what is known of a commit to the parents that the words of a layer's extra edge
-    /// list name, from this index on to the last parent, or to a word that was passed with as much.
-    fn visit_list(
+    /// Passes on what is known of a commit to the parents that the words of the extra edge list of
+    /// its layer name, from this index on to the last parent, or to a word that was passed with as
+    /// much.
+    fn visit_list<S: CommitSource>(
         &mut self,
-        layer: usize,
+        commits: &mut S,
         index: u32,
         commit: Position,
         paint: Paint,
-    ) -> Result<(), AllocError>
-        requires passes { PassesPaint self.old commit.0 paint }
-        requires lists { ArePassed self.old }
-        requires layer { layer < length self.old.graph.now.layers }
-        requires reading { IsReading (history_of self.old.graph.now.layers)
-            (list_in self.old.graph.now.layers layer) commit.0 index }
-        ensures graph { self.new.graph.now ≡ self.old.graph.now }
+    ) -> Result<(), S::Error>
+        requires passes { PassesPaint (S.count (S.known commits.old)) (S.says commits.old) self.old
+            commit.0 paint }
+        requires lists { ArePassed (S.says commits.old) self.old }
+        requires listed { S.is_listed (S.known commits.old) commit.0 index }
+        requires told { (t : Told) → S.says commits.old t → (l : ℕ)
+            → S.lies (S.known commits.old) commit.0 l → IsListTrue t commit.0 l index }
+        ensures known { S.known commits.new ≡ S.known commits.old }
+        ensures kept { (t : Told) → S.says commits.new t → S.says commits.old t }
         ensures first { self.new.first ≡ self.old.first }
         ensures others { self.new.others.now ≡ self.old.others.now }
-        ensures passes { OnOk result (PassesPaint self.new commit.0 paint) }
-        ensures lists { OnOk result (ArePassed self.new) }
+        ensures passes { OnOk result (PassesPaint (S.count (S.known commits.old))
+            (S.says commits.new) self.new commit.0 paint) }
+        ensures lists { OnOk result (ArePassed (S.says commits.new) self.new) }
         ensures on { OnOk result (PassesOn self.old self.new) }
-        ensures named { OnOk result ((q : ℕ)
-            → Contains (named_from (list_in self.old.graph.now.layers layer) index) q
+        ensures named { OnOk result ((t : Told) (q : ℕ) → S.says commits.new t
+            → ((l : ℕ) → S.lies (S.known commits.old) commit.0 l
+            → Contains (named_from (t.lists l) index) q)
             → Grows (passed paint) (paint_at self.new.coats.all.items q)) }
+        ensures failed { IfErr result (λ e. S.may_fail (S.known commits.old) e
+            ⊎ S.Error.from_gives alloc_error e) }
     {
-        let words = list_of(self.graph.graph(), layer);
-        self.coats.trails.grow_to(layer, words.len())?;
+        let layer = commits.layer_of(commit);
+        let count = commits.words_of(commit, layer, index);
+        self.coats.trails.grow_to(layer, count as usize)?;
         let passed = paint.passed();
         let mut next = index;
         while !self.coats.trails.at(layer, next).covers(passed) {
-            let edge = ExtraEdge::from_raw(words[next as usize]);
-            self.pass(commit, paint, parent_of(edge))?;
+            let word = commits.listed_parent(commit, layer, next)?;
+            self.pass(commits, commit, paint, parent_of(word))?;
             self.coats.trails.add(layer, next, passed)?;
-            match edge {
+            match word {
                 ExtraEdge::Internal(_) => next += 1,
                 ExtraEdge::Last(_) => return Ok(()),
             }
@@ -136,21 +148,34 @@ impl<'p, 'g> Painting<'p, 'g> {
     }
 
     /// Passes on what is known of a commit to one of its parents.
-    fn pass(&mut self, commit: Position, paint: Paint, parent: Position) -> Result<(), AllocError>
-        requires passes { PassesPaint self.old commit.0 paint }
-        requires parent { IsParent (history_of self.old.graph.now.layers) commit.0 parent.0 }
-        ensures graph { self.new.graph.now ≡ self.old.graph.now }
+    fn pass<S: CommitSource>(
+        &mut self,
+        commits: &mut S,
+        commit: Position,
+        paint: Paint,
+        parent: Position,
+    ) -> Result<(), S::Error>
+        requires passes { PassesPaint (S.count (S.known commits.old)) (S.says commits.old) self.old
+            commit.0 paint }
+        requires within { parent.0 < S.count (S.known commits.old) }
+        requires parent { (t : Told) → S.says commits.old t
+            → IsParent t.history commit.0 parent.0 }
+        ensures known { S.known commits.new ≡ S.known commits.old }
+        ensures kept { (t : Told) → S.says commits.new t → S.says commits.old t }
         ensures first { self.new.first ≡ self.old.first }
         ensures others { self.new.others.now ≡ self.old.others.now }
         ensures trails { self.new.coats.trails ≡ self.old.coats.trails }
-        ensures passes { OnOk result (PassesPaint self.new commit.0 paint) }
+        ensures passes { OnOk result (PassesPaint (S.count (S.known commits.old))
+            (S.says commits.new) self.new commit.0 paint) }
         ensures on { OnOk result (PassesOn self.old self.new) }
         ensures heard { OnOk result
             (Grows (passed paint) (paint_at self.new.coats.all.items parent.0)) }
+        ensures failed { IfErr result (λ e. S.may_fail (S.known commits.old) e
+            ⊎ S.Error.from_gives alloc_error e) }
     {
         generations_never_rise_along_walks();
         generations_fall_along_walks();
-        self.add(parent, paint.passed())?;
+        self.add(commits, parent, paint.passed())?;
         Ok(())
     }
 }
