@@ -1,6 +1,6 @@
 -- Coats that change one at a time, and the queue beside them.
-use Rattle.std.proofs.Common.{◌≡◌, ◌≢◌, ◌⊎◌, ℕ, ◌^◌, ◌<◌, ◌≤◌, zero, suc, List, [], ◌∷◌, ◌++◌, if◌then◌else◌, Bool, true, false, not}
-use Rattle.std.proofs.Common.{cond, length, set}
+use Rattle.std.proofs.Common.{◌≡◌, ◌≢◌, ◌⊎◌, ℕ, ◌^◌, ◌<◌, ◌≤◌, zero, suc, List, [], ◌∷◌, ◌++◌, if◌then◌else◌, Bool, true, false}
+use Rattle.std.proofs.Common.{not, cond, length, set}
 use Rattle.std.proofs.Common.{◌+◌, get_or, All, Contains, IsPermutation, sum_by, count_by, refl, sym, ap, ◌∙◌, subst, inl, inr}
 use Rattle.std.proofs.Common.{⊎_elim, arith}
 use Rattle.std.specs.Ordering.{nat_cmp}
@@ -260,7 +260,7 @@ nothing_added coats p x covered = record {
   others = λ q _. refl;
 }
 
--- The queue, where a commit was pushed, or stood already.
+-- The queue, where a commit was pushed.
 pub joins_pushed : (p g : ℕ) (old new : List (ℕ × ℕ)) → (IsHeap entry_cmp old → IsHeap entry_cmp new)
     → IsPermutation ((g, p) ∷ old) new → Joins p old new
 joins_pushed p g old new order moved = record {
@@ -273,15 +273,6 @@ joins_pushed p g old new order moved = record {
   longer = let len = length_permutation ((g, p) ∷ old) new moved in omega arith;
 }
 
-pub joins_already : (p g : ℕ) (old : List (ℕ × ℕ)) → Contains old (g, p) → Joins p old old
-joins_already p g old has = record {
-  order = λ o. o;
-  within = λ count lt all. all;
-  holds = (g, has);
-  keeps = λ y was. was;
-  longer = omega arith;
-}
-
 pub numbered_pushed : (h : List Node) (p g : ℕ) (old new : List (ℕ × ℕ)) → g ≡ generation_at h p
     → IsPermutation ((g, p) ∷ old) new → JoinsNumbered h p old new
 numbered_pushed h p g old new is moved = record {
@@ -291,9 +282,6 @@ numbered_pushed h p g old new is moved = record {
       All-permutation (λ (y : ℕ × ℕ). y.0 ≤ level) ((g, p) ∷ old) new moved
       (All-cons (λ (y : ℕ × ℕ). y.0 ≤ level) (g, p) old (omega arith) all);
 }
-
-pub numbered_already : (h : List Node) (p : ℕ) (old : List (ℕ × ℕ)) → JoinsNumbered h p old old
-numbered_already h p old = record { numbered = λ all. all; below = λ level low all. all }
 
 -- What was passed on stays so, as paint is added.
 module _ (h : List Node) (a : ℕ) (bs : List ℕ) (p : ℕ) (x : Paint) (old new : List Coat) (adds : Adds p x old new) where

@@ -5,12 +5,12 @@ use Rattle.graph_format.specs.Layer.{Layer}
 use Rattle.gix_commitgraph.specs.Graph.{total}
 use Rattle.gix_commitgraph.specs.Sound.{Sound}
 use Rattle.graph_ancestors.specs.Source.{Told, told_of}
-use Rattle.graph_history.specs.Comparison.{IsComparison, IsComparisonOf}
+use Rattle.graph_history.specs.Comparison.{IsComparisonIn, IsComparisonOf}
 use Rattle.graph_history.specs.declared.bases.Comparison.{Comparison}
 
 pub memory_comparison : (layers after : List Layer) → after ≡ layers → Sound layers → (a : ℕ) (bs : List ℕ) {E : Type 0}
     (r : Result Comparison E) → IfOk r (λ c. All (λ base. base.0 < total layers) c.bases.positions.items)
-    → IfOk r (λ c. (t : Told) → t ≡ told_of after → CountWalks t.history → IsComparison t.history a bs c)
+    → IfOk r (λ c. (t : Told) → t ≡ told_of after → CountWalks t.history → IsComparisonIn t.history a bs c)
     → IfOk r (IsComparisonOf layers a bs)
 memory_comparison layers after same right a bs (Ok comparison) within exact =
     let is = exact (told_of layers) (ap told_of (sym same)) right.generations in

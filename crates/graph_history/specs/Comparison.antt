@@ -11,7 +11,7 @@ use Rattle.graph_history.specs.declared.bases.Comparison.{Comparison}
 
 -- The merge bases of a commit of a history and some others, how far they have come apart, and how many commits were visited for
 -- that.
-pub record IsComparison (history : List Node) (first : ℕ) (others : List ℕ) (comparison : Comparison) : Type 0 where
+pub record IsComparisonIn (history : List Node) (first : ℕ) (others : List ℕ) (comparison : Comparison) : Type 0 where
   pub bases : AreMergeBases history first others (numbers_of comparison.bases.positions.items)
   pub visits : AreVisits history first others comparison.bases.visits
   pub ahead : IsNumberOf comparison.divergence.ahead (IsAhead history first others)

@@ -134,7 +134,3 @@ pub record AreIdle (n : ℕ) (coats : Coats) : Type 0 where
   pub bare : (p : ℕ) → coat_at coats.all.items p ≡ bare
   pub trails : (l w : ℕ) → trail_at (trail_in coats.trails.layers.items l) w ≡ Bare
   pub counted : IsCounted coats
-
--- nothing is known of any commit
-abbrev pub IsIdle : Coats → Type 0
-IsIdle coats = AreIdle (length coats.all.items) coats

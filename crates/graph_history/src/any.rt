@@ -5,7 +5,7 @@ ghost use Rattle.graph_walks.specs.Walks.{CountWalks};
 ghost use Rattle.graph_ancestors.specs.Source.{Told};
 ghost use Rattle.graph_ancestors.specs.WalkAnswer.{numbers_of};
 ghost use Rattle.graph_history.specs.Bases.{IsCommonAncestor};
-ghost use Rattle.graph_history.specs.Comparison.{IsComparison};
+ghost use Rattle.graph_history.specs.Comparison.{IsComparisonIn};
 ghost use Rattle.graph_history.specs.Paint.{AreIdle};
 
 use crate::bases::{Bases, Comparison};
@@ -34,14 +34,14 @@ pub struct AnyComparer {
 }
 
 impl Model for AnyComparer {
-    ghost use Rattle.std.specs.Prelude.{IfSome};
-    ghost use Rattle.graph_history.specs.Paint.{IsIdle};
+    ghost use Rattle.std.specs.Prelude.{IfSome, length};
+    ghost use Rattle.graph_history.specs.Paint.{AreIdle};
 
     ghost Value = { Unit {0} };
 
     ghost view = { λ _. tt };
 
-    ghost invariant = { λ a. IfSome a.coats IsIdle };
+    ghost invariant = { λ a. IfSome a.coats (λ c. AreIdle (length c.all.items) c) };
 }
 
 impl AnyComparer {
@@ -79,7 +79,7 @@ impl AnyComparer {
             c.bases.positions.items) }
         ensures exact { IfOk result (λ c. (t : Told) → S.says commits.new t
             → CountWalks t.history
-            → IsComparison t.history first.0 (numbers_of others.now) c) }
+            → IsComparisonIn t.history first.0 (numbers_of others.now) c) }
         ensures refused { IfErr result (λ e. S.may_fail (S.known commits.old) e
             ⊎ S.Error.from_gives alloc_error e) }
     {
@@ -125,7 +125,7 @@ fn compared<S: CommitSource>(
         answer.0.bases.positions.items) }
     ensures exact { IfOk result (λ answer. (t : Told) → S.says commits.new t
         → CountWalks t.history
-        → IsComparison t.history first.0 (numbers_of others.now) answer.0) }
+        → IsComparisonIn t.history first.0 (numbers_of others.now) answer.0) }
     ensures idle { IfOk result (λ answer. AreIdle (length answer.1.all.items) answer.1) }
     ensures refused { IfErr result (λ e. S.may_fail (S.known commits.old) e
         ⊎ S.Error.from_gives alloc_error e) }

@@ -102,6 +102,10 @@ impl<'p> Painting<'p> {
     /// Passes on what is known of a commit to the parents that the words of the extra edge list of
     /// its layer name, from this index on to the last parent, or to a word that was passed with as
     /// much.
+    ///
+    /// Few commits have such a list. This stays a call of its own, so that the others pay nothing
+    /// for it.
+    #[inline(never)]
     fn visit_list<S: CommitSource>(
         &mut self,
         commits: &mut S,

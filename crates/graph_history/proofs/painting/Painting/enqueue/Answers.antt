@@ -7,8 +7,8 @@ use Rattle.graph_history.proofs.painting.Painting.enqueue.Goals as goal
 
 pub returns-clause-joins : goal.returns-clause-joins
 returns-clause-joins g c =
-    joins_pushed c.args.commit.0 c.in_ok-generation.generation (heap_items c.args.self.now.queue) (heap_items c.push_entry.new.queue)
-    c.in_ok-push_entry.ensures.order c.in_ok-push_entry.ensures.moved
+    joins_pushed c.args.commit.0 c.in_ok-generation.generation (heap_items c.args.self.now.queue)
+    (heap_items c.push_entry.new.queue) c.in_ok-push_entry.ensures.order c.in_ok-push_entry.ensures.moved
 
 pub returns-clause-numbered : goal.returns-clause-numbered
 returns-clause-numbered g c = λ t said.

@@ -166,7 +166,8 @@ returns-then-is_below_cap-clause-done g c = λ t said right.
     none_fresh _ coats (heap_items s.queue) i.painting.waiting i.painting.coats_len
     (sym i.painting.counted.fresh ∙ c.if-self-eq0.true) in
     let level = i.level t said right in
-    stops (next g (goal.at.returns-then-is_below_cap-clause-done g c).In-Some) t.history (i.told t said).numbered level.1 stale below
+    stops (next g (goal.at.returns-then-is_below_cap-clause-done g c).In-Some) t.history (i.told t said).numbered level.1 stale
+    below
 
 pub returns-then-is_below_cap-clause-touched : goal.returns-then-is_below_cap-clause-touched
 returns-then-is_below_cap-clause-touched g c =

@@ -17,7 +17,8 @@ invariant-loop-next g l =
       painting : IsPainting (g.S.CommitSource.count k) l.self;
       told : (t : Told) → says t → IsPaintingOf t.history l.self;
       lists : ArePassed says l.self;
-      spread : (t : Told) → says t → IsSpread t.history l.fn.self.first.0 (numbers_of l.fn.self.others.now) l.self.coats.all.items;
+      spread : (t : Told) → says t
+          → IsSpread t.history l.fn.self.first.0 (numbers_of l.fn.self.others.now) l.self.coats.all.items;
       level : (t : Told) → says t → CountWalks t.history
           → (level : ℕ) × IsLevel t.history l.self.coats.all.items (heap_items l.self.queue) level;
     }
