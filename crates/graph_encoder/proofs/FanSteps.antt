@@ -4,7 +4,7 @@ use Rattle.std.proofs.Common.{set, slice_index, nat_le, All, Bool, cond, refl, s
 use Rattle.std.proofs.Common.{get_or-set_other, ⊎_elim, ◌⊎◌}
 use Rattle.std.specs.Prelude.{◌==◌}
 use Rattle.std.proofs.lemmas.Bool.{le-leb, lt-leb, eq-eqb, ne_eqb, cases_eq, cases_order}
-use Rattle.std.proofs.lemmas.List.{length-map, map_more, same_lists, get_or_default}
+use Rattle.std.proofs.lemmas.List.{length-map, length-take-le, map_more, same_lists, get_or_default}
 use Rattle.std.proofs.lemmas.List.Sums.{count_by-le-length, fold_push}
 use Rattle.graph_encoder.specs.declared.plan.PlanCommit.{PlanCommit}
 use Rattle.graph_encoder.specs.Written.{ids_of, ids_with, ids_up_to, exact_fan}
@@ -19,34 +19,84 @@ ids_with-push : (byte : ℕ) (ids : List (List ℕ)) (id : List ℕ)
     → ids_with byte (ids ++ id ∷ []) ≡ ids_with byte ids + cond (slice_index id 0 == byte) 1 0
 ids_with-push byte ids id = fold_push (λ (n : ℕ) (x : List ℕ). n + cond (slice_index x 0 == byte) 1 0) 0 ids id
 
--- one more id is counted
-counted-id : (counts : List ℕ) (ids : List (List ℕ)) (id : List ℕ) (first byte : ℕ) → first ≡ slice_index id 0
-    → first < length counts → slice_index counts byte ≡ ids_with byte ids
-    → slice_index (set counts first (get_or counts first 0 + 1)) byte ≡ ids_with byte (ids ++ id ∷ [])
-counted-id counts ids id first byte h e k =
+-- how many of the ids so far begin with a byte: those that are counted, and those of a run of ids that begin with one
+abbrev pub counted_with : List ℕ → ℕ → ℕ → ℕ → ℕ
+counted_with counts first run byte = slice_index counts byte + cond (byte == first) run 0
+
+-- the run has one more id
+run-id : (counts : List ℕ) (ids : List (List ℕ)) (id : List ℕ) (first run byte : ℕ) → first ≡ slice_index id 0
+    → counted_with counts first run byte ≡ ids_with byte ids
+    → counted_with counts first (run + 1) byte ≡ ids_with byte (ids ++ id ∷ [])
+run-id counts ids id first run byte h k =
     ⊎_elim
     (λ (same : byte ≡ first).
     let one : ◌≡◌ {A = ℕ} (cond (slice_index id 0 == byte) 1 0) 1 =
     ap (λ (b : Bool). cond b 1 0) (eq-eqb (slice_index id 0) byte (sym h ∙ sym same)) in
-    let held : get_or counts first 0 ≡ ids_with byte ids = ap (λ (n : ℕ). get_or counts n 0) (sym same) ∙ k in
-    ap (λ (n : ℕ). get_or (set counts first (get_or counts first 0 + 1)) n 0) same
-    ∙ get_or-set_same counts first (get_or counts first 0 + 1) 0 e
-    ∙ omega (arith, one, held, ids_with-push byte ids id))
+    let now : ◌≡◌ {A = ℕ} (cond (byte == first) run 0) run = ap (λ (b : Bool). cond b run 0) (eq-eqb byte first same) in
+    let then : ◌≡◌ {A = ℕ} (cond (byte == first) (run + 1) 0) (run + 1) =
+    ap (λ (b : Bool). cond b (run + 1) 0) (eq-eqb byte first same) in
+    omega (arith, one, now, then, k, ids_with-push byte ids id))
     (λ (other : byte ≡ first → ⊥).
     let none : ◌≡◌ {A = ℕ} (cond (slice_index id 0 == byte) 1 0) 0 =
     ap (λ (b : Bool). cond b 1 0) (ne_eqb (slice_index id 0) byte (λ same. other (sym same ∙ sym h))) in
-    get_or-set_other counts first byte (get_or counts first 0 + 1) 0 other
-    ∙ omega (arith, none, k, ids_with-push byte ids id))
+    let now : ◌≡◌ {A = ℕ} (cond (byte == first) run 0) 0 = ap (λ (b : Bool). cond b run 0) (ne_eqb byte first other) in
+    let then : ◌≡◌ {A = ℕ} (cond (byte == first) (run + 1) 0) 0 =
+    ap (λ (b : Bool). cond b (run + 1) 0) (ne_eqb byte first other) in
+    omega (arith, none, now, then, k, ids_with-push byte ids id))
     (cases_eq byte first)
 
-pub counted-more : (counts : List ℕ) (commits : List PlanCommit) (i first byte : ℕ) (commit : PlanCommit) → i < length commits
-    → commit ≡ get_or commits i commit → first ≡ slice_index commit.id 0 → first < length counts
-    → slice_index counts byte ≡ ids_with byte (ids_of (take i commits))
-    → slice_index (set counts first (get_or counts first 0 + 1)) byte ≡ ids_with byte (ids_of (take (i + 1) commits))
-counted-more counts commits i first byte commit h e f g k =
-    counted-id counts (ids_of (take i commits)) commit.id first byte f g k
+pub run-more : (counts : List ℕ) (commits : List PlanCommit) (i first run byte : ℕ) (commit : PlanCommit) → i < length commits
+    → commit ≡ get_or commits i commit → first ≡ slice_index commit.id 0
+    → counted_with counts first run byte ≡ ids_with byte (ids_of (take i commits))
+    → counted_with counts first (run + 1) byte ≡ ids_with byte (ids_of (take (i + 1) commits))
+run-more counts commits i first run byte commit h e f k =
+    run-id counts (ids_of (take i commits)) commit.id first run byte f k
     ∙ ap (λ (c : PlanCommit). ids_with byte (ids_of (take i commits) ++ c.id ∷ [])) e
     ∙ ap (ids_with byte) (sym (ids_of-more commits i commit h))
+
+-- the ids of the run are counted
+pub run-counted : (counts : List ℕ) (first run byte : ℕ) → first < length counts
+    → slice_index (set counts first (get_or counts first 0 + run)) byte ≡ counted_with counts first run byte
+run-counted counts first run byte e =
+    ⊎_elim
+    (λ (same : byte ≡ first).
+    let now : ◌≡◌ {A = ℕ} (cond (byte == first) run 0) run = ap (λ (b : Bool). cond b run 0) (eq-eqb byte first same) in
+    let held : slice_index counts byte ≡ get_or counts first 0 = ap (λ (n : ℕ). get_or counts n 0) same in
+    ap (λ (n : ℕ). get_or (set counts first (get_or counts first 0 + run)) n 0) same
+    ∙ get_or-set_same counts first (get_or counts first 0 + run) 0 e
+    ∙ omega (arith, now, held))
+    (λ (other : byte ≡ first → ⊥).
+    let now : ◌≡◌ {A = ℕ} (cond (byte == first) run 0) 0 = ap (λ (b : Bool). cond b run 0) (ne_eqb byte first other) in
+    get_or-set_other counts first byte (get_or counts first 0 + run) 0 other
+    ∙ omega (arith, now))
+    (cases_eq byte first)
+
+-- and the next run has none yet
+pub run-begins : (counts : List ℕ) (first byte : ℕ) → counted_with counts first 0 byte ≡ slice_index counts byte
+run-begins counts first byte =
+    ⊎_elim
+    (λ (same : byte ≡ first).
+    let now : ◌≡◌ {A = ℕ} (cond (byte == first) 0 0) 0 = ap (λ (b : Bool). cond b 0 0) (eq-eqb byte first same) in
+    omega (arith, now))
+    (λ (other : byte ≡ first → ⊥).
+    let now : ◌≡◌ {A = ℕ} (cond (byte == first) 0 0) 0 = ap (λ (b : Bool). cond b 0 0) (ne_eqb byte first other) in
+    omega (arith, now))
+    (cases_eq byte first)
+
+-- no run has more ids than there are
+pub run-small : (counts : List ℕ) (commits : List PlanCommit) (i first run : ℕ) → i ≤ length commits
+    → counted_with counts first run first ≡ ids_with first (ids_of (take i commits))
+    → slice_index counts first + run ≤ i
+run-small counts commits i first run h k =
+    let now : ◌≡◌ {A = ℕ} (cond (first == first) run 0) run = ap (λ (b : Bool). cond b run 0) (eq-eqb first first refl) in
+    omega (
+      arith,
+      now,
+      k,
+      count_by-le-length (λ (id : List ℕ). slice_index id 0 == first) (ids_of (take i commits)),
+      length-map (take i commits) (λ (c : PlanCommit). c.id),
+      length-take-le i commits h,
+    )
 
 -- one more id begins with a byte
 pub bytes-more : (commits : List PlanCommit) (i first : ℕ) (commit : PlanCommit) → i < length commits

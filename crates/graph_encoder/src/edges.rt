@@ -44,8 +44,9 @@ pub(crate) fn count_extra_words<P: PlanView>(plan: &P) -> usize
     words
 }
 
-/// Whether the index of each extra word fits in a field beside the top bit.
-pub(crate) fn has_few_extra_words<P: PlanView>(plan: &P) -> bool
+/// Whether the index of each extra word fits in a field beside the top bit: there are fewer of them
+/// than 2^31. A commit with more than two parents has one for each from the second on.
+pub fn has_few_extra_words<P: PlanView>(plan: &P) -> bool
     ensures { IsTrue result
         ↔ (length (all_extra_words (P.as_plan plan.now).commits.items) < top_bit) }
 {

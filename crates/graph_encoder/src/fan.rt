@@ -7,7 +7,8 @@ use crate::push::push_word;
 use crate::view::PlanView;
 use std::alloc::AllocError;
 
-/// How many ids have each first byte.
+/// How many ids have each first byte. Those of a run of ids with one first byte are added at once:
+/// the processor then waits for no count before it reads the next id.
 fn first_bytes<P: PlanView>(plan: &P) -> [u32; 256]
     requires { length (P.as_plan plan.now).commits.items < 2 ^ 32 }
     ensures counted { (byte : ℕ) → byte < 256
@@ -16,9 +17,18 @@ fn first_bytes<P: PlanView>(plan: &P) -> [u32; 256]
         (ids_of (P.as_plan plan.now).commits.items) }
 {
     let mut counts = [0; 256];
+    let mut byte = 0;
+    let mut run = 0;
     for place in 0..plan.commit_count() {
-        counts[plan.row(place).id.as_oid().first_byte() as usize] += 1;
+        let next = plan.row(place).id.as_oid().first_byte();
+        if next != byte {
+            counts[byte as usize] += run;
+            byte = next;
+            run = 0;
+        }
+        run += 1;
     }
+    counts[byte as usize] += run;
     counts
 }
 

@@ -20,6 +20,7 @@ mod table;
 mod view;
 
 pub use builder::{build, build_view};
+pub use edges::has_few_extra_words;
 pub use filters::{FilterNumbers, PlanFilters};
 pub use law::planned_files_say_their_plans;
 pub use plan::{LayerPlan, PlanCommit, is_buildable};

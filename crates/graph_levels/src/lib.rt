@@ -7,6 +7,7 @@
 
 mod level;
 mod lists;
+mod oldest;
 mod search;
 
 pub use level::{Level, LevelsError};

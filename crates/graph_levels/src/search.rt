@@ -1,5 +1,6 @@
 //! A search depth first, without recursion: it goes through the parents of a commit before it
-//! computes the level of that commit.
+//! computes the level of that commit. Older commits are visited first, so that parents mostly have
+//! their levels already.
 
 ghost use Rattle.std.specs.Prelude.{◌≡◌, ◌<◌, ◌≤◌, ◌+◌, ◌^◌, ℕ, List, length, All, Contains};
 ghost use Rattle.std.specs.Prelude.{IfOk, IfErr, OnOk, IfSome, IfNone, slice_index};
@@ -20,6 +21,7 @@ ghost use Rattle.graph_levels.specs.declared.level.State.TheVariants.{Unseen, Do
 
 use crate::level::{Frame, Level, LevelsError, State};
 use crate::lists::ParentLists;
+use crate::oldest::{CommitTime, oldest_first};
 use graph_walks::GENERATION_NUMBER_MAX;
 use std::alloc::{AllocError, Global};
 
@@ -228,6 +230,26 @@ impl Search<'_> {
         Ok(())
     }
 
+    /// Visits commits in this order of their numbers. Nothing is promised of which: numbers past the
+    /// last commit are left out.
+    fn visit_each(&mut self, order: &[CommitTime]) -> Result<(), LevelsError>
+        requires going { IsUnderWay self.old }
+        requires input { HasFittingInput self.old }
+        requires empty { length self.old.stack.items ≡ 0 }
+        ensures going { OnOk result (IsUnderWay self.new) }
+        ensures input { OnOk result (ContinuesSearch self.old self.new) }
+        ensures empty { OnOk result (length self.new.stack.items ≡ 0) }
+        ensures cycle { IfErr result
+            (IsLevelsRefusal (length self.old.below.now) self.old.parents.now) }
+    {
+        for place in order {
+            if place.commit < self.parents.len() {
+                self.visit(place.commit)?;
+            }
+        }
+        Ok(())
+    }
+
     /// The levels, in the order of the commits.
     fn found(&self, alloc: Global) -> Result<Vec<Level>, AllocError>
         requires { (i : ℕ) → i < length self.now.states.items
@@ -287,6 +309,7 @@ pub fn levels(
         states: vec![in alloc; State::Unseen; parents.len()]?,
         stack: Vec::new(alloc),
     };
+    search.visit_each(&oldest_first(alloc, times)?)?;
     for commit in 0..parents.len() {
         search.visit(commit)?;
     }

@@ -8,6 +8,7 @@ use Rattle.graph_walks.specs.Generations.{AreLocal}
 use Rattle.graph_walks.specs.History.{Node}
 use Rattle.graph_walks.specs.declared.TheConstants.{GENERATION_NUMBER_MAX}
 use Rattle.graph_format.specs.Layer.{Layer, IsLayer}
+use Rattle.graph_encoder.specs.ExtraEdges.{all_extra_words, top_bit}
 use Rattle.graph_encoder.specs.Plan.{IsPlan, AreOffsets}
 use Rattle.graph_encoder.specs.Said.{IsFileOf}
 use Rattle.graph_levels.specs.OnTop.{HasOnTop, HasLevelGenerations, HasLevelDates, level_at}
@@ -40,39 +41,44 @@ view-planned plan own same =
     (IsPlanOf commit (parent_list plan.new.now.parents p) (level_at ls p).generation))
     same (planned-each plan)
 
--- a plan that a file can hold has few extra edges
-pub few-words : (plan : NewPlan) (layers : List Layer) (own : List Level) → IsPlan (plan_of plan) → plan.levels.now ≡ own
-    → IsNewLayer layers plan.commits.now plan.new.now → word_count plan.commits.now < 2 ^ 31
-few-words plan layers own is same is_new =
-    omega (
-      arith,
-      is.few_words,
-      all-words layers plan.commits.now plan.new.now is_new own (plan_of plan) (planned-count plan)
-          (view-planned plan own same),
-    )
+-- the plan has as many extra words as the commits
+pub view-words : (plan : NewPlan) (layers : List Layer) (own : List Level) → plan.levels.now ≡ own
+    → IsNewLayer layers plan.commits.now plan.new.now
+    → length (all_extra_words (plan_of plan).commits.items) ≡ word_count plan.commits.now
+view-words plan layers own same is_new =
+    all-words layers plan.commits.now plan.new.now is_new own (plan_of plan) (planned-count plan) (view-planned plan own same)
 
--- and one that no file can hold has too many
-pub many-words : (plan : NewPlan) (b : Bool) (layers : List Layer) (own : List Level) → (IsTrue b ↔ IsPlan (plan_of plan))
-    → b ≡ false → plan.levels.now ≡ own → IsNewLayer layers plan.commits.now plan.new.now
-    → new_layer_refusal layers plan.commits.now ≡ None → (known : LevelsBelow) → AreLevelsBelow layers known
-    → plan.kind ≡ kind_to_write layers plan.commits.now → plan.bases.items ≡ map (λ l. l.checksum) layers
-    → length layers ≤ 255 → length own ≡ commit_count plan.new.now.parents
-    → ((p : ℕ) → p < length own → (level_at own p).generation ≤ GENERATION_NUMBER_MAX)
-    → IfSome (option_map (λ v. v.items) plan.offsets) (AreOffsets (length plan.new.now.order.items))
-    → 2 ^ 31 ≤ word_count plan.commits.now
-unfolding plan_of
-many-words plan b layers own told no_it_is same is_new none known below kind bases fits leveled capped offsets =
+pub few-words : (plan : NewPlan) (layers : List Layer) (own : List Level)
+    → length (all_extra_words (plan_of plan).commits.items) < top_bit → plan.levels.now ≡ own
+    → IsNewLayer layers plan.commits.now plan.new.now → word_count plan.commits.now < 2 ^ 31
+few-words plan layers own few same is_new = omega (arith, few, view-words plan layers own same is_new)
+
+-- one that has too many
+pub many-words : (plan : NewPlan) (b : Bool) (layers : List Layer) (own : List Level)
+    → (IsTrue b ↔ (length (all_extra_words (plan_of plan).commits.items) < top_bit)) → b ≡ false → plan.levels.now ≡ own
+    → IsNewLayer layers plan.commits.now plan.new.now → 2 ^ 31 ≤ word_count plan.commits.now
+many-words plan b layers own told no_few same is_new =
     ⊎_elim
     (λ (less : word_count plan.commits.now < 2 ^ 31).
-    let sized : IfSome (option_map (λ v. v.items) plan.offsets) (AreOffsets (length (plan_of plan).commits.items)) =
-    subst (λ (n : ℕ). IfSome (option_map (λ v. v.items) plan.offsets) (AreOffsets n)) (sym (planned-count plan)) offsets in
-    let yes_it_is : b ≡ true =
-    told.1
-    (is-plan layers plan.commits.now plan.new.now is_new own (plan_of plan) (planned-count plan) (view-planned plan own same)
-    none known below kind bases fits leveled capped sized tt less) in
+    let few : b ≡ true = told.1 (omega (arith, less, view-words plan layers own same is_new)) in
     absurd (cc))
     (λ (many : 2 ^ 31 ≤ word_count plan.commits.now). many)
     (cases_lt (word_count plan.commits.now) (2 ^ 31))
+
+-- a file can hold a plan with few
+pub view-fits : (plan : NewPlan) (layers : List Layer) (own : List Level)
+    → length (all_extra_words (plan_of plan).commits.items) < top_bit → plan.levels.now ≡ own
+    → IsNewLayer layers plan.commits.now plan.new.now → new_layer_refusal layers plan.commits.now ≡ None
+    → (known : LevelsBelow) → AreLevelsBelow layers known → plan.kind ≡ kind_to_write layers plan.commits.now
+    → plan.bases.items ≡ map (λ l. l.checksum) layers → length layers ≤ 255 → length own ≡ commit_count plan.new.now.parents
+    → ((p : ℕ) → p < length own → (level_at own p).generation ≤ GENERATION_NUMBER_MAX)
+    → IfSome (option_map (λ v. v.items) plan.offsets) (AreOffsets (length plan.new.now.order.items)) → IsPlan (plan_of plan)
+unfolding plan_of
+view-fits plan layers own few same is_new none known below kind bases fits leveled capped offsets =
+    let sized : IfSome (option_map (λ v. v.items) plan.offsets) (AreOffsets (length (plan_of plan).commits.items)) =
+    subst (λ (n : ℕ). IfSome (option_map (λ v. v.items) plan.offsets) (AreOffsets n)) (sym (planned-count plan)) offsets in
+    is-plan layers plan.commits.now plan.new.now is_new own (plan_of plan) (planned-count plan) (view-planned plan own same)
+    none known below kind bases fits leveled capped sized (omega (arith, few, view-words plan layers own same is_new))
 
 -- its file is one of a layer with the commits
 pub view-written : (plan : NewPlan) (bytes path : List ℕ) → IsFileOf (plan_of plan) bytes path → (layers : List Layer)

@@ -2,14 +2,15 @@
 //! compared with the whole id.
 
 use crate::commit::NewCommit;
+use crate::order::FrontPlace;
 use gix_hash_core::ObjectId;
 use std::alloc::{AllocError, Global};
 
 /// About how many ids share a start.
-const IDS_EACH: usize = 8;
+const IDS_EACH: usize = 4;
 
 /// How many fronts are looked at from a start on. More than these hardly ever share one.
-const MOST_EACH: usize = 32;
+const MOST_EACH: usize = 16;
 
 /// The number that the first eight bytes of an id make. Two ids hardly ever have one front, unless
 /// someone made them so.
@@ -27,19 +28,13 @@ pub(crate) struct Guide {
 }
 
 impl Guide {
-    /// The guide to commits in this order of their ids. Numbers past the last commit are left out.
-    pub(crate) fn of(
-        alloc: Global,
-        commits: &[NewCommit],
-        order: &[usize],
-    ) -> Result<Guide, AllocError> {
-        let mut fronts = Vec::with_capacity(alloc, order.len())?;
-        for number in order {
-            if let Some(commit) = commits.get(*number) {
-                fronts.push(front(&commit.id))?;
-            }
+    /// The guide to ids that have these places.
+    pub(crate) fn of(alloc: Global, places: &[FrontPlace]) -> Result<Guide, AllocError> {
+        let mut fronts = Vec::with_capacity(alloc, places.len())?;
+        for place in places {
+            fronts.push(place.front)?;
         }
-        let mut starts = vec![in alloc; 0; order.len() / IDS_EACH + 1]?;
+        let mut starts = vec![in alloc; 0; places.len() / IDS_EACH + 1]?;
         let mut place = fronts.len();
         for front in fronts.iter().rev() {
             place = place.saturating_sub(1);
@@ -51,22 +46,20 @@ impl Guide {
         Ok(Guide { fronts, starts })
     }
 
-    /// Where the commit with an id stands if there is one, unless many ids have fronts that are
-    /// near to each other.
-    pub(crate) fn guess(&self, id: &ObjectId) -> u32 {
-        let wanted = front(id);
+    /// Where the commit stands whose id has this front if there is one, unless many ids have fronts
+    /// that are near to each other. It is found by counting, without a choice for which the
+    /// processor would have to wait.
+    fn guess(&self, wanted: u64) -> u32 {
         let bucket = bucket_of(wanted, self.starts.len());
-        let mut place = match self.starts.get(bucket) {
+        let start = match self.starts.get(bucket) {
             Some(start) => *start,
             None => 0,
         };
-        let from = (place as usize).min(self.fronts.len());
+        let from = (start as usize).min(self.fronts.len());
         let to = (from + MOST_EACH).min(self.fronts.len());
+        let mut place = start;
         for front in &self.fronts[from..to] {
-            if *front >= wanted {
-                break;
-            }
-            place = place.wrapping_add(1);
+            place = place.wrapping_add(u32::from(*front < wanted));
         }
         place
     }
@@ -77,17 +70,72 @@ fn bucket_of(front: u64, buckets: usize) -> usize {
     ((front >> 32).wrapping_mul(buckets as u64) >> 32) as usize
 }
 
-/// Guessed places, which are taken one by one.
+/// How many commits have their parents guessed at a time.
+const BLOCK: usize = 128;
+
+/// Guessed places of the parents of commits, which are taken one by one. They are guessed for a
+/// block of commits at a time, each step for all of them, so that the processor waits for many
+/// reads at once. Its cache has what they read when the guesses are taken.
 #[derive(Drop)]
 pub(crate) struct Guesses<'a> {
-    places: &'a [u32],
+    guide: &'a Guide,
+    commits: &'a [NewCommit],
+    order: &'a [usize],
+    wanted: Vec<u64>,
+    guessed: Vec<u32>,
+    places: Vec<u32>,
     next: usize,
 }
 
 impl<'a> Guesses<'a> {
-    /// Guesses at these places.
-    pub(crate) fn of(places: &'a [u32]) -> Guesses<'a> {
-        Guesses { places, next: 0 }
+    /// Guesses for the parents of these commits, by the guide to them.
+    pub(crate) fn of(
+        alloc: Global,
+        guide: &'a Guide,
+        commits: &'a [NewCommit],
+        order: &'a [usize],
+    ) -> Guesses<'a> {
+        Guesses {
+            guide,
+            commits,
+            order,
+            wanted: Vec::new(alloc),
+            guessed: Vec::new(alloc),
+            places: Vec::new(alloc),
+            next: 0,
+        }
+    }
+
+    /// Makes the guesses of a block, if one begins at the commit of this number.
+    pub(crate) fn go_on(&mut self, number: usize) -> Result<(), AllocError> {
+        if number % BLOCK == 0 {
+            self.guess_block(number)?;
+        }
+        Ok(())
+    }
+
+    /// Makes the guesses of the block that begins at the commit of this number.
+    fn guess_block(&mut self, number: usize) -> Result<(), AllocError> {
+        self.wanted.clear();
+        self.guessed.clear();
+        self.places.clear();
+        self.next = 0;
+        for commit in self.commits.iter().skip(number).take(BLOCK) {
+            for id in &commit.parents {
+                self.wanted.push(front(id))?;
+            }
+        }
+        let guide = self.guide;
+        for front in &self.wanted {
+            self.guessed.push(guide.guess(*front))?;
+        }
+        let commits = self.commits;
+        let order = self.order;
+        for (place, front) in self.guessed.iter().zip(self.wanted.iter()) {
+            let found = front_at(commits, order, *place) == *front;
+            self.places.push(if found { *place } else { u32::MAX })?;
+        }
+        Ok(())
     }
 
     /// The next one, 0 past the last.
@@ -99,5 +147,16 @@ impl<'a> Guesses<'a> {
             }
             None => 0,
         }
+    }
+}
+
+/// The front of the id at a place of the commits in this order, 0 past the last.
+fn front_at(commits: &[NewCommit], order: &[usize], place: u32) -> u64 {
+    match order.get(place as usize) {
+        Some(number) => match commits.get(*number) {
+            Some(commit) => front(&commit.id),
+            None => 0,
+        },
+        None => 0,
     }
 }

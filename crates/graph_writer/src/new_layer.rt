@@ -14,7 +14,8 @@ ghost use Rattle.graph_writer.specs.WriteRefusal.{plain_refusal, MayRefuseNewLay
 use crate::below::check_new;
 use crate::check::check_each;
 use crate::commit::{NewCommit, WriteError};
-use crate::order::order_of;
+use crate::guide::Guide;
+use crate::order::{order_of, places_by_front};
 use crate::resolve::Known;
 use gix_commitgraph::MAX_COMMITS;
 use gix_hash_core::Kind;
@@ -53,7 +54,8 @@ impl NewLayer {
     {
         let start = number_below(below);
         check_alone(below, commits)?;
-        let order = order_of(alloc, commits)?;
+        let places = places_by_front(alloc, commits)?;
+        let order = order_of(alloc, commits, &places)?;
         check_all_new(below, commits)?;
         if commits.len() > MAX_COMMITS as usize - start as usize {
             return Err(WriteError::TooManyCommits);
@@ -64,7 +66,8 @@ impl NewLayer {
             commits,
             order: &order,
         };
-        let lists = known.resolve(alloc)?;
+        let guide = Guide::of(alloc, &places)?;
+        let lists = known.resolve(alloc, &guide)?;
         let parents = in_order(alloc, &order, &lists)?;
         Ok(NewLayer { order, parents })
     }

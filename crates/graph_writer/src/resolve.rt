@@ -93,18 +93,6 @@ impl Known<'_> {
         Some(pos.0)
     }
 
-    /// For each parent of each commit in turn, the place where it may stand in the order of ids.
-    fn guesses(&self, alloc: Global) -> Result<Vec<u32>, AllocError> {
-        let guide = Guide::of(alloc, self.commits, self.order)?;
-        let mut guesses = Vec::new(alloc);
-        for commit in self.commits {
-            for id in &commit.parents {
-                guesses.push(guide.guess(id))?;
-            }
-        }
-        Ok(guesses)
-    }
-
     /// Puts the positions of a commit's parents in place of those that are there. The answer is the
     /// number of the first parent that is not known, if there is one. The guesses are taken one by
     /// one.
@@ -134,7 +122,7 @@ impl Known<'_> {
     }
 
     /// The positions of the parents of each commit, in the order in which the commits came.
-    pub(crate) fn resolve(&self, alloc: Global) -> Result<ParentLists, WriteError>
+    pub(crate) fn resolve(&self, alloc: Global, guide: &Guide) -> Result<ParentLists, WriteError>
         requires { IsKnown self.now }
         ensures count { IfOk result (λ lists.
             commit_count lists ≡ length self.now.commits.now) }
@@ -150,11 +138,11 @@ impl Known<'_> {
             ⊎ (first_below (parent_at (ids_below self.now) self.now.commits.now)
             (length self.now.commits.now) ≡ Some e)) }
     {
-        let places = self.guesses(alloc)?;
-        let mut guesses = Guesses::of(&places);
+        let mut guesses = Guesses::of(alloc, guide, self.commits, self.order);
         let mut lists = ParentLists::new(alloc);
         let mut positions = Vec::new(alloc);
         for (number, commit) in self.commits.iter().enumerate() {
+            guesses.go_on(number)?;
             match self.put_parents(commit, &mut guesses, &mut positions)? {
                 Some(parent) => return Err(WriteError::Parent(number, parent)),
                 None => lists.push(&positions)?,

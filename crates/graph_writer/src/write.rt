@@ -18,7 +18,7 @@ use crate::levels_below::LevelsBelow;
 use crate::new_layer::{NewLayer, kind_to_write};
 use crate::new_plan::NewPlan;
 use crate::plan::{checksums_below, offsets_of, times_in_order};
-use graph_encoder::{build_view, is_buildable};
+use graph_encoder::{build_view, has_few_extra_words};
 use graph_history::Checked;
 use graph_levels::{Level, LevelsError, levels};
 use graph_walks::GENERATION_NUMBER_MAX;
@@ -62,7 +62,7 @@ pub fn write_layer(
     if plan.bases.len() > MOST_BELOW {
         return Err(WriteError::TooManyLayers);
     }
-    if !is_buildable(&plan) {
+    if !has_few_extra_words(&plan) {
         return Err(WriteError::TooManyEdges);
     }
     Ok(build_view(alloc, &plan)?)

@@ -2,7 +2,7 @@
 
 use gix_commitgraph::{File, Graph};
 use gix_hash_core::ObjectId;
-use graph_encoder::{LayerPlan, PlanCommit, build};
+use graph_encoder::{LayerPlan, PlanCommit, build, has_few_extra_words};
 use graph_history::CheckedGraph;
 use graph_writer::NewCommit;
 use std::alloc::Global;
@@ -63,6 +63,7 @@ pub(crate) fn graph_of_root(
         plan.date_offsets = Some(offsets);
     }
     assert!(rt; plan.is_buildable());
+    assert!(rt; has_few_extra_words(&plan));
     let bytes = build(alloc, &plan).expect(rt, "memory for a file");
     graph_of(rt, alloc, opened(rt, alloc, bytes))
 }

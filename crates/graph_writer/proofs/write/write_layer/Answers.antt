@@ -26,7 +26,7 @@ use Rattle.graph_writer.proofs.AcyclicSteps.{acyclic}
 use Rattle.graph_writer.proofs.FitSteps.{fit-together}
 use Rattle.graph_writer.proofs.ReasonSteps.{refused-new, refused-dates, refused-levels, refused-layers}
 use Rattle.graph_writer.proofs.ReasonSteps.{refused-edges}
-use Rattle.graph_writer.proofs.ViewSteps.{few-words, many-words, view-written}
+use Rattle.graph_writer.proofs.ViewSteps.{few-words, many-words, view-fits, view-written}
 use Rattle.graph_writer.proofs.write.write_layer.Goals as goal
 
 -- a list that may be missing
@@ -103,10 +103,23 @@ few-below : (layers : List Layer) (bases : List (List ℕ)) (n : ℕ) → bases 
 few-below layers bases n same counted few =
     omega (arith, few, counted, ap length same, length-map layers (λ (l : Layer). l.checksum))
 
-pub returns-then-not-is_buildable-clause-refusal : goal.returns-then-not-is_buildable-clause-refusal
-returns-then-not-is_buildable-clause-refusal c =
+pub returns-then-not-has_few_extra_words-clause-refusal : goal.returns-then-not-has_few_extra_words-clause-refusal
+returns-then-not-has_few_extra_words-clause-refusal c =
     let layers : List Layer = layers_of_below c.args.below in
     let commits : List NewCommit = c.args.commits.now in
+    let few : length layers ≤ 255 =
+    few-below layers c.in_ok-checksums_below.field-0.items c.len.result c.in_ok-checksums_below.ensures
+    (c.len.ensures ∙ c.in_ok-checksums_below.field-0.ok.0) c.if-len-gt-MOST_BELOW.false in
+    refused-edges layers commits c.in_ok-new.ensures.accepted c.in_ok-known.ensures.levels.accepted
+    (no-cycle-left layers commits c.in_ok-new.new c.in_ok-new.ensures.layer c.in_ok-new.ensures.accepted
+    c.in_ok-known.known c.in_ok-known.ensures.levels c.deref-2.result.now c.deref-2.ensures.value c.in_ok-own.ensures.acyclic)
+    few
+    (many-words _ c.has_few_extra_words.result layers c.in_ok-own.own.items c.has_few_extra_words.ensures
+    c.if-not-has_few_extra_words.true c.deref-4.ensures.value c.in_ok-new.ensures.layer)
+
+pub build_view-requires : goal.build_view-requires
+build_view-requires c =
+    let layers : List Layer = layers_of_below c.args.below in
     let own : List Level = c.in_ok-own.own.items in
     let match_offsets =
     match-items (λ v. v.items) c.in_ok-offsets_of.field-0 (c.in_ok-known.known.have_dates ≡ false)
@@ -117,20 +130,14 @@ returns-then-not-is_buildable-clause-refusal c =
     ∙ sym c.in_ok-new.ensures.layer.listed
     ∙ sym c.in_ok-own.ensures.len
     ∙ sym (ap length c.deref-6.ensures.value) in
-    let few : length layers ≤ 255 =
-    few-below layers c.in_ok-checksums_below.field-0.items c.len.result c.in_ok-checksums_below.ensures
-    (c.len.ensures ∙ c.in_ok-checksums_below.field-0.ok.0) c.if-len-gt-MOST_BELOW.false in
-    let bound : 2 ^ 31 ≤ word_count commits =
-    many-words _ c.is_buildable.result layers own c.is_buildable.ensures c.if-not-is_buildable.true c.deref-4.ensures.value
+    view-fits _ layers own (c.has_few_extra_words.ensures.0 c.if-not-has_few_extra_words.false) c.deref-4.ensures.value
     c.in_ok-new.ensures.layer c.in_ok-new.ensures.accepted c.in_ok-known.known c.in_ok-known.ensures.levels
-    c.kind_to_write.ensures c.in_ok-checksums_below.ensures few c.in_ok-own.ensures.len
-    (λ p lt. (c.in_ok-own.ensures.bounds p lt).0)
+    c.kind_to_write.ensures c.in_ok-checksums_below.ensures
+    (few-below layers c.in_ok-checksums_below.field-0.items c.len.result c.in_ok-checksums_below.ensures
+    (c.len.ensures ∙ c.in_ok-checksums_below.field-0.ok.0) c.if-len-gt-MOST_BELOW.false)
+    c.in_ok-own.ensures.len (λ p lt. (c.in_ok-own.ensures.bounds p lt).0)
     (offsets-fit (option_map (λ v. v.items) c.in_ok-offsets_of.field-0) _ _ c.deref-5.result.now c.deref-6.result.now
-    (length c.in_ok-new.new.order.items) size match_offsets) in
-    refused-edges layers commits c.in_ok-new.ensures.accepted c.in_ok-known.ensures.levels.accepted
-    (no-cycle-left layers commits c.in_ok-new.new c.in_ok-new.ensures.layer c.in_ok-new.ensures.accepted
-    c.in_ok-known.known c.in_ok-known.ensures.levels c.deref-2.result.now c.deref-2.ensures.value c.in_ok-own.ensures.acyclic)
-    few bound
+    (length c.in_ok-new.new.order.items) size match_offsets)
 
 pub returns-clause-written : goal.returns-clause-written
 returns-clause-written c path =
@@ -184,6 +191,6 @@ returns-clause-accepted c =
           few-below layers c.in_ok-checksums_below.field-0.items c.len.result c.in_ok-checksums_below.ensures
           (c.len.ensures ∙ c.in_ok-checksums_below.field-0.ok.0) c.if-len-gt-MOST_BELOW.false;
       edges =
-          few-words _ layers c.in_ok-own.own.items (c.is_buildable.ensures.0 c.if-not-is_buildable.false) c.deref-4.ensures.value
-          c.in_ok-new.ensures.layer;
+          few-words _ layers c.in_ok-own.own.items (c.has_few_extra_words.ensures.0 c.if-not-has_few_extra_words.false)
+          c.deref-4.ensures.value c.in_ok-new.ensures.layer;
     }

@@ -77,13 +77,13 @@ returns-in_err-lists-clause-refusal c =
 pub resolve-requires : goal.resolve-requires
 resolve-requires c = record {
   start = c.number_below-start.ensures.commits;
-  order = subst (IsOrder c.args.commits.now) (sym c.deref.ensures.value) c.in_ok-order.ensures.order;
+  order = subst (IsOrder c.args.commits.now) (sym c.deref-2.ensures.value) c.in_ok-order.ensures.order;
   few = omega (arith, c.if-commits-start.false, c.number_below-start.ensures.few);
 }
 
 pub in_order-requires : goal.in_order-requires
 in_order-requires c =
-    subst (All (λ i. i < commit_count c.in_ok-lists.lists)) (sym c.deref-2.ensures.value)
+    subst (All (λ i. i < commit_count c.in_ok-lists.lists)) (sym c.deref-4.ensures.value)
     (subst (λ (n : ℕ). All (λ i. i < n) c.in_ok-order.order.items) (sym c.in_ok-lists.ensures.count)
     c.in_ok-order.ensures.order.mixed.each)
 
@@ -100,10 +100,10 @@ returns-clause-layer c =
     (c.in_ok-lists.ensures.within i (omega (arith, lt, c.in_ok-lists.ensures.count))))
     (λ i commit here.
     subst (λ (xs : List ℕ). HoldIds (graph_ids layers ++ ids_in_order commits xs) (parent_list lists i) commit.parents.items)
-    c.deref.ensures.value (c.in_ok-lists.ensures.ids i commit here))
-    (c.in_ok-parents.ensures.listed ∙ ap length c.deref-2.ensures.value)
+    c.deref-2.ensures.value (c.in_ok-lists.ensures.ids i commit here))
+    (c.in_ok-parents.ensures.listed ∙ ap length c.deref-4.ensures.value)
     (λ p i at.
-    c.in_ok-parents.ensures.parents p i (ap (λ (xs : List ℕ). slice_get xs p) c.deref-2.ensures.value ∙ at))
+    c.in_ok-parents.ensures.parents p i (ap (λ (xs : List ℕ). slice_get xs p) c.deref-4.ensures.value ∙ at))
 
 pub returns-clause-accepted : goal.returns-clause-accepted
 returns-clause-accepted c =

@@ -38,7 +38,7 @@ loop-number-preserved c =
     let none : c.in_ok-parent.field-0 ≡ None = c.in-None.is in
     let added = c.in_ok-push-in-None.ensures in
     let last : parent_list c.push.new.self (commit_count c.loop-number.lists) ≡ c.put_parents.new.positions.items =
-    added.new ∙ c.deref-in-None.ensures.value in
+    added.new ∙ c.deref.ensures.value in
     record {
       count = added.len ∙ ap (λ (n : ℕ). n + 1) inv.count;
       within =
