@@ -78,7 +78,7 @@ view-fits plan layers own few same is_new none known below kind bases fits level
     let sized : IfSome (option_map (λ v. v.items) plan.offsets) (AreOffsets (length (plan_of plan).commits.items)) =
     subst (λ (n : ℕ). IfSome (option_map (λ v. v.items) plan.offsets) (AreOffsets n)) (sym (planned-count plan)) offsets in
     is-plan layers plan.commits.now plan.new.now is_new own (plan_of plan) (planned-count plan) (view-planned plan own same)
-    none known below kind bases fits leveled capped sized (omega (arith, few, view-words plan layers own same is_new))
+    none known below kind bases fits leveled capped sized tt (omega (arith, few, view-words plan layers own same is_new))
 
 -- its file is one of a layer with the commits
 pub view-written : (plan : NewPlan) (bytes path : List ℕ) → IsFileOf (plan_of plan) bytes path → (layers : List Layer)
