@@ -29,6 +29,8 @@ STATIC = "commitgraph_c"
 """The library of which the static library is made."""
 EXPORTED = re.compile(r"^pub fn (cg_\w+)\((.*?)\)( -> \w+)?(\n.*?)\n\{\n", re.MULTILINE | re.DOTALL)
 """A function for C: its name, its parameters, its result and its contract."""
+USED = re.compile(r"^use (?!crate::)([\w:]+)::(?:\{([^}]*)\}|(\w+));", re.MULTILINE)
+"""What a file takes from other crates: the path, and several names or one."""
 PROCESSORS = len(os.sched_getaffinity(0))
 MEMORY = 3 * 2**30
 """As many bytes of memory has to be there for each job of a check."""
@@ -158,11 +160,11 @@ def write_exports(folder):
     for path in sorted((CRATES / STATIC / "src").glob("*.rt")):
         text = path.read_text()
         functions = EXPORTED.findall(text)
-        types = {name for _, taken, result, _ in functions for name in re.findall(r"\bCg\w+", taken + result)}
+        named = {word for function in functions for part in function for word in re.findall(r"\w+", part)}
         written = re.findall(r"^ghost use .*\n", text, re.MULTILINE)
-        written += [f"use {STATIC}::{name};\n" for name in sorted(types)]
-        if any("Global" in taken for _, taken, _, _ in functions):
-            written.append("use std::alloc::Global;\n")
+        written += [f"use {STATIC}::{name};\n" for name in sorted(named) if name.startswith("Cg")]
+        for crate, several, one in USED.findall(text):
+            written += [f"use {crate}::{name};\n" for name in re.findall(r"[A-Z]\w+", several or one) if name in named]
         for name, taken, result, contract in functions:
             call = ", ".join(re.findall(r"(\w+):", taken))
             head = f"#[unsafe(no_mangle)]\npub extern \"C\" fn {name}({taken}){result}{contract}"
