@@ -1,18 +1,23 @@
-"""Proves crates, and builds a program or the static library from them: `python3 scripts/proving.py NAME`.
+"""Proves crates, and builds a program or a library from them: `python3 scripts/proving.py NAME`.
 
 The crates that NAME uses are proved first, those side by side that do not use one another. Of a library it keeps
 what its contracts say, and not their proofs, since the crates above read no more than that. So it takes less time than
 `rt run` and `rt lib`, which keep the proofs too: those are for whoever changes a crate and checks it again. A library that
 is newer than its sources and than what it uses stays as it is.
+
+No library of Rattle exports a function to C. So from the one for C a static library is made, of a crate that is written here:
+each function stands there once more, with its contract, calls the library's, and is proved.
 """
 import concurrent.futures
 import fcntl
 import functools
 import os
 import pathlib
+import re
 import shutil
 import subprocess
 import sys
+import tempfile
 import time
 
 TOP = pathlib.Path(__file__).resolve().parent.parent
@@ -21,6 +26,11 @@ LISTED = (line.partition(":") for line in (TOP / "crates.txt").read_text().split
 USES = {crate.split()[0]: used.split() for crate, _, used in LISTED}
 """For each crate, those that crates.txt lists for it."""
 STATIC = "commitgraph_c"
+"""The library of which the static library is made."""
+EXPORTED = re.compile(r"^pub fn (cg_\w+)\((.*?)\)( -> \w+)?(\n.*?)\n\{\n", re.MULTILINE | re.DOTALL)
+"""A function for C: its name, its parameters, its result and its contract."""
+USED = re.compile(r"^use (?!crate::)([\w:]+)::(?:\{([^}]*)\}|(\w+));", re.MULTILINE)
+"""What a file takes from other crates: the path, and several names or one."""
 PROCESSORS = len(os.sched_getaffinity(0))
 MEMORY = 3 * 2**30
 """As many bytes of memory has to be there for each job of a check."""
@@ -45,11 +55,14 @@ def is_program(crate):
 
 
 def made(crate):
-    """What is built of a crate: a program, the archive of the static library, or a library's folder."""
+    """What is built of a crate: a program, or a library's folder."""
     out = CRATES / crate / "out"
-    if is_program(crate):
-        return out / crate
-    return out / f"lib{crate}.a" if crate == STATIC else out / f"rlib/{crate}.rlib"
+    return out / crate if is_program(crate) else out / f"rlib/{crate}.rlib"
+
+
+def archive():
+    """The archive of the static library."""
+    return CRATES / STATIC / f"out/lib{STATIC}.a"
 
 
 def dated(crate):
@@ -83,21 +96,13 @@ def most_jobs():
     return max(1, min(PROCESSORS * 3 // 2, free * 1024 // MEMORY))
 
 
-def build_words(crate, jobs):
-    """The command that proves a crate over the libraries below it, and builds it."""
-    rlibs = {name: made(name) for name in below(crate)}
-    named = ["std", *USES[crate]]
-    externs = [f"{name}={rlibs.get(name, kit() / 'rlibs' / f'{name}.rlib')}" for name in named]
+def build_words(crate, used, root, kind, jobs):
+    """The command that proves a crate over what it uses, and builds it."""
+    rlibs = {name: made(name) for user in used if user in USES for name in (*below(user), user)}
+    externs = [f"{name}={rlibs.get(name, kit() / 'rlibs' / f'{name}.rlib')}" for name in ("std", *used)]
     folders = [kit() / "rlibs", *(rlib.parent for rlib in rlibs.values())]
-    to, linked = made(crate), ["--toolchain", kit() / "toolchain", "--backend", "llvm"]
-    if is_program(crate):
-        kind = [*linked, "-o", f"{to}.o"]
-    elif crate == STATIC:
-        kind = ["--crate-type", "staticlib", *linked, "-o", to]
-    else:
-        kind = ["--statements", "-o", to]
     return [
-        *(kit() / "bin/rattle", "build", "--crate-name", crate, f"src/{'main' if is_program(crate) else 'lib'}.rt"),
+        *(kit() / "bin/rattle", "build", "--crate-name", crate, f"src/{root}.rt"),
         *(word for extern in externs for word in ("--extern", extern)),
         *(word for folder in folders for word in ("-L", f"dependency={folder}")),
         *("--antt-project", kit() / "rattle/logic/antt-project.json", "--logic-built", kit() / "logic_built"),
@@ -120,20 +125,67 @@ def run(words, folder):
     return done.stdout
 
 
+def prove_in(folder, words):
+    """Proves and builds what a command says, in a folder."""
+    said = run(words, folder)
+    if not any(line.startswith("logic=proved ") for line in said.splitlines()):
+        raise RuntimeError(said[-4000:])
+
+
 def prove(crate, jobs, date=None):
     """Proves and builds one crate. It is dated to the start, so that a source that is edited meanwhile is newer than it."""
     started, to = time.time(), made(crate)
-    folder = to.parent
-    if not is_program(crate) and crate != STATIC:
-        shutil.rmtree(folder, ignore_errors=True)
-    folder.mkdir(parents=True, exist_ok=True)
-    said = run(build_words(crate, jobs), CRATES / crate)
-    if not any(line.startswith("logic=proved ") for line in said.splitlines()):
-        raise RuntimeError(said[-4000:])
+    if is_program(crate):
+        root, kind = "main", [*linked(), "-o", f"{to}.o"]
+    else:
+        root, kind = "lib", ["--statements", "-o", to]
+        shutil.rmtree(to.parent, ignore_errors=True)
+    to.parent.mkdir(parents=True, exist_ok=True)
+    prove_in(CRATES / crate, build_words(crate, USES[crate], root, kind, jobs))
     if is_program(crate):
         run(link_words(to), CRATES / crate)
     os.utime(dated(crate), (date or started,) * 2)
     print(f"{crate}: proved in {time.time() - started:.0f} s", flush=True)
+
+
+def linked():
+    """Flags for what is compiled."""
+    return ["--toolchain", kit() / "toolchain", "--backend", "llvm"]
+
+
+def write_exports(folder):
+    """Writes the crate of the functions for C, a file for each one of the library's."""
+    (folder / "src").mkdir()
+    modules = []
+    for path in sorted((CRATES / STATIC / "src").glob("*.rt")):
+        text = path.read_text()
+        functions = EXPORTED.findall(text)
+        named = {word for function in functions for part in function for word in re.findall(r"\w+", part)}
+        written = re.findall(r"^ghost use .*\n", text, re.MULTILINE)
+        written += [f"use {STATIC}::{name};\n" for name in sorted(named) if name.startswith("Cg")]
+        for crate, several, one in USED.findall(text):
+            written += [f"use {crate}::{name};\n" for name in re.findall(r"[A-Z]\w+", several or one) if name in named]
+        for name, taken, result, contract in functions:
+            call = ", ".join(re.findall(r"(\w+):", taken))
+            head = f"#[unsafe(no_mangle)]\npub extern \"C\" fn {name}({taken}){result}{contract}"
+            written.append(f"\n{head}\n{{\n    {STATIC}::{name}({call})\n}}\n")
+        if functions:
+            modules.append(path.stem)
+            (folder / f"src/{path.name}").write_text("".join(written))
+    lines = "".join(f"mod {name};\n" for name in modules)
+    (folder / "src/lib.rt").write_text(f"#![tactic(auto)]\n\n{lines}")
+
+
+def build_archive(jobs, date=None):
+    """Proves and builds the static library, over the library for C. It is dated as a crate is. No file of its crate stays, since
+    the kit's gate takes code in the folders of crates alone."""
+    started = time.time()
+    kind = ["--crate-type", "staticlib", *linked(), "-o", archive()]
+    with tempfile.TemporaryDirectory() as folder:
+        write_exports(pathlib.Path(folder))
+        prove_in(folder, build_words("exports", [*USES[STATIC], STATIC], "lib", kind, jobs))
+    os.utime(archive(), (date or started,) * 2)
+    print(f"{archive().name}: proved in {time.time() - started:.0f} s", flush=True)
 
 
 def prove_all(crates, date):
@@ -165,6 +217,8 @@ def build(crate):
     prove_all([name for name in (*below(crate), crate) if not is_current(name)], date)
     # The program may be older than a source of a crate that it does not use.
     os.utime(dated(crate), (date, date))
+    if crate == STATIC:
+        build_archive(most_jobs(), date)
     for folder in locked:
         os.close(folder)
 

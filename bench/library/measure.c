@@ -141,7 +141,7 @@ static void queries(const char *layers, const char *kind, cg_graph graph, bytes 
 
 static seen calls(cg_graph graph) {
     seen found = { 0, 0 };
-    for (uint32_t i = 0; i < CALLS; i++) add(&found, cg_num_commits(graph));
+    for (uint32_t i = 0; i < CALLS; i++) add(&found, cg_num_layers(graph));
     return found;
 }
 

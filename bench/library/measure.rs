@@ -112,7 +112,7 @@ fn integrity(graph: &Graph) -> Seen {
 fn calls(graph: &Graph) -> Seen {
     let mut seen = Seen::default();
     for _ in 0..CALLS {
-        seen.add(graph.num_commits());
+        seen.add(graph.num_layers() as u64);
     }
     seen
 }

@@ -1,4 +1,4 @@
-// Package commitgraph reads and checks Git's commit-graph files by proved code.
+// Package commitgraph reads, checks and writes Git's commit-graph files by proved code.
 //
 // It calls libcommitgraph, which pkg-config has to find. The calls are proved, this package is not. Any number of goroutines may
 // ask one graph at a time; Close is called when none does.
@@ -38,6 +38,9 @@ type Error struct {
 	Position uint32
 	// Path is that of the layer's file, where its bytes are refused.
 	Path string
+	// Number is that of the question that has no answer, or of the commit that is not written, and Other what commitgraph.h says of
+	// that commit.
+	Number, Other uint64
 }
 
 func (e *Error) Error() string {
@@ -171,12 +174,47 @@ func (g *Graph) Lookup(id []byte) uint32 {
 	return uint32(C.cg_lookup(g.raw, at(id), C.size_t(len(id))))
 }
 
+// LookupAll are the positions of the commits with these ids, as Lookup finds each.
+func (g *Graph) LookupAll(ids [][]byte) []uint32 {
+	defer runtime.KeepAlive(g)
+	size := int(C.cg_id_len(g.raw))
+	all, out := make([]byte, 0, size*len(ids)), make([]uint32, len(ids)+1)
+	for _, id := range ids {
+		if len(id) != size {
+			id = make([]byte, size)
+		}
+		all = append(all, id...)
+	}
+	C.cg_lookup_all(g.raw, at(all), C.size_t(len(all)), C.size_t(size), (*C.uint32_t)(&out[0]), C.size_t(len(ids)))
+	for number, id := range ids {
+		if size == 0 || len(id) != size {
+			out[number] = Nowhere
+		}
+	}
+	return out[:len(ids)]
+}
+
 // ID is the id of the commit at a position.
 func (g *Graph) ID(position uint32) ([]byte, error) {
 	defer runtime.KeepAlive(g)
 	id := make([]byte, 32)
 	length := C.cg_id_at(g.raw, C.uint32_t(position), at(id), C.cg_id_len(g.raw))
 	return written(id, length, position)
+}
+
+// IDs are the ids of the commits at these positions.
+func (g *Graph) IDs(positions []uint32) ([][]byte, error) {
+	defer runtime.KeepAlive(g)
+	size, asked := int(C.cg_id_len(g.raw)), append(append([]uint32{}, positions...), 0)
+	all, ids := make([]byte, size*len(positions)), make([][]byte, len(positions))
+	told := C.cg_ids_at(g.raw, (*C.uint32_t)(&asked[0]), C.size_t(len(positions)), at(all), C.size_t(len(all)))
+	if told.code != C.CG_OK {
+		return nil, &Error{Code: uint32(told.code), Number: uint64(told.answered)}
+	}
+	for number := range ids {
+		ids[number] = all[size*number : size*(number+1)]
+	}
+	return ids, nil
 }
 
 // Tree is the id of the root tree of the commit at a position.
@@ -261,6 +299,107 @@ func (g *Graph) Compare(first uint32, others ...uint32) (Comparison, error) {
 		}
 		room = int(told.length)
 	}
+}
+
+// CompareAll compares the commits of each pair, as Compare does.
+func (g *Graph) CompareAll(pairs [][2]uint32) ([]Comparison, error) {
+	defer runtime.KeepAlive(g)
+	asked, answers := make([]C.cg_two, len(pairs)+1), make([]C.cg_bases, len(pairs)+1)
+	for number, pair := range pairs {
+		asked[number] = C.cg_two{C.uint32_t(pair[0]), C.uint32_t(pair[1])}
+	}
+	count := C.size_t(len(pairs))
+	for room := len(pairs) + 1; ; {
+		out := make([]uint32, room)
+		told := C.cg_merge_bases_of(g.raw, &asked[0], count, &answers[0], count, (*C.uint32_t)(&out[0]), C.size_t(room))
+		if told.code != C.CG_OK {
+			return nil, &Error{Code: uint32(told.code), Number: uint64(told.answered)}
+		}
+		if uint64(told.length) <= uint64(room) {
+			return comparisons(answers[:len(pairs)], out), nil
+		}
+		room = int(told.length)
+	}
+}
+
+// comparisons takes the merge bases of each pair from those of all, one pair's after another's.
+func comparisons(answers []C.cg_bases, bases []uint32) []Comparison {
+	all := make([]Comparison, len(answers))
+	for number, answer := range answers {
+		all[number] = Comparison{bases[:answer.length:answer.length], uint32(answer.ahead), uint32(answer.behind)}
+		bases = bases[answer.length:]
+	}
+	return all
+}
+
+// NewCommit is a commit that a layer is to have, with the ids of its parents, first parent first.
+type NewCommit struct {
+	ID, Tree []byte
+	Parents  [][]byte
+	// Time is in seconds since 1970-01-01 00:00:00 UTC.
+	Time uint64
+}
+
+// WriteFile makes the bytes of the file with these commits, in any order, as the only layer: what Git writes of them, without
+// changed-path filters. The checksum, by which the file of a chain is named graph-X.graph, is its end.
+func WriteFile(commits []NewCommit) ([]byte, error) {
+	return write(C.cg_graph{}, commits)
+}
+
+// WriteLayer makes the bytes of the file of a layer with these commits, in any order, on top of this graph: see WriteFile.
+func (g *Graph) WriteLayer(commits []NewCommit) ([]byte, error) {
+	defer runtime.KeepAlive(g)
+	if !g.raw.opened {
+		return nil, &Error{Code: C.CG_CLOSED_GRAPH}
+	}
+	return write(g.raw, commits)
+}
+
+func write(below C.cg_graph, commits []NewCommit) ([]byte, error) {
+	room := C.calloc(C.size_t(len(commits)+1), C.sizeof_cg_new_commit)
+	if room == nil {
+		return nil, &Error{Code: C.CG_OUT_OF_MEMORY}
+	}
+	defer C.free(room)
+	handed := unsafe.Slice((*C.cg_new_commit)(room), len(commits)+1)
+	var ids []byte
+	for number, commit := range commits {
+		ids = append(append(ids, commit.ID...), commit.Tree...)
+		for _, parent := range commit.Parents {
+			if len(parent) != len(commit.ID) {
+				return nil, &Error{Code: C.CG_WRITE_NO_IDS, Number: uint64(number)}
+			}
+			ids = append(ids, parent...)
+		}
+	}
+	// C gets no pointer to memory of Go's that holds one.
+	copied := C.CBytes(ids)
+	defer C.free(copied)
+	next := (*C.uint8_t)(copied)
+	for number, commit := range commits {
+		id, tree, parents := len(commit.ID), len(commit.Tree), len(commit.ID)*len(commit.Parents)
+		one := &handed[number]
+		one.id, one.id_len, next = next, C.size_t(id), past(next, id)
+		one.tree, one.tree_len, next = next, C.size_t(tree), past(next, tree)
+		one.parents, one.parents_len, next = next, C.size_t(parents), past(next, parents)
+		one.time = C.uint64_t(commit.Time)
+	}
+	var file C.cg_bytes
+	told := C.cg_write(below, &handed[0], C.size_t(len(commits)), &file)
+	if told.code != C.CG_OK {
+		return nil, &Error{
+			Code: uint32(told.code), Layer: uint64(told.layer), Position: uint32(told.position),
+			Number: uint64(told.commit), Other: uint64(told.other),
+		}
+	}
+	defer C.cg_bytes_free(file)
+	bytes := make([]byte, C.cg_bytes_copy(file, 0, at(nil), 0))
+	C.cg_bytes_copy(file, 0, at(bytes), C.size_t(len(bytes)))
+	return bytes, nil
+}
+
+func past(pointer *C.uint8_t, bytes int) *C.uint8_t {
+	return (*C.uint8_t)(unsafe.Add(unsafe.Pointer(pointer), bytes))
 }
 
 var none [1]byte

@@ -6,6 +6,7 @@ import (
 	"os"
 	"os/exec"
 	"path/filepath"
+	"reflect"
 	"sort"
 	"strconv"
 	"strings"
@@ -80,6 +81,71 @@ func (r *repository) same(what, got, wanted string) {
 	}
 }
 
+// many compares what calls for many answer with what those for one do.
+func (r *repository) many(graph *Graph) {
+	positions, pairs := []uint32{}, [][2]uint32{}
+	for one := uint32(0); one < graph.Len(); one++ {
+		positions = append(positions, one)
+		for other := uint32(0); other < graph.Len(); other++ {
+			pairs = append(pairs, [2]uint32{one, other})
+		}
+	}
+	ids, err := graph.IDs(positions)
+	if err != nil {
+		r.Fatal(err)
+	}
+	for position, id := range ids {
+		r.same("id", hex.EncodeToString(id), r.name(graph, uint32(position)))
+	}
+	found := graph.LookupAll(append(append([][]byte{}, ids...), make([]byte, 32), nil))
+	if !reflect.DeepEqual(found, append(append([]uint32{}, positions...), Nowhere, Nowhere)) {
+		r.Error(found)
+	}
+	all, err := graph.CompareAll(pairs)
+	if err != nil {
+		r.Fatal(err)
+	}
+	for number, pair := range pairs {
+		if one, _ := graph.Compare(pair[0], pair[1]); !reflect.DeepEqual(all[number], one) {
+			r.Error(pair, all[number], one)
+		}
+	}
+	_, err = graph.IDs([]uint32{0, graph.Len()})
+	r.refused(err, 4, 1, 0)
+	_, err = graph.CompareAll([][2]uint32{{0, 0}, {0, graph.Len()}})
+	r.refused(err, 4, 1, 0)
+	if len(graph.LookupAll(nil)) != 0 {
+		r.Error("ids of none")
+	}
+}
+
+func (r *repository) refused(err error, code uint32, number, other uint64) {
+	r.Helper()
+	var told *Error
+	if !errors.As(err, &told) || told.Code != code || told.Number != number || told.Other != other {
+		r.Error(err, code, number, other)
+	}
+}
+
+// commits are what Git says of the commits of its branch.
+func (r *repository) commits() []NewCommit {
+	commits := []NewCommit{}
+	for _, line := range strings.Split(r.git("log", "--format=%H %T %ct %P", "main"), "\n") {
+		words := strings.Fields(line)
+		ids := [][]byte{}
+		for _, word := range append(words[:2:2], words[3:]...) {
+			id, err := hex.DecodeString(word)
+			if err != nil {
+				r.Fatal(err)
+			}
+			ids = append(ids, id)
+		}
+		time, _ := strconv.ParseUint(words[2], 10, 64)
+		commits = append(commits, NewCommit{ids[0], ids[1], ids[2:], time})
+	}
+	return commits
+}
+
 // asked compares what a graph answers of each commit, and of each two, with what Git says.
 func (r *repository) asked(path string) {
 	graph, err := Open(path, true)
@@ -87,6 +153,7 @@ func (r *repository) asked(path string) {
 		r.Fatal(err)
 	}
 	defer graph.Close()
+	r.many(graph)
 	all := strings.Fields(r.git("rev-list", "main"))
 	r.same("commits", strconv.Itoa(int(graph.Len())), strconv.Itoa(len(all)))
 	for _, commit := range all {
@@ -128,6 +195,61 @@ func TestAChain(t *testing.T) {
 	}
 	r.asked(r.info)
 	r.asked(filepath.Join(r.info, "commit-graphs"))
+}
+
+func TestWriting(t *testing.T) {
+	r := made(t)
+	r.git("commit-graph", "write", "--reachable")
+	told := r.commits()
+	file := filepath.Join(r.info, "commit-graph")
+	alone, err := WriteFile(told)
+	r.is(file, alone, err)
+	os.Remove(file)
+	for _, commit := range []string{r.ids[4], r.ids[7]} {
+		r.git("update-ref", "refs/heads/main", commit)
+		r.git("commit-graph", "write", "--reachable", "--split=no-merge")
+	}
+	folder := filepath.Join(r.info, "commit-graphs")
+	names, err := os.ReadFile(filepath.Join(folder, "commit-graph-chain"))
+	if err != nil {
+		t.Fatal(err)
+	}
+	layers := []string{}
+	for _, name := range strings.Fields(string(names)) {
+		layers = append(layers, filepath.Join(folder, "graph-"+name+".graph"))
+	}
+	below, err := Open(layers[0], false)
+	if err != nil {
+		t.Fatal(err)
+	}
+	own := []NewCommit{}
+	for _, commit := range told {
+		if below.Lookup(commit.ID) == Nowhere {
+			own = append(own, commit)
+		}
+	}
+	layer, err := below.WriteLayer(own)
+	r.is(layers[1], layer, err)
+	_, err = below.WriteLayer(told[len(told)-1:])
+	r.refused(err, 706, 0, 0)
+	below.Close()
+	_, err = below.WriteLayer(own)
+	r.refused(err, 2, 0, 0)
+	_, err = WriteFile(nil)
+	r.refused(err, 709, 0, 0)
+	_, err = WriteFile(append(told[:1:1], told[0]))
+	r.refused(err, 705, 1, 0)
+	_, err = WriteFile([]NewCommit{{told[0].ID, told[0].Tree, [][]byte{{1}}, 0}})
+	r.refused(err, 712, 0, 0)
+}
+
+// is compares bytes with those of a file that Git wrote.
+func (r *repository) is(file string, bytes []byte, err error) {
+	r.Helper()
+	wanted, failed := os.ReadFile(file)
+	if err != nil || failed != nil || string(bytes) != string(wanted) {
+		r.Error(file, err, failed)
+	}
 }
 
 func TestRefusals(t *testing.T) {

@@ -14,6 +14,7 @@ import os
 import pathlib
 from collections.abc import Iterator, Sequence
 from ctypes import POINTER, c_bool, c_size_t, c_uint8, c_uint32, c_uint64, c_void_p
+from itertools import islice
 from typing import NamedTuple
 
 VERSION = 100
@@ -211,10 +212,12 @@ SENTENCES = {
 
 
 class Error(Exception):
-    """Why a graph was not opened, or a question has no answer; with the layer or the position that it is about."""
+    """Why a graph was not opened, a question has no answer, or no layer was written; with what it is about: the layer or the
+    position, or the number of a question or of a commit that was handed in, and `other`, as in commitgraph.h."""
 
-    def __init__(self, code: int, layer: int = 0, position: int = 0, path: str = "") -> None:
+    def __init__(self, code: int, layer: int = 0, position: int = 0, path: str = "", number: int = 0, other: int = 0) -> None:
         self.code, self.layer, self.position, self.path = Code(code), layer, position, path
+        self.number, self.other = number, other
         super().__init__((path + ": " if path else "") + SENTENCES[self.code])
 
 
@@ -253,6 +256,36 @@ class _Bases(ctypes.Structure):
     _fields_ = (("code", c_uint32), ("ahead", c_uint32), ("behind", c_uint32), ("visits", c_uint64), ("length", c_uint64))
 
 
+class _Answered(ctypes.Structure):
+    _fields_ = (("code", c_uint32), ("answered", c_uint64))
+
+
+class _Two(ctypes.Structure):
+    _fields_ = (("first", c_uint32), ("other", c_uint32))
+
+
+class _Compared(ctypes.Structure):
+    _fields_ = (("code", c_uint32), ("answered", c_uint64), ("length", c_uint64))
+
+
+class _NewCommit(ctypes.Structure):
+    _fields_ = (
+        *(pair for name in ("id", "tree", "parents") for pair in ((name, c_void_p), (name + "_len", c_size_t))),
+        ("time", c_uint64),
+    )
+
+
+class _Bytes(ctypes.Structure):
+    _fields_ = (("address", c_void_p), ("kept", c_bool))
+
+
+class _WriteError(ctypes.Structure):
+    _fields_ = (
+        *((name, c_uint32) for name in ("code", "position")),
+        *((name, c_uint64) for name in ("commit", "other", "layer", "expected")),
+    )
+
+
 class _Line(ctypes.Structure):
     _fields_ = (("found", c_bool), ("end", c_size_t), ("next", c_size_t))
 
@@ -264,12 +297,18 @@ CALLS = {
     "cg_num_commits": (c_uint32, (_Graph,)),
     "cg_id_len": (c_size_t, (_Graph,)),
     "cg_lookup": (c_uint32, (_Graph, c_void_p, c_size_t)),
+    "cg_lookup_all": (c_uint64, (_Graph, c_void_p, c_size_t, c_size_t, c_void_p, c_size_t)),
     "cg_id_at": (c_size_t, (_Graph, c_uint32, c_void_p, c_size_t)),
+    "cg_ids_at": (_Answered, (_Graph, c_void_p, c_size_t, c_void_p, c_size_t)),
     "cg_tree_at": (c_size_t, (_Graph, c_uint32, c_void_p, c_size_t)),
     "cg_commit_at": (c_bool, (_Graph, c_uint32, POINTER(_Commit))),
     "cg_parents": (_ParentCount, (_Graph, c_uint32, c_void_p, c_size_t)),
     "cg_is_ancestor": (_Leads, (_Graph, c_uint32, c_uint32)),
     "cg_merge_bases": (_Bases, (_Graph, c_uint32, c_void_p, c_size_t, c_void_p, c_size_t)),
+    "cg_merge_bases_of": (_Compared, (_Graph, POINTER(_Two), c_size_t, POINTER(_Bases), c_size_t, c_void_p, c_size_t)),
+    "cg_write": (_WriteError, (_Graph, POINTER(_NewCommit), c_size_t, POINTER(_Bytes))),
+    "cg_bytes_copy": (c_uint64, (_Bytes, c_uint64, c_void_p, c_size_t)),
+    "cg_bytes_free": (c_bool, (_Bytes,)),
     "cg_chain_line": (_Line, (c_void_p, c_size_t, c_size_t)),
 }
 """What each call that is used here answers and takes."""
@@ -310,6 +349,16 @@ class Comparison(NamedTuple):
     """How many commits some of the others leads to, and the first does not."""
 
 
+class NewCommit(NamedTuple):
+    """A commit that a layer is to have, with the ids of its parents, first parent first."""
+
+    id: bytes
+    tree: bytes
+    parents: Sequence[bytes]
+    time: int
+    """Seconds since 1970-01-01 00:00:00 UTC."""
+
+
 class Graph:
     """A commit-graph that its check has found right. Positions count from 0 over all layers."""
 
@@ -346,12 +395,29 @@ class Graph:
     def lookup(self, commit: bytes | str) -> int | None:
         """The position of the commit with an id, which is given as bytes or in hexadecimal."""
         name = bytes.fromhex(commit) if isinstance(commit, str) else commit
-        position = _library.cg_lookup(self._graph, _at(name), len(name))
-        return None if position == 0xFFFFFFFF else int(position)
+        return _found(_library.cg_lookup(self._graph, _at(name), len(name)))
+
+    def lookup_all(self, commits: Sequence[bytes]) -> list[int | None]:
+        """The positions of the commits with these ids, as `lookup` finds each."""
+        size = _library.cg_id_len(self._graph)
+        if any(len(commit) != size for commit in commits):
+            return [self.lookup(commit) for commit in commits]
+        ids, out = b"".join(commits), (c_uint32 * (len(commits) + 1))()
+        _library.cg_lookup_all(self._graph, _at(ids), len(ids), size, out, len(commits))
+        return [_found(position) for position in out[: len(commits)]]
 
     def id(self, position: int) -> bytes:
         """The id of the commit at a position."""
         return self._written(_library.cg_id_at, position)
+
+    def ids(self, positions: Sequence[int]) -> list[bytes]:
+        """The ids of the commits at these positions."""
+        size, count = _library.cg_id_len(self._graph), len(positions)
+        out = (c_uint8 * (size * count + 1))()
+        told = _library.cg_ids_at(self._graph, _places(positions), count, out, size * count)
+        if told.code:
+            raise Error(told.code, number=told.answered)
+        return [bytes(out[start : start + size]) for start in range(0, size * count, size or 1)]
 
     def tree(self, position: int) -> bytes:
         """The id of its root tree."""
@@ -360,7 +426,7 @@ class Graph:
     def record(self, position: int) -> Record:
         """What its record says."""
         commit = _Commit()
-        if not _library.cg_commit_at(self._graph, position, commit):
+        if not _library.cg_commit_at(self._graph, _place(position), commit):
             raise Error(Code.NO_SUCH_POSITION, position=position)
         return Record(commit.time, commit.generation)
 
@@ -369,7 +435,7 @@ class Graph:
         room = 2
         while True:
             out = (c_uint32 * room)()
-            told = _library.cg_parents(self._graph, position, out, room)
+            told = _library.cg_parents(self._graph, _place(position), out, room)
             if told.code:
                 raise Error(told.code, position=position)
             if told.count <= room:
@@ -378,29 +444,93 @@ class Graph:
 
     def is_ancestor(self, ancestor: int, descendant: int) -> bool:
         """Whether a commit is an ancestor of another, in the order of `git merge-base --is-ancestor`."""
-        told = _library.cg_is_ancestor(self._graph, ancestor, descendant)
+        told = _library.cg_is_ancestor(self._graph, _place(ancestor), _place(descendant))
         if told.code:
             raise Error(told.code)
         return bool(told.found)
 
     def compare(self, first: int, others: Sequence[int]) -> Comparison:
         """The merge bases that `git merge-base --all FIRST OTHERS..` names, and how far the commits have come apart."""
-        asked, room = (c_uint32 * (len(others) + 1))(*others), 64
+        asked, room = _places(others), 64
         while True:
             out = (c_uint32 * room)()
-            told = _library.cg_merge_bases(self._graph, first, asked, len(others), out, room)
+            told = _library.cg_merge_bases(self._graph, _place(first), asked, len(others), out, room)
             if told.code:
                 raise Error(told.code)
             if told.length <= room:
                 return Comparison(out[: told.length], told.ahead, told.behind)
             room = told.length
 
+    def compare_all(self, pairs: Sequence[tuple[int, int]]) -> list[Comparison]:
+        """The comparison of the commits of each pair, as `compare` makes it of one."""
+        asked, room = (_Two * (len(pairs) + 1))(*((_place(one), _place(two)) for one, two in pairs)), len(pairs) + 1
+        answers = (_Bases * (len(pairs) + 1))()
+        while True:
+            out = (c_uint32 * room)()
+            told = _library.cg_merge_bases_of(self._graph, asked, len(pairs), answers, len(pairs), out, room)
+            if told.code:
+                raise Error(told.code, number=told.answered)
+            if told.length <= room:
+                bases = iter(out[: told.length])
+                return [Comparison(list(islice(bases, it.length)), it.ahead, it.behind) for it in answers[: len(pairs)]]
+            room = told.length
+
+    def write_layer(self, commits: Sequence[NewCommit]) -> bytes:
+        """The bytes of the file of a layer with these commits, in any order, on top of this graph: see `write_file`."""
+        if not self._graph.opened:
+            raise Error(Code.CLOSED_GRAPH)
+        return _written_file(self._graph, commits)
+
     def _written(self, call: "ctypes._FuncPointer", position: int) -> bytes:
         size = _library.cg_id_len(self._graph)
         out = (c_uint8 * (size + 1))()
-        if call(self._graph, position, out, size) == 0:
+        if call(self._graph, _place(position), out, size) == 0:
             raise Error(Code.NO_SUCH_POSITION, position=position)
         return bytes(out[:size])
+
+
+def write_file(commits: Sequence[NewCommit]) -> bytes:
+    """The bytes of the file with these commits, in any order, as the only layer: what Git writes of them, without changed-path
+    filters. The checksum, by which the file of a chain is named graph-X.graph, is its end."""
+    return _written_file(_Graph(None, False), commits)
+
+
+def _written_file(below: _Graph, commits: Sequence[NewCommit]) -> bytes:
+    kept, handed = [], (_NewCommit * (len(commits) + 1))()
+    for number, one in enumerate(commits):
+        if any(len(parent) != len(one.id) for parent in one.parents):
+            raise Error(Code.WRITE_NO_IDS, number=number)
+        kept.append((one.id, one.tree, b"".join(one.parents)))
+        words = (word for data in kept[-1] for word in (_at(data), len(data)))
+        handed[number] = _NewCommit(*words, one.time if 0 <= one.time < 2**64 else 2**64 - 1)
+    file = _Bytes(None, False)
+    told = _library.cg_write(below, handed, len(commits), file)
+    if told.code:
+        raise Error(told.code, told.layer, told.position, number=told.commit, other=told.other)
+    try:
+        size = _library.cg_bytes_copy(file, 0, _at(b""), 0)
+        out = ctypes.create_string_buffer(size)
+        _library.cg_bytes_copy(file, 0, out, size)
+        return out.raw
+    finally:
+        _library.cg_bytes_free(file)
+
+
+NOWHERE = 0xFFFFFFFF
+"""No position, as commitgraph.h has it."""
+
+
+def _found(position: int) -> int | None:
+    return None if position == NOWHERE else int(position)
+
+
+def _place(position: int) -> int:
+    """A position that C can be handed, which is none where this one is none."""
+    return position if 0 <= position < NOWHERE else NOWHERE
+
+
+def _places(positions: Sequence[int]) -> "ctypes.Array[c_uint32]":
+    return (c_uint32 * (len(positions) + 1))(*map(_place, positions))
 
 
 def _at(data: bytes) -> int:

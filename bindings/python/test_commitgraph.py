@@ -5,9 +5,10 @@ import pathlib
 import subprocess
 import tempfile
 import unittest
+from collections.abc import Callable
 
 import commitgraph
-from commitgraph import Code, Error, Graph
+from commitgraph import Code, Error, Graph, NewCommit
 
 WHO = {f"GIT_{who}_{what}": "a@b" for who in ("AUTHOR", "COMMITTER") for what in ("NAME", "EMAIL")}
 WHEN = {"GIT_AUTHOR_DATE": "1000000000 +0000", "GIT_COMMITTER_DATE": "1000000000 +0000"}
@@ -49,16 +50,76 @@ class OverGit(unittest.TestCase):
                 self.assertEqual(sorted(graph.id(base).hex() for base in graph.compare(position, [at]).bases), sorted(bases))
                 self.assertEqual(graph.is_ancestor(position, at), commit in bases)
 
+    def many(self, graph: Graph) -> None:
+        """Calls for many answer as those for one."""
+        all_of = range(len(graph))
+        ids = graph.ids(all_of)
+        self.assertEqual(ids, [graph.id(position) for position in all_of])
+        self.assertEqual(graph.lookup_all([*reversed(ids), b"\7" * 20]), [*reversed(all_of), None])
+        self.assertEqual(graph.lookup_all([ids[0], b"\7" * 32, b""]), [0, None, None])
+        pairs = [(one, two) for one in all_of for two in all_of]
+        self.assertEqual(graph.compare_all(pairs), [graph.compare(one, [two]) for one, two in pairs])
+        self.assertEqual((graph.ids([]), graph.lookup_all([]), graph.compare_all([])), ([], [], []))
+        for none in (len(graph), -1, 2**32, -(2**32)):
+            for refused in (lambda: graph.ids([0, none]), lambda: graph.compare_all([(0, 0), (0, none)])):
+                self.refused(Code.NO_SUCH_POSITION, refused, number=1)
+            for call in (graph.id, graph.tree, graph.record, graph.parents):
+                self.refused(Code.NO_SUCH_POSITION, lambda: call(none), position=none)
+            self.refused(Code.NO_SUCH_POSITION, lambda: graph.is_ancestor(0, none))
+            self.refused(Code.NO_SUCH_POSITION, lambda: graph.compare(0, [none]))
+
+    def refused(self, code: Code, call: Callable[[], object], **told: int) -> None:
+        with self.assertRaises(Error) as raised:
+            call()
+        self.assertEqual((raised.exception.code, {name: getattr(raised.exception, name) for name in told}), (code, told))
+
+    def commits(self, revisions: str) -> list[NewCommit]:
+        """What Git says of commits."""
+        lines = self.git("log", "--format=%H %T %ct %P", revisions).splitlines()
+        words = (line.split() for line in lines)
+        read = bytes.fromhex
+        return [NewCommit(read(name), read(tree), [*map(read, parents)], int(time)) for name, tree, time, *parents in words]
+
+    def test_writing(self) -> None:
+        self.git("commit-graph", "write", "--reachable")
+        told = self.commits("main")
+        self.assertEqual(commitgraph.write_file(told[::-1]), (self.info / "commit-graph").read_bytes())
+        (self.info / "commit-graph").unlink()
+        for commit in (self.ids[4], self.ids[-1]):
+            self.git("update-ref", "refs/heads/main", commit)
+            self.git("commit-graph", "write", "--reachable", "--split=no-merge")
+        folder = self.info / "commit-graphs"
+        low, high = [folder / f"graph-{name}.graph" for name in (folder / "commit-graph-chain").read_text().split()]
+        below = Graph([(low.read_bytes(), "")])
+        own = [commit for commit in told if below.lookup(commit.id) is None]
+        self.assertEqual(below.write_layer(own), high.read_bytes())
+        first = next(number for number, commit in enumerate(told) if commit not in own)
+        place = below.lookup(told[first].id)
+        self.refused(Code.WRITE_BELOW, lambda: below.write_layer(told), number=first, position=place)
+        below.close()
+        self.refused(Code.CLOSED_GRAPH, lambda: below.write_layer(own))
+
+    def test_commits_that_are_refused(self) -> None:
+        one, two = NewCommit(b"\1" * 20, b"\1" * 20, [], 5), NewCommit(b"\2" * 20, b"\1" * 20, [b"\1" * 20], 5)
+        for handed, code, told in (
+            ([], Code.WRITE_NOTHING, {}),
+            ([one, one], Code.WRITE_TWICE, {"number": 1, "other": 0}),
+            ([one, two._replace(parents=[b"\1" * 20, b"\3" * 20])], Code.WRITE_PARENT, {"number": 1, "other": 1}),
+            ([one, two._replace(parents=[b"\1" * 40])], Code.WRITE_NO_IDS, {"number": 1}),
+            ([one, two._replace(tree=b"")], Code.WRITE_NO_IDS, {"number": 1}),
+            ([one, two._replace(tree=b"\0" * 20)], Code.WRITE_NULL_TREE, {"number": 1}),
+            *(([one, two._replace(time=time)], Code.WRITE_TIME, {"number": 1}) for time in (-1, 2**34, 2**64)),
+        ):
+            self.refused(code, lambda: commitgraph.write_file(handed), **told)
+        self.assertEqual(len(Graph([(commitgraph.write_file([two, one]), "")])), 2)
+
     def test_a_file(self) -> None:
         self.git("commit-graph", "write", "--reachable")
         for path in (self.info, self.info / "commit-graph"):
             with commitgraph.open(path, distinct_ids=True) as graph:
                 self.asked(graph)
+                self.many(graph)
                 self.assertIsNone(graph.lookup(b"\0" * 20))
-                for refused in (graph.id, graph.record, graph.parents):
-                    with self.assertRaises(Error) as raised:
-                        refused(len(graph))
-                    self.assertEqual(raised.exception.code, Code.NO_SUCH_POSITION)
 
     def test_a_chain(self) -> None:
         for commit in (self.ids[4], self.ids[-1]):
@@ -67,6 +128,7 @@ class OverGit(unittest.TestCase):
         for path in (self.info, self.info / "commit-graphs"):
             with commitgraph.open(path) as graph:
                 self.asked(graph)
+                self.many(graph)
 
     def test_refusals(self) -> None:
         self.git("commit-graph", "write", "--reachable")

@@ -6,8 +6,8 @@ Rust list and count is compared with what the program at the path GRAPHTOOL does
 tell of dates and filters also with what the one at HISTORYTOOL does. Where one is not given, or a compiler or a tool is missing,
 one line says what is left out.
 
-`python3 scripts/bindings --library LOG` only builds the library, beside an `rt ci` that writes LOG, as soon as that has
-proved the crates which the library uses.
+`python3 scripts/bindings --library LOG` only builds the static library, beside an `rt ci` that writes LOG, as soon as that has
+proved the library for C.
 """
 import chunked
 import concurrent.futures
@@ -77,11 +77,14 @@ def present(tool, part):
 def built():
     """The library, built if it is older than a source."""
     newest = max(path.stat().st_mtime for crate in (NAME, *proving.below(NAME)) for path in proving.source_files(crate))
-    if proving.made_at(NAME) < newest:
+    if not proving.archive().exists() or proving.archive().stat().st_mtime < newest:
         try:
             # What `rt ci` proved below is not proved again.
-            left = all(proving.made(crate).exists() for crate in proving.below(NAME))
-            proving.prove(NAME, 2) if left else proving.build(NAME)
+            if all(proving.made(crate).exists() for crate in proving.below(NAME)):
+                proving.prove(NAME, 2)
+                proving.build_archive(2)
+            else:
+                proving.build(NAME)
             complaint = ""
         except RuntimeError as error:
             complaint = error
@@ -90,12 +93,15 @@ def built():
 
 
 def wait_for_crates(log):
-    """Waits until `rt ci` has proved the crates below the library, or has ended: the last line of its log counts."""
+    """Waits until `rt ci` has proved the library and the crates below it, or has ended: the last line of its log counts. Answers
+    whether it has proved them."""
     while True:
         text = log.read_text(errors="replace") if log.exists() else ""
         told = set(re.findall(r"^rt: (\w+) (?:proved|is kept)", text, re.MULTILINE))
-        if told.issuperset(proving.below(NAME)) or re.search(r"^\d+ passed, \d+ failed$", text, re.MULTILINE):
-            return
+        if told.issuperset([*proving.below(NAME), NAME]):
+            return True
+        if re.search(r"^\d+ passed, \d+ failed$", text, re.MULTILINE):
+            return False
         time.sleep(2)
 
 
@@ -103,7 +109,7 @@ def exports(archive):
     """No export has a `requires`, and each has an `ensures`. The library, the header and the Rust crate have just them,
     and each is called by the Rust crate, and by the programs that make all calls."""
     texts = [path.read_text() for path in (CRATE / "src").glob("*.rt")]
-    found = dict(pair for text in texts for pair in re.findall(r'pub extern "C" fn (\w+)(.*?)\n?\{\n', text, re.DOTALL))
+    found = {name: contract for text in texts for name, _, _, contract in proving.EXPORTED.findall(text)}
     expect("no export has a `requires`", found and not any("requires" in contract for contract in found.values()), found)
     silent = [name for name, contract in found.items() if "ensures" not in contract]
     expect("each export says what it answers", silent == [], silent)
@@ -259,6 +265,7 @@ def refused_and_shared(name, compiler, archive, scratch, graphs):
             calls = dict(line.split() for line in done.stdout.splitlines()) if done.returncode == 0 else {}
             title = f"{name}, {kind}, {len(layers)} layers"
             expect(f"{title}: each allocation is refused in turn", calls.pop("reading", None) == "0", done)
+            expect(f"{title}: bytes that are no layer are not copied", calls.pop("open_wrong", None) == "0", done)
             expect(f"{title}: each call that allocates is refused", calls and all(int(n) > 0 for n in calls.values()), done)
             expect(f"{title}: many pairs are searched with one memory", calls.get("one_pair") == calls.get("three_pairs"), done)
         apart, alike = (run(program, "check", "-", *real.fronted(scratch / compiler, kind, it)) for it in (b"\x11\x22", b"\x11\x11"))
@@ -640,7 +647,7 @@ def python(library):
     """The module for Python: its tests, over the shared library."""
     tests = TOP / "bindings/python/test_commitgraph.py"
     done = run(sys.executable, "-B", tests, env={**os.environ, "COMMITGRAPH_LIB": str(library.parent)})
-    expect("Python: tests", done.returncode == 0 and "Ran 3 tests" in done.stderr, done)
+    expect("Python: tests", done.returncode == 0 and "Ran 5 tests" in done.stderr, done)
 
 
 def parts(archive, scratch, graphs):
@@ -665,8 +672,8 @@ def together(calls):
 
 def main():
     if sys.argv[1:2] == ["--library"]:
-        wait_for_crates(pathlib.Path(sys.argv[2]))
-        built()
+        if wait_for_crates(pathlib.Path(sys.argv[2])):
+            proving.build_archive(2)
         return
     archive = built()
     exports(archive)

@@ -75,6 +75,16 @@ static outcome open_graph(void) {
     return opening(error, opened);
 }
 
+/* Bytes that do not begin as a layer does: they are not copied. */
+static outcome open_wrong(void) {
+    static uint8_t wrong[BYTES];
+    memcpy(wrong + 1, files[0].bytes, files[0].len);
+    cg_file one = { wrong, files[0].len + 1, files[0].path, files[0].path_len };
+    cg_graph opened = { files, false };
+    bool refuses = cg_open(&one, 1, &opened).code == CG_FILE_SIGNATURE && opened.address == (void *)files;
+    return refuses ? DONE : NO_MEMORY;
+}
+
 /* The lowest layer alone, by its path. */
 static outcome open_known(void) {
     cg_graph opened = { files, false };
@@ -207,9 +217,20 @@ static outcome write_on(void) {
     return writing(graph, &one, 1);
 }
 
+/* Commits of which one is refused: want of memory is told before that, since all are copied first. */
+static outcome write_null(void) {
+    static const uint8_t null[32];
+    cg_new_commit two[2] = { all_commits[0], all_commits[0] };
+    two[1].id = null;
+    cg_bytes bytes = { files, false };
+    cg_write_error told = cg_write(CG_CLOSED, two, 2, &bytes);
+    if (bytes.address != (void *)files || bytes.kept || told.commit != (told.code == CG_WRITE_NULL_ID)) return WRONG;
+    return told.code == CG_WRITE_NULL_ID ? DONE : told.code == CG_OUT_OF_MEMORY ? NO_MEMORY : WRONG;
+}
+
 static outcome write_all(void) { return writing(CG_CLOSED, all_commits, cg_num_commits(graph)); }
 
-/* The calls that only read: they ask for no memory. */
+/* The calls that only read, and commits without ids: they ask for no memory. */
 static outcome reading(void) {
     uint8_t id[32];
     cg_commit commit;
@@ -221,6 +242,9 @@ static outcome reading(void) {
     if (cg_base_id_at(graph, last, 0, id, len) != (last ? len : 0) || cg_id_at(graph, from, id, len) != len) return WRONG;
     cg_answered many = cg_ids_at(graph, &from, 1, id, len);
     if (many.code || cg_lookup_all(graph, id, len, len, out, 1) != 1 || out[0] != from) return WRONG;
+    cg_new_commit one = { id, len, id, len - 1, id, 0, 0 };
+    cg_bytes bytes = CG_NO_BYTES;
+    if (cg_write(graph, &one, 1, &bytes).code != CG_WRITE_NO_IDS || bytes.kept) return WRONG;
     bool good = cg_lookup(graph, id, len) == from && cg_tree_at(graph, from, id, len) == len && cg_commit_at(graph, from, &commit)
         && cg_commits(graph, from, &commit, 1) == cg_num_commits(graph) - from && cg_parents(graph, from, out, 4).code == CG_OK
         && cg_first_parents(graph, from, out, 4).code == CG_OK && cg_matches(graph, from, id, len).code == CG_OBJECT_OTHER_CONTENTS
@@ -269,6 +293,7 @@ int main(int argc, char **argv) {
     from = position_of(argv[1]);
     to = position_of(argv[2]);
     printf("open %ld\n", refusals("open", open_graph));
+    printf("open_wrong %ld\n", refusals("open_wrong", open_wrong));
     printf("open_checked %ld\n", refusals("open_checked", open_checked));
     printf("open_known %ld\n", refusals("open_known", open_known));
     printf("check %ld\n", refusals("check", check_graph));
@@ -286,6 +311,7 @@ int main(int argc, char **argv) {
     uint8_t *ids;
     all_commits = commits_of(graph, 0, cg_num_commits(graph), &ids);
     printf("write_on %ld\n", refusals("write_on", write_on));
+    printf("write_null %ld\n", refusals("write_null", write_null));
     printf("write_all %ld\n", refusals("write_all", write_all));
     free(all_commits);
     free(ids);

@@ -108,6 +108,7 @@ impl Graph {
     }
 
     /// The number of layers.
+    #[inline]
     pub fn num_layers(&self) -> usize {
         // SAFETY: `raw` is open.
         unsafe { sys::cg_num_layers(self.raw) as usize }

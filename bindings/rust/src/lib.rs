@@ -68,6 +68,7 @@ impl fmt::Display for Position {
 pub struct Graph {
     raw: sys::Graph,
     id_len: usize,
+    num_commits: u32,
 }
 
 // SAFETY: the calls that take `&Graph` only read what it owns, and may run at a time (`commitgraph.h`, "Threads"). `drop`
@@ -128,7 +129,7 @@ impl Graph {
     /// The graph that a call has opened.
     pub(crate) fn of_raw(raw: sys::Graph) -> Graph {
         // SAFETY: `raw` is open.
-        Graph { id_len: unsafe { sys::cg_id_len(raw) }, raw }
+        unsafe { Graph { id_len: sys::cg_id_len(raw), num_commits: sys::cg_num_commits(raw), raw } }
     }
 
     /// The graph that a call opens, and the verdict that it may write.
@@ -160,14 +161,13 @@ impl Graph {
     /// The number of commits.
     #[inline]
     pub fn num_commits(&self) -> u32 {
-        // SAFETY: here and below, `raw` is open, since only `drop` closes it.
-        unsafe { sys::cg_num_commits(self.raw) }
+        self.num_commits
     }
 
     /// The position of an id. A position that is answered holds the id.
     pub fn lookup(&self, id: impl AsRef<[u8]>) -> Option<Position> {
         let id = id.as_ref();
-        // SAFETY: the pointer and the length are those of a slice.
+        // SAFETY: here and below, `raw` is open, since only `drop` closes it; and the pointer and the length are those of a slice.
         let pos = unsafe { sys::cg_lookup(self.raw, id.as_ptr(), id.len()) };
         (pos != u32::MAX).then_some(Position(pos))
     }

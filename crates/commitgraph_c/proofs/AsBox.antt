@@ -1,39 +1,36 @@
--- What a graph that C owns comes with is what a box of it owns, and what std's calls on boxes are passed for it.
+-- What a value that C owns comes with is what a box of it owns, and what std's calls on boxes are passed for it: of a graph, and
+-- of bytes that are kept.
 use mathlib.Core.List.{[], ◌∷◌}
 use mir.Raw.{raw}
 use mir.Syntax.{Dict, Ty, impl, tnil, tcons, dnil}
 use denote.Exit.{no}
 use denote.Param.{arg, layout}
-use denote.Param.Laws.{arg_laws}
-use Rattle.std.proofs.Common.{◌≡◌, refl, List, Bool, Option, Some, None, IsSome, sym, true≢false}
+use denote.Param.Laws.{Laws, arg_laws}
+use denote.RattleType.{RattleType}
+use Rattle.std.proofs.Common.{◌≡◌, refl, Option, Some, None, IsSome, sym, true≢false}
 use Rattle.std.proofs.BoxSteps.Form.{Bx}
 use Rattle.std.specs.contracts.alloc.Global as Heap
 use Rattle.std.specs.contracts.impls.GlobalAllocator.TheImpl.{ghosts, dict}
 use Rattle.std.proofs.alloc.Global.TheLaws as heap
 use Rattle.commitgraph_c.specs.contracts.opened.Opened as Graph
 use Rattle.commitgraph_c.proofs.opened.Opened.TheLaws as graph
-use Rattle.graph_format.specs.Layer.{Layer}
+use Rattle.commitgraph_c.specs.contracts.kept.Kept as Kept
+use Rattle.commitgraph_c.proofs.kept.Kept.TheLaws as kept
 
--- the layouts that a call is passed for the two
+-- the layout that a call is passed for the allocator
 abbrev pub heap_layout : Ty
 heap_layout = raw (layout Heap.the_row)
-
-abbrev pub graph_layout : Ty
-graph_layout = raw (layout Graph.the_row)
 
 -- how the allocator is let go: nothing is done
 abbrev pub heap_drop : Dict
 heap_drop = impl ("commitgraph_c::Destruct++none::drop" ∷ []) (tcons heap_layout tnil) dnil
 
--- and the graph
-abbrev pub graph_drop : Dict
-graph_drop = impl ("commitgraph_c::commitgraph_c++opened++Opened+Destruct::drop" ∷ []) tnil dnil
-
-abbrev pub E : Bx
-E =
+-- a box of a value of this type
+abbrev pub boxed : (R : RattleType) → Laws R → raw (raw (layout R)) ≡ raw (layout R) → Bx
+boxed R laws same =
     record {
-      row = arg graph_layout no Graph.the_row;
-      laws = arg_laws graph_layout no Graph.the_row graph.the_row_laws refl;
+      row = arg (raw (layout R)) no R;
+      laws = arg_laws (raw (layout R)) no R laws same;
       al =
           record {
             row = arg heap_layout no Heap.the_row;
@@ -44,7 +41,21 @@ E =
           };
     }
 
+-- a box of a graph, and how the graph is let go
+abbrev pub graph_box : Bx
+graph_box = boxed Graph.the_row graph.the_row_laws refl
+
+abbrev pub graph_drop : Dict
+graph_drop = impl ("commitgraph_c::commitgraph_c++opened++Opened+Destruct::drop" ∷ []) tnil dnil
+
+-- a box of bytes, and how they are let go
+abbrev pub bytes_box : Bx
+bytes_box = boxed Kept.the_row kept.the_row_laws refl
+
+abbrev pub bytes_drop : Dict
+bytes_drop = impl ("commitgraph_c::commitgraph_c++kept++Kept+Destruct::drop" ∷ []) tnil dnil
+
 -- what is there
-pub there : (m : Option (List Layer × Bool)) → IsSome m → (x : List Layer × Bool) × (m ≡ Some x)
+pub there : {T : Type 0} (m : Option T) → IsSome m → (x : T) × (m ≡ Some x)
 there (Some x) i = (x, refl)
 there None i = absurd (true≢false (sym i))

@@ -1,20 +1,23 @@
 -- the first parents of a commit, as many as there is room for
 use Rattle.std.proofs.Common.{◌≡◌, refl, sym, ap, ◌∙◌, ℕ, ◌+◌, ◌-◌, ◌^◌, ◌<◌, ◌≤◌, List, [], ◌∷◌, ◌++◌, length}
-use Rattle.std.proofs.Common.{arith, Bool, false, Option, Result, Ok, if◌then◌else◌, length-append}
+use Rattle.std.proofs.Common.{arith, set, min, Bool, false, Option, Result, Ok, if◌then◌else◌, length-append}
 use Rattle.std.proofs.lemmas.Bool.{le-leb}
 use Rattle.std.proofs.lemmas.Bool.Decides.{leb_tells}
 use Rattle.std.specs.Bool.{nat_le}
 use Rattle.std.specs.Option.{option_map}
 use Rattle.std.specs.Prelude.{unwrap_or}
-use Rattle.graph_format.specs.Parents.{DecodedParents}
+use Rattle.graph_format.specs.Parents.{DecodedParents, both_parents}
 use Rattle.graph_format.specs.declared.Position.{Position}
+use Rattle.graph_format.specs.declared.parents.ParentEdge.{ParentEdge}
+use Rattle.graph_format.specs.declared.parents.ParentEdge.TheVariants as edge
 use Rattle.graph_format.specs.declared.parents.ParentError.{ParentError}
 use Rattle.graph_ancestors.specs.WalkAnswer.{numbers_of}
 use Rattle.commitgraph_c.specs.Answers.{written}
 use Rattle.commitgraph_c.specs.Codes.{more_parents, parent_code}
 use Rattle.commitgraph_c.specs.FirstParents.{TellsFirstParents}
+use Rattle.commitgraph_c.specs.declared.parents.CgParents.{CgParents}
 use Rattle.commitgraph_c.proofs.ParentRoom.{AreSeen, AreTold, next_of}
-use Rattle.commitgraph_c.proofs.Written.{numbers_length}
+use Rattle.commitgraph_c.proofs.Written.{numbers_length, none_written, one_written, two_written}
 
 -- what comes after items that fill the room is not written
 past_room : (items more room : List ℕ) → length room ≤ length items → written (items ++ more) room ≡ written items room
@@ -66,3 +69,21 @@ module _ (parents : DecodedParents) (count : ℕ) (room now : List ℕ) (few : l
             (sym (le-leb (length parents.positions) (length room) within));
         room = told.room_is;
       }
+
+-- what is told of parents that both fields of a commit give by themselves
+module _ (first second : ParentEdge) (edges : Option (List ℕ)) (room : List ℕ) (told : CgParents) where
+  pub none_first : first ≡ edge.None → second ≡ edge.None → told.count ≡ min 0 (length room)
+      → told.code ≡ (if nat_le 0 (length room) then 0 else more_parents)
+      → TellsFirstParents (both_parents first second edges) told room room
+  none_first f s count code = rw (f, s) (record { count_of = count; code_of = code; room = sym (none_written room) })
+
+  pub one_first : (pos : Position) → first ≡ edge.GraphPosition pos → second ≡ edge.None → told.count ≡ min 1 (length room)
+      → told.code ≡ (if nat_le 1 (length room) then 0 else more_parents)
+      → TellsFirstParents (both_parents first second edges) told room (set room 0 pos.0)
+  one_first pos f s count code = rw (f, s) (record { count_of = count; code_of = code; room = one_written pos.0 room })
+
+  pub two_first : (pos next : Position) → first ≡ edge.GraphPosition pos → second ≡ edge.GraphPosition next
+      → told.count ≡ min 2 (length room) → told.code ≡ (if nat_le 2 (length room) then 0 else more_parents)
+      → TellsFirstParents (both_parents first second edges) told room (set (set room 0 pos.0) 1 next.0)
+  two_first pos next f s count code = rw (f, s)
+      (record { count_of = count; code_of = code; room = two_written pos.0 next.0 room })

@@ -1,8 +1,8 @@
 mod AsBox
-mod AsKeptBox
 mod AtPath
 mod BlockRoom
 mod Called
+mod Crossing
 mod DateRoom
 mod FieldParents
 mod Files

@@ -30,8 +30,7 @@ pub struct CgBases {
 
 /// Looks for the merge bases of a commit and some others, and writes their positions, the least
 /// first, as many as there is room for. The graph has to be one that `cg_open_checked` opened.
-#[unsafe(no_mangle)]
-pub extern "C" fn cg_merge_bases(
+pub fn cg_merge_bases(
     alloc: Global,
     graph: CgGraph,
     first: u32,

@@ -15,8 +15,7 @@ use graph_layer::fields::parent_edges;
 
 /// Writes what the records from a position on say, as many as there is room for. Answers how many
 /// commits there are from there on.
-#[unsafe(no_mangle)]
-pub extern "C" fn cg_commits(graph: CgGraph, first: u32, out: &mut [CgCommit]) -> u32
+pub fn cg_commits(graph: CgGraph, first: u32, out: &mut [CgCommit]) -> u32
     ensures count { result ≡ length (commits_from (layers_of graph.address.held) first) }
     ensures room { let commits = commits_from (layers_of graph.address.held) first in
         out.new ≡ written (map told_commit commits) out.old }
@@ -57,8 +56,7 @@ pub struct CgBlock {
 /// Tells of the parents of the commits from a position on, of each as `cg_parents` does, and writes
 /// their positions, one commit's after another's. It ends where `answers` is full or no commit is
 /// left, and after a commit whose parents find too little room.
-#[unsafe(no_mangle)]
-pub extern "C" fn cg_parents_from(
+pub fn cg_parents_from(
     graph: CgGraph,
     first: u32,
     answers: &mut [CgParents],

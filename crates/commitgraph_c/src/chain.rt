@@ -15,8 +15,7 @@ pub struct CgLine {
 }
 
 /// The line that begins at this byte of a chain file, or none where no line is left there.
-#[unsafe(no_mangle)]
-pub extern "C" fn cg_chain_line(text: &[u8], start: usize) -> CgLine
+pub fn cg_chain_line(text: &[u8], start: usize) -> CgLine
     ensures line { IsTrue result.found → lines (drop start text.now)
         ≡ slice_range text.now start result.end ∷ lines (drop result.next text.now) }
     ensures next { IsTrue result.found

@@ -47,8 +47,7 @@ pub struct CgCount {
 
 /// Checks a graph, and where it is asked for, that no id stands in two layers. The answer is the
 /// verdict's code.
-#[unsafe(no_mangle)]
-pub extern "C" fn cg_verify(
+pub fn cg_verify(
     alloc: Global,
     graph: CgGraph,
     distinct_ids: bool,

@@ -38,8 +38,7 @@ pub struct CgCompared {
 /// Compares each of these pairs as `cg_merge_bases` does, as long as `answers` has room, and writes
 /// the positions of the merge bases, one pair's after another's, as many as there is room for.
 /// The graph has to be one that `cg_open_checked` opened.
-#[unsafe(no_mangle)]
-pub extern "C" fn cg_merge_bases_of(
+pub fn cg_merge_bases_of(
     alloc: Global,
     graph: CgGraph,
     pairs: &[CgTwo],

@@ -30,8 +30,7 @@ pub struct CgDates {
 }
 
 /// Writes the corrected dates of all commits, in order, as many as there is room for.
-#[unsafe(no_mangle)]
-pub extern "C" fn cg_corrected_dates(alloc: Global, graph: CgGraph, out: &mut [u64]) -> CgDates
+pub fn cg_corrected_dates(alloc: Global, graph: CgGraph, out: &mut [u64]) -> CgDates
     ensures found { result.code ≡ 0 → IsSomeAnd (layers_of graph.address.held) (λ layers.
         TellsDates layers result out.old out.new) }
     ensures refused { result.code ≢ 0 → result.code ≢ no_dates → result.code ≢ closed_graph

@@ -1,22 +1,24 @@
 //! The first parents of a commit, in the time of as many steps as there is room for.
 
 ghost use Rattle.std.specs.Prelude.{◌≡◌, ◌≢◌, ◌↔◌, ◌≤◌, ◌⊎◌, IsSomeAnd, None};
+ghost use Rattle.std.specs.Prelude.{if◌then◌else◌, min, nat_le};
 ghost use Rattle.graph_layer.specs.Commit.{commit_parents};
 ghost use Rattle.gix_commitgraph.specs.Graph.{total};
 ghost use Rattle.commitgraph_c.specs.Answers.{HasCommit, layers_of, parents_in};
-ghost use Rattle.commitgraph_c.specs.Codes.{closed_graph, no_such_position};
+ghost use Rattle.commitgraph_c.specs.Codes.{closed_graph, more_parents, no_such_position};
 ghost use Rattle.commitgraph_c.specs.FirstParents.{TellsFirstParents};
 
 use crate::codes::{CLOSED_GRAPH, MORE_PARENTS, NO_SUCH_POSITION, parent_code};
 use crate::handle::CgGraph;
-use crate::parents::CgParents;
+use crate::parents::{CgParents, write_at};
 use gix_commitgraph::Position;
 use gix_commitgraph::file::Commit;
+use graph_format::parents::ParentEdge;
+use graph_layer::fields::parent_edges;
 
 /// Writes the positions of the first parents of the commit at a position, as many as there is room
 /// for, and reads no more than the one after them.
-#[unsafe(no_mangle)]
-pub extern "C" fn cg_first_parents(graph: CgGraph, pos: u32, out: &mut [u32]) -> CgParents
+pub fn cg_first_parents(graph: CgGraph, pos: u32, out: &mut [u32]) -> CgParents
     ensures parents { result.code ≢ no_such_position → result.code ≢ closed_graph
         → HasCommit (layers_of graph.address.held) pos (λ commit.
         TellsFirstParents (parents_in commit) result out.old out.new) }
@@ -41,8 +43,48 @@ pub extern "C" fn cg_first_parents(graph: CgGraph, pos: u32, out: &mut [u32]) ->
     write_first(graph.commit_at(Position(pos)), out)
 }
 
-/// Writes the positions of a commit's first parents, one by one.
+/// Writes the positions of a commit's first parents, as many as there is room for.
+#[inline(always)]
 fn write_first(commit: Commit<'_>, out: &mut [u32]) -> CgParents
+    ensures { TellsFirstParents (commit_parents commit.entry) result out.old out.new }
+{
+    let room = out.len();
+    match parent_edges(&commit) {
+        (ParentEdge::None, ParentEdge::None) => told(0, room),
+        (ParentEdge::GraphPosition(first), ParentEdge::None) => {
+            write_at(out, 0, first);
+            told(1, room)
+        }
+        (ParentEdge::GraphPosition(first), ParentEdge::GraphPosition(second)) => {
+            write_at(out, 0, first);
+            write_at(out, 1, second);
+            told(2, room)
+        }
+        _ => write_items(commit, out),
+    }
+}
+
+/// What is told of so many parents, as there is room for so many.
+#[inline(always)]
+fn told(parents: usize, room: usize) -> CgParents
+    ensures count { result.count ≡ min parents room }
+    ensures code { result.code ≡ (if nat_le parents room then 0 else more_parents) }
+{
+    let (code, count) = if parents <= room {
+        (0, parents)
+    } else {
+        (MORE_PARENTS, room)
+    };
+    CgParents {
+        code,
+        count: count as u64,
+    }
+}
+
+/// Writes the positions of a commit's first parents, one by one.
+#[cold]
+#[inline(never)]
+fn write_items(commit: Commit<'_>, out: &mut [u32]) -> CgParents
     ensures { TellsFirstParents (commit_parents commit.entry) result out.old out.new }
 {
     let mut count: u64 = 0;

@@ -17,7 +17,7 @@ use std::mem::{ManuallyDrop, replace};
 #[derive(Drop)]
 pub struct CgAddress {
     at: *const u8,
-    ghost held: { Option (List Layer × Bool) },
+    pub ghost held: { Option (List Layer × Bool) },
 }
 
 impl Model for CgAddress {
@@ -45,7 +45,7 @@ unsafe impl Send for CgAddress {}
 #[repr(C)]
 #[derive(Drop)]
 pub struct CgGraph {
-    address: CgAddress,
+    pub address: CgAddress,
     opened: bool,
     ghost opened_is: { opened ≡ is_some address.held },
 }
@@ -76,7 +76,7 @@ impl CgGraph {
 pub struct CgOwned {
     at: *mut u8,
     alloc: Global,
-    ghost held: { Option (List Layer × Bool) },
+    pub ghost held: { Option (List Layer × Bool) },
 }
 
 impl Model for CgOwned {
@@ -115,7 +115,7 @@ unsafe impl Send for CgOwned {}
 /// A graph that C owns, or none.
 #[repr(C)]
 pub struct CgOwner {
-    address: CgOwned,
+    pub address: CgOwned,
     opened: bool,
     ghost opened_is: { opened ≡ is_some address.held },
 }

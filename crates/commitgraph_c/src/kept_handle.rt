@@ -14,7 +14,7 @@ use std::mem::{ManuallyDrop, replace};
 #[derive(Drop)]
 pub struct CgBytesAddress {
     at: *const u8,
-    ghost held: { Option (List ℕ) },
+    pub ghost held: { Option (List ℕ) },
 }
 
 impl Model for CgBytesAddress {
@@ -42,7 +42,7 @@ unsafe impl Send for CgBytesAddress {}
 #[repr(C)]
 #[derive(Drop)]
 pub struct CgBytes {
-    address: CgBytesAddress,
+    pub address: CgBytesAddress,
     kept: bool,
     ghost kept_is: { kept ≡ is_some address.held },
 }
@@ -63,7 +63,7 @@ impl CgBytes {
 pub struct CgBytesOwned {
     at: *mut u8,
     alloc: Global,
-    ghost held: { Option (List ℕ) },
+    pub ghost held: { Option (List ℕ) },
 }
 
 impl Model for CgBytesOwned {
@@ -102,7 +102,7 @@ unsafe impl Send for CgBytesOwned {}
 /// Bytes that C owns, or none.
 #[repr(C)]
 pub struct CgBytesOwner {
-    address: CgBytesOwned,
+    pub address: CgBytesOwned,
     kept: bool,
     ghost kept_is: { kept ≡ is_some address.held },
 }

@@ -37,13 +37,7 @@ pub struct CgLayerVerdict {
 
 /// Checks a layer, which counts from the lowest, as a file of its own: what it says of the layers
 /// below it is not looked at. The answer is the verdict's code.
-#[unsafe(no_mangle)]
-pub extern "C" fn cg_verify_layer(
-    alloc: Global,
-    graph: CgGraph,
-    layer: u64,
-    out: &mut CgLayerVerdict,
-) -> u32
+pub fn cg_verify_layer(alloc: Global, graph: CgGraph, layer: u64, out: &mut CgLayerVerdict) -> u32
     ensures code { result ≡ out.new.code }
     ensures verdict { result ≢ no_such_layer → result ≢ closed_graph
         → HasLayer (layers_of graph.address.held) layer (λ it. IsLayerVerdict it out.new) }

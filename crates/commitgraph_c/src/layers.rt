@@ -27,8 +27,7 @@ pub struct CgLayer {
 }
 
 /// The number of layers.
-#[unsafe(no_mangle)]
-pub extern "C" fn cg_num_layers(graph: CgGraph) -> u64
+pub fn cg_num_layers(graph: CgGraph) -> u64
     ensures { result ≡ option_map_or length (layers_of graph.address.held) 0 }
 {
     match graph.graph() {
@@ -38,8 +37,7 @@ pub extern "C" fn cg_num_layers(graph: CgGraph) -> u64
 }
 
 /// Writes what is told of a layer, which counts from the lowest. Answers whether there is one.
-#[unsafe(no_mangle)]
-pub extern "C" fn cg_layer(graph: CgGraph, layer: u64, out: &mut CgLayer) -> bool
+pub fn cg_layer(graph: CgGraph, layer: u64, out: &mut CgLayer) -> bool
     ensures tells { IsTrue result → IsSomeAnd (layers_of graph.address.held) (λ layers.
         IsSomeAnd (slice_get layers layer) (λ it. out.new ≡ told_layer layers layer it)) }
     ensures none { result ≡ false → IfSome (layers_of graph.address.held) (λ layers.
@@ -63,8 +61,7 @@ pub extern "C" fn cg_layer(graph: CgGraph, layer: u64, out: &mut CgLayer) -> boo
 
 /// Writes the checksum of a layer. Answers its length, or 0 where there is no such layer or where
 /// the room is of another size.
-#[unsafe(no_mangle)]
-pub extern "C" fn cg_layer_checksum(graph: CgGraph, layer: u64, out: &mut [u8]) -> usize
+pub fn cg_layer_checksum(graph: CgGraph, layer: u64, out: &mut [u8]) -> usize
     ensures id { result ≢ 0 → HasLayer (layers_of graph.address.held) layer (λ it.
         out.new ≡ it.checksum) }
     ensures length { result ≢ 0 → result ≡ length out.new }
@@ -82,8 +79,7 @@ pub extern "C" fn cg_layer_checksum(graph: CgGraph, layer: u64, out: &mut [u8]) 
 }
 
 /// Writes a base id of a layer, which counts from 0, as `cg_layer_checksum` writes a checksum.
-#[unsafe(no_mangle)]
-pub extern "C" fn cg_base_id_at(graph: CgGraph, layer: u64, index: u64, out: &mut [u8]) -> usize
+pub fn cg_base_id_at(graph: CgGraph, layer: u64, index: u64, out: &mut [u8]) -> usize
     ensures id { result ≢ 0 → HasLayer (layers_of graph.address.held) layer (λ it.
         IsSomeAnd (slice_get it.bases index) (λ id. out.new ≡ id)) }
     ensures length { result ≢ 0 → result ≡ length out.new }

@@ -21,8 +21,7 @@ use gix_hash_core::oid;
 
 /// Looks up ids of this size, which stand one after another, and writes the position of each, or
 /// 0xffffffff, as many as there is room for. Answers how many ids there are.
-#[unsafe(no_mangle)]
-pub extern "C" fn cg_lookup_all(graph: CgGraph, ids: &[u8], size: usize, out: &mut [u32]) -> u64
+pub fn cg_lookup_all(graph: CgGraph, ids: &[u8], size: usize, out: &mut [u32]) -> u64
     ensures count { IsTrue (is_some graph.address.held) → IsTrue (is_id_len size)
         → result ≡ length (pieces size ids.now) }
     ensures answers { IfSome graph.address.held (λ held. IsTrue (is_id_len size)
@@ -57,8 +56,7 @@ fn look_up_all(opened: &Opened, ids: &[u8], size: usize, out: &mut [u32]) -> u64
 }
 
 /// Writes the ids at these positions, one after another, as long as there is room.
-#[unsafe(no_mangle)]
-pub extern "C" fn cg_ids_at(graph: CgGraph, positions: &[u32], out: &mut [u8]) -> CgAnswered
+pub fn cg_ids_at(graph: CgGraph, positions: &[u32], out: &mut [u8]) -> CgAnswered
     ensures ids { IfSome (layers_of graph.address.held) (λ layers.
         TellsIds layers (take result.answered positions.now) out.old out.new) }
     ensures all { result.code ≡ 0 → IsSomeAnd (layers_of graph.address.held) (All (λ layer.

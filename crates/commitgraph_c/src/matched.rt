@@ -24,8 +24,7 @@ pub struct CgMatched {
 
 /// Compares what the graph says of the commit at a position with the contents of a commit object,
 /// whose digest has to be the commit's id.
-#[unsafe(no_mangle)]
-pub extern "C" fn cg_matches(graph: CgGraph, pos: u32, contents: &[u8]) -> CgMatched
+pub fn cg_matches(graph: CgGraph, pos: u32, contents: &[u8]) -> CgMatched
     ensures matches { result.code ≡ 0 → IsSomeAnd (layers_of graph.address.held) (λ layers.
         MatchesAt layers pos contents.now) }
     ensures differs { result.code ≢ 0 → result.code ≢ no_such_position

@@ -49,8 +49,7 @@ fn error(code: u32, layer: u64) -> CgError
 }
 
 /// Opens the graph of these layers, the lowest first. Where it is refused, nothing is written.
-#[unsafe(no_mangle)]
-pub extern "C" fn cg_open(alloc: Global, files: &[CgFile<'_>], out: &mut CgOwner) -> CgError
+pub fn cg_open(alloc: Global, files: &[CgFile<'_>], out: &mut CgOwner) -> CgError
     ensures opened { result.code ≡ 0 → IsSomeAnd out.new.address.held (λ held.
         (held.1 ≡ false) × IsOpenedFrom files.now held.0) }
     ensures told { result.code ≡ 0 → result ≡ no_error }
@@ -72,8 +71,7 @@ pub extern "C" fn cg_open(alloc: Global, files: &[CgFile<'_>], out: &mut CgOwner
 
 /// Opens and checks the graph of these layers, the lowest first. Where it is refused, no graph is
 /// written, and the verdict has the same code.
-#[unsafe(no_mangle)]
-pub extern "C" fn cg_open_checked(
+pub fn cg_open_checked(
     alloc: Global,
     files: &[CgFile<'_>],
     distinct_ids: bool,
@@ -109,8 +107,7 @@ pub extern "C" fn cg_open_checked(
 
 /// Checks an open graph and hands it out checked. The graph that is passed is taken as by
 /// `cg_close`, also where it is refused. The answer is the verdict's code.
-#[unsafe(no_mangle)]
-pub extern "C" fn cg_check(
+pub fn cg_check(
     alloc: Global,
     graph: CgOwner,
     distinct_ids: bool,
@@ -206,8 +203,7 @@ pub(crate) fn boxed(alloc: Global, opened: Opened) -> Result<Box<Opened>, CgErro
 }
 
 /// Frees a graph, and answers whether there was one to free.
-#[unsafe(no_mangle)]
-pub extern "C" fn cg_close(graph: CgOwner) -> bool
+pub fn cg_close(graph: CgOwner) -> bool
     ensures { result ≡ is_some graph.address.held }
 {
     match graph.into_box() {

@@ -35,8 +35,7 @@ pub struct CgAnswered {
 /// Looks for each of these pairs whether the first commit is an ancestor of the second, as each is
 /// of itself, and writes 1 or 0, in the order of the pairs, as long as there is room.
 /// The graph has to be one that `cg_open_checked` opened.
-#[unsafe(no_mangle)]
-pub extern "C" fn cg_are_ancestors(
+pub fn cg_are_ancestors(
     alloc: Global,
     graph: CgGraph,
     pairs: &[CgPair],

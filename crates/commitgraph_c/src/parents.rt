@@ -27,8 +27,7 @@ pub struct CgParents {
 
 /// Writes the positions of the parents of the commit at a position, first parent first, as many as
 /// there is room for.
-#[unsafe(no_mangle)]
-pub extern "C" fn cg_parents(graph: CgGraph, pos: u32, out: &mut [u32]) -> CgParents
+pub fn cg_parents(graph: CgGraph, pos: u32, out: &mut [u32]) -> CgParents
     ensures parents { result.code ≢ no_such_position → result.code ≢ closed_graph
         → HasCommit (layers_of graph.address.held) pos (λ commit.
         TellsParents (parents_in commit) result out.old out.new) }
@@ -82,7 +81,7 @@ pub(crate) fn write_parents(commit: Commit<'_>, out: &mut [u32]) -> CgParents
 
 /// Writes a position at a place, if there is room for it.
 #[inline(always)]
-fn write_at(out: &mut [u32], place: usize, pos: Position)
+pub(crate) fn write_at(out: &mut [u32], place: usize, pos: Position)
     ensures { out.new ≡ set out.old place pos.0 }
 {
     if place < out.len() {

@@ -35,8 +35,7 @@ pub struct CgPathError {
 /// folder where it is 3, and else what stands there. Where something has to be known of one more
 /// path, that is told, and nothing is opened: the call is made again then. Where the graph is
 /// refused, the path of the file that was to be read last is told.
-#[unsafe(no_mangle)]
-pub extern "C" fn cg_open_known(
+pub fn cg_open_known(
     alloc: Global,
     path: &[u8],
     what: u32,

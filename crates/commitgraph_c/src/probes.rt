@@ -36,8 +36,7 @@ pub struct CgProbed {
 /// Asks the filters of the commits at these positions for a path, and writes 0 where it is absent,
 /// 1 where it is possible and 2 where there is no filter, in the order of the positions, as long as
 /// there is room.
-#[unsafe(no_mangle)]
-pub extern "C" fn cg_probe_path(
+pub fn cg_probe_path(
     alloc: Global,
     graph: CgGraph,
     path: &[u8],

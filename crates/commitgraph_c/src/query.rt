@@ -27,8 +27,7 @@ pub struct CgReached {
 
 /// Looks for a shortest walk, and writes its positions, as many as there is room for. The
 /// graph has to be one that `cg_open_checked` opened.
-#[unsafe(no_mangle)]
-pub extern "C" fn cg_ancestor_walk(
+pub fn cg_ancestor_walk(
     alloc: Global,
     graph: CgGraph,
     from: u32,
@@ -74,13 +73,7 @@ pub struct CgLeads {
 /// Looks whether the commit at `ancestor` is an ancestor of the one at `descendant`, which then
 /// leads to it along parents, as each commit leads to itself. The graph has to be one that
 /// `cg_open_checked` opened.
-#[unsafe(no_mangle)]
-pub extern "C" fn cg_is_ancestor(
-    alloc: Global,
-    graph: CgGraph,
-    ancestor: u32,
-    descendant: u32,
-) -> CgLeads
+pub fn cg_is_ancestor(alloc: Global, graph: CgGraph, ancestor: u32, descendant: u32) -> CgLeads
     ensures answer { result.code ≡ 0 → IsSomeAnd graph.address.held (λ held.
         IsTrue result.found ↔ Reaches (history_of held.0) descendant ancestor) }
     ensures nowhere { result.code ≡ no_such_position ↔ IsChecked graph.address.held (λ layers.

@@ -34,8 +34,7 @@ pub struct CgCommit {
 }
 
 /// The number of commits.
-#[unsafe(no_mangle)]
-pub extern "C" fn cg_num_commits(graph: CgGraph) -> u32
+pub fn cg_num_commits(graph: CgGraph) -> u32
     ensures { result ≡ option_map_or total (layers_of graph.address.held) 0 }
 {
     match graph.graph() {
@@ -45,8 +44,7 @@ pub extern "C" fn cg_num_commits(graph: CgGraph) -> u32
 }
 
 /// The number of bytes of an id.
-#[unsafe(no_mangle)]
-pub extern "C" fn cg_id_len(graph: CgGraph) -> usize
+pub fn cg_id_len(graph: CgGraph) -> usize
     ensures open { IfSome (layers_of graph.address.held) (All (λ layer.
         id_len layer.kind ≡ result)) }
     ensures closed { IfNone (layers_of graph.address.held) (result ≡ 0) }
@@ -58,8 +56,7 @@ pub extern "C" fn cg_id_len(graph: CgGraph) -> usize
 }
 
 /// The position of an id, or 0xffffffff.
-#[unsafe(no_mangle)]
-pub extern "C" fn cg_lookup(graph: CgGraph, id: &[u8]) -> u32
+pub fn cg_lookup(graph: CgGraph, id: &[u8]) -> u32
     ensures holds { result ≢ nowhere → HasId (layers_of graph.address.held) result id.now }
     ensures unchecked { IsTrue (is_id_len (length id.now)) → IfSome graph.address.held (λ held.
         held.1 ≡ false → FoundIn held.0 id.now (told_position result)) }
@@ -110,8 +107,7 @@ fn lookup_in(graph: &Graph, id: oid<'_>) -> u32
 
 /// Writes the id at a position. Answers its length, or 0 where there is no such position or where
 /// the room is of another size.
-#[unsafe(no_mangle)]
-pub extern "C" fn cg_id_at(graph: CgGraph, pos: u32, out: &mut [u8]) -> usize
+pub fn cg_id_at(graph: CgGraph, pos: u32, out: &mut [u8]) -> usize
     ensures id { result ≢ 0 → HasId (layers_of graph.address.held) pos out.new }
     ensures length { result ≢ 0 → result ≡ length out.new }
     ensures none { result ≡ 0 → IfSome (layers_of graph.address.held) (λ layers.
@@ -129,8 +125,7 @@ pub extern "C" fn cg_id_at(graph: CgGraph, pos: u32, out: &mut [u8]) -> usize
 }
 
 /// Writes the id of the root tree of the commit at a position, as `cg_id_at` does.
-#[unsafe(no_mangle)]
-pub extern "C" fn cg_tree_at(graph: CgGraph, pos: u32, out: &mut [u8]) -> usize
+pub fn cg_tree_at(graph: CgGraph, pos: u32, out: &mut [u8]) -> usize
     ensures id { result ≢ 0 → HasRecord (layers_of graph.address.held) pos (λ r. out.new ≡ r.tree) }
     ensures length { result ≢ 0 → result ≡ length out.new }
     ensures none { result ≡ 0 → IfSome (layers_of graph.address.held) (λ layers.
@@ -162,8 +157,7 @@ pub(crate) fn put(id: oid<'_>, out: &mut [u8]) -> usize
 }
 
 /// Writes what the record at a position says. Answers whether there is one.
-#[unsafe(no_mangle)]
-pub extern "C" fn cg_commit_at(graph: CgGraph, pos: u32, out: &mut CgCommit) -> bool
+pub fn cg_commit_at(graph: CgGraph, pos: u32, out: &mut CgCommit) -> bool
     ensures tells { IsTrue result → HasCommit (layers_of graph.address.held) pos (λ commit.
         out.new ≡ told_commit commit) }
     ensures none { result ≡ false → IfSome (layers_of graph.address.held) (λ layers.

@@ -3,8 +3,7 @@
 ghost use Rattle.std.specs.Prelude.{◌≡◌};
 
 /// The version, as `CG_VERSION` of its header has it.
-#[unsafe(no_mangle)]
-pub extern "C" fn cg_version() -> u32
+pub fn cg_version() -> u32
     ensures { result ≡ 100 }
 {
     100

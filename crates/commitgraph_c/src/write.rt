@@ -41,8 +41,7 @@ pub struct CgWriteError {
 
 /// Writes the file of a layer with these commits, on top of a graph that was checked, or of none.
 /// Where they are refused, nothing is written.
-#[unsafe(no_mangle)]
-pub extern "C" fn cg_write(
+pub fn cg_write(
     alloc: Global,
     graph: CgGraph,
     commits: &[CgNewCommit<'_>],
@@ -191,8 +190,7 @@ fn at(code: u32, commit: usize, other: usize) -> CgWriteError
 
 /// Writes bytes that are kept, from one on, as many as there is room for. Answers how many there
 /// are from there on.
-#[unsafe(no_mangle)]
-pub extern "C" fn cg_bytes_copy(bytes: CgBytes, start: u64, out: &mut [u8]) -> u64
+pub fn cg_bytes_copy(bytes: CgBytes, start: u64, out: &mut [u8]) -> u64
     ensures count { result ≡ length (drop start (unwrap_or bytes.address.held [])) }
     ensures room { out.new ≡ written (drop start (unwrap_or bytes.address.held [])) out.old }
 {
@@ -209,8 +207,7 @@ pub extern "C" fn cg_bytes_copy(bytes: CgBytes, start: u64, out: &mut [u8]) -> u
 }
 
 /// Frees bytes that are kept, and answers whether there were some to free.
-#[unsafe(no_mangle)]
-pub extern "C" fn cg_bytes_free(bytes: CgBytesOwner) -> bool
+pub fn cg_bytes_free(bytes: CgBytesOwner) -> bool
     ensures { result ≡ is_some bytes.address.held }
 {
     match bytes.into_box() {

@@ -45,7 +45,7 @@ use Rattle.std.proofs.boxed.Box.from_raw.Met as g-thm
 use Rattle.std.proofs.boxed.Box.from_raw.Symbol as g-key
 use Rattle.graph_format.specs.Layer.{Layer}
 use Rattle.commitgraph_c.proofs.Destruct++none.drop.Code as Nothing
-use Rattle.commitgraph_c.proofs.AsBox.{E, heap_drop, there}
+use Rattle.commitgraph_c.proofs.AsBox.{graph_box as E, heap_drop, there}
 use Rattle.commitgraph_c.specs.contracts.handle.CgOwned.{the_row as Own}
 use Rattle.commitgraph_c.specs.contracts.handle.CgOwned.into_box as F
 use Rattle.commitgraph_c.specs.contracts.handle.CgOwned.into_box.Key.{name as #self}

@@ -54,7 +54,7 @@ use Rattle.commitgraph_c.specs.contracts.opened.Opened as Graph
 use Rattle.commitgraph_c.proofs.Destruct++none.drop.Code as Nothing
 use Rattle.commitgraph_c.proofs.commitgraph_c++opened++Opened+Destruct.drop.Symbol as Drop
 use Rattle.commitgraph_c.specs.contracts.commitgraph_c++opened++Opened+Destruct.drop as drops
-use Rattle.commitgraph_c.proofs.AsBox.{E, heap_drop, graph_drop}
+use Rattle.commitgraph_c.proofs.AsBox.{graph_box as E, heap_drop, graph_drop}
 use Rattle.commitgraph_c.proofs.commitgraph_c++opened++Opened+Destruct.drop.Met as dropped
 use Rattle.commitgraph_c.specs.contracts.handle.CgOwned.of as F
 use Rattle.commitgraph_c.specs.contracts.handle.CgOwned.of.Key.{name as #self}

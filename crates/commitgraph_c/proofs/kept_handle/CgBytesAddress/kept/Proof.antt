@@ -20,7 +20,7 @@ use denote.Steps.{nothing, heard}
 use denote.Triple.Walked.{says, Stays, stay_dropped, walk_of, ends_at, Goes-dropped}
 use Rattle.std.proofs.Common.{Some, Option, IsSome, ℕ}
 use Rattle.std.proofs.raw_atomic.Walks.{proved_at}
-use Rattle.commitgraph_c.proofs.AsKeptBox.{there}
+use Rattle.commitgraph_c.proofs.AsBox.{there}
 use Rattle.commitgraph_c.specs.contracts.kept_handle.CgBytesAddress.{the_row as R}
 use Rattle.commitgraph_c.proofs.kept_handle.CgBytesAddress.TheLaws.{lowers}
 use Rattle.commitgraph_c.specs.contracts.kept_handle.CgBytesAddress.kept as f

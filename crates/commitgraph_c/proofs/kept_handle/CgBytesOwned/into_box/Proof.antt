@@ -44,7 +44,7 @@ use Rattle.std.specs.contracts.boxed.Box.from_raw as g
 use Rattle.std.proofs.boxed.Box.from_raw.Met as g-thm
 use Rattle.std.proofs.boxed.Box.from_raw.Symbol as g-key
 use Rattle.commitgraph_c.proofs.Destruct++none.drop.Code as Nothing
-use Rattle.commitgraph_c.proofs.AsKeptBox.{E, heap_drop, there}
+use Rattle.commitgraph_c.proofs.AsBox.{bytes_box as E, heap_drop, there}
 use Rattle.commitgraph_c.specs.contracts.kept_handle.CgBytesOwned.{the_row as Own}
 use Rattle.commitgraph_c.specs.contracts.kept_handle.CgBytesOwned.into_box as F
 use Rattle.commitgraph_c.specs.contracts.kept_handle.CgBytesOwned.into_box.Key.{name as #self}

@@ -54,7 +54,7 @@ use Rattle.commitgraph_c.specs.contracts.kept.Kept as Kept
 use Rattle.commitgraph_c.proofs.Destruct++none.drop.Code as Nothing
 use Rattle.commitgraph_c.proofs.commitgraph_c++kept++Kept+Destruct.drop.Symbol as Drop
 use Rattle.commitgraph_c.specs.contracts.commitgraph_c++kept++Kept+Destruct.drop as drops
-use Rattle.commitgraph_c.proofs.AsKeptBox.{E, heap_drop, kept_drop}
+use Rattle.commitgraph_c.proofs.AsBox.{bytes_box as E, heap_drop, bytes_drop}
 use Rattle.commitgraph_c.proofs.commitgraph_c++kept++Kept+Destruct.drop.Met as dropped
 use Rattle.commitgraph_c.specs.contracts.kept_handle.CgBytesOwned.of as F
 use Rattle.commitgraph_c.specs.contracts.kept_handle.CgBytesOwned.of.Key.{name as #self}
@@ -68,15 +68,15 @@ module _ {M : Type 1} {𝓤 : Ura M} (𝓛 : Logic 𝓤) (at_mem : Memory → SP
   open 𝓛 use {H}
 
   abbrev callee : Ended
-  callee = g.ended E.row E.al.row E.al.g E.al.d heap_drop kept_drop
+  callee = g.ended E.row E.al.row E.al.g E.al.d heap_drop bytes_drop
 
   abbrev Parts : Contract 𝓤
-  Parts = triple_of 𝓛 (g.signature E.row E.al.row E.al.g E.al.d heap_drop kept_drop)
-      (g.spec E.row E.al.row E.al.g E.al.d heap_drop kept_drop 𝓛 at_mem run)
+  Parts = triple_of 𝓛 (g.signature E.row E.al.row E.al.g E.al.d heap_drop bytes_drop)
+      (g.spec E.row E.al.row E.al.g E.al.d heap_drop bytes_drop 𝓛 at_mem run)
 
   abbrev key : Callee
   key = g-key.name (bounded (a_type ∷ a_type ∷ []) (E.row, (E.al.row, tt)) (dcons E.al.d (dcons heap_drop
-      (dcons kept_drop dnil))))
+      (dcons bytes_drop dnil))))
 
   walk : Triple 𝓤 (𝓣.C key) Parts → (z : (walk_of 𝓛 F.ended stayed (F.clauses 𝓛 at_mem run)).Ghost)
       → ent 𝓤 ((walk_of 𝓛 F.ended stayed (F.clauses 𝓛 at_mem run)).pre z) (WpFn 𝓤 H 𝓣.C 𝓣.Λ code.function (z.0.4.0 ++ [])
@@ -130,16 +130,16 @@ module _ {M : Type 1} {𝓤 : Ura M} (𝓛 : Logic 𝓤) (at_mem : Memory → SP
 pub of_spec : {M : Type 1} → stated.statement M
 unfolding tables_of Nothing.code
 of_spec {M} 𝓤 𝓛 𝓜 𝓡 w =
-    let k : Callee = method kept_drop 0 no_args in
+    let k : Callee = method bytes_drop 0 no_args in
     let run = 𝓡.run (𝓡.env k) in
     let wd = code.calls-commitgraph_c::commitgraph_c++kept++Kept+Destruct::drop 𝓡.env w in
-    let goes : glue.Met 𝓛 𝓜 𝓡 𝓡.env E.row kept_drop =
+    let goes : glue.Met 𝓛 𝓜 𝓡 𝓡.env E.row bytes_drop =
     λ y. spared 𝓛 drops.signature run (run_framed 𝓤 𝓛.H 𝓜 𝓡 (𝓡.env k)) 1 (E.row.lives, tt) (drops.spec 𝓛 𝓜.mem 𝓡.returns)
     (widened 𝓤 𝓛.H (triple_of 𝓛 drops.signature (drops.spec 𝓛 𝓜.mem 𝓡.returns)) 𝓜 𝓡 𝓡.env (𝓡.env drops.Key.name)
     (𝓡.env k) (Drop.as_method 𝓡.env wd k refl) (dropped.met 𝓤 𝓛 𝓜 𝓡 wd)) ((y.0.0, y.0.1, tt, y.0.3, y.0.4), y.1) in
     let thm = g-thm.met 𝓤 𝓛 𝓜 𝓡
     (code.calls-std::boxed::Box::into_raw_with_allocator 𝓡.env w) E.row E.al.row E.laws E.al.laws E.al.g E.al.d heap_drop
-    kept_drop
+    bytes_drop
     (heap.passed 𝓡.env (code.calls-std_heap::GlobalAllocator::allocate 𝓡.env w)
     (code.calls-std_heap::GlobalAllocator::deallocate 𝓡.env w) (code.calls-std_heap::GlobalAllocator::grow 𝓡.env w)
     (code.calls-std_heap::GlobalAllocator::shrink 𝓡.env w) M 𝓤 𝓛 𝓜 𝓡)

@@ -2,7 +2,7 @@ use Rattle.std.proofs.Common.{◌≤◌, length}
 use Rattle.graph_layer.specs.Commit.{commit_parents}
 use Rattle.graph_layer.specs.RemainingParents.{parents_left}
 use Rattle.commitgraph_c.proofs.ParentRoom.{AreSeen}
-use Rattle.commitgraph_c.proofs.first_parents.write_first.Given as goal
+use Rattle.commitgraph_c.proofs.first_parents.write_items.Given as goal
 
 abbrev pub invariant-loop-parent : goal.invariant-loop-parent
 invariant-loop-parent l =
