@@ -1,12 +1,14 @@
 #!/usr/bin/env python3
-"""Measures `git cgraph write` beside `git commit-graph write --reachable`, over a million commits.
+"""Measures `git cgraph write` beside `git commit-graph write --reachable`, and `historytool write` beside `git cat-file`, over a
+million commits.
 
 usage: python3 bench/write.py FOLDER
 
 FOLDER keeps the repository: the history of bench/topics.py in one pack, as `git repack -adfk` makes it, with a branch at each
 commit that has no child; making it takes some minutes. Seconds of processor time and of elapsed time, each the least of all
 runs, which take turns: of the commit-graph in one file, and of a layer of a thousand new commits on top of that file, which
-both write as Git's rule has it. The files have to be the same, bit by bit.
+both write as Git's rule has it. The files have to be the same, bit by bit. Then of `historytool write`, which reads the stream
+of all commits from a file, and of `git cat-file`, which writes that stream.
 """
 
 import os
@@ -14,6 +16,7 @@ import subprocess
 import sys
 
 import common
+import objects
 import processes
 import topics
 
@@ -37,6 +40,7 @@ def main(folder):
     ours = [os.path.join(common.TOP, "git-cgraph"), "-C", path, "write"]
     gits = ["git", "-C", path, "-c", "commitGraph.generationVersion=2", "commit-graph", "write", "--no-progress", "--reachable"]
     compare("one file", path, ours, gits, None)
+    compare_streams(folder, path)
     old = os.path.join(folder, "old-graph")
     write_old(path, gits[:-1], old)
     compare("a layer of %d commits" % NEW, path, ours + ["--split"], gits + ["--split"], old)
@@ -90,13 +94,34 @@ def compare(figure, path, ours, gits, old):
     print("%-24s %.2f of Git's elapsed time, %s" % (figure, best["ours"].elapsed / best["Git"].elapsed, same))
 
 
+def compare_streams(folder, path):
+    """Prints the figures of the stream of all commits. The commit-graph is Git's one file."""
+    ids, stream, layer = (os.path.join(folder, name) for name in ("ids", "stream", "layer"))
+    objects.write(ids, ["git", "-C", path, "rev-list", "--all"])
+    objects.write(stream, objects.cat_file(path), ids)
+    ours, gits = [common.program("historytool"), "write"], objects.cat_file(path)
+    objects.write(layer, ours, stream)
+    runs = [(processes.measured(ours, stream), processes.measured(gits, ids)) for _ in range(RUNS)]
+    best = list(map(processes.best_of, zip(*runs)))
+    for name, run in zip(("historytool write", "git cat-file"), best):
+        row = (name, run.processor, run.elapsed, run.memory / 1e6)
+        print("%-30s %8.3f s of processor time, %8.3f elapsed, %4.0f MB" % row)
+    same = "the same file" if bytes_of(layer) == bytes_of(os.path.join(path, GRAPHS, "commit-graph")) else "ANOTHER FILE"
+    print("%-30s %.2f of Git's processor time, %s" % ("", best[0].processor / best[1].processor, same))
+
+
+def bytes_of(path):
+    """The bytes of a file."""
+    with open(path, "rb") as file:
+        return file.read()
+
+
 def files_below(folder):
     """The files below a folder, with their bytes."""
     found = {}
     for at, _, names in os.walk(folder):
         for name in names:
-            with open(os.path.join(at, name), "rb") as file:
-                found[name] = file.read()
+            found[name] = bytes_of(os.path.join(at, name))
     return found
 
 
