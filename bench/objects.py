@@ -1,11 +1,14 @@
 #!/usr/bin/env python3
 """Measures the check of a graph against its commits, over a million commits.
 
-usage: python3 bench/objects.py FOLDER
+usage: python3 bench/objects.py FOLDER [topics | project]
 
-FOLDER keeps the repository, of bench/topics.py, as Git packs it with `git repack -adfk`, and the stream of its commits; making
-them takes some minutes. Seconds of processor time: `historytool objects` beside the digest of the stream by the kit's sha1,
-beside the check of the graph alone, and beside `git cat-file`; of elapsed time: `cg_matches` over the same commits, through C
+FOLDER keeps the repository, of bench/topics.py, or of bench/project.py, in which files change too, as Git packs it with
+`git repack -adf`, and the stream of its commits; making them takes some minutes, and the second needs 3 GB. It prints how many
+commits are deltas in the pack, and how long their chains are at most and on average.
+
+Seconds of processor time: `historytool objects` beside the digest of the stream by the kit's sha1, in turn, beside the check
+of the graph alone, and beside `git cat-file`; of elapsed time: `cg_matches` over the same commits, through C
 (bench/objects/matches.c, by `cc -O2`), beside that digest, and `git cgraph verify --objects` with one job and with four,
 beside `git commit-graph verify`. Each is the least of all runs.
 """
@@ -16,27 +19,31 @@ import sys
 
 import common
 import processes
+import project
 import topics
 
 RUNS = 5
+DIGEST_RUNS = 10
 LONG_RUNS = 2
 JOBS = [1, 4]
+MADE = {"topics": topics.Made, "project": project.Made}
 
 
-def main(folder):
+def main(folder, name="topics"):
     """Prints the figures."""
     folder = os.path.abspath(folder)
     os.makedirs(folder, exist_ok=True)
-    made = topics.Made(folder)
-    layer, stream, ids = made.layer()[0], os.path.join(folder, "stream"), os.path.join(folder, "stream-ids")
+    made = MADE[name](folder)
+    layer, stream, ids = made.layer()[0], made.folder + ".stream", made.folder + ".stream-ids"
     if not os.path.exists(stream):
         pack(made.folder)
         write(ids, [common.program("historytool"), "ids", layer])
         write(stream, cat_file(made.folder), ids)
     common.print_load()
-    digest = digest_of(folder, stream)
+    print("commits that are deltas %d of %d, chains of %d at most, %.1f on average" % chains(made.folder, ids))
+    objects, digest = beside_digest(folder, layer, stream)
     figures = {
-        "objects": best([common.program("historytool"), "objects", layer], stream),
+        "objects": objects,
         "verify": best([common.program("graphtool"), "verify", layer], None),
         "ids": best([common.program("historytool"), "ids", layer], None),
         "git cat-file": best(cat_file(made.folder), ids),
@@ -58,8 +65,25 @@ def main(folder):
 
 
 def pack(repository):
-    """Packs a repository as Git does by itself; no branch leads to all commits, and those stay too."""
+    """Packs a repository as Git does by itself. Where no branch leads to a commit, it stays too."""
     subprocess.check_call(["git", "-C", repository, "repack", "-adfkq"])
+
+
+def chains(repository, ids):
+    """How many commits are deltas of others in the pack, of how many, and how long their chains are at most and on average."""
+    with open(ids, "rb") as stdin:
+        command = ["git", "-C", repository, "cat-file", "--buffer", "--batch-check=%(objectname) %(deltabase)"]
+        lines = subprocess.run(command, stdin=stdin, check=True, capture_output=True).stdout.split()
+    base, depths = dict(zip(lines[::2], lines[1::2])), {}
+    for commit in base:
+        above = []
+        while commit in base and commit not in depths:
+            above.append(commit)
+            commit = base[commit]
+        for place, delta in enumerate(reversed(above)):
+            depths[delta] = depths.get(commit, -1) + place + 1
+    deltas = [depth for depth in depths.values() if depth]
+    return len(deltas), len(base), max(deltas, default=0), sum(deltas) / max(len(deltas), 1)
 
 
 def cat_file(repository):
@@ -79,9 +103,12 @@ def best(command, source, runs=RUNS):
     return processes.best_of([processes.measured(command, source) for _ in range(runs)])
 
 
-def digest_of(folder, path):
-    """The seconds that the digest of a file takes."""
-    return seconds_of(common.our_program(folder, "objects", ["sha1", "anyhow"]), [path])
+def beside_digest(folder, layer, stream):
+    """The best run of the check of a layer, and the least seconds of the digest of the stream. They are run in turn."""
+    command = [common.program("historytool"), "objects", layer]
+    program = common.our_program(folder, "objects", ["sha1", "anyhow"])
+    runs = [(processes.measured(command, stream), nanoseconds_of(program, [stream])) for _ in range(DIGEST_RUNS)]
+    return processes.best_of([run for run, _ in runs]), min(digest for _, digest in runs) / 1e9
 
 
 def matches_program(folder):
@@ -94,11 +121,16 @@ def matches_program(folder):
 
 
 def seconds_of(program, words):
-    """The seconds of the one figure that a program prints."""
-    return min(next(common.lines(program, words))[1][0] for _ in range(RUNS)) / 1e9
+    """The least seconds of the one figure that a program prints."""
+    return min(nanoseconds_of(program, words) for _ in range(RUNS)) / 1e9
+
+
+def nanoseconds_of(program, words):
+    """The one figure that a program prints."""
+    return next(common.lines(program, words))[1][0]
 
 
 if __name__ == "__main__":
-    if len(sys.argv) != 2:
+    if len(sys.argv) not in (2, 3) or sys.argv[2:] and sys.argv[2] not in MADE:
         sys.exit(__doc__)
     main(*sys.argv[1:])

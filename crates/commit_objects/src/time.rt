@@ -1,7 +1,7 @@
 //! Reading the time of a commit.
 
 ghost use Rattle.std.specs.Prelude.{◌≡◌, ◌<◌, ◌==◌, option_map, option_and_then, position};
-ghost use Rattle.std.specs.Prelude.{length, IfSome};
+ghost use Rattle.std.specs.Prelude.{◌+◌, ◌*◌, ◌-◌, ◌^◌, ◌≤◌, length, min, IfSome};
 ghost use Rattle.commit_objects.specs.Time as spec;
 
 use crate::line::behind_word;
@@ -131,8 +131,20 @@ pub fn leading_number(bytes: &[u8]) -> u64
         if !byte.is_ascii_digit() {
             break;
         }
-        let digit = (*byte - b'0') as u64;
-        number = number.saturating_mul(10).saturating_add(digit);
+        number = with_digit(number, *byte - b'0');
     }
     number
+}
+
+/// The number with one more digit, or 2^64 - 1 where it is greater than that. Short numbers, as
+/// almost all are, take no saturating steps.
+fn with_digit(number: u64, digit: u8) -> u64
+    requires { digit ≤ 9 }
+    ensures { result ≡ min (number * 10 + digit) (2 ^ 64 - 1) }
+{
+    if number < u64::MAX / 10 {
+        number * 10 + digit as u64
+    } else {
+        number.saturating_mul(10).saturating_add(digit as u64)
+    }
 }

@@ -11,7 +11,7 @@ loop-byte-preserved c =
     let high : byte ≤ 57 = grind (arith, nat_tests, digit) in
     let more = one_more_digit c.args.bytes.now c.loop-byte.byte-index c.loop-byte-test.true low high in
     record {
-      number = omega (arith, more, c.loop-byte.invariant.number, c.saturating_mul.ensures, c.saturating_add-number.ensures);
+      number = omega (arith, more, c.loop-byte.invariant.number, c.with_digit-number.ensures);
       digits = below_more _ _ c.loop-byte.invariant.digits digit;
     }
 
