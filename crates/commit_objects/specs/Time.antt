@@ -51,7 +51,8 @@ leading_number bytes = min (digits_value 10 (take_while is_ascii_digit bytes)) (
 -- what stands behind the word of the committer, in the line after the author's, with which the rest has to begin
 unfoldable pub behind_committer : List ℕ → Option (List ℕ)
 behind_committer rest =
-    option_and_then (behind_word (codes "committer")) (option_and_then (behind_byte line_feed) (behind_word (codes "author") rest))
+    option_and_then (behind_word (codes "committer"))
+    (option_and_then (behind_byte line_feed) (behind_word (codes "author") rest))
 
 -- from Git 2.41 on, and in libgit2: the date stands behind the last `>` of the committer's line, which has to end
 unfoldable pub newer_time : List ℕ → ℕ

@@ -5,8 +5,8 @@ use Rattle.graph_objects.proofs.own_line.size_before_feed.Goals as goal
 
 pub returns-then-place-gt0-clause-read : goal.returns-then-place-gt0-clause-read
 returns-then-place-gt0-clause-read c =
-    feed_behind c.args.text.now c.loop-place.place c.loop-place.size (omega (arith, c.loop-place-test.true)) c.loop-place.invariant
-    (omega (arith, c.if-place-gt0.true)) c.if-byte-eq10.true
+    feed_behind c.args.text.now c.loop-place.place c.loop-place.size (omega (arith, c.loop-place-test.true))
+    c.loop-place.invariant (omega (arith, c.if-place-gt0.true)) c.if-byte-eq10.true
 
 pub loop-place-preserved : goal.loop-place-preserved
 loop-place-preserved c =
@@ -15,4 +15,5 @@ loop-place-preserved c =
     let low : 48 ≤ byte = grind (arith, nat_tests, digit) in
     let high : byte ≤ 57 = grind (arith, nat_tests, digit) in
     one_more_read c.args.text.now c.loop-place.place c.loop-place.size (omega (arith, c.loop-place-test.true))
-    c.loop-place.invariant low high (c.may_grow.ensures.short c.if-not-may_grow.false) (c.may_grow.ensures.some c.if-not-may_grow.false)
+    c.loop-place.invariant low high (c.may_grow.ensures.short c.if-not-may_grow.false)
+    (c.may_grow.ensures.some c.if-not-may_grow.false)
