@@ -64,6 +64,14 @@ found_head layers p id view line size there end told small =
       sym (length-take-le line view (omega (arith, end.within))) ∙ ap length head,
     )
 
+-- a line that was read in one go
+pub own_found : (layers : List Layer) (p : ℕ) (id view : List ℕ) (line size : ℕ) → slice_get (graph_ids layers) p ≡ Some id
+    → ((next : List ℕ) × IsCommitHead id view size next × (line ≡ length (line_of_commit id size)))
+    → FindsHead layers p view line size
+own_found layers p id view line size there found =
+    let same : graph_id_at layers p ≡ id = id_there layers p id there in
+    rw same found
+
 -- once more bytes are there
 pub head_grown : (layers : List Layer) (p : ℕ) (old new : List ℕ) (line size : ℕ) → StartsWith new old
     → FindsHead layers p old line size

@@ -14,3 +14,4 @@ pub mod CommitWalkLemmas
 pub mod WrittenLemmas
 pub mod ObjectLemmas
 pub mod BufferLemmas
+pub mod OwnLineLemmas

@@ -8,11 +8,9 @@ use Rattle.memchr.specs.Find.{IsFirstByte, is_byte}
 use Rattle.std.specs.Prelude.{Option, Some, None, MatchOption}
 use Rattle.std.specs.List.{AllPass, IsSplitAt}
 use Rattle.std.proofs.lemmas.List.{append_cancel_left}
-use Rattle.graph_objects.specs.BatchEntry.{IsHeading, IsTail, is_lower_digit, HasNoFeed, IsLineEnd, line_of_commit}
+use Rattle.graph_objects.specs.BatchEntry.{IsHeading, IsTail, is_lower_digit, HasNoFeed, IsLineEnd}
 use Rattle.graph_objects.specs.BatchEntry.{longest_line}
 use Rattle.graph_objects.specs.declared.heading.Heading.{Heading}
-use Rattle.graph_objects.specs.declared.heading.Heading.TheVariants.{Commit}
-use Rattle.hex.specs.Hex.{encode_lower}
 
 -- a size behind a word
 pub size_there : (word tail text : List ℕ) (r : Option ℕ) → tail ≡ word ++ text
@@ -21,7 +19,8 @@ pub size_there : (word tail text : List ℕ) (r : Option ℕ) → tail ≡ word 
 size_there word tail text (Some n) e h = e ∙ ap (λ l. word ++ l) h
 size_there word tail text None e h = λ n small same. h n small (append_cancel_left word text (decimal n) (sym e ∙ same))
 
-put_together : (n : ℕ) (s front back : List ℕ) → IsSplitAt s n front back → front ++ back ≡ s
+-- a list from both of its parts
+pub put_together : (n : ℕ) (s front back : List ℕ) → IsSplitAt s n front back → front ++ back ≡ s
 put_together n s front back split = ap (λ l. l ++ back) split.1 ∙ ap (λ l. take n s ++ l) split.2 ∙ take-append-drop n s
 
 -- what was found of a line
@@ -52,10 +51,3 @@ feed_in_front bytes n (Some end) least found =
           (eq-eqb _ _ (get_or-take n bytes k 0 (omega (arith, before, within)) ∙ sym (get_or-take end bytes k 0 before) ∙ same)));
       short = omega (arith, within, least);
     }
-
--- the line of a commit, by its digits and what stands behind them
-pub own_line : (id line digits tail : List ℕ) (n : ℕ) (heading : Heading) (size : ℕ) → IsSplitAt line (2 * n) digits tail
-    → IsTail tail heading → heading ≡ Commit size → digits ≡ encode_lower id → line ≡ line_of_commit id size
-own_line id line digits tail n heading size split says is own =
-    let told : IsTail tail (Commit size) = rw is at says in
-    sym (put_together _ line digits tail split) ∙ ap (λ d. d ++ tail) own ∙ ap (λ t. encode_lower id ++ t) told.1

@@ -93,6 +93,7 @@ impl Buffer {
     /// answers whether they do. What is there and what the reader has left, together, stay the
     /// same, unless an error comes: `Device` where a read failed, and `OutOfMemory` where there is
     /// no memory for what was read.
+    #[inline(always)]
     pub fn fill<R: Read>(
         &mut self,
         reader: &mut R,

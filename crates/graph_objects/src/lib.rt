@@ -14,6 +14,7 @@ mod error;
 pub mod heading;
 pub mod law;
 pub mod line;
+mod own_line;
 mod parents;
 mod stream;
 

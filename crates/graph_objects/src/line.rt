@@ -1,7 +1,7 @@
 //! Reading the line of an entry, which stands before the contents.
 
 ghost use Rattle.std.specs.Prelude.{◌≡◌, ◌≢◌, ◌↔◌, ◌<◌, ◌^◌, ◌++◌, ℕ, List, IsTrue, take};
-ghost use Rattle.std.specs.Prelude.{IfSome, MatchOption, MatchResult, Some, codes, decimal};
+ghost use Rattle.std.specs.Prelude.{MatchOption, MatchResult, Some, codes, decimal};
 ghost use Rattle.std.specs.List.{AllPass};
 ghost use Rattle.hex.specs.Hex.{encode_lower};
 ghost use Rattle.gix_hash_core.specs.Oid.{oid_bytes};
@@ -40,9 +40,6 @@ pub(crate) fn commit_size(id: oid<'_>, line: &[u8]) -> Result<u64, EntryError>
     let Some(heading) = heading_of(tail) else {
         return Err(EntryError::NoEntry);
     };
-    if let Some(size) = own_size(id, digits, heading) {
-        return Ok(size);
-    }
     if !are_digits(digits) {
         return Err(EntryError::NoEntry);
     }
@@ -53,17 +50,6 @@ pub(crate) fn commit_size(id: oid<'_>, line: &[u8]) -> Result<u64, EntryError>
         Heading::Missing => Err(EntryError::Missing),
         Heading::Other => Err(EntryError::NotACommit),
         Heading::Commit(size) => Ok(size),
-    }
-}
-
-/// The size that is told of the commit with an id, where these are the id's digits.
-fn own_size(id: oid<'_>, digits: &[u8], heading: Heading) -> Option<u64>
-    ensures { IfSome result (λ size. (heading ≡ Heading.Commit size)
-        × (digits.now ≡ encode_lower (oid_bytes id.entry))) }
-{
-    match heading {
-        Heading::Commit(size) if spells(digits, id) => Some(size),
-        _ => None,
     }
 }
 

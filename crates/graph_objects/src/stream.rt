@@ -14,6 +14,7 @@ use crate::buffer::Buffer;
 use crate::commit::matches_object;
 use crate::error::{EntryError, ObjectsError};
 use crate::line::{LINE, commit_size, line_end};
+use crate::own_line::own_line;
 use crate::{Mismatch, ahead};
 use gix_commitgraph::{Graph, Position};
 use std::alloc::Global;
@@ -137,11 +138,15 @@ fn next_size<R: Read>(
         (λ bytes. MayStop graph.now pos bytes error)) }
 {
     buffer.fill(reader, 0, LINE - 1)?;
+    let id = graph.id_at(pos);
     let bytes = buffer.bytes();
+    if let Some(told) = own_line(id, bytes) {
+        return Ok(told);
+    }
     let Some(line) = line_end(bytes) else {
         return Err(no_line(pos, bytes.len()));
     };
-    match commit_size(graph.id_at(pos), &bytes[..line]) {
+    match commit_size(id, &bytes[..line]) {
         Ok(size) => Ok((line, size as usize)),
         Err(error) => Err(ObjectsError::Entry(pos, error)),
     }

@@ -1,5 +1,5 @@
 use Rattle.std.proofs.Common.{length, ap}
-use Rattle.graph_objects.proofs.LineLemmas.{heading_is, own_line}
+use Rattle.graph_objects.proofs.LineLemmas.{heading_is}
 use Rattle.gix_hash_core.specs.Oid.{oid_bytes}
 use Rattle.graph_objects.proofs.line.commit_size.Goals as goal
 
@@ -12,9 +12,3 @@ returns-then-not-spells c = (
       (c.are_digits.ensures.0 c.if-not-are_digits.false) c.in-Some-heading_of.ensures,
   λ same. let yes = c.spells.ensures.1 same in cc (yes, c.if-not-spells.true),
 )
-
-pub returns-in-Some-own_size : goal.returns-in-Some-own_size
-returns-in-Some-own_size c =
-    own_line (oid_bytes c.args.id) c.args.line.now c.in-Some.digits.now c.in-Some.tail.now _ c.in-Some-heading_of.heading
-    c.in-Some-own_size.size c.in-Some.ensures.cases c.in-Some-heading_of.ensures c.in-Some-own_size.ensures.0
-    c.in-Some-own_size.ensures.1
