@@ -10,7 +10,7 @@ use Rattle.std.specs.Prelude.{All, IsTrue, codes}
 use Rattle.gix_hash_core.specs.Kind.{is_id_len}
 use Rattle.hex.specs.Hex.{encode_lower, lower_digits}
 use Rattle.hex.proofs.HexLemmas.{length-encode_with}
-use Rattle.graph_objects.specs.BatchEntry.{line_of_commit, IsLine, IsCommitHead}
+use Rattle.graph_objects.specs.BatchEntry.{line_of_commit, IsCommitHead}
 use Rattle.graph_objects.proofs.CommitLineLemmas.{line_of_commit-no_feed, length-line_of_commit}
 
 -- the number that was read of so many digits: none yet, or what they are in decimal
