@@ -54,7 +54,8 @@ module _ (known : Option Tree) (tree : Tree) (is : known ≡ Some tree) where
         };
   }
 
-  all-show : (parts : List LayerParts) → All (IsOfTree tree) parts → (layers : List Layer) × AllZip (ShowsLayer known) parts layers
+  all-show : (parts : List LayerParts) → All (IsOfTree tree) parts
+      → (layers : List Layer) × AllZip (ShowsLayer known) parts layers
   all-show [] all = ([], tt)
   all-show (part ∷ parts) all =
       let one = shows-one part (All-head (IsOfTree tree) part parts all) in

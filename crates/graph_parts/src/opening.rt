@@ -80,8 +80,8 @@ pub fn open_chain_parts<T: Folder>(
 }
 
 /// The parts of the info folder at the path: those of its file, or where there is none of its
-/// chain. `None` where the file is refused or is to be read whole, or the chain is: the folder is to
-/// be opened whole then.
+/// chain. `None` where the file is refused or is to be read whole, or the chain is: the folder is
+/// to be opened whole then.
 ///
 /// # Errors
 ///

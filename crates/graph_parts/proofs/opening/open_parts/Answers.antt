@@ -19,7 +19,8 @@ returns-in-ChainDir-clause-opened g c =
     let path = c.args.path.now in
     ok-some c.open_chain_parts.result _ _
     (path-as (g.T.Folder.tree c.args.folder.now) path ChainDir (IsFromChain path)
-    (λ tree is. rw c.in-ChainDir.is at (c.in-Ok.ensures.answer tree is)) (λ layers from. inr (inl from)) _ c.stands_at.ensures.tree)
+    (λ tree is. rw c.in-ChainDir.is at (c.in-Ok.ensures.answer tree is))
+    (λ layers from. inr (inl from)) _ c.stands_at.ensures.tree)
     c.open_chain_parts.ensures.opened
 
 pub returns-in-InfoDir-clause-opened : goal.returns-in-InfoDir-clause-opened
@@ -27,5 +28,6 @@ returns-in-InfoDir-clause-opened g c =
     let path = c.args.path.now in
     ok-some c.open_info_parts.result _ _
     (path-as (g.T.Folder.tree c.args.folder.now) path InfoDir (IsFromInfo path)
-    (λ tree is. rw c.in-InfoDir.is at (c.in-Ok.ensures.answer tree is)) (λ layers from. inr (inr from)) _ c.stands_at.ensures.tree)
+    (λ tree is. rw c.in-InfoDir.is at (c.in-Ok.ensures.answer tree is))
+    (λ layers from. inr (inr from)) _ c.stands_at.ensures.tree)
     c.open_info_parts.ensures.opened
