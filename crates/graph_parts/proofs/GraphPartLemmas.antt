@@ -29,7 +29,7 @@ use Rattle.graph_parts.specs.Stored.{StoresAt, StoresCommit, StoresEdge}
 use Rattle.graph_parts.specs.declared.layer.LayerParts.{LayerParts}
 use Rattle.graph_parts.specs.declared.layer.StoredCommit.{StoredCommit}
 use Rattle.graph_parts.specs.declared.parts.GraphParts.{GraphParts}
-use Rattle.graph_parts.proofs.LayerPartLemmas.{counted-ids}
+use Rattle.graph_parts.proofs.LayerPartLemmas.{counted-ids, shown-words}
 use Rattle.graph_parts.proofs.ZipLemmas.{all-get, all-set, get-map, get-set, map-set, zip-get, zip-set, zip-unset}
 
 -- the files have as many commits as the parts
@@ -253,6 +253,23 @@ has-edge-of (Some file) index within = (file, refl, within)
 pub has-edge : (parts : GraphParts) (l index : ℕ) → index < edge_count_at parts l
     → (file : ChainLayer) × (slice_get (files_of parts) l ≡ Some file) × (index < edge_count file)
 has-edge parts l index within = has-edge-of (slice_get (files_of parts) l) index within
+
+-- a layer that is shown has as many words as its file
+words-of : (known : Option Tree) (parts : List LayerParts) (layers : List Layer) (l : ℕ) (layer : Layer)
+    → All IsLayerParts parts → AllZip (ShowsLayer known) parts layers → slice_get layers l ≡ Some layer
+    → length (edge_words layer) ≡ option_map_or edge_count (slice_get (map (λ (p : LayerParts). p.file) parts) l) 0
+words-of known [] [] l layer is zip here = let clash : None ≡ Some layer = here in cc
+words-of known [] (x ∷ xs) l layer is zip here = absurd zip
+words-of known (part ∷ parts) [] l layer is zip here = absurd zip
+words-of known (part ∷ parts) (x ∷ xs) zero layer is zip here =
+    ap (λ (y : Layer). length (edge_words y)) (sym (same_Some _ _ here))
+    ∙ shown-words known part x (All-head IsLayerParts part parts is) zip.0
+words-of known (part ∷ parts) (x ∷ xs) (suc l) layer is zip here =
+    words-of known parts xs l layer (All-tail IsLayerParts part parts is) zip.1 here
+
+pub edges-long : (known : Option Tree) (parts : GraphParts) (layers : List Layer) (l : ℕ) (layer : Layer) → AreGraphParts parts
+    → Shows known parts layers → slice_get layers l ≡ Some layer → length (edge_words layer) ≡ edge_count_at parts l
+edges-long known parts layers l layer is shows here = words-of known parts.layers.items layers l layer is.each shows here
 
 -- what is seen stays seen
 pub sees-start : (known : Option Tree) (parts : GraphParts) → SeesMore known parts parts

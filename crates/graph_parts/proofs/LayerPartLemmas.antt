@@ -18,6 +18,7 @@ use Rattle.graph_format.proofs.LayoutLemmas.{view-edges, view-kind}
 use Rattle.graph_format.proofs.PieceLemmas.{length-slice_range, slice_range-slice_range, words-at}
 use Rattle.graph_layer.proofs.BucketLemmas.{view-sized_id}
 use Rattle.graph_layer.proofs.FileViewLemmas.{commits-ids, view-record_at}
+use Rattle.graph_layer.proofs.ListedParentLemmas.{length-words}
 use Rattle.graph_find.specs.ReadHead.{IsHead}
 use Rattle.graph_find.specs.declared.head.Head.{Head}
 use Rattle.graph_find.proofs.HeadLemmas.{begins-filled}
@@ -100,6 +101,23 @@ module _ (known : Option Tree) (part : LayerParts) (layer : Layer) (is : IsLayer
       (slice_range-slice_range shows.of.file chunk.start chunk.end (4 * index) (4 * index + 4)
       (omega (arith, within, lies.order)))
       ∙ ap (λ (n : ℕ). from_be_bytes w32 (slice_range shows.of.file (chunk.start + 4 * index) n)) (omega arith)
+
+  words-long : (chunk : Option ChunkRange) → IsChunkRange shows.of.file edges_id chunk
+      → length (option_map_or words (option_map (λ p. slice_range shows.of.file p.start p.end) chunk) [])
+      ≡ option_map_or (λ place. size_at place / 4) chunk 0
+  words-long None lies = refl
+  words-long (Some chunk) lies =
+      length-words (slice_range shows.of.file chunk.start chunk.end)
+      ∙ ap (λ (n : ℕ). n / 4) (length-slice_range shows.of.file chunk.start chunk.end lies.in_file)
+
+  -- how many words it has
+  pub shown-words : length (edge_words layer) ≡ edge_count part.file
+  shown-words =
+      let head = part.file.head in
+      let listed : option_map (λ p. slice_range shows.of.file p.start p.end) head.layout.chunks.edges ≡ layer.edges =
+      view-edges shows.of.file (string_bytes part.file.path) head.layout layer kept (sym shows.of.decoded) in
+      ap (λ (edges : Option (List ℕ)). length (option_map_or words edges [])) (sym listed)
+      ∙ words-long head.layout.chunks.edges kept.chunks.edges
 
   -- the word of an index in the extra edge list
   pub shown-word : (index : ℕ) (bytes : List ℕ) → index < edge_count part.file

@@ -4,3 +4,6 @@ pub mod ZipLemmas
 pub mod GraphPartLemmas
 pub mod OpeningLemmas
 pub mod LookupPartLemmas
+pub mod TreeLemmas
+pub mod SpotLemmas
+pub mod PathOpeningLemmas

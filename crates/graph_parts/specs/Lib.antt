@@ -5,3 +5,5 @@ pub mod ShownLayer
 pub mod Shown
 pub mod Spots
 pub mod Lookups
+pub mod OfTree
+pub mod PathOpening

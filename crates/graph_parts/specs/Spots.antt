@@ -10,3 +10,7 @@ pub record IsSpotOf (files : List ChainLayer) (pos : ℕ) (spot : Spot) : Type 0
   pub there : slice_get files spot.layer ≡ Some file
   pub counted : pos ≡ commits_in_all (take spot.layer files) + spot.pos
   pub within : spot.pos < commits_in file
+
+-- the position lies in the file of this number
+abbrev pub LiesInFile : List ChainLayer → ℕ → ℕ → Type 0
+LiesInFile files pos l = (left : ℕ) × IsSpotOf files pos (record { layer = l; pos = left })

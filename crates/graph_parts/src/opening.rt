@@ -1,16 +1,20 @@
 //! Opening a graph by parts.
 
-ghost use Rattle.std.specs.Prelude.{◌≡◌, All, IfErr, IfOk, IfSome, IsErrOf, None};
+ghost use Rattle.std.specs.Prelude.{◌≡◌, All, IfErr, IfOk, IfSome, IsErrOf, None, false};
 ghost use Rattle.std.specs.Option.{ForSome};
 ghost use Rattle.graph_folder.specs.Tree.{file_at};
 ghost use Rattle.graph_folder.specs.Failures.{failures_after};
-ghost use Rattle.gix_commitgraph.specs.OpenAlways.{IsFromChain, IsFromFile};
-ghost use Rattle.gix_commitgraph.specs.Opening.{chain_opened, file_opened};
+ghost use Rattle.gix_commitgraph.specs.OpenAlways.{IsFromChain, IsFromFile, IsFromInfo};
+ghost use Rattle.gix_commitgraph.specs.OpenAlways.{IsFromPath};
+ghost use Rattle.gix_commitgraph.specs.Opening.{chain_opened, file_opened, info_opened};
 ghost use Rattle.graph_find.specs.ReadHead.{IsHead};
+ghost use Rattle.graph_parts.specs.PathOpening.{opened_at};
 ghost use Rattle.graph_parts.specs.Shown.{ArePartsOf, AreUnread};
 
 use crate::layer::LayerParts;
 use crate::parts::GraphParts;
+use gix_commitgraph::opening::path::{info_chain_path, info_file_path};
+use gix_commitgraph::opening::{Standing, stands_at};
 use graph_find::chain::{ChainLayer, make_graph, read_layers};
 use graph_find::reading::read_head;
 use graph_folder::folder::{Folder, ReadError};
@@ -73,6 +77,71 @@ pub fn open_chain_parts<T: Folder>(
     }
     let layers = parts_of(alloc, files)?;
     Ok(Some(GraphParts { layers }))
+}
+
+/// The parts of the info folder at the path: those of its file, or where there is none of its
+/// chain. `None` where the file is refused or is to be read whole, or the chain is: the folder is
+/// to be opened whole then.
+///
+/// # Errors
+///
+/// Those of a read of a file: `NotOpened`, `Device` and `OutOfMemory`. The folder's count of
+/// failures rises with `Device`.
+pub fn open_info_parts<T: Folder>(
+    alloc: Global,
+    folder: &mut T,
+    path: &str,
+) -> Result<Option<GraphParts>, ReadError>
+    ensures opened { IfOk result (λ answer. IfSome answer (ArePartsOf (T.tree folder.old)
+        (λ tree. info_opened tree path.now) (IsFromInfo path.now))) }
+    ensures tree { T.tree folder.new ≡ T.tree folder.old }
+    ensures failures { T.failure_count folder.new
+        ≡ failures_after result (T.failure_count folder.old) }
+{
+    let file = info_file_path(alloc, path).map_err(|_| ReadError::OutOfMemory)?;
+    let answer = open_file_parts(alloc, folder, file.as_str());
+    if is_opened(&answer) {
+        return answer;
+    }
+    let chain = info_chain_path(alloc, path).map_err(|_| ReadError::OutOfMemory)?;
+    open_chain_parts(alloc, folder, chain.as_str())
+}
+
+/// Whether the answer is not that the file was not opened.
+fn is_opened(answer: &Result<Option<GraphParts>, ReadError>) -> bool
+    ensures { result ≡ false → IsErrOf answer.now ReadError.NotOpened }
+{
+    !matches!(answer, Err(ReadError::NotOpened))
+}
+
+/// The parts of what stands at the path: of a file as [`open_file_parts`] has them, of a folder in
+/// which a file `commit-graph-chain` stands as [`open_chain_parts`] does, and of any other folder
+/// as [`open_info_parts`] does. `None` also where neither a file nor a folder stands there.
+///
+/// # Errors
+///
+/// Those of a read of a file: `NotOpened`, `Device` and `OutOfMemory`. The folder's count of
+/// failures rises with `Device`.
+pub fn open_parts<T: Folder>(
+    alloc: Global,
+    folder: &mut T,
+    path: &str,
+) -> Result<Option<GraphParts>, ReadError>
+    ensures opened { IfOk result (λ answer. IfSome answer (ArePartsOf (T.tree folder.old)
+        (λ tree. opened_at tree path.now) (IsFromPath path.now))) }
+    ensures tree { T.tree folder.new ≡ T.tree folder.old }
+    ensures failures { T.failure_count folder.new
+        ≡ failures_after result (T.failure_count folder.old) }
+{
+    let Ok(standing) = stands_at(alloc, folder, path) else {
+        return Err(ReadError::OutOfMemory);
+    };
+    match standing {
+        Standing::File => open_file_parts(alloc, folder, path),
+        Standing::ChainDir => open_chain_parts(alloc, folder, path),
+        Standing::InfoDir => open_info_parts(alloc, folder, path),
+        Standing::Nothing => Ok(None),
+    }
 }
 
 /// The parts of files, of which none was read.

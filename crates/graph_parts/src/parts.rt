@@ -11,7 +11,7 @@ ghost use Rattle.gix_commitgraph.specs.GraphLaw.{LiesIn};
 ghost use Rattle.graph_parts.specs.Lookups.{LiesWithin, LooksUp};
 ghost use Rattle.graph_parts.specs.Shown.{AreGraphParts, SeesMore, Shows, commits_of_parts};
 ghost use Rattle.graph_parts.specs.Shown.{edge_count_at, files_of};
-ghost use Rattle.graph_parts.specs.Spots.{IsSpotOf};
+ghost use Rattle.graph_parts.specs.Spots.{IsSpotOf, LiesInFile};
 ghost use Rattle.graph_parts.specs.Stored.{StoresAt, StoresEdge};
 
 use crate::layer::LayerParts;
@@ -61,8 +61,9 @@ impl GraphParts {
     pub fn layer_of(&self, pos: Position) -> usize
         requires parts { AreGraphParts self.now }
         requires pos { pos.0 < commits_of_parts self.now }
-        ensures { (known : Option Tree) (layers : List Layer) → Shows known self.now layers
+        ensures shown { (known : Option Tree) (layers : List Layer) → Shows known self.now layers
             → (layer : Layer) × LiesIn layers pos.0 result layer }
+        ensures file { LiesInFile (files_of self.now) pos.0 result }
     {
         self.spot_of(pos).layer
     }

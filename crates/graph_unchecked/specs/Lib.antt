@@ -1,0 +1,4 @@
+pub mod AtMostOne
+pub mod PartSource
+pub mod Unchecked
+pub mod Unread

@@ -1,0 +1,65 @@
+-- what a source of commits says whose files are read by parts
+use Rattle.std.specs.Prelude.{◌≡◌, ℕ, ◌+◌, ◌<◌, List, Option, min, slice_get}
+use Rattle.std.specs.Option.{option_map_or}
+use Rattle.graph_folder.specs.Tree.{Tree}
+use Rattle.graph_format.specs.Layer.{Layer}
+use Rattle.graph_format.specs.declared.parents.ExtraEdge.{ExtraEdge}
+use Rattle.graph_format.specs.declared.parents.ExtraEdge.TheVariants as extra
+use Rattle.graph_format.specs.declared.parents.ParentEdge.{ParentEdge}
+use Rattle.graph_format.specs.declared.parents.ParentEdge.TheVariants as edge
+use Rattle.gix_commitgraph.specs.Graph.{IsGraph}
+use Rattle.graph_ancestors.specs.Commits.{named_by}
+use Rattle.graph_ancestors.specs.Source.{IsFieldWithin, Told, told_of}
+use Rattle.graph_find.specs.declared.chain.ChainLayer.{ChainLayer}
+use Rattle.graph_parts.specs.PartFiles.{edge_count}
+use Rattle.graph_parts.specs.OfTree.{AreOfTree}
+use Rattle.graph_parts.specs.Shown.{AreGraphParts, Shows, files_of}
+use Rattle.graph_parts.specs.Spots.{LiesInFile}
+use Rattle.graph_parts.specs.declared.parts.GraphParts.{GraphParts}
+
+-- What no read changes: the tree, where it is known, and the files. The references are named too.
+pub record KnownParts : Type 0 where
+  pub tree : Option Tree
+  pub files : List ChainLayer
+  pub folder : ℕ
+  pub parts : ℕ
+
+-- how many words of the extra edge list of a file have a number of 32 bits
+abbrev pub word_total : List ChainLayer → ℕ → ℕ
+word_total files l = min (option_map_or edge_count (slice_get files l) 0) 4294967295
+
+-- the word of an index is one of the file in which a position lies
+abbrev pub IsWordOf : List ChainLayer → ℕ → ℕ → Type 0
+IsWordOf files p index = (l : ℕ) → LiesInFile files p l → index < word_total files l
+
+-- The parts say what some graph tells that they show.
+pub record PartsTell (known : Option Tree) (parts : GraphParts) (t : Told) : Type 0 where
+  pub layers : List Layer
+  pub shows : Shows known parts layers
+  pub graph : IsGraph layers
+  pub told : t ≡ told_of layers
+
+-- More is read of the same files: what is told after is what was told before, and parts of a tree stay so.
+pub record ReadsOn (known : Option Tree) (old new : GraphParts) : Type 0 where
+  pub right : AreGraphParts new
+  pub same : files_of new ≡ files_of old
+  pub of : AreOfTree known old → AreOfTree known new
+  pub kept : (t : Told) → PartsTell known new t → PartsTell known old t
+
+-- the parent fields of a commit are such as can be decoded, and name some of so many commits and words ("Commit Data")
+abbrev pub AreFieldsThere : ℕ → ℕ → ParentEdge → ParentEdge → Type 0
+AreFieldsThere count words edge.None second = second ≡ edge.None
+AreFieldsThere count words (edge.GraphPosition pos) second =
+    (pos.0 < count) × IsFieldWithin count (λ index. index < words) second
+AreFieldsThere count words (edge.ExtraEdgeIndex index) second = ⊥
+
+-- one that is not the last of its commit is followed by another
+abbrev pub IsFollowed : ℕ → ℕ → ExtraEdge → Type 0
+IsFollowed words index (extra.Internal pos) = index + 1 < words
+IsFollowed words index (extra.Last pos) = Unit {0}
+
+-- The word of an index names one of so many commits, and is followed by another of so many words, unless it is the last of its
+-- commit ("Extra Edge List").
+pub record IsWordThere (count words index : ℕ) (word : ExtraEdge) : Type 0 where
+  pub commit : named_by word < count
+  pub next : IsFollowed words index word

@@ -1,0 +1,89 @@
+//! Parts of files, as a source of commits.
+
+ghost use Rattle.std.proofs.Props.{props};
+ghost use Rattle.std.specs.Prelude.{⊤};
+ghost use Rattle.graph_parts.specs.OfTree.{AreOfTree};
+ghost use Rattle.graph_parts.specs.PartFiles.{commits_in_all};
+ghost use Rattle.graph_parts.specs.Shown.{AreGraphParts, files_of};
+ghost use Rattle.graph_parts.specs.Spots.{LiesInFile};
+ghost use Rattle.graph_unchecked.specs.AtMostOne.{graph_parts_prop};
+ghost use Rattle.graph_unchecked.specs.PartSource.{IsWordOf, KnownParts, PartsTell, word_total};
+
+use crate::fields::words_in;
+use crate::reads::{read_fields, read_number, read_word};
+use crate::unread::Unread;
+use gix_commitgraph::Position;
+use gix_commitgraph::file::commit::{ExtraEdge, ParentEdge};
+use gix_commitgraph::law::graph::the_history_of_a_graph_is_that_of_its_layers;
+use graph_ancestors::CommitSource;
+use graph_folder::folder::Folder;
+use graph_parts::parts::GraphParts;
+use std::alloc::Global;
+
+/// The commits of files of which parts are read. Where it is known what stands in the folder, the
+/// parts that are kept are of its files.
+#[derive(Drop)]
+pub(crate) struct PartCommits<'a, T: Folder> {
+    pub(crate) alloc: Global,
+    pub(crate) folder: &'a mut T,
+    pub(crate) parts: &'a mut GraphParts,
+    ghost right: { AreGraphParts parts.now } by { graph_parts_prop parts.now },
+    ghost of: { AreOfTree (T.tree folder.now) parts.now } by { Prim.hlevel props },
+}
+
+impl<'a, T: Folder> CommitSource for PartCommits<'a, T> {
+    type Error = Unread;
+
+    ghost Known = { KnownParts };
+
+    ghost known = { λ s. record {
+      tree = T.tree s.folder.now;
+      files = files_of s.parts.now;
+      folder = s.folder.ghost_name;
+      parts = s.parts.ghost_name;
+    } };
+
+    ghost says = { λ s t. PartsTell (T.tree s.folder.now) s.parts.now t };
+
+    ghost count = { λ k. commits_in_all k.files };
+
+    ghost lies = { λ k p l. LiesInFile k.files p l };
+
+    ghost words = { λ k l. word_total k.files l };
+
+    ghost is_listed = { λ k p index. IsWordOf k.files p index };
+
+    ghost may_fail = { λ _ _. ⊤ };
+
+    #[tactic(auto, using(crate::proofs::SourceLemmas::counted_files))]
+    fn num_commits(&self) -> u32 {
+        the_history_of_a_graph_is_that_of_its_layers();
+        self.parts.commits()
+    }
+
+    fn generation_number(&mut self, pos: Position) -> Result<u32, Unread> {
+        read_number(self.alloc, self.folder, self.parts, pos)
+    }
+
+    fn parent_fields(&mut self, pos: Position) -> Result<(ParentEdge, ParentEdge), Unread> {
+        read_fields(self.alloc, self.folder, self.parts, pos)
+    }
+
+    #[tactic(auto, using(crate::proofs::SourceLemmas::counted_files))]
+    fn layer_of(&self, pos: Position) -> usize {
+        self.parts.layer_of(pos)
+    }
+
+    fn words_of(&self, _: Position, layer: usize, _: u32) -> u32 {
+        words_in(self.parts, layer)
+    }
+
+    fn listed_parent(
+        &mut self,
+        pos: Position,
+        layer: usize,
+        index: u32,
+    ) -> Result<ExtraEdge, Unread> {
+        read_word(self.alloc, self.folder, self.parts, pos, layer, index)
+    }
+}

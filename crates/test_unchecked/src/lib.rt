@@ -1,0 +1,5 @@
+//! Tests of questions about graphs that are not checked.
+#![tactic(auto)]
+
+#[cfg(test)]
+mod questions;
