@@ -230,8 +230,8 @@ impl Search<'_> {
         Ok(())
     }
 
-    /// Visits commits in this order of their numbers. Nothing is promised of which: numbers past the
-    /// last commit are left out.
+    /// Visits commits in this order of their numbers, but for those past the last commit. Nothing
+    /// is promised of which they are.
     fn visit_each(&mut self, order: &[CommitTime]) -> Result<(), LevelsError>
         requires going { IsUnderWay self.old }
         requires input { HasFittingInput self.old }
