@@ -1,11 +1,14 @@
 //! A graph that was checked and is right, with the graph itself.
 
-ghost use Rattle.std.specs.Prelude.{◌≡◌, ◌∷◌, ◌++◌, [], IfErr, IfOk, OnErr, OnOk};
+ghost use Rattle.std.specs.Prelude.{◌≡◌, ◌<◌, ◌≤◌, ◌∷◌, ◌++◌, [], IfErr, IfOk, OnErr, OnOk};
+ghost use Rattle.std.specs.Prelude.{drop, length, take};
 ghost use Rattle.gix_commitgraph.specs.Distinct.{IsSoundWith};
+ghost use Rattle.gix_commitgraph.specs.Graph.{IsGraph, total};
 ghost use Rattle.gix_commitgraph.specs.Sound.{Sound};
 ghost use Rattle.graph_ancestors.specs.RefusedGraph.{MayRefuseGraph};
-ghost use Rattle.graph_history.specs.Checked.{MayRefuseLayers, MayRefuseWith};
-ghost use Rattle.graph_history.specs.RightGraph.{plain_options};
+ghost use Rattle.graph_history.specs.Checked.{MayRefuseAbove, MayRefuseLayers, MayRefuseSome};
+ghost use Rattle.graph_history.specs.Checked.{MayRefuseWith};
+ghost use Rattle.graph_history.specs.RightGraph.{IsRight, plain_options};
 
 use crate::checked::{Checked, PLAIN};
 use gix_commitgraph::file::Commit;
@@ -121,27 +124,57 @@ impl CheckedGraph {
         ensures refusal { IfErr result
             (MayRefuseLayers self.old.options (self.old.layers ++ file ∷ [])) }
     {
-        let layer = self.graph.layers().len();
+        let layers = self.graph.layers().len();
         if let Err(error) = self.graph.push(file) {
             return Err(PushError::Graph(error));
         }
-        let checked = self.graph.verify_integrity_from(
+        let checked = check_above(
             alloc,
+            &mut self.graph,
             self.options,
-            layer,
-            &self.outcome,
-            &mut |_: &Commit<'_>| Ok(()),
+            &mut self.outcome,
+            layers,
         );
-        the_first_fault_stands_above_right_layers::<NoFault>();
         match checked {
-            Ok(outcome) => {
-                self.outcome = outcome;
-                Ok(())
-            }
-            Err(error) => {
-                self.graph.pop();
-                Err(PushError::Check(error))
-            }
+            Ok(_) => Ok(()),
+            Err(error) => Err(PushError::Check(error)),
+        }
+    }
+
+    /// Puts some files on top of the layers, the lowest of them first, and checks them, at the cost
+    /// of these files alone. It answers how many commits it checked: those of the files. After an
+    /// `Ok` the graph is as if all of it had been checked with the same options, statistics
+    /// included.
+    ///
+    /// # Errors
+    ///
+    /// Those of [`Graph::push`] for the first of the files that it refuses, on top of those before
+    /// it. Where there is none, those of a check of all layers, as in [`CheckedGraph::push`]. All
+    /// files are then dropped, and the graph is as it was.
+    pub fn push_all(&mut self, alloc: Global, files: Vec<File>) -> Result<u32, PushError>
+        ensures pushed { OnOk result (self.new.layers ≡ self.old.layers ++ files.items) }
+        ensures checked { IfOk result (λ checked. checked ≡ total files.items) }
+        ensures kept { OnErr result (self.new.layers ≡ self.old.layers) }
+        ensures options { self.new.options ≡ self.old.options }
+        ensures graph { IsGraph self.new.layers }
+        ensures right { IsSoundWith self.new.options self.new.layers }
+        ensures refusal { IfErr result
+            (MayRefuseAbove self.old.options self.old.layers files.items) }
+    {
+        let layers = self.graph.layers().len();
+        if let Err(refused) = put_on(&mut self.graph, files) {
+            return Err(PushError::Graph(refused));
+        }
+        let counted = check_above(
+            alloc,
+            &mut self.graph,
+            self.options,
+            &mut self.outcome,
+            layers,
+        );
+        match counted {
+            Ok(commits) => Ok(commits),
+            Err(fault) => Err(PushError::Check(fault)),
         }
     }
 
@@ -152,5 +185,77 @@ impl CheckedGraph {
     {
         let CheckedGraph { graph, .. } = self;
         graph
+    }
+}
+
+/// Puts files on top of the layers of a graph, all of them or none. The error is that of the first
+/// that is refused.
+fn put_on(graph: &mut Graph, files: Vec<File>) -> Result<(), GraphError>
+    ensures put { OnOk result (graph.new ≡ graph.old ++ files.items) }
+    ensures kept { OnErr result (graph.new ≡ graph.old) }
+    ensures graph { IsGraph graph.new }
+    ensures refusal { IfErr result (MayRefuseSome graph.old files.items) }
+{
+    let below = graph.layers().len();
+    for file in files {
+        if let Err(error) = graph.push(file) {
+            take_off(graph, below);
+            return Err(error);
+        }
+    }
+    Ok(())
+}
+
+/// Checks a graph above so many of its lowest layers, which keep what the options ask for and have
+/// these statistics. It answers how many commits it checked, and the statistics are then those of
+/// all layers. Where the check fails, the layers above are taken off.
+fn check_above(
+    alloc: Global,
+    graph: &mut Graph,
+    options: VerifyOptions,
+    outcome: &mut Outcome,
+    layers: usize,
+) -> Result<u32, VerifyError<NoFault>>
+    requires graph { IsGraph graph.old }
+    requires some { 0 < layers }
+    requires within { layers ≤ length graph.old }
+    requires below { IsRight options (take layers graph.old) outcome.old }
+    ensures kept { OnOk result (graph.new ≡ graph.old) }
+    ensures checked { IfOk result (λ checked. checked ≡ total (drop layers graph.old)) }
+    ensures taken_off { OnErr result (graph.new ≡ take layers graph.old) }
+    ensures right { IsRight options graph.new outcome.new }
+    ensures refusal { IfErr result (MayRefuseWith options graph.old) }
+{
+    let mut checked = 0u32;
+    let found = graph.verify_integrity_from(
+        alloc,
+        options,
+        layers,
+        outcome,
+        &mut |_: &Commit<'_>| {
+            checked = checked.saturating_add(1);
+            Ok(())
+        },
+    );
+    the_first_fault_stands_above_right_layers::<NoFault>();
+    match found {
+        Ok(of_all) => {
+            *outcome = of_all;
+            Ok(checked)
+        }
+        Err(error) => {
+            take_off(graph, layers);
+            Err(error)
+        }
+    }
+}
+
+/// Takes the highest layers off, so that as many are left.
+fn take_off(graph: &mut Graph, layers: usize)
+    requires some { 0 < layers }
+    ensures { graph.new ≡ take layers graph.old }
+{
+    while graph.layers().len() > layers {
+        let _ = graph.pop();
     }
 }
