@@ -41,7 +41,7 @@ impl<'r, R: Files> Disk<'r, R> {
         read_expected(alloc, &mut file, expected)
     }
 
-    /// Whether the file at the path has these bytes. Where the host says another length, it has not.
+    /// Whether the file at the path has these bytes. It has not where the host says another length.
     fn compare_file(&self, alloc: Global, path: &str, bytes: &[u8]) -> Result<bool, ReadError>
         ensures { IfOk result (λ same. IsTrue same
             → AreAllOfFile R.File.remaining bytes.now) }
