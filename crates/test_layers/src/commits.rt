@@ -187,12 +187,15 @@ const SHOWN: &[(&[u8; 16], &str)] = &[
     ),
 ];
 
-/// Compares the debug texts of commits, and of a file.
+/// Compares the debug texts of commits, and of a file, and some of its bytes: the header, and the
+/// commit's fields in its record, which begins at byte 1112 with the id of the root tree.
 fn compare_shown(rt: &impl Abort, alloc: Global, rows: &[(&[u8; 16], &str)]) {
     for (fields, want) in rows {
         let file = layer_of_one(rt, alloc, fields, None, "a \"graph\"");
         compare_debug(rt, alloc, &[(only_commit(rt, &file), *want)]);
         compare_debug(rt, alloc, &[(&file, r#"File(""a \"graph\""")"#)]);
+        assert!(rt; file.bytes().starts_with(b"CGPH\x01\x01\x04\x00"));
+        assert!(rt; file.bytes().get(1132..1148) == Some(fields.as_slice()));
     }
 }
 

@@ -120,6 +120,26 @@ fn compare_reads<T: Folder>(rt: &impl Abort, alloc: Global, folder: &mut T, rows
     }
 }
 
+/// Compares a file with its bytes, and with others: one more, one less, and another last one.
+fn compare_bytes<T: Folder>(
+    rt: &impl Abort,
+    alloc: Global,
+    folder: &mut T,
+    path: &str,
+    bytes: &[u8],
+) {
+    assert!(rt; folder.has_bytes(alloc, path, bytes) == Ok(true));
+    let mut other = bytes.to_vec(alloc).expect(rt, "memory");
+    other.push(0).expect(rt, "memory");
+    assert!(rt; folder.has_bytes(alloc, path, &other) == Ok(false));
+    let _ = other.pop();
+    if let Some(last) = other.pop() {
+        assert!(rt; folder.has_bytes(alloc, path, &other) == Ok(false));
+        other.push(last ^ 1).expect(rt, "memory");
+        assert!(rt; folder.has_bytes(alloc, path, &other) == Ok(false));
+    }
+}
+
 /// A file: its path, its bytes, and the length that the host says.
 #[derive(Clone, Copy)]
 struct Stored<'a> {
@@ -207,6 +227,13 @@ fn keeps_files_in_memory(rt: HostRuntime) {
     memory.fail_read(2);
     compare_reads(&rt, rt.alloc(), &mut memory, READ_IN_MEMORY);
     compare_parts_in_memory(&rt, rt.alloc(), &mut old_and_new(&rt, rt.alloc()));
+    compare_bytes(
+        &rt,
+        rt.alloc(),
+        &mut old_and_new(&rt, rt.alloc()),
+        NEW.path,
+        NEW.bytes,
+    );
 }
 
 const FOLDER: &str = "graph_folder_test";
@@ -233,6 +260,10 @@ fn compare_folder<R: Files + Abort, T: Folder>(rt: &R, alloc: Global, disk: &mut
     for len in [0, 1, 3_000_000, 2] {
         let bytes = write_file(rt, alloc, FILE, len);
         compare_reads(rt, alloc, disk, &[(FILE, Ok(&bytes), 0)]);
+        compare_bytes(rt, alloc, disk, FILE, &bytes);
+    }
+    for path in [FOLDER, MISSING] {
+        assert!(rt; disk.has_bytes(alloc, path, &[]) == Err(ReadError::NotOpened));
     }
     compare_kinds(rt, alloc, disk, ON_DISK);
     compare_reads(rt, alloc, disk, READ_ON_DISK);
@@ -300,7 +331,7 @@ fn compare_early_end<T: Folder>(rt: &impl Abort, alloc: Global, folder: &mut T, 
 
 /// Compares which reads of a folder fail where the host fails the one of this number, and how many
 /// failures are counted. A part of nine bytes takes three reads of at most four, and the whole file
-/// of twenty takes five, and one that finds its end.
+/// of twenty takes five, and one that finds its end; so does its comparison.
 fn compare_failures<T: Folder>(
     rt: &impl Abort,
     alloc: Global,
@@ -317,6 +348,10 @@ fn compare_failures<T: Folder>(
     let whole = folder.read(alloc, file.path);
     assert!(rt; (whole.err() == Some(ReadError::Device)) == (fails_at < 6));
     assert!(rt; folder.failures() == u64::from(fails_at < 3) + u64::from(fails_at < 6));
+    reads.set(0);
+    let same = folder.has_bytes(alloc, file.path, file.bytes);
+    assert!(rt; (same == Err(ReadError::Device)) == (fails_at < 6));
+    assert!(rt; folder.failures() == u64::from(fails_at < 3) + 2 * u64::from(fails_at < 6));
 }
 
 /// Writes a file, of which such a host says what it says of one that is as long as that, and

@@ -147,6 +147,66 @@ fn a_wrong_layer_is_refused_as_the_whole_graph(rt: HostRuntime) {
     assert_left(&rt, &lower.as_checked());
 }
 
+/// The layers of these commits, over the right bases above the lower layers.
+fn layers_on(
+    rt: &impl Abort,
+    alloc: Global,
+    lower: &CheckedGraph,
+    layers: &[&[Row<'_>]],
+) -> Vec<File> {
+    let mut bases = Vec::new(alloc);
+    for file in lower.as_checked().graph().layers() {
+        bases.push(file.checksum().to_owned()).expect(rt, "memory");
+    }
+    let mut files = Vec::new(alloc);
+    for rows in layers {
+        let file = layer(rt, alloc, &bases, rows);
+        bases.push(file.checksum().to_owned()).expect(rt, "memory");
+        files.push(file).expect(rt, "memory");
+    }
+    files
+}
+
+/// No commits, and the commits of `RIGHT` in two layers.
+const NONE: &[Row<'static>] = &[];
+
+const FIRST: &[Row<'static>] = &[(0x33, &[1], 3)];
+
+const OTHERS: &[Row<'static>] = &[(0x44, &[2, 0, 1], 4), (0x55, &[], 1)];
+
+#[test]
+fn some_layers_are_put_on_top_at_once(rt: HostRuntime) {
+    let alloc = rt.alloc();
+    let mut graph = checked(&rt, alloc, DISTINCT);
+    assert!(&rt; graph.push_all(alloc, Vec::new(alloc)) == Ok(0));
+    assert_left(&rt, &graph.as_checked());
+    let files = layers_on(&rt, alloc, &graph, &[FIRST, OTHERS]);
+    assert!(&rt; graph.push_all(alloc, files) == Ok(3));
+    let pushed = graph.as_checked();
+    assert!(&rt; pushed.graph().layers().len() == 3 && pushed.options() == DISTINCT);
+    assert!(&rt; pushed.num_commits() == 5 && pushed.outcome().longest_path_length == Some(3));
+}
+
+#[test]
+fn no_layer_stays_where_one_of_some_is_refused(rt: HostRuntime) {
+    let alloc = rt.alloc();
+    let mut lower = checked(&rt, alloc, DISTINCT);
+    for (rows, want) in REFUSED {
+        for layers in [[*rows, NONE], [NONE, *rows]] {
+            let files = layers_on(&rt, alloc, &lower, &layers);
+            let answer = lower.push_all(alloc, files);
+            assert!(&rt; matches!(&answer, Err(PushError::Check(error)) if error == want));
+            assert_left(&rt, &lower.as_checked());
+        }
+    }
+    let mut files = layers_on(&rt, alloc, &lower, &[RIGHT]);
+    let other = empty_layer(&rt, alloc, Kind::Sha256);
+    files.push(other).expect(&rt, "memory");
+    let error = GraphError::HashMismatch { layer: 2 };
+    assert!(&rt; lower.push_all(alloc, files) == Err(PushError::Graph(error)));
+    assert_left(&rt, &lower.as_checked());
+}
+
 /// How many layers are put on top of a first one, and how many commits each has.
 const LAYERS: u8 = 200;
 
