@@ -39,5 +39,5 @@ pub(crate) fn leads<T: Folder>(
         folder,
         parts,
     };
-    AnySearcher::new(alloc).is_ancestor(&mut commits, second, first)
+    AnySearcher::new(alloc).is_ancestor(&mut commits, first, second)
 }
