@@ -1,15 +1,12 @@
 -- A graph that is opened anew beside one that stands.
-use Rattle.std.proofs.Common.{◌≡◌, ℕ, ◌+◌, ◌-◌, ◌^◌, ◌<◌, ◌≤◌, List, [], ◌∷◌, ◌++◌, length, take, drop, Option, Some, None}
+use Rattle.std.proofs.Common.{◌≡◌, ℕ, ◌-◌, ◌^◌, ◌<◌, ◌≤◌, List, [], ◌++◌, length, take, drop, Option, Some, None}
 use Rattle.std.proofs.Common.{Result, Ok, Err, IfOk, true, false, refl, sym, ap, subst, ◌∙◌, arith, get_or}
-use Rattle.std.proofs.Common.{slice_get}
-use Rattle.std.specs.Prelude.{Bool, MatchOption, IfErr, IsErrOf, IsSomeAnd, ◌⊎◌, Vec, bytes_eq, if◌then◌else◌, not}
+use Rattle.std.specs.Prelude.{Bool, MatchOption, IsSomeAnd, Vec, if◌then◌else◌}
 use Rattle.std.specs.Option.{ForSome, ok_or}
 use Rattle.std.specs.Str.{is_utf8}
-use Rattle.std.specs.Str.Lines.{lines}
 use Rattle.std.proofs.Math.Seq.{drop-append_seam, take-append_seam}
 use Rattle.std.proofs.lemmas.List.{length-append, take_all}
 use Rattle.std.proofs.lemmas.Option.{slice_get-get_or, slice_get_within}
-use Rattle.std.proofs.lemmas.Slice.Eq.{bytes_eq-Decides}
 use Rattle.gix_hash_core.specs.declared.kind.Kind.TheVariants.{Sha1}
 use Rattle.graph_folder.specs.Tree.{Tree, file_at}
 use Rattle.graph_format.specs.Layer.{Layer, IsLayer, IsOpened, bytes_of}
@@ -20,7 +17,7 @@ use Rattle.graph_format.specs.declared.error.GraphError.TheVariants.{NoFiles, To
 use Rattle.graph_format.specs.declared.error.GraphError.TheVariants.{OutOfMemory as graph_OutOfMemory}
 use Rattle.graph_format.proofs.DecidedFileLemmas.{answered}
 use Rattle.graph_layer.specs.LayerOpening.{bytes_at, layer_at, layer_of_bytes}
-use Rattle.graph_layer.specs.OpenAnswer.{IsAsExpected, and_then, failures_after_opening, is_settled, result_map, result_map_err}
+use Rattle.graph_layer.specs.OpenAnswer.{IsAsExpected, and_then, failures_after_opening, is_settled, result_map_err}
 use Rattle.graph_layer.specs.OpenRefusals.{layer_refused}
 use Rattle.graph_layer.specs.declared.opening.error.OpenError.{OpenError}
 use Rattle.graph_layer.specs.declared.opening.error.OpenError.TheVariants.{NothingFound, NotOpened, Device, ChainNotText}
@@ -30,10 +27,10 @@ use Rattle.gix_commitgraph.specs.Graph.{IsGraph, MakesGraph, total}
 use Rattle.gix_commitgraph.specs.GraphLaw.{IsRefusal}
 use Rattle.gix_commitgraph.specs.GraphRefusal.{graph_refusal, kind_at}
 use Rattle.gix_commitgraph.specs.Opening.{InfoOpens, MetFailureIfDevice, StandingOpens, chain_opened, file_opened}
-use Rattle.gix_commitgraph.specs.Opening.{graph_of_layers, graph_unless_refused, layer_of_line, layers_of_lines, standing_at}
-use Rattle.gix_commitgraph.specs.Paths.{chain_path, info_chain, info_file, layer_path}
+use Rattle.gix_commitgraph.specs.Opening.{graph_of_layers, graph_unless_refused, layer_of_line, standing_at}
+use Rattle.gix_commitgraph.specs.Paths.{info_chain, info_file, layer_path}
 use Rattle.gix_commitgraph.specs.declared.opening.Standing.{Standing}
-use Rattle.gix_commitgraph.specs.declared.opening.Standing.TheVariants.{File, ChainDir, InfoDir, Nothing}
+use Rattle.gix_commitgraph.specs.declared.opening.Standing.TheVariants.{InfoDir}
 use Rattle.gix_commitgraph.proofs.layers.GraphLemmas.{judged}
 use Rattle.gix_commitgraph.proofs.layers.LayerListLemmas.{kind_at-is}
 use Rattle.gix_commitgraph.proofs.opening.InfoOpeningLemmas.{info_opens-chain, info_opens-file}
@@ -42,8 +39,7 @@ use Rattle.graph_commands.specs.declared.refusal.Refusal.{Refusal}
 use Rattle.graph_commands.specs.declared.refusal.Refusal.TheVariants as refusal
 use Rattle.graph_history.specs.Reload.{StandAboveShared}
 use Rattle.history_commands.specs.Check.{MayRefuseToStart}
-use Rattle.question_commands.specs.TakenAnew.{IsDeviceOrMemory, IsThisAnswer, OpensAbove, OpensChain, PutsAbove, Takes}
-use Rattle.question_commands.specs.TakenAnew.{layers_from, layers_with}
+use Rattle.question_commands.specs.TakenAnew.{IsThisAnswer, OpensAbove, OpensChain, PutsAbove, Takes}
 
 no_layer : Layer
 no_layer = record { kind = Sha1; bases = []; fan = []; ids = []; records = []; edges = None; checksum = []; body = []; path = [] }
@@ -125,17 +121,6 @@ failed answer old mid new before after is small =
     let least : old ≤ mid = before small in
     omega (arith, rose, least, small)
 
--- what a chain folder opens is what stands at its path
-pub chain_stands : (known : Option Tree) (path : List ℕ) (old new : ℕ)
-    → ForSome known (λ tree. standing_at tree path ≡ ChainDir)
-    → (answer : Result (List Layer) OpenError) → OpensChain known path old new answer → MayOpen known path old new answer
-chain_stands known path old new stands answer opens = (
-  λ tree is.
-      subst (λ (s : Standing). StandingOpens s tree path old new answer) (sym (stands tree is)) (opens.0.0 tree is, opens.1),
-  opens.0.1,
-  failed answer old old new (λ small. omega arith) opens.1,
-)
-
 -- what an info folder opens is what stands at its path
 pub info_stands : (known : Option Tree) (path : List ℕ) (old new : ℕ)
     → ForSome known (λ tree. standing_at tree path ≡ InfoDir)
@@ -176,81 +161,6 @@ file_of_info known path old new first settled was graph counted answer is =
       failed first old old new (λ small. omega arith) counted,
     ) in
     subst (λ (a : Result (List Layer) OpenError). MayOpenBy known (λ tree. InfoOpens tree path old new) old new a) (sym is) opens
-
--- where memory runs out before anything is read, that is the answer of each opener
-opens_memory : (s : Standing) (tree : Tree) (path : List ℕ) (old new : ℕ) → new ≡ old
-    → StandingOpens s tree path old new (Err OutOfMemory)
-opens_memory File tree path old new same = (tt, same)
-opens_memory ChainDir tree path old new same = (tt, same)
-opens_memory InfoDir tree path old new same = (λ met. tt, λ met. tt)
-opens_memory Nothing tree path old new same = same
-
-no_device : (old new : ℕ) → MetFailureIfDevice {A = List Layer} (Err OutOfMemory) old new
-no_device old new is = cc
-
-pub memory_stands : (known : Option Tree) (path : List ℕ) (old new : ℕ) → new ≡ old
-    → MayOpen known path old new (Err OutOfMemory)
-memory_stands known path old new same = (
-  λ tree is.
-      opens_memory (standing_at tree path) tree path old new same,
-  tt,
-  no_device old new,
-)
-
--- also of an info folder, whatever was read before
-pub memory_of_info : (known : Option Tree) (path : List ℕ) (old new : ℕ)
-    → MayOpenBy known (λ tree. InfoOpens tree path old new) old new (Err OutOfMemory)
-memory_of_info known path old new = (λ tree is. (λ met. tt, λ met. tt), tt, no_device old new)
-
--- an error that comes where a device failed or memory ran out may be told whatever is expected
-pub as_any : (e : OpenError) → IsDeviceOrMemory e → (expected : Result (List Layer) OpenError)
-    → IsAsExpected {A = List Layer} (Err e) expected
-as_any NothingFound is expected = cc
-as_any NotOpened is expected = cc
-as_any Device is expected = tt
-as_any (ChainNotText line) is expected = cc
-as_any (layer_error i error) is expected = cc
-as_any (graph_error error) is expected = cc
-as_any OutOfMemory is expected = tt
-
--- an error stands for another expectation, where that is the error if it is expected
-error_as : {A B : Type 0} (e : OpenError) (some : Result A OpenError) (other : Result B OpenError)
-    → (Err e ≡ some → Err e ≡ other) → IsAsExpected {A = A} (Err e) some → IsAsExpected {A = B} (Err e) other
-error_as NothingFound some other same is = same is
-error_as NotOpened some other same is = same is
-error_as Device some other same is = tt
-error_as (ChainNotText line) some other same is = same is
-error_as (layer_error i error) some other same is = same is
-error_as (graph_error error) some other same is = same is
-error_as OutOfMemory some other same is = tt
-
--- The lines of a chain file name some layers, and then others.
-module _ (tree : Tree) (path : List ℕ) where
-  -- a chain file that is not read is why its folder is not opened
-  pub unread_chain : (e : OpenError) → IsAsExpected {A = List ℕ} (Err e) (bytes_at tree (chain_path path))
-      → IsAsExpected {A = List Layer} (Err e) (chain_opened tree path)
-  unread_chain e = error_as e (bytes_at tree (chain_path path)) (chain_opened tree path)
-      (λ is. ap (λ (r : Result (List ℕ) OpenError).
-      and_then r (λ text. and_then (layers_of_lines tree path (lines text)) graph_of_layers)) is)
-
-  module _ (text : List ℕ) (standing : List Layer) (left : List (List ℕ))
-      (read : Ok text ≡ bytes_at tree (chain_path path))
-      (lowest : layers_from tree path 0 (lines text) ≡ layers_with standing tree path (length standing) left) where
-    opened_by : (rest : Result (List Layer) OpenError) → rest ≡ layers_from tree path (length standing) left
-        → and_then (result_map (λ more. standing ++ more) rest) graph_of_layers ≡ chain_opened tree path
-    opened_by rest is =
-        ap (λ (r : Result (List Layer) OpenError). and_then (result_map (λ more. standing ++ more) r) graph_of_layers) is
-        ∙ ap (λ (r : Result (List Layer) OpenError). and_then r graph_of_layers) (sym lowest)
-        ∙ ap (λ (r : Result (List ℕ) OpenError).
-        and_then r (λ t. and_then (layers_of_lines tree path (lines t)) graph_of_layers)) read
-
-    pub opened_above : (files : List Layer) → Ok files ≡ layers_from tree path (length standing) left
-        → chain_opened tree path ≡ graph_of_layers (standing ++ files)
-    opened_above files is = sym (opened_by (Ok files) is)
-
-    pub refused_above : (e : OpenError) → IsAsExpected {A = List Layer} (Err e) (layers_from tree path (length standing) left)
-        → IsAsExpected {A = List Layer} (Err e) (chain_opened tree path)
-    refused_above e = error_as e (layers_from tree path (length standing) left) (chain_opened tree path) (opened_by (Err e))
 
 -- a layer that was opened is what a line names, if that names its path and the file there has its bytes
 pub same_layer : (tree : Tree) (folder line : List ℕ) (i : ℕ) (layer : Layer) → IsOpened layer → is_utf8 line ≡ true
@@ -298,16 +208,3 @@ pub takes_put : {A : Type 0} (known : Option Tree) (path : List ℕ) (old new : 
 takes_put known path old new before after None same opens answer puts = absurd puts
 takes_put known path old new before after (Some files) same opens answer puts =
     takes_above known path old new before files.items after same opens answer puts
-
--- texts that do not differ are the same
-not-false : (b : Bool) → false ≡ not b → b ≡ true
-not-false true is = refl
-not-false false is = cc
-
-pub same_text : (one other : List ℕ) → false ≡ not (bytes_eq one other) → one ≡ other
-same_text one other is = (bytes_eq-Decides one other).0 (not-false (bytes_eq one other) is)
-
--- no layers before others
-pub with_none : (left : Result (List Layer) OpenError) → result_map (λ more. [] ++ more) left ≡ left
-with_none (Ok layers) = refl
-with_none (Err error) = refl

@@ -3,7 +3,7 @@ use Rattle.std.specs.Prelude.{◌≡◌, ℕ, List, [], ◌++◌, Option, Some, 
 use Rattle.std.specs.List.{enumerate_from}
 use Rattle.graph_folder.specs.Tree.{Tree}
 use Rattle.graph_format.specs.Layer.{Layer}
-use Rattle.graph_layer.specs.OpenAnswer.{IsAsExpected, all_values, failures_after_opening, result_map}
+use Rattle.graph_layer.specs.OpenAnswer.{IsAsExpected, all_values, and_then, failures_after_opening, result_map}
 use Rattle.graph_layer.specs.declared.opening.error.OpenError.{OpenError}
 use Rattle.graph_layer.specs.declared.opening.error.OpenError.TheVariants.{OutOfMemory}
 use Rattle.gix_commitgraph.specs.Graph.{IsGraph, total}
@@ -50,6 +50,10 @@ layers_from tree folder i names = all_values (map (λ p. layer_of_line tree fold
 -- some layers, and then those of lines
 abbrev pub layers_with : List Layer → Tree → List ℕ → ℕ → List (List ℕ) → Result (List Layer) OpenError
 layers_with layers tree folder i names = result_map (λ more. layers ++ more) (layers_from tree folder i names)
+
+-- what the lines of a chain open
+abbrev pub lines_opened : Tree → List ℕ → List (List ℕ) → Result (List Layer) OpenError
+lines_opened tree folder names = and_then (layers_from tree folder 0 names) graph_of_layers
 
 -- what a chain opens is known by some layers and these above them, if there is an answer with some
 abbrev pub OpensAbove : {A : Type 0} → Result (List Layer) OpenError → List Layer → Result (Option (Vec Layer A)) OpenError

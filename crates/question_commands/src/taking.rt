@@ -1,17 +1,20 @@
 //! The graph at a path, opened anew beside one that stands.
 
 ghost use Rattle.std.specs.Prelude.{◌≡◌, All, IfErr, IfOk, IfSome, IsSomeAnd, IsTrue, MatchOption};
-ghost use Rattle.std.specs.Prelude.{Ok, is_some, length, ℕ};
+ghost use Rattle.std.specs.Prelude.{Ok, is_some, length, true, ℕ};
 ghost use Rattle.std.specs.Option.{ForSome};
 ghost use Rattle.std.specs.Str.{is_utf8};
+ghost use Rattle.std.specs.Str.Lines.{lines};
 ghost use Rattle.graph_format.specs.Layer.{IsOpened};
 ghost use Rattle.graph_commands.specs.OpenerAnswer.{MayOpen, MayOpenBy};
 ghost use Rattle.graph_history.specs.RightGraph.{plain_options};
+ghost use Rattle.graph_layer.specs.LayerOpening.{bytes_at};
 ghost use Rattle.graph_layer.specs.OpenAnswer.{IsAsExpected, failures_after_opening, result_map};
 ghost use Rattle.gix_commitgraph.specs.Opening.{InfoOpens, chain_opened, layer_of_line};
+ghost use Rattle.gix_commitgraph.specs.Paths.{chain_path, layer_path};
 ghost use Rattle.question_commands.specs.TakenAnew.{IsDeviceOrMemory, IsThisAnswer, OpensAbove};
 ghost use Rattle.question_commands.specs.TakenAnew.{OpensChain, PutsAbove, Takes, layers_from};
-ghost use Rattle.question_commands.specs.TakenAnew.{layers_with};
+ghost use Rattle.question_commands.specs.TakenAnew.{layers_with, lines_opened};
 
 use gix_commitgraph::opening::path::{chain_path, info_chain_path, info_file_path, layer_path};
 use gix_commitgraph::opening::{
@@ -23,7 +26,7 @@ use graph_folder::folder::{Folder, ReadError};
 use graph_folder::lines::Lines;
 use graph_history::{CheckedGraph, PushError};
 use graph_layer::opening::{open_layer, read_file};
-use std::alloc::Global;
+use std::alloc::{AllocError, Global};
 
 /// Opens the graph at the path anew, and puts it in the place of the one that stands, unless it is
 /// refused. Where its lowest layers are those of the graph that stands, these are not checked
@@ -155,15 +158,66 @@ fn open_above<T: Folder>(
     ensures failures { T.failure_count folder.new
         ≡ failures_after_opening result (T.failure_count folder.old) }
 {
-    let Ok(chain) = chain_path(alloc, path) else {
-        return Err(OpenError::OutOfMemory);
-    };
-    let text = read_file(alloc, folder, chain.as_str())?;
-    let mut lines = Lines::new(text.as_slice());
+    let text = read_chain(alloc, folder, path)?;
+    open_lines_above(alloc, folder, path, text.as_slice(), standing)
+}
+
+/// The bytes of the chain file in the folder.
+fn read_chain<T: Folder>(alloc: Global, folder: &mut T, path: &str) -> Result<Vec<u8>, OpenError>
+    ensures opens { ForSome (T.tree folder.old)
+        (λ tree. IsAsExpected (result_map (λ text. text.items) result)
+        (bytes_at tree (chain_path path.now))) }
+    ensures tree { T.tree folder.new ≡ T.tree folder.old }
+    ensures failures { T.failure_count folder.new
+        ≡ failures_after_opening result (T.failure_count folder.old) }
+{
+    let chain = chain_path(alloc, path)?;
+    read_file(alloc, folder, chain.as_str())
+}
+
+/// The layers that the lines of a chain name above some that stand, if these are the lowest. Names
+/// are compared before any bytes.
+fn open_lines_above<T: Folder>(
+    alloc: Global,
+    folder: &mut T,
+    path: &str,
+    text: &[u8],
+    standing: &[File],
+) -> Result<Option<Vec<File>>, OpenError>
+    requires { All IsOpened standing.now }
+    ensures opens { ForSome (T.tree folder.old) (λ tree.
+        OpensAbove (lines_opened tree path.now (lines text.now)) standing.now result) }
+    ensures tree { T.tree folder.new ≡ T.tree folder.old }
+    ensures failures { T.failure_count folder.new
+        ≡ failures_after_opening result (T.failure_count folder.old) }
+{
+    if !are_named(alloc, path, Lines::new(text), standing)? {
+        return Ok(None);
+    }
+    let mut lines = Lines::new(text);
     if !are_lowest(alloc, folder, path, &mut lines, standing)? {
         return Ok(None);
     }
     Ok(Some(open_rest(alloc, folder, path, standing, lines)?))
+}
+
+/// Whether the first lines of a chain name these layers.
+fn are_named(
+    alloc: Global,
+    path: &str,
+    lines: Lines<'_>,
+    standing: &[File],
+) -> Result<bool, AllocError> {
+    let mut lines = lines;
+    for file in standing {
+        let Some(line) = lines.next() else {
+            return Ok(false);
+        };
+        if !is_name_of(alloc, path, line, file)? {
+            return Ok(false);
+        }
+    }
+    Ok(true)
 }
 
 /// Whether the first lines of a chain name these layers, and their files have the same bytes. Those
@@ -211,21 +265,28 @@ fn is_file_of<T: Folder>(
     ensures failures { T.failure_count folder.new
         ≡ failures_after_opening result (T.failure_count folder.old) }
 {
-    let Some(name) = text_of(line) else {
-        return Ok(false);
-    };
-    let Ok(at) = layer_path(alloc, path, name) else {
-        return Err(OpenError::OutOfMemory);
-    };
-    if at.as_str() != file.path() {
+    if !is_name_of(alloc, path, line, file)? {
         return Ok(false);
     }
-    match folder.has_bytes(alloc, at.as_str(), file.bytes()) {
+    match folder.has_bytes(alloc, file.path(), file.bytes()) {
         Ok(same) => Ok(same),
         Err(ReadError::NotOpened) => Ok(false),
         Err(ReadError::Device) => Err(OpenError::Device),
         Err(ReadError::OutOfMemory) => Err(OpenError::OutOfMemory),
     }
+}
+
+/// Whether a line of a chain names this layer.
+fn is_name_of(alloc: Global, path: &str, line: &[u8], file: &File) -> Result<bool, AllocError>
+    ensures text { IfOk result (λ named. IsTrue named → is_utf8 line.now ≡ true) }
+    ensures path { IfOk result (λ named. IsTrue named
+        → file.now.path ≡ layer_path path.now line.now) }
+{
+    let Some(name) = text_of(line) else {
+        return Ok(false);
+    };
+    let at = layer_path(alloc, path, name)?;
+    Ok(at.as_str() == file.path())
 }
 
 /// The layers that the lines name which are left behind those of the layers that stand.

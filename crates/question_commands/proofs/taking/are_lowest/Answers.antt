@@ -1,4 +1,4 @@
-use Rattle.std.proofs.Common.{◌≡◌, ℕ, ◌+◌, ◌∷◌, ◌++◌, [], IsTrue, Ok, ap, arith, get_or, length, refl, rules, sym, take, ◌∙◌}
+use Rattle.std.proofs.Common.{◌≡◌, ◌+◌, ◌∷◌, ◌++◌, [], IsTrue, Ok, ap, refl, rules, sym, take, ◌∙◌}
 use Rattle.std.proofs.lemmas.List.{take_more}
 use Rattle.gix_commitgraph.specs.Opening.{layer_of_line}
 use Rattle.gix_commitgraph.proofs.opening.ChainOpeningLemmas.{layers_with-next}

@@ -14,8 +14,8 @@ loop-line-preserved g c = record {
       let pushed = c.in_ok-push.ensures.items in
       let more : vec_len c.push.new.self ≡ vec_len c.loop-line.files + 1 = grind (arith, common_steps, pushed) in
       let at = length c.args.standing.now + vec_len c.loop-line.files in
-      let here : c.open_line-layer ≡ at = omega arith in
-      let opened = rw here at (c.in_ok-open_line.ensures.opens tree (c.loop-line.invariant.tree ∙ is)) in
+      let count : c.len.result ≡ vec_len c.loop-line.files = c.len.ensures in
+      let opened = rw count at (c.in_ok-open_line.ensures.opens tree (c.loop-line.invariant.tree ∙ is)) in
       c.loop-line.invariant.layers tree is
       ∙ layers_with-next tree c.args.path.now c.loop-line.files.items c.push.new.self.items at
       (length c.args.standing.now + vec_len c.push.new.self)

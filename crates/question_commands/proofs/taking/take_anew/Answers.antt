@@ -1,4 +1,4 @@
-use Rattle.std.proofs.Common.{◌≡◌, ap, sym, ◌∙◌}
+use Rattle.std.proofs.Common.{sym, ◌∙◌}
 use Rattle.graph_commands.specs.OpenerAnswer.{MayOpen, MayOpenBy}
 use Rattle.gix_commitgraph.specs.Opening.{InfoOpens}
 use Rattle.question_commands.proofs.TakingLemmas.{info_stands, takes_wider}

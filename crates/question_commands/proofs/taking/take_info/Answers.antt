@@ -35,4 +35,5 @@ returns-clause-taken g c =
     (λ tree is. rw (c.as_str.ensures.value, c.in-Ok.ensures) at (c.open_file_in-opened.ensures.opens tree is))
     c.open_file_in-opened.ensures.failures)
     c.args.graph.now.layers c.take_chain.new.graph.layers c.take_chain.result
-    (rw (c.as_str-2.ensures.value, c.in-Ok-chain.ensures, c.open_file_in-opened.ensures.tree) at c.take_chain.ensures.taken)
+    (rw (c.as_str-2.ensures.value, c.in-Ok-info_chain_path.ensures, c.open_file_in-opened.ensures.tree) at
+    c.take_chain.ensures.taken)
