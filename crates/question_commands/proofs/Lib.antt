@@ -3,3 +3,4 @@ pub mod QuestionLemmas
 pub mod ReplyLemmas
 pub mod AskingLemmas
 pub mod ReloadLemmas
+pub mod TakingLemmas

@@ -6,3 +6,4 @@ pub mod Replies
 pub mod Asking
 pub mod Ending
 pub mod Proceeding
+pub mod TakenAnew

@@ -8,7 +8,6 @@ ghost use Rattle.graph_folder.specs.Tree.{Tree};
 ghost use Rattle.graph_commands.specs.Block.{with_block};
 ghost use Rattle.graph_commands.specs.OpenerAnswer.{MayOpen};
 ghost use Rattle.graph_commands.specs.Text.{◌⧺◌, newline};
-ghost use Rattle.graph_history.specs.Reload.{StandAboveShared};
 ghost use Rattle.graph_history.specs.RightGraph.{plain_options};
 ghost use Rattle.history_commands.specs.Check.{MayRefuseToStart};
 ghost use Rattle.question_commands.specs.Asking.{MayAsk, all_checked, end_text, end_status};
@@ -21,6 +20,7 @@ ghost use Rattle.question_commands.specs.declared.question.Name.TheVariants as n
 
 use crate::lines::LineReader;
 use crate::question::{Question, read_question};
+use crate::taking::take_anew;
 use crate::telling::Teller;
 use gix_commitgraph::opening::open_in;
 use graph_commands::block::Block;
@@ -29,7 +29,7 @@ use graph_commands::refusal::Refusal;
 use graph_commands::run::refuse;
 use graph_commands::status::Status;
 use graph_folder::folder::{Folder, ReadError};
-use graph_history::{CheckedGraph, Reloaded};
+use graph_history::CheckedGraph;
 use std::alloc::Global;
 use std::io::{Read, Write};
 
@@ -222,9 +222,8 @@ fn answer_lines<R: Read, T: Folder, W: Write>(
                 });
             }
             Next::Reload => {
-                let taken = reload(alloc, folder, path, writer, graph)?;
-                graph = taken.graph;
-                checked = checked.saturating_add(taken.checked as u64);
+                let taken = reload(alloc, folder, path, writer, &mut graph)?;
+                checked = checked.saturating_add(taken as u64);
             }
         }
     }
@@ -235,59 +234,34 @@ fn answer_lines<R: Read, T: Folder, W: Write>(
 }
 
 /// Opens the graph at the path anew, and tells that. The graph that stands then is the new one, or
-/// where that was refused the one before. The lowest layers that both share are not checked again.
+/// where that was refused the one before. It answers how many commits were checked.
 fn reload<T: Folder, W: Write>(
     alloc: Global,
     folder: &mut T,
     path: &str,
     writer: &mut W,
-    graph: CheckedGraph,
-) -> Result<Reloaded, WriteFailed>
-    requires { graph.options ≡ plain_options }
-    ensures told { IfOk result (λ taken. (told : List ℕ)
+    graph: &mut CheckedGraph,
+) -> Result<u32, WriteFailed>
+    requires { graph.old.options ≡ plain_options }
+    ensures told { IfOk result (λ checked. (told : List ℕ)
         × Reloads (MayOpen (T.tree folder.old) path.now)
-        (record { layers = graph.layers; failures = T.failure_count folder.old })
-        told taken.checked
-        (record { layers = taken.graph.layers; failures = T.failure_count folder.new })
+        (record { layers = graph.old.layers; failures = T.failure_count folder.old })
+        told checked
+        (record { layers = graph.new.layers; failures = T.failure_count folder.new })
         × Appends (W.contents writer.old) (W.contents writer.new) (told ⧺ newline)) }
-    ensures options { IfOk result (λ taken. taken.graph.options ≡ plain_options) }
+    ensures options { graph.new.options ≡ plain_options }
     ensures tree { T.tree folder.new ≡ T.tree folder.old }
 {
-    match open_above(alloc, folder, path, &graph) {
-        Ok(taken) => {
-            write_taken(writer, &taken.graph)?;
-            Ok(taken)
+    match take_anew(alloc, folder, path, graph) {
+        Ok(checked) => {
+            write_taken(writer, graph)?;
+            Ok(checked)
         }
         Err(refusal) => {
             write_refused(writer, &refusal)?;
-            Ok(Reloaded { graph, checked: 0 })
+            Ok(0)
         }
     }
-}
-
-/// Opens the graph at the path, and checks what stands above the lowest layers that it shares with
-/// another graph.
-fn open_above<T: Folder>(
-    alloc: Global,
-    folder: &mut T,
-    path: &str,
-    graph: &CheckedGraph,
-) -> Result<Reloaded, Refusal>
-    requires { graph.now.options ≡ plain_options }
-    ensures graph { IfOk result (λ taken. MayTake
-        (MayOpen (T.tree folder.old) path.now (T.failure_count folder.old)
-        (T.failure_count folder.new)) (Ok taken.graph.layers)) }
-    ensures options { IfOk result (λ taken. taken.graph.options ≡ plain_options) }
-    ensures checked { IfOk result (λ taken.
-        StandAboveShared graph.now.layers taken.graph.layers taken.checked) }
-    ensures refused { IfErr result (MayRefuseToStart
-        (MayOpen (T.tree folder.old) path.now (T.failure_count folder.old)
-        (T.failure_count folder.new))) }
-    ensures tree { T.tree folder.new ≡ T.tree folder.old }
-{
-    let opened = open_in(alloc, folder, path)?;
-    let standing = graph.as_checked();
-    Ok(standing.reload(alloc, opened)?)
 }
 
 /// Why lines are no longer answered over a graph.

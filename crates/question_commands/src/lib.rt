@@ -9,5 +9,6 @@ pub mod asking;
 pub mod lines;
 mod place;
 pub mod question;
+mod taking;
 pub mod telling;
 mod words;

@@ -63,12 +63,12 @@ loop-preserved g c =
     let failures = g.T.Folder.failure_count c.loop.folder in
     let standing : Standing = record { layers = c.loop.graph.layers; failures = failures } in
     let after : Standing =
-    record { layers = c.in_ok-taken-in-Reload.taken.graph.layers; failures = g.T.Folder.failure_count c.reload.new.folder } in
+    record { layers = c.reload.new.graph.layers; failures = g.T.Folder.failure_count c.reload.new.folder } in
     let over = c.in_ok-next.ensures.answered tree c.args.path.now failures in
     let asks = rw c.in-Reload.is at over.2 in
     let told = rw c.loop.invariant.tree at c.in_ok-taken-in-Reload.ensures.told in
     let before = c.loop.invariant.answered in
-    let checked = c.in_ok-taken-in-Reload.taken.checked in
+    let checked = c.in_ok-taken-in-Reload.taken in
     record {
       answered = (
         before.0 + 0 + checked,
@@ -77,7 +77,7 @@ loop-preserved g c =
             (reloads_line opens standing after asks.0 told.0 checked over.0 _ _ _ asks.1 asks.2 told.1 told.2),
         omega (arith, before.2, c.saturating_add-checked.ensures),
       );
-      options = c.in_ok-taken-in-Reload.ensures.options;
+      options = c.reload.ensures.options;
       block = c.in_ok-next.ensures.block;
       tree = c.reload.ensures.tree ∙ c.loop.invariant.tree;
     }
