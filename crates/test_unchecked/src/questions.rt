@@ -110,13 +110,13 @@ fn what_is_wrong_is_to_be_opened_whole(rt: HostRuntime) {
 fn a_failed_read_is_told(rt: HostRuntime) {
     let alloc = rt.alloc();
     let (first, second) = (id_of(0x22), id_of(0x55));
-    let mut failed = 0;
+    let mut failed = 0u32;
     for read in 0..20 {
         let mut folder = graphs(&rt, alloc);
         folder.fail_read(read);
         let told = is_ancestor(alloc, &mut folder, "i", first.as_oid(), second.as_oid());
         if told == Err(Unread::Device) {
-            failed += 1;
+            failed = failed.saturating_add(1);
         } else {
             assert!(rt; told == Ok(Between::Known(true)));
         }
