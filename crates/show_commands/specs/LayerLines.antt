@@ -9,7 +9,7 @@ use Rattle.graph_format.specs.Layer.{Layer, bytes_of}
 use Rattle.graph_chunks.specs.StoredFilters.{index_in, data_in}
 use Rattle.graph_commands.specs.Listing.{kind_text}
 use Rattle.graph_commands.specs.Text.{◌⧺◌, newline}
-use Rattle.show_commands.specs.declared.layer.FilterHeader.{FilterHeader}
+use Rattle.graph_encoder.specs.declared.filters.FilterNumbers.{FilterNumbers}
 
 -- the names of the chunks of the format, in the order in which Git writes them ("CHUNK DATA")
 abbrev pub chunk_names : List (List ℕ)
@@ -23,18 +23,18 @@ chunk_size layer name = option_map length (chunk_of (bytes_of layer) name)
 
 -- the three numbers before the filters: the version of the hash, how often a path is hashed, and the least number of bits of a
 -- path ("Bloom Filter Data"); none where there are not twelve bytes
-abbrev pub header_of : List ℕ → Option FilterHeader
-header_of body =
+abbrev pub filter_numbers_of : List ℕ → Option FilterNumbers
+filter_numbers_of body =
     if nat_lt (length body) 12 then None
-    else Some (record { version = word_in body 0; hashes = word_in body 1; bits = word_in body 2 })
+    else Some (record { version = word_in body 0; hashes = word_in body 1; bits_per_entry = word_in body 2 })
 
 -- those of a layer, which has filters where it has both chunks of them
-abbrev pub header_with : Option (List ℕ) → Option (List ℕ) → Option FilterHeader
-header_with (Some index) (Some body) = header_of body
-header_with index body = None
+abbrev pub filter_numbers_with : Option (List ℕ) → Option (List ℕ) → Option FilterNumbers
+filter_numbers_with (Some index) (Some body) = filter_numbers_of body
+filter_numbers_with index body = None
 
-abbrev pub filter_header_in : Layer → Option FilterHeader
-filter_header_in layer = header_with (index_in layer) (data_in layer)
+abbrev pub filter_numbers_in : Layer → Option FilterNumbers
+filter_numbers_in layer = filter_numbers_with (index_in layer) (data_in layer)
 
 -- whether something is there
 abbrev pub yes_or_no : Bool → List ℕ
@@ -45,17 +45,18 @@ abbrev pub dates_word : Layer → List ℕ
 dates_word layer = yes_or_no (is_some (chunk_size layer (codes "GDA2")))
 
 -- how the filters of a layer are made, or that it has none
-abbrev pub header_text : Option FilterHeader → List ℕ
-header_text (Some header) =
-    codes "version " ⧺ decimal header.version ⧺ codes " hashes " ⧺ decimal header.hashes ⧺ codes " bits " ⧺ decimal header.bits
-header_text None = codes "none"
+abbrev pub filter_numbers_text : Option FilterNumbers → List ℕ
+filter_numbers_text (Some numbers) =
+    codes "version " ⧺ decimal numbers.version ⧺ codes " hashes " ⧺ decimal numbers.hashes
+    ⧺ codes " bits " ⧺ decimal numbers.bits_per_entry
+filter_numbers_text None = codes "none"
 
 -- the line of layer i, which counts from 0 for the lowest
 abbrev pub counts_line : ℕ → Layer → List ℕ
 counts_line i layer =
     codes "layer " ⧺ decimal i ⧺ codes " commits " ⧺ decimal (length layer.ids) ⧺ codes " hash " ⧺ kind_text layer.kind
     ⧺ codes " bases " ⧺ decimal (length layer.bases) ⧺ codes " dates " ⧺ dates_word layer
-    ⧺ codes " filters " ⧺ header_text (filter_header_in layer) ⧺ newline
+    ⧺ codes " filters " ⧺ filter_numbers_text (filter_numbers_in layer) ⧺ newline
 
 -- the line of its checksum
 abbrev pub checksum_line : Layer → List ℕ

@@ -5,12 +5,13 @@ ghost use Rattle.std.specs.Io.KnownBytes.{Appends};
 ghost use Rattle.graph_format.specs.Format.{chunk_of};
 ghost use Rattle.graph_format.specs.Layer.{bytes_of};
 ghost use Rattle.graph_commands.specs.Listing.{kind_text};
-ghost use Rattle.show_commands.specs.LayerLines.{counts_line, dates_word, filter_header_in};
-ghost use Rattle.show_commands.specs.LayerLines.{header_of, layer_lines};
+ghost use Rattle.show_commands.specs.LayerLines.{counts_line, dates_word, filter_numbers_in};
+ghost use Rattle.show_commands.specs.LayerLines.{filter_numbers_of, layer_lines};
 
 use gix_commitgraph::File;
 use gix_hash_core::Kind;
 use graph_commands::line::{WriteFailed, write_line};
+use graph_encoder::FilterNumbers;
 use graph_format::integers::word_at;
 use std::fmt;
 use std::io::Write;
@@ -38,7 +39,7 @@ fn write_counts<W: Write>(writer: &mut W, layer: usize, file: &File) -> Result<(
     let hash = hash_name(file.object_hash());
     let bases = file.base_graph_count();
     let dates = has_dates(file);
-    let made = HeaderText(filter_header(file));
+    let made = FilterNumbersText(filter_numbers(file));
     write_line(
         writer,
         format_args!(
@@ -77,63 +78,52 @@ fn chunk_size(file: &File, id: [u8; 4]) -> Option<usize>
     }
 }
 
-/// The numbers that stand before the filters of a layer ("Bloom Filter Data").
-#[derive(Clone, Copy)]
-struct FilterHeader {
-    /// The version of the hash.
-    version: u32,
-    /// How often a path is hashed.
-    hashes: u32,
-    /// The least number of bits of a path.
-    bits: u32,
-}
-
-/// How many bytes these numbers have.
-const HEADER_LEN: usize = 12;
+/// How many bytes the three numbers have that stand before the filters of a layer.
+const NUMBERS_LEN: usize = 12;
 
 /// The numbers before the filters of a layer, `None` where it has no filters, or their data is too
 /// short.
-fn filter_header(file: &File) -> Option<FilterHeader>
-    ensures { result ≡ filter_header_in file.now }
+fn filter_numbers(file: &File) -> Option<FilterNumbers>
+    ensures { result ≡ filter_numbers_in file.now }
 {
     match (file.chunk(*b"BIDX"), file.chunk(*b"BDAT")) {
-        (Some(_index), Some(body)) => header_of(body),
+        (Some(_index), Some(body)) => filter_numbers_of(body),
         _ => None,
     }
 }
 
-/// The numbers at the head of these bytes, if there are enough.
-fn header_of(body: &[u8]) -> Option<FilterHeader>
-    ensures { result ≡ header_of body.now }
+/// The numbers with which these bytes begin, if there are enough.
+fn filter_numbers_of(body: &[u8]) -> Option<FilterNumbers>
+    ensures { result ≡ filter_numbers_of body.now }
 {
-    if body.len() < HEADER_LEN {
+    if body.len() < NUMBERS_LEN {
         return None;
     }
-    Some(FilterHeader {
+    Some(FilterNumbers {
         version: word_at(body, 0),
         hashes: word_at(body, 4),
-        bits: word_at(body, 8),
+        bits_per_entry: word_at(body, 8),
     })
 }
 
 /// How the filters of a layer are made, or `none`.
 #[derive(Clone, Copy)]
-struct HeaderText(Option<FilterHeader>);
+struct FilterNumbersText(Option<FilterNumbers>);
 
-impl fmt::Display for HeaderText {
-    ghost use Rattle.show_commands.specs.LayerLines.{header_text};
+impl fmt::Display for FilterNumbersText {
+    ghost use Rattle.show_commands.specs.LayerLines.{filter_numbers_text};
 
-    ghost output = { λ text. Some (header_text text.0) };
+    ghost output = { λ text. Some (filter_numbers_text text.0) };
 
     fn fmt<W: fmt::Write>(&self, f: &mut fmt::Formatter<W>) -> fmt::Result {
         match self.0 {
-            Some(header) => {
-                let FilterHeader {
+            Some(numbers) => {
+                let FilterNumbers {
                     version,
                     hashes,
-                    bits,
-                } = header;
-                write!(f, "version {version} hashes {hashes} bits {bits}")
+                    bits_per_entry,
+                } = numbers;
+                write!(f, "version {version} hashes {hashes} bits {bits_per_entry}")
             }
             None => f.write_str("none"),
         }
