@@ -3,7 +3,7 @@
 
 newline='
 '
-passes=pass_on filter='' holds='' beside='' where='' file='' advice='' cure='' commit='' warnings=''
+passes=pass_on rewrite='' holds='' beside='' where='' file='' advice='' cure='' commit='' warnings=''
 
 # Says one line on standard error.
 say() {
@@ -29,7 +29,7 @@ find_program() {
     return 1
 }
 
-# Runs a program with some words, and passes on what it writes by the function `passes`, through the command `filter` where
+# Runs a program with some words, and passes on what it writes by the function `passes`, through the command `rewrite` where
 # that is not empty, but for a refusal where `holds` is `yes`. Sets `status` to its status, `line` to the first line that it
 # wrote, and `said` to what it wrote on standard error. Where the answer could not be written, or a signal ended the
 # program, `line` and `said` tell of that, and `status` is 2 or that of the signal; `passed` is more than 128 where
@@ -55,7 +55,7 @@ ask() {
     said="$name: $line$newline"
 }
 
-# Copies standard input to standard output, through `filter`. Its first line goes to 4 before that, so that nothing
+# Copies standard input to standard output, through `rewrite`. Its first line goes to 4 before that, so that nothing
 # is written for a command that was ended meanwhile. Where `holds` is `yes`, a line of a refusal is left to the caller.
 pass_on() {
     if ! IFS= read -r line; then
@@ -64,10 +64,10 @@ pass_on() {
     fi
     printf 'line %s\n' "$line" >&4 || return
     case $holds,$line in yes,'refused '*) return ;; esac
-    if [ -z "$filter" ]; then
+    if [ -z "$rewrite" ]; then
         printf '%s\n' "$line" && cat
     else
-        { printf '%s\n' "$line" && cat; } | "$filter"
+        { printf '%s\n' "$line" && cat; } | "$rewrite"
     fi
 }
 

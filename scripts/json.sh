@@ -21,7 +21,7 @@ json_text() {
 prepare_objects() {
     make_scratch
     printf '' >"$scratch/lines" || leave 'no file of a moment can be made'
-    if [ "$word" = list ]; then filter=list_objects; else filter=gather; fi
+    if [ "$word" = list ]; then rewrite=list_objects; else rewrite=gather; fi
 }
 
 # Holds lines back, from the first on.

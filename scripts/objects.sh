@@ -12,13 +12,13 @@ verify_objects() {
     find_program historytool || leave "$line"
     historytool=$program
     find_program graphtool || leave "$line"
-    graphtool=$program written=$filter
+    graphtool=$program written=$rewrite
     for _ in 1 2; do
         find_graph
         stamp=$(graph_stamp)
-        program=$graphtool word=verify asked=verify filter=hold_back held=''
+        program=$graphtool word=verify asked=verify rewrite=hold_back held=''
         if [ -n "$all_checks" ]; then ask_all; else ask_program; fi
-        filter=$written
+        rewrite=$written
         [ "$status" -eq 0 ] && [ "$passed" -eq 0 ] || return 0
         compare_commits
         is_as_before || is_other=yes

@@ -5,7 +5,7 @@
 # Shows the commit-graph that is there, also where it is refused: `line` is the refusal then. Where it is another one meanwhile,
 # all is asked once more, and nothing is written until then.
 show_graph() {
-    filter=keep
+    rewrite=keep
     for _ in 1 2 3; do
         find_graph
         stamp=$(graph_stamp)
