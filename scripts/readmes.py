@@ -1,11 +1,12 @@
-"""The README of each crate, which has its promises, and docs/DEFINITIONS.md, which leads to them."""
+"""The README of each crate, which has its promises, docs/DEFINITIONS.md, which leads to them, and the plan of the crates."""
 
 import fnmatch
 import re
 
-from documents import LINK, QUOTED, README, used_crates
+from documents import LINK, QUOTED, README, lower_crates, used_crates
 
 MAP = "docs/DEFINITIONS.md"
+PLAN = "docs/ARCHITECTURE.md"
 LONGEST = 60
 README_WORDS, GUIDE_WORDS = 1400, 1800
 """How many words the README and each page of docs/ may have, blocks of code aside."""
@@ -16,6 +17,9 @@ UNLIMITED = ("docs/MANUAL.md", "docs/REFUSALS.md")
 CODE = re.compile(r"^```.*?^```|^    .*?$", re.MULTILINE | re.DOTALL)
 GUIDE = re.compile(r"docs/\w+\.md")
 WORD = re.compile(r"\S*[^\W_]\S*")
+ROW = re.compile(r"^.* (\w+) +over ([\w, ]+)$", re.MULTILINE)
+"""A row of the plan: a crate, and the highest crates that it stands on."""
+
 STANDS_ON = re.compile(r"^Stands on:? (.*?)\.(?: |$)", re.MULTILINE | re.DOTALL)
 
 
@@ -54,3 +58,14 @@ def wrong_grounds(texts):
         named = {use for name in names for use in fnmatch.filter(uses, name) or [name]}
         if not said or named != set(uses):
             yield crate
+
+
+def wrong_rows(texts):
+    """The crates, those of tests aside, of which the plan does not name exactly the highest crates that they stand on."""
+    uses, lower = used_crates(texts["crates.txt"]), lower_crates(texts["crates.txt"])
+    said = {crate: set(highest.split(", ")) for crate, highest in ROW.findall(texts[PLAN])}
+    for crate in uses:
+        ours = uses.keys() & uses[crate]
+        highest = {name for name in ours if not any(name in lower[other] for other in ours - {name})}
+        if not crate.startswith("test_") and said.get(crate, set()) != highest:
+            yield "%s stands on %s" % (crate, ", ".join(sorted(highest)))
