@@ -1,10 +1,15 @@
-"""Names of definitions, and of their files in specs/, that stand in two places or more: there is to be none."""
+"""Names of definitions, and of their files in specs/, that stand twice in a crate and those that it uses: there is to be none.
+
+Two crates that are used together by tests alone, or by no crate, may have the same name for two things.
+"""
 
 import os
 import re
-from collections import Counter
+from collections import Counter, defaultdict
 
-SPECS = re.compile(r"crates/\w+/specs/")
+from documents import used_crates
+
+SPECS = re.compile(r"crates/(\w+)/specs/")
 DEFINITION = re.compile(r"^(?:abbrev |unfoldable )*pub (?!mod |use )(?:record |data )?(\w+)", re.MULTILINE)
 LISTS = "Lib"
 """The name of the list of files that each crate has."""
@@ -12,17 +17,23 @@ LISTS = "Lib"
 
 def repeated_files(texts):
     """The names of files in specs/ that stand twice, the lists of files aside."""
-    names = [os.path.splitext(os.path.basename(path))[0] for path in texts if SPECS.match(path)]
-    return repeated(name for name in names if name != LISTS)
+    return repeated(texts, lambda path: {os.path.splitext(os.path.basename(path))[0]} - {LISTS})
 
 
 def repeated_definitions(texts):
     """The names of definitions that stand in two files."""
-    return repeated(name for path, text in texts.items() if SPECS.match(path) for name in set(DEFINITION.findall(text)))
+    return repeated(texts, lambda path: set(DEFINITION.findall(texts[path])))
 
 
-def repeated(names):
-    """A complaint for each name that stands twice."""
-    for name, count in sorted(Counter(names).items()):
-        if count > 1:
-            yield "%s stands %d times" % (name, count)
+def repeated(texts, names_in):
+    """A complaint for each name that stands twice in a crate and those that it uses, by the names in each file."""
+    names, twice = defaultdict(Counter), {}
+    for path in texts:
+        crate = SPECS.match(path)
+        if crate:
+            names[crate.group(1)].update(names_in(path))
+    for crate, uses in used_crates(texts["crates.txt"]).items():
+        counts = Counter() if crate.startswith("test_") else sum((names[name] for name in {crate, *uses}), Counter())
+        twice.update((name, (count, crate)) for name, count in counts.items() if count > 1)
+    for name, (count, crate) in sorted(twice.items()):
+        yield "%s stands %d times in %s and what it uses" % (name, count, crate)
