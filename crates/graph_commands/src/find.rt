@@ -15,7 +15,7 @@ use gix_commitgraph::opening::{
 };
 use gix_commitgraph::{Graph, Position};
 use gix_hash_core::oid;
-use graph_find::search::{FoundCommit, Search, find_in_chain, find_in_file};
+use graph_find::search::{FoundCommit, SearchAnswer, find_in_chain, find_in_file};
 use graph_folder::folder::Folder;
 use std::alloc::Global;
 
@@ -76,9 +76,9 @@ fn find_in_one<T: Folder>(
         ≡ failures_after_opening result (T.failure_count folder.old) }
 {
     match find_in_file(alloc, folder, path, id)? {
-        Search::Found(commit) => Ok(Some(found_at(commit))),
-        Search::Missing => Ok(None),
-        Search::NotByParts => {
+        SearchAnswer::Found(commit) => Ok(Some(found_at(commit))),
+        SearchAnswer::Missing => Ok(None),
+        SearchAnswer::NotByParts => {
             let graph = open_file_in(alloc, folder, path)?;
             Ok(found_in(&graph, id))
         }
@@ -99,9 +99,9 @@ fn find_in_layers<T: Folder>(
         ≡ failures_after_opening result (T.failure_count folder.old) }
 {
     match find_in_chain(alloc, folder, path, id)? {
-        Search::Found(commit) => Ok(Some(found_at(commit))),
-        Search::Missing => Ok(None),
-        Search::NotByParts => {
+        SearchAnswer::Found(commit) => Ok(Some(found_at(commit))),
+        SearchAnswer::Missing => Ok(None),
+        SearchAnswer::NotByParts => {
             let graph = open_chain_dir_in(alloc, folder, path)?;
             Ok(found_in(&graph, id))
         }

@@ -2,7 +2,7 @@
 
 ghost use Rattle.std.specs.Prelude.{◌≡◌, Some};
 
-use crate::numbers::{id_number, read_number};
+use crate::input_error_numbers::{id_number, read_number};
 use crate::status::Status;
 use gix_commitgraph::FileError;
 use gix_commitgraph::opening::OpenError;

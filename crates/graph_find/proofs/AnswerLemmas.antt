@@ -15,8 +15,8 @@ use Rattle.graph_find.specs.LayerFinding.{AnswersOfLayer, AnswersInLayer, IsLaye
 use Rattle.graph_find.specs.declared.head.Head.{Head}
 use Rattle.graph_find.specs.declared.head.Span.{Span}
 use Rattle.graph_find.specs.declared.answer.FoundCommit.{FoundCommit}
-use Rattle.graph_find.specs.declared.answer.Search.{Search}
-use Rattle.graph_find.specs.declared.answer.Search.TheVariants.{Found as found_at, Missing}
+use Rattle.graph_find.specs.declared.answer.SearchAnswer.{SearchAnswer}
+use Rattle.graph_find.specs.declared.answer.SearchAnswer.TheVariants.{Found as found_at, Missing}
 use Rattle.graph_find.proofs.LayerLemmas.{found-other_kind, is-bucket, tells-record}
 use Rattle.graph_find.proofs.SeenLemmas.{StandsAs, seen-front, seen-part, seen-parts}
 
@@ -33,9 +33,9 @@ bucket-end size first end commits order within =
     )
 
 module _ (known : Option Tree) (path id : List ℕ) (head : Head) (is : IsHead head) where
-  answers-in : (search : Search) (file : List ℕ) → StandsAs known path file → BeginsWith file head.front.items head.len
-      → AnswersOfLayer (decoded_layer file path) id search → AnswersInLayer known path head id search
-  answers-in search file at begins answers = record {
+  answers-in : (answer : SearchAnswer) (file : List ℕ) → StandsAs known path file → BeginsWith file head.front.items head.len
+      → AnswersOfLayer (decoded_layer file path) id answer → AnswersInLayer known path head id answer
+  answers-in answer file at begins answers = record {
     layer = decoded_layer file path;
     is = record { file = file; stands = at.stands; begins = begins; decoded = refl };
     answers = answers;
@@ -58,13 +58,13 @@ pub record ReadsBucket (known : Option Tree) (path id : List ℕ) (head : Head) 
   pub long : length id ≡ size
   pub kind : size ≡ id_len head.layout.kind
   pub byte : slice_index id 0 < 256
-  pub order : span.first ≤ span.end
+  pub order : span.start ≤ span.end
   pub within : span.end ≤ head.layout.commits
   pub fan : (file : List ℕ) → BeginsWith file head.front.items head.len → IsBucketSpan (fan_of file) (slice_index id 0) span
   pub start : ℕ
   pub len : ℕ
-  pub starts : start ≡ head.layout.chunks.ids.start + size * span.first
-  pub lasts : len ≡ size * (span.end - span.first)
+  pub starts : start ≡ head.layout.chunks.ids.start + size * span.start
+  pub lasts : len ≡ size * (span.end - span.start)
   pub sized : length bytes ≡ len
   pub part_seen : ForSome known (λ (tree : Tree). IsSomeAnd (file_at tree path) (λ file.
       slice_range file start (start + len) ≡ bytes))
@@ -83,29 +83,29 @@ module _ {known : Option Tree} {path id : List ℕ} {head : Head} {span : Span} 
 
   ends : start + length bytes ≤ head.layout.chunks.records.start
   ends =
-      let rows = bucket-end size span.first span.end head.layout.commits order within in
+      let rows = bucket-end size span.start span.end head.layout.commits order within in
       let all : size * head.layout.commits ≡ id_len head.layout.kind * head.layout.commits =
       ap (λ (n : ℕ). n * head.layout.commits) kind in
       omega (arith, is.order.records, rows, all, sized, starts, lasts)
 
   bucket : (file : List ℕ) → BeginsWith file head.front.items head.len
       → slice_range file start (start + length bytes) ≡ bytes
-      → IsBucket (decoded_layer file path) id span.first span.end bytes
+      → IsBucket (decoded_layer file path) id span.start span.end bytes
   bucket file begins same =
-      let P : ℕ → Type 0 = λ n. slice_range file (head.layout.chunks.ids.start + n * span.first)
-      (head.layout.chunks.ids.start + n * span.first + n * (span.end - span.first)) ≡ bytes in
+      let P : ℕ → Type 0 = λ n. slice_range file (head.layout.chunks.ids.start + n * span.start)
+      (head.layout.chunks.ids.start + n * span.start + n * (span.end - span.start)) ≡ bytes in
       let Q : ℕ → ℕ → Type 0 = λ n m. slice_range file n m ≡ bytes in
-      let stop : start + length bytes ≡ head.layout.chunks.ids.start + size * span.first + size * (span.end - span.first) =
+      let stop : start + length bytes ≡ head.layout.chunks.ids.start + size * span.start + size * (span.end - span.start) =
       omega (arith, sized, starts, lasts) in
-      let moved : Q (head.layout.chunks.ids.start + size * span.first)
-      (head.layout.chunks.ids.start + size * span.first + size * (span.end - span.first)) =
-      subst (λ (n : ℕ). Q n (head.layout.chunks.ids.start + size * span.first + size * (span.end - span.first))) starts
+      let moved : Q (head.layout.chunks.ids.start + size * span.start)
+      (head.layout.chunks.ids.start + size * span.start + size * (span.end - span.start)) =
+      subst (λ (n : ℕ). Q n (head.layout.chunks.ids.start + size * span.start + size * (span.end - span.start))) starts
       (subst (Q start) stop same) in
       is-bucket file path head.layout (is.layout.each file begins) id bytes span (long ∙ kind) byte (fan file begins) order
       within (subst P (sym long) moved)
 
   -- the id is not in its bucket
-  pub missing-bucket : ((layer : Layer) → IsBucket layer id span.first span.end bytes → Found layer id None)
+  pub missing-bucket : ((layer : Layer) → IsBucket layer id span.start span.end bytes → Found layer id None)
       → AnswersInLayer known path head id Missing
   missing-bucket nowhere =
       let seen =
@@ -116,7 +116,7 @@ module _ {known : Option Tree} {path id : List ℕ} {head : Head} {span : Span} 
 
   -- the id is there, and its record was read
   pub found-commit : (pos : ℕ) → pos < span.end
-      → ((layer : Layer) → IsBucket layer id span.first span.end bytes → Found layer id (Some pos))
+      → ((layer : Layer) → IsBucket layer id span.start span.end bytes → Found layer id (Some pos))
       → (later more_len : ℕ) → more_len ≡ id_len head.layout.kind + 16
       → later ≡ head.layout.chunks.records.start + more_len * pos
       → (more : List ℕ) → length more ≡ more_len

@@ -24,8 +24,8 @@ use Rattle.gix_commitgraph.proofs.layers.LayerListLemmas.{graph-accepted, size}
 use Rattle.graph_find.specs.ChainFinding.{AnswersInLayers, FindsInLayers, IsLayerOfChain}
 use Rattle.graph_find.specs.ChainHeads.{AreHeadsOfChain, IsHeadOfLayer, IsHeadOfLine, SayGraph}
 use Rattle.graph_find.specs.Finding.{AnswersIn, FindsInChain}
-use Rattle.graph_find.specs.declared.answer.Search.{Search}
-use Rattle.graph_find.specs.declared.answer.Search.TheVariants.{Found, Missing, NotByParts}
+use Rattle.graph_find.specs.declared.answer.SearchAnswer.{SearchAnswer}
+use Rattle.graph_find.specs.declared.answer.SearchAnswer.TheVariants.{Found, Missing, NotByParts}
 use Rattle.graph_find.specs.declared.chain.ChainLayer.{ChainLayer}
 use Rattle.graph_find.proofs.FoundInLayersLemmas.{OpensTo, none-refused}
 use Rattle.graph_find.proofs.LayerLemmas.{keeps-head, opens-head}
@@ -140,10 +140,10 @@ module _ (known : Option Tree) where
       }
 
   -- what is found in the layers of a chain's heads is found in the chain
-  chain-answers : (folder : List ℕ) (heads : List ChainLayer) (id : List ℕ) (search : Search)
-      → AreHeadsOfChain known folder heads → SayGraph heads → AnswersInLayers known heads id search
-      → AnswersIn known (λ (tree : Tree). chain_opened tree folder) (IsFromChain folder) id search
-  chain-answers folder heads id search chain says found =
+  chain-answers : (folder : List ℕ) (heads : List ChainLayer) (id : List ℕ) (answer : SearchAnswer)
+      → AreHeadsOfChain known folder heads → SayGraph heads → AnswersInLayers known heads id answer
+      → AnswersIn known (λ (tree : Tree). chain_opened tree folder) (IsFromChain folder) id answer
+  chain-answers folder heads id answer chain says found =
       let opened = chain-opened folder heads found.layers chain says found.each in
       record {
         layers = found.layers;
@@ -153,16 +153,16 @@ module _ (known : Option Tree) where
         answers = found.answers;
       }
 
-  pub finds-in_chain : (folder : List ℕ) (heads : List ChainLayer) (id : List ℕ) (search : Search)
-      → AreHeadsOfChain known folder heads → SayGraph heads → FindsInLayers known heads id search
-      → FindsInChain known folder id search
+  pub finds-in_chain : (folder : List ℕ) (heads : List ChainLayer) (id : List ℕ) (answer : SearchAnswer)
+      → AreHeadsOfChain known folder heads → SayGraph heads → FindsInLayers known heads id answer
+      → FindsInChain known folder id answer
   finds-in_chain folder heads id (Found commit) chain says found = chain-answers folder heads id (Found commit) chain says found
   finds-in_chain folder heads id Missing chain says found = chain-answers folder heads id Missing chain says found
   finds-in_chain folder heads id NotByParts chain says found = tt
 
   -- where the search did not fail
-  pub ok-in_chain : (folder : List ℕ) (heads : List ChainLayer) (id : List ℕ) (answer : Result Search ReadError)
+  pub ok-in_chain : (folder : List ℕ) (heads : List ChainLayer) (id : List ℕ) (answer : Result SearchAnswer ReadError)
       → AreHeadsOfChain known folder heads → SayGraph heads → IfOk answer (FindsInLayers known heads id)
       → IfOk answer (FindsInChain known folder id)
-  ok-in_chain folder heads id (Ok search) chain says found = finds-in_chain folder heads id search chain says found
+  ok-in_chain folder heads id (Ok answer) chain says found = finds-in_chain folder heads id answer chain says found
   ok-in_chain folder heads id (Err error) chain says found = tt

@@ -15,14 +15,15 @@ use Rattle.gix_commitgraph.proofs.layers.LayerListLemmas.{graph-accepted}
 use Rattle.graph_find.specs.Finding.{Answers, AnswersIn, FindsInFile}
 use Rattle.graph_find.specs.LayerFinding.{AnswersInLayer, AnswersOfLayer, FindsInLayer, IsLayerOfHead}
 use Rattle.graph_find.specs.ReadHead.{IsHead}
-use Rattle.graph_find.specs.declared.answer.Search.{Search}
-use Rattle.graph_find.specs.declared.answer.Search.TheVariants.{Found, Missing, NotByParts}
+use Rattle.graph_find.specs.declared.answer.SearchAnswer.{SearchAnswer}
+use Rattle.graph_find.specs.declared.answer.SearchAnswer.TheVariants.{Found, Missing, NotByParts}
 use Rattle.graph_find.specs.declared.head.Head.{Head}
 use Rattle.graph_find.proofs.FoundInLayersLemmas.{Misses, OpensTo, answers-found, answers-missing, none-refused}
 use Rattle.graph_find.proofs.LayerLemmas.{keeps-head, opens-head}
 
 -- the answer of one layer is that of the graph
-answers-one : (layer : Layer) (id : List ℕ) (search : Search) → AnswersOfLayer layer id search → Answers (layer ∷ []) id search
+answers-one : (layer : Layer) (id : List ℕ) (answer : SearchAnswer) → AnswersOfLayer layer id answer
+    → Answers (layer ∷ []) id answer
 answers-one layer id (Found commit) there =
     answers-found id [] [] layer commit commit (All-nil (Misses id)) there (omega arith) refl refl
 answers-one layer id Missing there = answers-missing id (layer ∷ []) (All-cons (Misses id) layer [] there (All-nil (Misses id)))
@@ -48,25 +49,26 @@ file-opened known path head is layer of =
     }
 
 module _ (known : Option Tree) (path : List ℕ) (head : Head) (is : IsHead head) (id : List ℕ) where
-  file-answers : (search : Search) → AnswersInLayer known path head id search
-      → AnswersIn known (λ (tree : Tree). file_opened tree path) (IsFromFile path) id search
-  file-answers search found =
+  file-answers : (answer : SearchAnswer) → AnswersInLayer known path head id answer
+      → AnswersIn known (λ (tree : Tree). file_opened tree path) (IsFromFile path) id answer
+  file-answers answer found =
       let opened = file-opened known path head is found.layer found.is in
       record {
         layers = found.layer ∷ [];
         opens = opened.opens;
         graph = opened.graph;
         from = opened.from;
-        answers = answers-one found.layer id search found.answers;
+        answers = answers-one found.layer id answer found.answers;
       }
 
-  pub finds-in_file : (search : Search) → FindsInLayer known path head id search → FindsInFile known path id search
+  pub finds-in_file : (answer : SearchAnswer) → FindsInLayer known path head id answer → FindsInFile known path id answer
   finds-in_file (Found commit) found = file-answers (Found commit) found
   finds-in_file Missing found = file-answers Missing found
   finds-in_file NotByParts found = tt
 
 -- where the search did not fail
 pub ok-in_file : (known : Option Tree) (path : List ℕ) (head : Head) → IsHead head → (id : List ℕ)
-    → (answer : Result Search ReadError) → IfOk answer (FindsInLayer known path head id) → IfOk answer (FindsInFile known path id)
-ok-in_file known path head is id (Ok search) found = finds-in_file known path head is id search found
+    → (answer : Result SearchAnswer ReadError) → IfOk answer (FindsInLayer known path head id)
+    → IfOk answer (FindsInFile known path id)
+ok-in_file known path head is id (Ok answer) found = finds-in_file known path head is id answer found
 ok-in_file known path head is id (Err error) found = tt

@@ -23,7 +23,7 @@ use Rattle.gix_commitgraph.proofs.lookup.GraphLookupLemmas.{IsMissed, found_in-c
 use Rattle.graph_find.specs.Finding.{Answers}
 use Rattle.graph_find.specs.LayerFinding.{AnswersOfLayer}
 use Rattle.graph_find.specs.declared.answer.FoundCommit.{FoundCommit}
-use Rattle.graph_find.specs.declared.answer.Search.TheVariants.{Found as found_at, Missing}
+use Rattle.graph_find.specs.declared.answer.SearchAnswer.TheVariants.{Found as found_at, Missing}
 
 -- The layers make a graph: where the tree is known, the one that an opener finds there.
 pub record OpensTo (known : Option Tree) (opened : Tree → Result (List Layer) OpenError) (IsFrom : List Layer → Type 0)

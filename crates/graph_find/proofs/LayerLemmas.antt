@@ -50,31 +50,31 @@ module _ (file path : List ℕ) (layout : Layout) (kept : IsLayout file layout) 
 
   -- the ids of a bucket
   pub is-bucket : (id bytes : List ℕ) (span : Span) → length id ≡ id_len layout.kind → slice_index id 0 < 256
-      → IsBucketSpan (fan_of file) (slice_index id 0) span → span.first ≤ span.end → span.end ≤ layout.commits
-      → slice_range file (layout.chunks.ids.start + length id * span.first)
-      (layout.chunks.ids.start + length id * span.first + length id * (span.end - span.first)) ≡ bytes
-      → IsBucket (decoded_layer file path) id span.first span.end bytes
+      → IsBucketSpan (fan_of file) (slice_index id 0) span → span.start ≤ span.end → span.end ≤ layout.commits
+      → slice_range file (layout.chunks.ids.start + length id * span.start)
+      (layout.chunks.ids.start + length id * span.start + length id * (span.end - span.start)) ≡ bytes
+      → IsBucket (decoded_layer file path) id span.start span.end bytes
   unfolding decoded_layer
   is-bucket id bytes span long byte is order within same =
       let one = decoded_layer file path in
       let size = length id in
-      let begin = layout.chunks.ids.start + size * span.first in
+      let begin = layout.chunks.ids.start + size * span.start in
       record {
-        stands = rw (is.first, is.end) (stands_within-bucket one id byte).each;
+        stands = rw (is.start, is.end) (stands_within-bucket one id byte).each;
         each = λ i from below.
             let inside : i < length one.ids = omega (arith, below, within, commits-ids file path layout one kept refl) in
-            let shift : size * i ≡ size * span.first + size * (i - span.first) =
-            ap (λ (n : ℕ). size * n) (again i span.first from) ∙ mul-add size span.first (i - span.first) in
-            let up : size * (i - span.first) + size ≤ size * (span.end - span.first) =
-            one_more size (i - span.first) (span.end - span.first) (omega arith) in
+            let shift : size * i ≡ size * span.start + size * (i - span.start) =
+            ap (λ (n : ℕ). size * n) (again i span.start from) ∙ mul-add size span.start (i - span.start) in
+            let up : size * (i - span.start) + size ≤ size * (span.end - span.start) =
+            one_more size (i - span.start) (span.end - span.start) (omega arith) in
             view-sized_id file path layout one i size kept refl inside
             (long ∙ ap id_len (view-kind file path layout one kept refl))
             ∙ ap (λ (n : ℕ). Some (slice_range file n (n + size))) (omega (arith, shift))
-            ∙ ap (λ (n : ℕ). Some (slice_range file (begin + size * (i - span.first)) n)) (omega arith)
+            ∙ ap (λ (n : ℕ). Some (slice_range file (begin + size * (i - span.start)) n)) (omega arith)
             ∙ ap (λ (b : List ℕ). Some b)
-            (sym (slice_range-slice_range file begin (begin + size * (span.end - span.first)) (size * (i - span.first))
-            (size * (i - span.first) + size) (omega (arith, up))))
-            ∙ ap (λ (b : List ℕ). Some (slice_range b (size * (i - span.first)) (size * (i - span.first) + size))) same;
+            (sym (slice_range-slice_range file begin (begin + size * (span.end - span.start)) (size * (i - span.start))
+            (size * (i - span.start) + size) (omega (arith, up))))
+            ∙ ap (λ (b : List ℕ). Some (slice_range b (size * (i - span.start)) (size * (i - span.start) + size))) same;
       }
     where
       again : (n m : ℕ) → m ≤ n → n ≡ m + (n - m)

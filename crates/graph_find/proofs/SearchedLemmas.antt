@@ -13,7 +13,7 @@ use Rattle.graph_find.specs.ChainFinding.{AnswersInLayers, IsLayerOfChain}
 use Rattle.graph_find.specs.ChainHeads.{IsHeadOfLayer}
 use Rattle.graph_find.specs.LayerFinding.{AnswersInLayer}
 use Rattle.graph_find.specs.declared.answer.FoundCommit.{FoundCommit}
-use Rattle.graph_find.specs.declared.answer.Search.TheVariants.{Found, Missing}
+use Rattle.graph_find.specs.declared.answer.SearchAnswer.TheVariants.{Found, Missing}
 use Rattle.graph_find.specs.declared.chain.ChainLayer.{ChainLayer}
 use Rattle.graph_find.proofs.AnswerLemmas.{some-layer}
 use Rattle.graph_find.proofs.ChainHeadLemmas.{counts, layers-counted}

@@ -7,8 +7,8 @@ use Rattle.graph_format.specs.Layer.{Layer, decoded_layer, record_at}
 use Rattle.graph_format.specs.Lookup.{Found}
 use Rattle.graph_find.specs.Finding.{IfByParts}
 use Rattle.graph_find.specs.declared.answer.FoundCommit.{FoundCommit}
-use Rattle.graph_find.specs.declared.answer.Search.{Search}
-use Rattle.graph_find.specs.declared.answer.Search.TheVariants.{Found as found_at, Missing, NotByParts}
+use Rattle.graph_find.specs.declared.answer.SearchAnswer.{SearchAnswer}
+use Rattle.graph_find.specs.declared.answer.SearchAnswer.TheVariants.{Found as found_at, Missing, NotByParts}
 use Rattle.graph_find.specs.declared.head.Head.{Head}
 
 -- The layer is that of a file that begins with the head: where the tree is known, of the one at the path.
@@ -24,16 +24,16 @@ pub record TellsOfRecord (layer : Layer) (commit : FoundCommit) : Type 0 where
   pub time : commit.time ≡ (record_at layer commit.pos).time
 
 -- an answer of the lookup of an id in the layer, with the commit there
-abbrev pub AnswersOfLayer : Layer → List ℕ → Search → Type 0
+abbrev pub AnswersOfLayer : Layer → List ℕ → SearchAnswer → Type 0
 AnswersOfLayer layer id (found_at commit) = Found layer id (Some commit.pos) × TellsOfRecord layer commit
 AnswersOfLayer layer id Missing = Found layer id None
 AnswersOfLayer layer id NotByParts = Unit
 
 -- the same in some layer of the head
-pub record AnswersInLayer (known : Option Tree) (path : List ℕ) (head : Head) (id : List ℕ) (search : Search) : Type 0 where
+pub record AnswersInLayer (known : Option Tree) (path : List ℕ) (head : Head) (id : List ℕ) (answer : SearchAnswer) : Type 0 where
   pub layer : Layer
   pub is : IsLayerOfHead known path head layer
-  pub answers : AnswersOfLayer layer id search
+  pub answers : AnswersOfLayer layer id answer
 
-abbrev pub FindsInLayer : Option Tree → List ℕ → Head → List ℕ → Search → Type 0
-FindsInLayer known path head id search = IfByParts search (AnswersInLayer known path head id search)
+abbrev pub FindsInLayer : Option Tree → List ℕ → Head → List ℕ → SearchAnswer → Type 0
+FindsInLayer known path head id answer = IfByParts answer (AnswersInLayer known path head id answer)

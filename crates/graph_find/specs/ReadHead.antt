@@ -31,5 +31,5 @@ BeginsAt known path head =
 
 -- The positions of a byte's bucket.
 pub record IsBucketSpan (fan : List ℕ) (byte : ℕ) (span : Span) : Type 0 where
-  pub first : span.first ≡ bucket_start fan byte
+  pub start : span.start ≡ bucket_start fan byte
   pub end : span.end ≡ slice_index fan byte

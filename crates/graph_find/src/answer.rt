@@ -13,7 +13,7 @@ pub struct FoundCommit {
 
 /// What a search by parts answers.
 #[derive(Clone, Copy, Debug, PartialEq, Eq)]
-pub enum Search {
+pub enum SearchAnswer {
     /// The commit that has the id.
     Found(FoundCommit),
     /// No commit with the id is found.

@@ -11,24 +11,24 @@ use std::cmp::Ordering;
 
 /// The position of an id, by the ids of its bucket, one after another, and how many of them it was
 /// compared with.
-pub(crate) fn search(ids: &[u8], span: Span, wanted: &[u8]) -> (Option<u32>, u32)
-    requires order { span.first ≤ span.end }
-    requires room { length ids.now ≡ length wanted.now * (span.end - span.first) }
+pub(crate) fn find_in_bucket(ids: &[u8], span: Span, wanted: &[u8]) -> (Option<u32>, u32)
+    requires order { span.start ≤ span.end }
+    requires room { length ids.now ≡ length wanted.now * (span.end - span.start) }
     ensures within { IfSome result.0 (λ pos. pos < span.end) }
-    ensures from { IfSome result.0 (λ pos. span.first ≤ pos) }
-    ensures found { (layer : Layer) → IsBucket layer wanted.now span.first span.end ids.now
+    ensures from { IfSome result.0 (λ pos. span.start ≤ pos) }
+    ensures found { (layer : Layer) → IsBucket layer wanted.now span.start span.end ids.now
         → Found layer wanted.now result.0 }
 
     // At most as many comparisons as the size of the bucket has binary digits.
-    ensures most { result.1 ≤ digits (span.end - span.first) }
+    ensures most { result.1 ≤ digits (span.end - span.start) }
     ensures least { OnSome result.0 (1 ≤ result.1) }
 {
     let size = wanted.len();
-    let (mut low, mut high) = (span.first, span.end);
+    let (mut low, mut high) = (span.start, span.end);
     let mut comparisons = 0;
     while low < high {
         let middle = low + (high - low) / 2;
-        let start = size * (middle - span.first) as usize;
+        let start = size * (middle - span.start) as usize;
         comparisons += 1;
         match wanted.cmp(&ids[start..start + size]) {
             Ordering::Less => high = middle,

@@ -21,11 +21,11 @@ pub struct Head {
     pub layout: Layout,
 }
 
-/// The positions of the ids that begin with one byte: from `first` up to but not including `end`.
+/// The positions of the ids that begin with one byte: from `start` up to but not including `end`.
 #[derive(Clone, Copy)]
 pub struct Span {
     /// The first of them.
-    pub first: u32,
+    pub start: u32,
     /// The one after the last.
     pub end: u32,
 }
@@ -89,11 +89,11 @@ impl Head {
             → IsBucketSpan (fan_of file) byte result }
     {
         let end = self.fan_number(byte as usize);
-        let first = if byte == 0 {
+        let start = if byte == 0 {
             0
         } else {
             self.fan_number(byte as usize - 1)
         };
-        Span { first, end }
+        Span { start, end }
     }
 }

@@ -10,8 +10,8 @@ ghost use Rattle.graph_format.specs.Format.{record_of};
 ghost use Rattle.graph_find.specs.ReadHead.{IsHead, BeginsAt};
 ghost use Rattle.graph_find.specs.LayerFinding.{FindsInLayer};
 
-use crate::answer::{FoundCommit, Search};
-use crate::bucket::search;
+use crate::answer::{FoundCommit, SearchAnswer};
+use crate::bucket::find_in_bucket;
 use crate::head::Head;
 use crate::reading::read_range;
 use gix_hash_core::{Kind, oid};
@@ -29,7 +29,7 @@ pub(crate) fn find_in_layer<T: Folder>(
     path: &str,
     head: &Head,
     id: oid<'_>,
-) -> Result<Search, ReadError>
+) -> Result<SearchAnswer, ReadError>
     requires head { IsHead head.now }
     requires begins { BeginsAt (T.tree folder.old) path.now head.now }
     ensures found { IfOk result
@@ -44,27 +44,27 @@ pub(crate) fn find_in_layer<T: Folder>(
     let wanted = id.as_bytes();
     let size = layout.kind.len_in_bytes();
     if wanted.len() != size {
-        return Ok(Search::Missing);
+        return Ok(SearchAnswer::Missing);
     }
     let span = head.span(id.first_byte());
-    if span.end < span.first || layout.commits < span.end {
-        return Ok(Search::NotByParts);
+    if span.end < span.start || layout.commits < span.end {
+        return Ok(SearchAnswer::NotByParts);
     }
-    let start = layout.chunks.ids.start + size * span.first as usize;
-    let len = size * (span.end - span.first) as usize;
+    let start = layout.chunks.ids.start + size * span.start as usize;
+    let len = size * (span.end - span.start) as usize;
     let Some(ids) = read_range(alloc, folder, path, file_len, start, len)? else {
-        return Ok(Search::NotByParts);
+        return Ok(SearchAnswer::NotByParts);
     };
-    let (found, _) = search(&ids, span, wanted);
+    let (found, _) = find_in_bucket(&ids, span, wanted);
     let Some(pos) = found else {
-        return Ok(Search::Missing);
+        return Ok(SearchAnswer::Missing);
     };
     let len = record_len(layout.kind);
     let start = layout.chunks.records.start + len * pos as usize;
     let Some(record) = read_range(alloc, folder, path, file_len, start, len)? else {
-        return Ok(Search::NotByParts);
+        return Ok(SearchAnswer::NotByParts);
     };
-    Ok(Search::Found(commit_of(layout.kind, pos, &record)))
+    Ok(SearchAnswer::Found(commit_of(layout.kind, pos, &record)))
 }
 
 /// What the bytes of a record say of the commit at a position.

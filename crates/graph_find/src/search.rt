@@ -9,7 +9,7 @@ ghost use Rattle.graph_find.specs.ChainHeads.{IsHeadOfLayer, SayGraph};
 ghost use Rattle.graph_find.specs.ChainFinding.{FindsInLayers};
 ghost use Rattle.graph_find.specs.Finding.{FindsInFile, FindsInChain};
 
-pub use crate::answer::{FoundCommit, Search};
+pub use crate::answer::{FoundCommit, SearchAnswer};
 use crate::chain::{ChainLayer, make_graph, read_layers};
 use crate::layer::find_in_layer;
 use crate::reading::read_head;
@@ -29,7 +29,7 @@ pub fn find_in_file<T: Folder>(
     folder: &mut T,
     path: &str,
     id: oid<'_>,
-) -> Result<Search, ReadError>
+) -> Result<SearchAnswer, ReadError>
     ensures found { IfOk result (FindsInFile (T.tree folder.old) path.now (oid_bytes id.entry)) }
     ensures not_opened { ForSome (T.tree folder.old) (λ tree.
         IsErrOf result ReadError.NotOpened → file_at tree path.now ≡ None) }
@@ -39,7 +39,7 @@ pub fn find_in_file<T: Folder>(
 {
     match read_head(alloc, folder, path)? {
         Some(head) => find_in_layer(alloc, folder, path, &head, id),
-        None => Ok(Search::NotByParts),
+        None => Ok(SearchAnswer::NotByParts),
     }
 }
 
@@ -56,7 +56,7 @@ pub fn find_in_chain<T: Folder>(
     folder: &mut T,
     path: &str,
     id: oid<'_>,
-) -> Result<Search, ReadError>
+) -> Result<SearchAnswer, ReadError>
     ensures found { IfOk result (FindsInChain (T.tree folder.old) path.now (oid_bytes id.entry)) }
     ensures opened { ¬ (IsErrOf result ReadError.NotOpened) }
     ensures tree { T.tree folder.new ≡ T.tree folder.old }
@@ -64,7 +64,7 @@ pub fn find_in_chain<T: Folder>(
         ≡ failures_after result (T.failure_count folder.old) }
 {
     match search_chain(alloc, folder, path, id) {
-        Err(ReadError::NotOpened) => Ok(Search::NotByParts),
+        Err(ReadError::NotOpened) => Ok(SearchAnswer::NotByParts),
         answer => answer,
     }
 }
@@ -75,17 +75,17 @@ fn search_chain<T: Folder>(
     folder: &mut T,
     path: &str,
     id: oid<'_>,
-) -> Result<Search, ReadError>
+) -> Result<SearchAnswer, ReadError>
     ensures found { IfOk result (FindsInChain (T.tree folder.old) path.now (oid_bytes id.entry)) }
     ensures tree { T.tree folder.new ≡ T.tree folder.old }
     ensures failures { T.failure_count folder.new
         ≡ failures_after result (T.failure_count folder.old) }
 {
     let Some(layers) = read_layers(alloc, folder, path)? else {
-        return Ok(Search::NotByParts);
+        return Ok(SearchAnswer::NotByParts);
     };
     if !make_graph(&layers) {
-        return Ok(Search::NotByParts);
+        return Ok(SearchAnswer::NotByParts);
     }
     find_in_layers(alloc, folder, &layers, id)
 }
@@ -96,7 +96,7 @@ fn find_in_layers<T: Folder>(
     folder: &mut T,
     layers: &[ChainLayer],
     id: oid<'_>,
-) -> Result<Search, ReadError>
+) -> Result<SearchAnswer, ReadError>
     requires heads { All (IsHeadOfLayer (T.tree folder.old)) layers.now }
     requires graph { SayGraph layers.now }
     ensures found { IfOk result
@@ -108,15 +108,15 @@ fn find_in_layers<T: Folder>(
     let mut start = 0;
     for layer in layers {
         match find_in_layer(alloc, folder, layer.path.as_str(), &layer.head, id)? {
-            Search::Found(commit) => {
-                return Ok(Search::Found(FoundCommit {
+            SearchAnswer::Found(commit) => {
+                return Ok(SearchAnswer::Found(FoundCommit {
                     pos: start + commit.pos,
                     ..commit
                 }));
             }
-            Search::Missing => start += layer.head.layout.commits,
-            Search::NotByParts => return Ok(Search::NotByParts),
+            SearchAnswer::Missing => start += layer.head.layout.commits,
+            SearchAnswer::NotByParts => return Ok(SearchAnswer::NotByParts),
         }
     }
-    Ok(Search::Missing)
+    Ok(SearchAnswer::Missing)
 }

@@ -15,13 +15,13 @@ use Rattle.graph_parts.specs.declared.layer.LayerParts.{LayerParts}
 module _ (known : Option Tree) (part : LayerParts) (layer : Layer) (shows : ShowsLayer known part layer) (id : List ℕ) where
   -- the id stands nowhere outside of its bucket
   pub shown-bucket : (span : Span) → slice_index id 0 < 256 → IsBucketSpan (fan_of shows.of.file) (slice_index id 0) span
-      → StandsWithin layer id span.first span.end
+      → StandsWithin layer id span.start span.end
   unfolding decoded_layer
   shown-bucket span byte is =
       let one = decoded_layer shows.of.file (string_bytes part.file.path) in
-      let stands : StandsWithin one id span.first span.end =
-      record { each = rw (is.first, is.end) (stands_within-bucket one id byte).each } in
-      let P : Layer → Type 0 = λ l. StandsWithin l id span.first span.end in
+      let stands : StandsWithin one id span.start span.end =
+      record { each = rw (is.start, is.end) (stands_within-bucket one id byte).each } in
+      let P : Layer → Type 0 = λ l. StandsWithin l id span.start span.end in
       subst P (sym shows.of.decoded) stands
 
   -- an id of another kind stands nowhere

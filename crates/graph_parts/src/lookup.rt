@@ -55,7 +55,7 @@ impl LayerParts {
         if layout.commits < span.end {
             return Ok(Lookup::NotByParts);
         }
-        let (mut low, mut high) = (span.first, span.end);
+        let (mut low, mut high) = (span.start, span.end);
         while low < high {
             let middle = low + (high - low) / 2;
             let there = self.read_id(alloc, folder, middle)?;

@@ -7,6 +7,7 @@
 
 pub mod bases;
 mod check;
+mod is_ancestor;
 pub mod opening;
 mod question;
 pub mod run;

@@ -30,8 +30,8 @@ bucket-read g c =
       within = omega (arith, c.if-layout-span.false);
       fan = λ file begins.
           rw (c.as_bytes-wanted.ensures.bytes, ← c.first_byte.ensures) (c.span-span.ensures.fan file begins);
-      start = c.args.head.now.layout.chunks.ids.start + size * span.first;
-      len = size * (span.end - span.first);
+      start = c.args.head.now.layout.chunks.ids.start + size * span.start;
+      len = size * (span.end - span.start);
       starts = refl;
       lasts = refl;
       sized = rw c.in-Some.is at c.in_ok-ids.ensures.size;
@@ -42,7 +42,7 @@ pub returns-in_default-found-clause-found : goal.returns-in_default-found-clause
 returns-in_default-found-clause-found g c =
     rw (← c.as_bytes-wanted.ensures.bytes)
     (missing-bucket (bucket-read g (goal.at.returns-in_default-found-clause-found g c).In-Some)
-    (λ layer bucket. rw c.in_default-found.is at (c.search-found.ensures.found layer (rw c.deref.ensures.value bucket))))
+    (λ layer bucket. rw c.in_default-found.is at (c.find_in_bucket-found.ensures.found layer (rw c.deref.ensures.value bucket))))
 
 pub returns-clause-found : goal.returns-clause-found
 returns-clause-found g c =
@@ -50,8 +50,8 @@ returns-clause-found g c =
     let len = c.record_len-len.result in
     rw (← c.as_bytes-wanted.ensures.bytes)
     (found-commit (bucket-read g (goal.at.returns-clause-found g c).In-Some)
-    pos (rw c.in-Some-found.is at c.search-found.ensures.within)
-    (λ layer bucket. rw c.in-Some-found.is at (c.search-found.ensures.found layer (rw c.deref.ensures.value bucket)))
+    pos (rw c.in-Some-found.is at c.find_in_bucket-found.ensures.within)
+    (λ layer bucket. rw c.in-Some-found.is at (c.find_in_bucket-found.ensures.found layer (rw c.deref.ensures.value bucket)))
     (c.args.head.now.layout.chunks.records.start + len * pos) len c.record_len-len.ensures refl
     c.in-Some-2.record.items (rw c.in-Some-2.is at c.in_ok-record.ensures.size)
     (λ tree is. rw c.in-Some-2.is at

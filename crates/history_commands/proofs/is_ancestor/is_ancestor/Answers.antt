@@ -3,7 +3,7 @@ use Rattle.std.proofs.Common.{◌≡◌}
 use Rattle.graph_commands.specs.OpenerAnswer.{MayOpen}
 use Rattle.history_commands.specs.IsAncestor.{IsTold}
 use Rattle.history_commands.proofs.AskLemmas.{answers}
-use Rattle.history_commands.proofs.run.is_ancestor.Goals as goal
+use Rattle.history_commands.proofs.is_ancestor.is_ancestor.Goals as goal
 
 pub returns-clause-may : goal.returns-clause-may
 returns-clause-may g c =

@@ -3,7 +3,7 @@ use Rattle.std.proofs.Common.{ℕ, ◌+◌, ◌-◌, ◌/◌, ◌^◌, ◌<◌, 
 use Rattle.graph_format.proofs.DigitLemmas.{digits-enough, digits-lower}
 use Rattle.graph_format.specs.Lookup.{digits}
 use Rattle.graph_layer.proofs.LookupLemmas.{stands_within-lower, stands_within-upper, found-equal, found-none}
-use Rattle.graph_find.proofs.bucket.search.Goals as goal
+use Rattle.graph_find.proofs.bucket.find_in_bucket.Goals as goal
 
 -- one comparison, after which at most half is left
 halved : (comparisons left fewer most : ℕ) → 0 < left → fewer ≤ left / 2 → comparisons + digits left ≤ most
@@ -12,7 +12,7 @@ halved comparisons left fewer most some half h = omega (arith, digits-lower left
 
 pub overflow_add-comparisons : goal.overflow_add-comparisons
 overflow_add-comparisons c =
-    let size = c.args.span.end - c.args.span.first in
+    let size = c.args.span.end - c.args.span.start in
     let small : size < 2 ^ 32 = omega arith in
     omega (
       arith,
