@@ -1,5 +1,6 @@
-"""Checks `ask`: each question beside the command of its name, at once, over two pipes and over a terminal, and graphs that take
-the place of one another, also while Git writes them. And `git cgraph ask`, with the programs of the manual that ask over two pipes.
+"""Checks `ask`: each question beside the command of its name, at once, over two pipes, over a terminal and among noise, and
+graphs that take the place of one another, also while Git writes them. And `git cgraph ask`, with the programs of the manual that
+ask over two pipes.
 """
 
 import itertools
@@ -14,9 +15,12 @@ import subprocess
 import sys
 import termios
 import threading
+from functools import partial
 
 import refusals
 from checks.program import LINES, SECONDS
+from checks.question_checks import FAILED_WRITE, check_failed_write
+from checks.surroundings_checks import in_pieces
 from expected import judge
 from histories import shapes
 from histories.repository import read_bytes, write_bytes
@@ -33,7 +37,13 @@ WRITES = 25
 CHAIN = os.path.join("commit-graphs", "commit-graph-chain")
 """The chain file in an info folder."""
 
-STEPS = 100
+NOISE = 80
+"""Among noise every so many lines there is a question."""
+
+NO_FEED = [byte for byte in range(256) if byte != 10]
+"""The bytes that end no line."""
+
+STEPS = 400
 """So often a graph takes the place of another one."""
 
 
@@ -94,6 +104,8 @@ def check_kind(programs, results, new):
     results.check("%s, ask, nothing" % kind, judge.exactly(0, "ok commits 20\n\n", "", histories.run("ask", path, input=b"")))
     refused = histories.run("ask", path + "/nowhere", input=b"reload\n")
     results.check("%s, ask, no graph" % kind, judge.exactly(1, "refused open 1\n", "", refused))
+    rows = [(line.encode(), answer) for line, answer in zip(asked, answers) if len(line) < 1000]
+    check_streams(histories, results, "%s, ask" % kind, path, rows)
     check_reload(programs, results, repository, history)
     results.check("%s, ask, graphs in turn" % kind, in_turn(histories, new("questions over graphs in turn")))
     results.check("%s, ask beside a writer" % kind, beside_writer(histories, new("questions beside a writer")))
@@ -160,6 +172,27 @@ def in_messages(command, asked, answers):
     wanted = list(itertools.accumulate(len(answer) for answer in ["ok commits 20\n\n", *answers[: len(asked)]]))
     joined = sorted(set(wanted) - set(ends))
     return "no write ends with the answer at byte %d" % joined[0] if joined else None
+
+
+def check_streams(histories, results, title, path, rows):
+    """Questions that come byte by byte, and among noise; input that cannot be read, and output that cannot be written."""
+    opened, chance = "ok commits 20\n\n", random.Random(14)
+    noise = [bytes(chance.choices(NO_FEED, k=chance.randrange(60))) for _ in range(NOISE * len(rows))]
+    noisy = [rows[place // NOISE] if place % NOISE == 0 else (line, "refused question\n\n") for place, line in enumerate(noise)]
+    for name, lines, size in (("byte by byte", rows, 1), ("among noise", noisy, 97)):
+        text = opened + "".join(answer for _, answer in lines)
+        said = in_pieces(partial(histories.run, "ask", path), b"".join(line + b"\n" for line, _ in lines), size)
+        results.check("%s, %s" % (title, name), judge.exactly(0, text, "", said))
+    closed = histories.run("ask", path, preexec_fn=partial(os.close, 0))
+    results.check("%s, input that is closed" % title, judge.exactly(1, opened + "refused read 2\n", "", closed))
+    check_failed_write(results, title, partial(histories.run, "ask", path, input=b""))
+    with Asking([histories.path, "ask", path], stderr=subprocess.PIPE) as run:
+        run.answer()
+        run.run.stdout.close()
+        run.run.stdin.write(b"nonsense\n")
+        run.run.stdin.flush()
+        answer = run.run.wait(), run.run.stderr.read().decode()
+    results.check("%s, nobody reads on" % title, None if answer == (2, FAILED_WRITE) else "it is %r" % (answer,))
 
 
 def over_terminal(command, asked, **surroundings):
