@@ -1,7 +1,7 @@
 //! The command `ask`: many questions about the graph at a path, one a line.
 
 ghost use Rattle.std.specs.Prelude.{◌≡◌, ◌≢◌, ◌⊎◌, [], ◌∷◌, ℕ, List, Option, Some, None, Ok, Err};
-ghost use Rattle.std.specs.Prelude.{IfErr, IfOk, OnOk, map, true, false};
+ghost use Rattle.std.specs.Prelude.{IfOk, OnOk, map, true, false};
 ghost use Rattle.std.specs.Io.KnownBytes.{Appends, prepend_known};
 ghost use Rattle.std.specs.List.{flat_map};
 ghost use Rattle.graph_folder.specs.Tree.{Tree};
@@ -9,9 +9,8 @@ ghost use Rattle.graph_commands.specs.Block.{with_block};
 ghost use Rattle.graph_commands.specs.OpenerAnswer.{MayOpen};
 ghost use Rattle.graph_commands.specs.Text.{◌⧺◌, newline};
 ghost use Rattle.graph_history.specs.RightGraph.{plain_options};
-ghost use Rattle.history_commands.specs.Check.{MayRefuseToStart};
 ghost use Rattle.question_commands.specs.Asking.{MayAsk, all_checked, end_text, end_status};
-ghost use Rattle.question_commands.specs.Asking.{AreLinesOf, AreTurns, MayTake, Reloads};
+ghost use Rattle.question_commands.specs.Asking.{AreLinesOf, AreTurns, Reloads};
 ghost use Rattle.question_commands.specs.Ending.{EndsAsked};
 ghost use Rattle.question_commands.specs.Asking.{Standing, Turn, taken_line, turn_text};
 ghost use Rattle.question_commands.specs.Proceeding.{Proceeds, StopsAt};
@@ -22,7 +21,6 @@ use crate::lines::LineReader;
 use crate::question::{Question, read_question};
 use crate::taking::take_anew;
 use crate::telling::Teller;
-use gix_commitgraph::opening::open_in;
 use graph_commands::block::Block;
 use graph_commands::line::{WriteFailed, write_line};
 use graph_commands::refusal::Refusal;
@@ -30,6 +28,7 @@ use graph_commands::run::refuse;
 use graph_commands::status::Status;
 use graph_folder::folder::{Folder, ReadError};
 use graph_history::CheckedGraph;
+use history_commands::opening::open_checked;
 use std::alloc::Global;
 use std::io::{Read, Write};
 
@@ -107,25 +106,6 @@ fn finish_all<W: Write>(writer: &mut W, ended: Ended) -> Result<Asked, WriteFail
         status,
         checked: ended.checked,
     })
-}
-
-/// Opens the graph at the path, and checks it.
-fn open_checked<T: Folder>(
-    alloc: Global,
-    folder: &mut T,
-    path: &str,
-) -> Result<CheckedGraph, Refusal>
-    ensures graph { IfOk result (λ graph. MayTake
-        (MayOpen (T.tree folder.old) path.now (T.failure_count folder.old)
-        (T.failure_count folder.new)) (Ok graph.layers)) }
-    ensures options { IfOk result (λ graph. graph.options ≡ plain_options) }
-    ensures refused { IfErr result (MayRefuseToStart
-        (MayOpen (T.tree folder.old) path.now (T.failure_count folder.old)
-        (T.failure_count folder.new))) }
-    ensures tree { T.tree folder.new ≡ T.tree folder.old }
-{
-    let graph = open_in(alloc, folder, path)?;
-    Ok(CheckedGraph::new(alloc, graph)?)
 }
 
 /// Writes how many commits a graph has, and an empty line.

@@ -12,4 +12,6 @@ mod noise;
 #[cfg(test)]
 mod reloading;
 #[cfg(test)]
+mod replacing;
+#[cfg(test)]
 mod rows;

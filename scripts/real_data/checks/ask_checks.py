@@ -1,10 +1,12 @@
-"""Checks `ask`: each question beside the command of its name, at once, over two pipes and over a terminal, and graphs that are
-opened anew, also while Git writes them. And `git cgraph ask`, with the programs of the manual that ask over two pipes.
+"""Checks `ask`: each question beside the command of its name, at once, over two pipes, over a terminal and among noise, and
+graphs that take the place of one another, also while Git writes them. And `git cgraph ask`, with the programs of the manual that
+ask over two pipes.
 """
 
 import itertools
 import os
 import pty
+import random
 import re
 import select
 import shutil
@@ -13,9 +15,12 @@ import subprocess
 import sys
 import termios
 import threading
+from functools import partial
 
 import refusals
 from checks.program import LINES, SECONDS
+from checks.question_checks import FAILED_WRITE, check_failed_write
+from checks.surroundings_checks import in_pieces
 from expected import judge
 from histories import shapes
 from histories.repository import read_bytes, write_bytes
@@ -27,6 +32,19 @@ NO_QUESTIONS = ["", "nonsense", "is-ancestor", "find 00", "parents x", "walk  a"
 
 WRITES = 25
 """So many layers are written beside a program that opens the graph anew all the time."""
+
+
+CHAIN = os.path.join("commit-graphs", "commit-graph-chain")
+"""The chain file in an info folder."""
+
+NOISE = 80
+"""Among noise every so many lines there is a question."""
+
+NO_FEED = [byte for byte in range(256) if byte != 10]
+"""The bytes that end no line."""
+
+STEPS = 400
+"""So often a graph takes the place of another one."""
 
 
 class Asking:
@@ -86,7 +104,10 @@ def check_kind(programs, results, new):
     results.check("%s, ask, nothing" % kind, judge.exactly(0, "ok commits 20\n\n", "", histories.run("ask", path, input=b"")))
     refused = histories.run("ask", path + "/nowhere", input=b"reload\n")
     results.check("%s, ask, no graph" % kind, judge.exactly(1, "refused open 1\n", "", refused))
+    rows = [(line.encode(), answer) for line, answer in zip(asked, answers) if len(line) < 1000]
+    check_streams(histories, results, "%s, ask" % kind, path, rows)
     check_reload(programs, results, repository, history)
+    results.check("%s, ask, graphs in turn" % kind, in_turn(histories, new("questions over graphs in turn")))
     results.check("%s, ask beside a writer" % kind, beside_writer(histories, new("questions beside a writer")))
     LINES.add(("ask", "refused question"))
 
@@ -153,6 +174,27 @@ def in_messages(command, asked, answers):
     return "no write ends with the answer at byte %d" % joined[0] if joined else None
 
 
+def check_streams(histories, results, title, path, rows):
+    """Questions that come byte by byte, and among noise; input that cannot be read, and output that cannot be written."""
+    opened, chance = "ok commits 20\n\n", random.Random(14)
+    noise = [bytes(chance.choices(NO_FEED, k=chance.randrange(60))) for _ in range(NOISE * len(rows))]
+    noisy = [rows[place // NOISE] if place % NOISE == 0 else (line, "refused question\n\n") for place, line in enumerate(noise)]
+    for name, lines, size in (("byte by byte", rows, 1), ("among noise", noisy, 97)):
+        text = opened + "".join(answer for _, answer in lines)
+        said = in_pieces(partial(histories.run, "ask", path), b"".join(line + b"\n" for line, _ in lines), size)
+        results.check("%s, %s" % (title, name), judge.exactly(0, text, "", said))
+    closed = histories.run("ask", path, preexec_fn=partial(os.close, 0))
+    results.check("%s, input that is closed" % title, judge.exactly(1, opened + "refused read 2\n", "", closed))
+    check_failed_write(results, title, partial(histories.run, "ask", path, input=b""))
+    with Asking([histories.path, "ask", path], stderr=subprocess.PIPE) as run:
+        run.answer()
+        run.run.stdout.close()
+        run.run.stdin.write(b"nonsense\n")
+        run.run.stdin.flush()
+        answer = run.run.wait(), run.run.stderr.read().decode()
+    results.check("%s, nobody reads on" % title, None if answer == (2, FAILED_WRITE) else "it is %r" % (answer,))
+
+
 def over_terminal(command, asked, **surroundings):
     """A complaint where an answer is another one on a terminal, at the end of whose input Ctrl-D is typed."""
     ours, theirs = pty.openpty()
@@ -182,6 +224,85 @@ def read_terminal(terminal):
     while not text.endswith(b"\n\n") and select.select([terminal], [], [], SECONDS)[0]:
         text += os.read(terminal, 1 << 16)
     return text.decode()
+
+
+def in_turn(histories, repository):
+    """A complaint where graphs take the place of one another and an answer is not that of a new run; or where the new graph is
+    refused, not that of the last one which was taken.
+    """
+    path, ids = repository.info_path(), repository.add(shapes.tangled(30, seed=12))
+    asked = ["%s %s" % (word, name) for name in ids for word in ("find", "parents")]
+    right, wrong = right_and_wrong(repository, ids)
+    alone = []
+    for files in right + wrong:
+        put_files(path, files)
+        alone.append(histories.run("ask", path, input="\n".join(asked).encode()))
+    if [answer.status for answer in alone] != [0] * len(right) + [1] * len(wrong):
+        return "new runs end with %r" % [answer.status for answer in alone]
+    put_files(path, right[0])
+    with Asking([histories.path, "ask", path]) as run:
+        told = run.answer() + "".join(map(run.ask, asked))
+        for place in [0, *random.Random(13).choices(range(len(alone)), k=STEPS)]:
+            put_files(path, (right + wrong)[place])
+            line, before = alone[place].out.decode(), told.partition("\n\n")[2]
+            told = run.ask("reload") + "".join(map(run.ask, asked))
+            wanted = line + "\n" + before if alone[place].status else line
+            if told != wanted:
+                return "for graph %d it tells %.200r, and not %.200r" % (place, told, wanted)
+        status = run.end()
+    return None if status == 0 else "the status is %s" % status
+
+
+def right_and_wrong(repository, ids):
+    """What may stand in the folder: chains with other layers, and files; and chains that are refused, of which a file has the
+    bytes of another one, or is damaged or gone, or the lines are others.
+    """
+
+    def written(files, tips, flags=("--split=no-merge",)):
+        put_files(repository.info_path(), files)
+        repository.write_graph(*flags, tips=tips)
+        return files_of(repository.info_path())
+
+    lower, file = written({}, ids[:10]), written({}, ids, flags=())
+    two, other = (written(lower, tips) for tips in (ids[10:15], ids[15:25]))
+    three, others = written(two, ids[15:]), written(written({}, ids[3:5]), ids[:10])
+    (base, upper), (other_base, _) = map(layers_of, (two, others))
+    lines = [files[CHAIN].splitlines(True) for files in (two, others)]
+    right = [two, lower, other, three, others, file, {**two, **file}, {**two, "commit-graph": file["commit-graph"][:-1]}]
+    wrong = [
+        {**two, upper: other[layers_of(other)[1]]},
+        {**two, base: others[other_base]},
+        {**two, upper: two[upper][:-1] + bytes([two[upper][-1] ^ 1])},
+        {**three, layers_of(three)[2]: b""},
+        {name: two[name] for name in (CHAIN, base)},
+        {name: two[name] for name in (CHAIN, upper)},
+        {**two, **others, CHAIN: lines[1][0] + lines[0][1]},
+        {**two, CHAIN: lines[0][1]},
+        {**two, CHAIN: b""},
+        {},
+    ]
+    return right, wrong
+
+
+def layers_of(files):
+    """The names of the files of a chain's layers, the lowest first."""
+    return [os.path.join("commit-graphs", "graph-%s.graph" % line) for line in files[CHAIN].decode().split()]
+
+
+def files_of(folder):
+    """The bytes of the files in a folder and below it, by their names there."""
+    paths = [os.path.join(path, name) for path, _, names in os.walk(folder) for name in names]
+    return {os.path.relpath(path, folder): read_bytes(path) for path in paths}
+
+
+def put_files(folder, files):
+    """Makes these the files in a folder and below it."""
+    shutil.rmtree(folder)
+    os.mkdir(folder)
+    for name, content in files.items():
+        path = os.path.join(folder, name)
+        os.makedirs(os.path.dirname(path), exist_ok=True)
+        write_bytes(path, content)
 
 
 def beside_writer(histories, repository):

@@ -75,28 +75,27 @@ def check_input(program, results):
     check_soon(results, "list, input that is closed", right, closed)
     content = built.octopus()
     places = [*range(0, len(content), 50), len(content)]
-    runs = [
-        (partial(in_pieces, program, content[:stop]), partial(judged_by_reading, content[:stop])) for stop in places
-    ]
+    lists = partial(program.run, "list")
+    runs = [(partial(in_pieces, lists, content[:stop]), partial(judged_by_reading, content[:stop])) for stop in places]
     check_runs(results, "list, a pipe that is cut", runs)
 
 
-def in_pieces(program, content):
-    """The answer to `list` of bytes that come through a pipe in pieces."""
+def in_pieces(run, content, size=97):
+    """The answer of a run to bytes that come through a pipe in pieces of so many."""
     reader, writer = os.pipe()
-    feeder = threading.Thread(target=feed, args=(writer, content))
+    feeder = threading.Thread(target=feed, args=(writer, content, size))
     feeder.start()
-    answer = program.run("list", stdin=reader)
+    answer = run(stdin=reader)
     os.close(reader)
     feeder.join()
     return answer
 
 
-def feed(writer, content):
-    """Writes bytes into a pipe in pieces, and closes it."""
+def feed(writer, content, size):
+    """Writes bytes into a pipe in pieces of so many, and closes it."""
     with open(writer, "wb", buffering=0) as pipe:
-        for start in range(0, len(content), 97):
-            pipe.write(content[start : start + 97])
+        for start in range(0, len(content), size):
+            pipe.write(content[start : start + size])
 
 
 def judged_by_reading(content, answer):
