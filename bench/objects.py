@@ -3,9 +3,9 @@
 
 usage: python3 bench/objects.py FOLDER [topics | project]
 
-FOLDER keeps the repository, of bench/topics.py, or of bench/project.py, in which files change too, as Git packs it with
-`git repack -adf`, and the stream of its commits; making them takes some minutes, and the second needs 3 GB. It prints how many
-commits are deltas in the pack, and how long their chains are at most and on average.
+FOLDER keeps the repository, of bench/topics.py, or of bench/project.py, with messages as those of real histories, as Git packs
+it with `git repack -adf`, and the stream of its commits; making them takes some minutes. It prints how many commits are deltas
+in the pack, and how long their chains are at most and on average.
 
 Seconds of processor time: `historytool objects` beside the digest of the stream by the kit's sha1, in turn, beside the check
 of the graph alone, and beside `git cat-file`; of elapsed time: `cg_matches` over the same commits, through C

@@ -1,7 +1,8 @@
-"""A million commits of a project whose files change, with messages and people as those of real histories, as Git packs them.
+"""A million commits of a project, with messages and people as those of real histories, as Git packs them.
 
-Each commit changes a line of a file, or of a few. Messages are short or long, many have trailers, and some are those of
-merges, of tools that write the same text again and again, and of reverts: so Git finds delta chains, of commits too.
+Messages are short or long, many have trailers, and some are those of merges, of tools that write the same text again and
+again, and of reverts: so Git finds delta chains of commits. Each commit has a tree of its own, of one file, since nobody
+reads the trees here.
 """
 
 import os
@@ -17,10 +18,6 @@ from histories import repository, shapes
 
 COMMITS = 1_000_000
 SEED = 11
-FOLDERS = 24
-FILES = 24
-LINES = 40
-"""So many files in each of so many folders, with so many lines."""
 PEOPLE = 3000
 BRANCHES = 200
 """Commits are made on so many branches, whose names are used again."""
@@ -89,18 +86,12 @@ class Words:
 
 
 class Project:
-    """The commands by which `git fast-import` makes a history, with a message and a change of files for each commit."""
+    """The commands by which `git fast-import` makes a history, with a message and a tree for each commit."""
 
     def __init__(self, history):
         self.history, self.chance = history, random.Random(SEED)
         self.words = Words(self.chance)
-        self.paths = ["%s/%s.c" % (folder, name) for folder in self.names(FOLDERS) for name in self.names(FILES)]
-        self.lines = {path: [self.words.line(6) for _ in range(LINES)] for path in self.paths}
         self.branch_of, self.tips, self.next = {}, [None] * BRANCHES, 0
-
-    def names(self, count):
-        """So many different words."""
-        return sorted(self.chance.sample(self.words.words, count))
 
     def commands(self):
         """The commands, those of one commit after another."""
@@ -114,11 +105,10 @@ class Project:
         message, wrote = self.message(place, commit, author, committer), commit.time - self.chance.randrange(100_000)
         goes_on, start = self.start(place, commit)
         lines = [*start, "author %s %d %s" % (author, wrote, self.zone(author))]
-        lines += ["committer %s %d %s" % (committer, commit.time, self.zone(committer)), "data %d" % len(message), message]
+        lines += ["committer %s %d %s" % (committer, commit.time, self.zone(committer)), *data(message)]
         words = [("merge" if number else "from", parent) for number, parent in enumerate(commit.parents)]
         lines += ["%s :%d" % (word, parent + 1) for word, parent in words[goes_on:]]
-        paths = self.paths if not commit.parents else self.chance.sample(self.paths, self.chance.choice((1, 1, 1, 1, 2, 3)))
-        return "\n".join(lines + [line for path in paths for line in self.change(path)] + [""]).encode()
+        return "\n".join([*lines, "deleteall", "M 100644 inline file-%d" % place, *data(""), ""]).encode()
 
     def start(self, place, commit):
         """Whether a branch goes on, since the first parent is its tip; and the lines of the branch and of the mark."""
@@ -152,12 +142,10 @@ class Project:
             text += "\n" + "".join("Signed-off-by: %s\n" % signer for signer in signers)
         return text
 
-    def change(self, path):
-        """The lines that change a line of a file."""
-        lines = self.lines[path]
-        lines[self.chance.randrange(LINES)] = self.words.line(self.chance.randint(3, 9))
-        content = "\n".join(lines) + "\n"
-        return ["M 100644 inline " + path, "data %d" % len(content), content]
+
+def data(text):
+    """The lines that give a text."""
+    return ["data %d" % len(text), text]
 
 
 def tips(history):

@@ -18,6 +18,16 @@ fn a_stream_that_git_wrote_matches(rt: HostRuntime) {
     }
 }
 
+/// All of a short stream, and then its end.
+#[test]
+fn a_short_stream_is_read_at_once(rt: HostRuntime) {
+    let alloc = rt.alloc();
+    let graph = graph_of(&rt, alloc, &RECORDS, EMPTY_TREE);
+    let mut reader = Source::new(STREAM.as_bytes(), usize::MAX, None);
+    assert!(rt; answer_to(&rt, alloc, &graph, &mut reader, (0, 4)) == Ok(()));
+    assert!(rt; reader.reads == 2);
+}
+
 #[test]
 fn parts_of_a_stream_match_parts_of_the_graph(rt: HostRuntime) {
     let alloc = rt.alloc();
