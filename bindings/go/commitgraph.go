@@ -13,9 +13,11 @@ import "C"
 
 import (
 	"errors"
+	"io"
 	"os"
-	"path/filepath"
 	"runtime"
+	"strings"
+	"syscall"
 	"unicode/utf8"
 	"unsafe"
 )
@@ -58,59 +60,168 @@ type Layer struct {
 }
 
 // Open opens the graph at a path, of a file, of a folder with a chain or of an info folder, in most repositories
-// .git/objects/info, and checks it; with distinctIDs also that no id stands in two layers.
+// .git/objects/info, and checks it; with distinctIDs also that no id stands in two layers. Where the chain of an info folder cannot
+// be read, the error is the refusal of the folder's file, if it has one.
 func Open(path string, distinctIDs bool) (*Graph, error) {
-	if isFile(path) {
-		return openFile(path, distinctIDs)
+	known := &paths{asked: path}
+	defer known.free()
+	if !utf8.ValidString(path) {
+		known.root, known.asked = path, ""
 	}
-	if isFile(filepath.Join(path, "commit-graph-chain")) {
-		return openChain(path, distinctIDs)
-	}
-	graph, err := openFile(filepath.Join(path, "commit-graph"), distinctIDs)
+	raw, err := known.open(known.asked, C.CG_ANYTHING)
 	var refused *Error
-	settled := errors.As(err, &refused) && (refused.Code > 300 || refused.Code == C.CG_OUT_OF_MEMORY)
-	if err == nil || settled {
-		return graph, err
+	if file := known.file(); err != nil && !errors.As(err, &refused) && file != nil {
+		raw, err = known.open(file.path, C.CG_FILE)
 	}
-	chain := filepath.Join(path, "commit-graphs")
-	if refused != nil && !isFile(filepath.Join(chain, "commit-graph-chain")) {
-		return nil, err
-	}
-	return openChain(chain, distinctIDs)
-}
-
-func isFile(path string) bool {
-	status, err := os.Stat(path)
-	return err == nil && status.Mode().IsRegular()
-}
-
-func openFile(path string, distinctIDs bool) (*Graph, error) {
-	bytes, err := os.ReadFile(path)
 	if err != nil {
 		return nil, err
 	}
-	return OpenLayers([]Layer{{bytes, path}}, distinctIDs)
+	var verdict C.cg_verdict
+	var counts [1]C.cg_count
+	graph := &Graph{}
+	if code := C.cg_check(raw, C.bool(distinctIDs), &verdict, &counts[0], 0, &graph.raw); code != C.CG_OK {
+		return nil, &Error{Code: uint32(code), Layer: uint64(verdict.layer), Position: uint32(verdict.position)}
+	}
+	runtime.SetFinalizer(graph, (*Graph).Close)
+	return graph, nil
 }
 
-func openChain(folder string, distinctIDs bool) (*Graph, error) {
-	file := filepath.Join(folder, "commit-graph-chain")
-	text, err := os.ReadFile(file)
-	if err != nil {
-		return nil, err
+// paths are what is known of paths, which all begin at the root.
+type paths struct {
+	root, asked string
+	known       []*standing
+}
+
+// standing is what stands at a path, with a copy for C; and why a file was not read.
+type standing struct {
+	path string
+	raw  C.cg_known
+	err  error
+}
+
+func (p *paths) free() {
+	for _, it := range p.known {
+		C.free(unsafe.Pointer(it.raw.path))
+		C.free(unsafe.Pointer(it.raw.bytes))
 	}
-	var layers []Layer
+}
+
+// file is that of an info folder, if it was read.
+func (p *paths) file() *standing {
+	for _, it := range p.known {
+		if it.raw.kind == C.CG_READ && it.path != p.asked && strings.HasSuffix(it.path, "commit-graph") {
+			return it
+		}
+	}
+	return nil
+}
+
+func (p *paths) whole(path string) string {
+	switch {
+	case path == "":
+		return p.root
+	case p.root == "":
+		return path
+	}
+	return p.root + "/" + path
+}
+
+// open opens the graph at a path, by as many calls as there are paths of which the library has to know.
+func (p *paths) open(path string, place C.uint32_t) (C.cg_graph, error) {
+	for room := 4096; ; {
+		told, file, raw := p.ask(path, place, room)
+		switch {
+		case told.code == C.CG_OK:
+			return raw, nil
+		case uint64(told.length) > uint64(room):
+			room = int(told.length)
+		case told.code == C.CG_PATH_WANTED:
+			p.learn(file)
+		case told.code == C.CG_OPEN_NOTHING_FOUND:
+			return raw, &os.PathError{Op: "open", Path: p.whole(path), Err: os.ErrNotExist}
+		default:
+			return raw, p.refusal(told, file)
+		}
+	}
+}
+
+func (p *paths) ask(path string, place C.uint32_t, room int) (C.cg_path_error, string, C.cg_graph) {
+	asked, file := []byte(path), make([]byte, room)
+	known := C.calloc(C.size_t(len(p.known)+1), C.sizeof_cg_known)
+	if known == nil {
+		return C.cg_path_error{code: C.CG_OUT_OF_MEMORY}, "", C.cg_graph{}
+	}
+	defer C.free(known)
+	for number, it := range p.known {
+		unsafe.Slice((*C.cg_known)(known), len(p.known)+1)[number] = it.raw
+	}
+	var raw C.cg_graph
+	told := C.cg_open_known((*C.char)(unsafe.Pointer(at(asked))), C.size_t(len(asked)), place, (*C.cg_known)(known),
+		C.size_t(len(p.known)), (*C.char)(unsafe.Pointer(at(file))), C.size_t(room), &raw)
+	if uint64(told.length) < uint64(room) {
+		file = file[:told.length]
+	}
+	return told, string(file), raw
+}
+
+// learn looks what stands at a path; and, so that no layer is opened once for each one above it, where a chain file names layers.
+func (p *paths) learn(path string) {
+	text := p.look(path)
+	folder := strings.TrimSuffix(path, "commit-graph-chain")
+	if folder == path {
+		return
+	}
 	for _, line := range chainLines(text) {
-		if !utf8.ValidString(line) {
-			return nil, &Error{Code: C.CG_PATH_NOT_UTF8, Layer: uint64(len(layers)), Path: file}
-		}
-		path := filepath.Join(folder, "graph-"+line+".graph")
-		bytes, err := os.ReadFile(path)
-		if err != nil {
-			return nil, err
-		}
-		layers = append(layers, Layer{bytes, path})
+		p.look(folder + "graph-" + line + ".graph")
 	}
-	return OpenLayers(layers, distinctIDs)
+}
+
+// look looks what stands at a path, and answers the bytes of a file.
+func (p *paths) look(path string) []byte {
+	bytes, kind, err := read(p.whole(path))
+	if errors.Is(err, syscall.ENOMEM) {
+		kind = C.CG_NO_MEMORY
+	}
+	raw := C.cg_known{path: (*C.char)(C.CBytes([]byte(path))), path_len: C.size_t(len(path)), kind: kind}
+	raw.bytes, raw.len = (*C.uint8_t)(C.CBytes(bytes)), C.size_t(len(bytes))
+	p.known = append(p.known, &standing{path, raw, err})
+	return bytes
+}
+
+func read(path string) ([]byte, C.uint32_t, error) {
+	status, err := os.Stat(path)
+	if err != nil {
+		return nil, C.CG_NOTHING, err
+	}
+	if status.IsDir() {
+		return nil, C.CG_FOLDER, &os.PathError{Op: "read", Path: path, Err: syscall.EISDIR}
+	}
+	file, err := os.Open(path)
+	if err != nil {
+		return nil, C.CG_UNOPENED, err
+	}
+	defer file.Close()
+	bytes, err := io.ReadAll(file)
+	if err != nil {
+		return nil, C.CG_UNREAD, err
+	}
+	return bytes, C.CG_READ, nil
+}
+
+// refusal says why no graph was opened; the file was the last that was to be read.
+func (p *paths) refusal(told C.cg_path_error, file string) error {
+	if told.code == C.CG_OPEN_NOT_OPENED || told.code == C.CG_OPEN_READ_FAILED {
+		for _, it := range p.known {
+			if it.path == file && it.err != nil {
+				return it.err
+			}
+		}
+	}
+	err := &Error{Code: uint32(told.code), Layer: uint64(told.layer)}
+	if told.code < C.CG_GRAPH_NO_FILES && told.code != C.CG_OUT_OF_MEMORY {
+		err.Path = p.whole(file)
+	}
+	return err
 }
 
 // chainLines are the lines of a chain file, each of which names a layer.

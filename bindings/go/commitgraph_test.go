@@ -197,6 +197,72 @@ func TestAChain(t *testing.T) {
 	r.asked(filepath.Join(r.info, "commit-graphs"))
 }
 
+// What stands at a path is opened as the programs open it; and what is told where nothing is.
+func TestPaths(t *testing.T) {
+	r := made(t)
+	for _, commit := range []string{r.ids[4], r.ids[7]} {
+		r.git("update-ref", "refs/heads/main", commit)
+		r.git("commit-graph", "write", "--reachable", "--split=no-merge")
+	}
+	chain, file := filepath.Join(r.info, "commit-graphs"), filepath.Join(r.info, "commit-graph")
+	named := filepath.Join(chain, "commit-graph-chain")
+	lines, err := os.ReadFile(named)
+	if err != nil {
+		t.Fatal(err)
+	}
+	lowest := filepath.Join(chain, "graph-"+strings.Fields(string(lines))[0]+".graph")
+	low, err := os.ReadFile(lowest)
+	if err != nil {
+		t.Fatal(err)
+	}
+	write := func(path string, bytes []byte) {
+		if err := os.WriteFile(path, bytes, 0o644); err != nil {
+			t.Fatal(err)
+		}
+	}
+	length := func(path string) uint32 {
+		graph, err := Open(path, false)
+		if err != nil {
+			t.Fatal(err)
+		}
+		defer graph.Close()
+		return graph.Len()
+	}
+	whole := length(r.info)
+	write(file, []byte("CGPH"))
+	if length(r.info) != whole {
+		t.Error("a refused file stands before the chain")
+	}
+	write(file, low)
+	if length(r.info) >= whole {
+		t.Error("the chain stands before the file")
+	}
+	write(file, append(low[:len(low)-1:len(low)-1], low[len(low)-1]^1))
+	_, err = Open(r.info, false)
+	r.refused(err, 341, 0, 0)
+	write(named, append(lines, "\xff\n"...))
+	_, err = Open(chain, false)
+	r.refused(err, 24, 0, 0)
+	below := filepath.Join(r.at, "\xff")
+	if err := os.Rename(chain, below); err != nil {
+		t.Fatal(err)
+	}
+	_, err = Open(below, false)
+	r.refused(err, 24, 0, 0)
+	write(filepath.Join(below, "commit-graph-chain"), lines)
+	if length(below) != whole {
+		t.Error("a folder whose path is no text")
+	}
+	write(file, []byte("CGPH"))
+	_, err = Open(r.info, false)
+	r.refused(err, 101, 0, 0)
+	os.Remove(filepath.Join(below, filepath.Base(lowest)))
+	var failed *os.PathError
+	if _, err := Open(below, false); !errors.As(err, &failed) || filepath.Base(failed.Path) != filepath.Base(lowest) {
+		t.Error(err)
+	}
+}
+
 func TestWriting(t *testing.T) {
 	r := made(t)
 	r.git("commit-graph", "write", "--reachable")

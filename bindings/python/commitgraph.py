@@ -10,8 +10,11 @@ It calls libcommitgraph.so.0, which is looked for in the folder that COMMITGRAPH
 
 import ctypes
 import enum
+import errno
+import io
 import os
 import pathlib
+import stat
 from collections.abc import Iterator, Sequence
 from ctypes import POINTER, c_bool, c_size_t, c_uint8, c_uint32, c_uint64, c_void_p
 from itertools import islice
@@ -233,6 +236,14 @@ class _Error(ctypes.Structure):
     _fields_ = (("code", c_uint32), ("layer", c_uint64))
 
 
+class _Known(ctypes.Structure):
+    _fields_ = (("path", c_void_p), ("path_len", c_size_t), ("bytes", c_void_p), ("len", c_size_t), ("kind", c_uint32))
+
+
+class _PathError(ctypes.Structure):
+    _fields_ = (("code", c_uint32), ("layer", c_uint64), ("length", c_uint64))
+
+
 class _Verdict(ctypes.Structure):
     _fields_ = (
         *((name, c_uint32) for name in ("code", "num_commits", "longest", "has_longest", "position", "other", "called")),
@@ -293,6 +304,11 @@ class _Line(ctypes.Structure):
 CALLS = {
     "cg_version": (c_uint32, ()),
     "cg_open_checked": (_Error, (POINTER(_File), c_size_t, c_bool, POINTER(_Verdict), c_void_p, c_size_t, POINTER(_Graph))),
+    "cg_open_known": (
+        _PathError,
+        (c_void_p, c_size_t, c_uint32, POINTER(_Known), c_size_t, c_void_p, c_size_t, POINTER(_Graph)),
+    ),
+    "cg_check": (c_uint32, (_Graph, c_bool, POINTER(_Verdict), c_void_p, c_size_t, POINTER(_Graph))),
     "cg_close": (c_bool, (_Graph,)),
     "cg_num_commits": (c_uint32, (_Graph,)),
     "cg_id_len": (c_size_t, (_Graph,)),
@@ -374,6 +390,17 @@ class Graph:
             layer = verdict.layer
             named = layers[layer][1] if error.code < Code.GRAPH_NO_FILES and layer < len(layers) else ""
             raise Error(error.code, layer, verdict.position, named)
+
+    @classmethod
+    def _checked(cls, opened: _Graph, distinct_ids: bool) -> "Graph":
+        """The graph that was opened, which is checked, and closed where it is refused."""
+        graph = cls.__new__(cls)
+        graph._graph = _Graph(None, False)
+        verdict, counts = _Verdict(), (c_uint32 * 2)()
+        code = _library.cg_check(opened, distinct_ids, verdict, counts, 0, graph._graph)
+        if code:
+            raise Error(code, verdict.layer, verdict.position)
+        return graph
 
     def close(self) -> None:
         """Frees the graph, which answers nothing after that."""
@@ -546,28 +573,98 @@ def chain_lines(text: bytes) -> Iterator[bytes]:
         start = line.next
 
 
+ANYTHING, FILE = 0, 1
+"""What a path is taken for, as commitgraph.h has it."""
+
+NOTHING, READ, FOLDER, UNOPENED, UNREAD, NO_MEMORY = range(6)
+"""What stands at a path, as commitgraph.h has it."""
+
+
+class _Standing:
+    """What stands at a path that the library names: a file is read whole, or it is kept why it was not."""
+
+    def __init__(self, root: bytes, path: bytes) -> None:
+        self.path, self.kind, self.data = path, NOTHING, b""
+        whole = os.path.join(root, path) if path else root
+        self.error: OSError = IsADirectoryError(errno.EISDIR, os.strerror(errno.EISDIR), os.fsdecode(whole))
+        try:
+            if stat.S_ISDIR(os.stat(whole).st_mode):
+                self.kind = FOLDER
+                return
+            self.kind = UNOPENED
+            with io.open(whole, "rb") as file:
+                self.kind = UNREAD
+                self.data = file.read()
+                self.kind = READ
+        except MemoryError:
+            self.kind = NO_MEMORY
+        except ValueError:
+            self.error = FileNotFoundError(errno.ENOENT, os.strerror(errno.ENOENT), os.fsdecode(whole))
+        except OSError as error:
+            self.kind, self.error = NO_MEMORY if error.errno == errno.ENOMEM else self.kind, error
+
+    def lent(self) -> _Known:
+        return _Known(_at(self.path), len(self.path), _at(self.data), len(self.data), self.kind)
+
+
+def _is_text(name: bytes) -> bool:
+    try:
+        name.decode("utf-8")
+    except UnicodeDecodeError:
+        return False
+    return True
+
+
+def _opened(root: bytes, asked: bytes, place: int, known: list[_Standing]) -> _Graph:
+    """The graph at a path, by as many calls as there are paths of which the library has to know. They begin at the root."""
+    room = ctypes.create_string_buffer(4096)
+    while True:
+        lent, graph = (_Known * (len(known) + 1))(*(it.lent() for it in known)), _Graph(None, False)
+        told = _library.cg_open_known(_at(asked), len(asked), place, lent, len(known), room, len(room), graph)
+        if told.code == Code.OK:
+            return graph
+        if told.length > len(room):
+            room = ctypes.create_string_buffer(told.length)
+        elif told.code == Code.PATH_WANTED:
+            known += _learnt(root, room.raw[: told.length])
+        else:
+            file = asked if told.code == Code.OPEN_NOTHING_FOUND else room.raw[: told.length]
+            raise _refusal(told, root, file, known)
+
+
+def _learnt(root: bytes, path: bytes) -> Iterator[_Standing]:
+    """What stands at a path; and, so that no layer is opened once for each one above it, where a chain file names layers."""
+    found = _Standing(root, path)
+    yield found
+    folder = path.removesuffix(b"commit-graph-chain")
+    for name in chain_lines(found.data) if folder != path else ():
+        yield _Standing(root, folder + b"graph-" + name + b".graph")
+
+
+def _refusal(told: _PathError, root: bytes, path: bytes, known: list[_Standing]) -> Exception:
+    """Why no graph was opened, and the path of the file that it is about."""
+    whole = os.fsdecode(os.path.join(root, path) if path else root)
+    if told.code in (Code.OPEN_NOTHING_FOUND, Code.OPEN_NOT_OPENED, Code.OPEN_READ_FAILED):
+        said = (it.error for it in known if it.path == path)
+        return next(said, FileNotFoundError(errno.ENOENT, os.strerror(errno.ENOENT), whole))
+    is_of_file = told.code < Code.GRAPH_NO_FILES and told.code != Code.OUT_OF_MEMORY
+    return Error(told.code, told.layer, path=whole if is_of_file else "")
+
+
 def open(path: str | os.PathLike[str], distinct_ids: bool = False) -> Graph:
     """Opens the graph at a path, of a file, of a folder with a chain or of an info folder, and checks it.
 
-    OSError is raised where a file cannot be read, and Error where the graph is refused."""
-    at = pathlib.Path(path)
-    if at.is_file():
-        return Graph([(at.read_bytes(), str(at))], distinct_ids)
-    if (at / "commit-graph-chain").is_file():
-        return _open_chain(at, distinct_ids)
-    file, chain = at / "commit-graph", at / "commit-graphs"
-    if not file.is_file():
-        return _open_chain(chain, distinct_ids)
+    OSError is raised where a file cannot be read, and Error where the graph is refused. Where the chain of an info folder cannot
+    be read, it is the refusal of the folder's file, if it has one."""
+    root, asked = b"", os.fsencode(path)
+    if not _is_text(asked):
+        root, asked = asked, b""
+    known: list[_Standing] = []
     try:
-        return open(file, distinct_ids)
-    except Error as error:
-        settled = error.code >= Code.CHECK_TOO_MANY_FILES or error.code == Code.OUT_OF_MEMORY
-        if settled or not (chain / "commit-graph-chain").is_file():
+        opened = _opened(root, asked, ANYTHING, known)
+    except OSError:
+        file = next((it.path for it in known if it.path != asked and it.path.endswith(b"commit-graph") and it.kind == READ), None)
+        if file is None:
             raise
-    return _open_chain(chain, distinct_ids)
-
-
-def _open_chain(folder: pathlib.Path, distinct_ids: bool) -> Graph:
-    names = [line.decode() for line in chain_lines((folder / "commit-graph-chain").read_bytes())]
-    paths = [folder / f"graph-{name}.graph" for name in names]
-    return Graph([(path.read_bytes(), str(path)) for path in paths], distinct_ids)
+        opened = _opened(root, file, FILE, known)
+    return Graph._checked(opened, distinct_ids)

@@ -130,6 +130,38 @@ class OverGit(unittest.TestCase):
                 self.asked(graph)
                 self.many(graph)
 
+    def test_paths(self) -> None:
+        """What stands at a path is opened as the programs open it; and what is told where nothing is."""
+        for commit in (self.ids[4], self.ids[-1]):
+            self.git("update-ref", "refs/heads/main", commit)
+            self.git("commit-graph", "write", "--reachable", "--split=no-merge")
+        chain, file = self.info / "commit-graphs", self.info / "commit-graph"
+        lines, whole = (chain / "commit-graph-chain").read_bytes(), len(commitgraph.open(self.info))
+        for data in (b"", b"CGPH"):
+            file.write_bytes(data)
+            self.assertEqual(len(commitgraph.open(self.info)), whole)
+        low = chain / f"graph-{lines.split()[0].decode()}.graph"
+        file.write_bytes(low.read_bytes())
+        self.assertLess(len(commitgraph.open(self.info)), whole)
+        file.write_bytes(low.read_bytes()[:-1] + b"\7")
+        self.refused(Code.CHECK_CHECKSUM, lambda: commitgraph.open(self.info))
+        (chain / "commit-graph-chain").write_bytes(lines + b"\xff\n")
+        self.refused(Code.OPEN_CHAIN_NOT_TEXT, lambda: commitgraph.open(chain), layer=2)
+        named = os.fsencode(self.folder.name) + b"/\xff"
+        os.rename(self.info, named)
+        (pathlib.Path(os.fsdecode(named)) / "commit-graph").unlink()
+        self.refused(Code.OPEN_CHAIN_NOT_TEXT, lambda: commitgraph.open(os.fsdecode(named)), layer=2)
+        (pathlib.Path(os.fsdecode(named)) / "commit-graphs/commit-graph-chain").write_bytes(lines)
+        self.assertEqual(len(commitgraph.open(os.fsdecode(named))), whole)
+        low = pathlib.Path(os.fsdecode(named)) / "commit-graphs" / low.name
+        low.unlink()
+        with self.assertRaises(FileNotFoundError) as raised:
+            commitgraph.open(os.fsdecode(named))
+        self.assertEqual(raised.exception.filename, os.fsencode(low))
+        (pathlib.Path(os.fsdecode(named)) / "commit-graphs/commit-graph-chain").unlink()
+        (pathlib.Path(os.fsdecode(named)) / "commit-graph").write_bytes(b"CGPH")
+        self.refused(Code.FILE_TOO_SHORT, lambda: commitgraph.open(os.fsdecode(named)))
+
     def test_refusals(self) -> None:
         self.git("commit-graph", "write", "--reachable")
         data = (self.info / "commit-graph").read_bytes()

@@ -645,9 +645,12 @@ def by_cmake(compiler, prefix, scratch, graph, commit):
 
 def python(library):
     """The module for Python: its tests, over the shared library."""
+    if sys.version_info < (3, 10):
+        print("Python: left out, since it is older than 3.10")
+        return
     tests = TOP / "bindings/python/test_commitgraph.py"
     done = run(sys.executable, "-B", tests, env={**os.environ, "COMMITGRAPH_LIB": str(library.parent)})
-    expect("Python: tests", done.returncode == 0 and "Ran 5 tests" in done.stderr, done)
+    expect("Python: tests", done.returncode == 0 and "Ran 6 tests" in done.stderr, done)
 
 
 def parts(archive, scratch, graphs):

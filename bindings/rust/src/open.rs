@@ -151,13 +151,17 @@ impl Standing {
     fn at(path: &Path) -> Standing {
         match std::fs::metadata(path) {
             Ok(told) if told.is_dir() => Standing::Folder,
-            Ok(_) => File::open(path).map_or_else(Standing::NotOpened, Standing::of),
-            Err(error) if error.kind() == ErrorKind::OutOfMemory => Standing::NoMemory,
-            Err(error) => Standing::Nothing(error),
+            Ok(_) => File::open(path).map_or_else(|error| Standing::failed(error, Standing::NotOpened), Standing::of),
+            Err(error) => Standing::failed(error, Standing::Nothing),
         }
     }
 
-    /// What an open file has. That there is no memory for it says nothing of the file.
+    /// What an error of the system says of a file. Want of memory says nothing of the file.
+    fn failed(error: io::Error, told: fn(io::Error) -> Standing) -> Standing {
+        if error.kind() == ErrorKind::OutOfMemory { Standing::NoMemory } else { told(error) }
+    }
+
+    /// What an open file has.
     fn of(mut file: File) -> Standing {
         let mut bytes = Vec::new();
         let expected = file.metadata().map_or(0, |told| told.len());
@@ -166,8 +170,7 @@ impl Standing {
         }
         match file.read_to_end(&mut bytes) {
             Ok(_) => Standing::File(bytes),
-            Err(error) if error.kind() == ErrorKind::OutOfMemory => Standing::NoMemory,
-            Err(error) => Standing::NotRead(error),
+            Err(error) => Standing::failed(error, Standing::NotRead),
         }
     }
 }
