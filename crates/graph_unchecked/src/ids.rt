@@ -32,7 +32,7 @@ pub(crate) fn read_ids<T: Folder>(
     let mut ids = Vec::new(alloc);
     for pos in positions {
         let id = read_id(alloc, folder, parts, *pos)?;
-        ids.push(id)?;
+        ids.push(id).map_err(|_| Unread::OutOfMemory)?;
     }
     Ok(ids)
 }

@@ -100,7 +100,7 @@ fn find_others<T: Folder>(
         let Some(pos) = find(alloc, folder, parts, id.as_oid())? else {
             return Ok(Among::Missing(place as u64 + 2));
         };
-        found.push(pos)?;
+        found.push(pos).map_err(|_| Unread::OutOfMemory)?;
     }
     Ok(Among::Known(found))
 }
