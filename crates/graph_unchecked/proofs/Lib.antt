@@ -1,3 +1,6 @@
 pub mod FieldLemmas
 pub mod SourceLemmas
 pub mod SearchLemmas
+pub mod IdLemmas
+pub mod PartLookupLemmas
+pub mod RightAnswerLemmas

@@ -1,86 +1,128 @@
 -- what a search over parts of a known tree answers
-use Rattle.std.proofs.Common.{◌≡◌, ℕ, List, Bool, IsTrue, Option, Some, None, Result, Ok, Err, IfOk, refl, subst}
+use Rattle.std.proofs.Common.{◌≡◌, ℕ, ◌*◌, ◌<◌, ◌≤◌, List, All, Bool, IsTrue, Option, Some, None, Result, Ok, Err, IfOk, Vec, refl}
+use Rattle.std.proofs.Common.{sym, subst}
+use Rattle.std.specs.Global.{Global}
 use Rattle.graph_folder.specs.Tree.{Tree}
 use Rattle.graph_walks.specs.Walks.{CountWalks, Reaches}
 use Rattle.graph_format.specs.Layer.{Layer}
-use Rattle.gix_commitgraph.specs.Graph.{IsGraph}
-use Rattle.gix_commitgraph.specs.GraphLookup.{FoundIn}
-use Rattle.gix_commitgraph.specs.OpenAlways.{IsFromPath}
+use Rattle.graph_format.specs.StoredHistory.{history_of}
+use Rattle.graph_format.specs.declared.Position.{Position}
+use Rattle.gix_commitgraph.specs.Graph.{IsGraph, total}
+use Rattle.gix_commitgraph.specs.IdWalks.{ids_at}
 use Rattle.graph_ancestors.specs.Source.{Told, told_of}
+use Rattle.graph_ancestors.specs.WalkAnswer.{IsAnswer, IsAnyAnswer, numbers_of}
+use Rattle.graph_ancestors.specs.declared.Reached.{Reached}
+use Rattle.graph_history.specs.Bases.{IsCommonAncestor}
+use Rattle.graph_history.specs.Comparison.{IsComparisonIn}
+use Rattle.graph_history.specs.declared.bases.Comparison.{Comparison}
 use Rattle.graph_parts.specs.OfTree.{AreOfTree}
-use Rattle.graph_parts.specs.PathOpening.{opened_at}
-use Rattle.graph_parts.specs.Shown.{ArePartsOf, SeesMore, Shows, files_of}
+use Rattle.graph_parts.specs.Shown.{AreGraphParts, Shows, files_of}
 use Rattle.graph_parts.specs.declared.parts.GraphParts.{GraphParts}
-use Rattle.graph_parts.proofs.TreeLemmas.{same-shown, seen-more, seen-shown, shown-seen}
-use Rattle.graph_unchecked.specs.PartSource.{PartsTell}
-use Rattle.graph_unchecked.specs.Unchecked.{IsAnswerAt, IsFoundBetween, IsToldUnchecked}
-use Rattle.graph_unchecked.specs.declared.between.Between.TheVariants.{FirstMissing, SecondMissing, Known}
+use Rattle.graph_parts.proofs.TreeLemmas.{same-shown, shown-seen}
+use Rattle.graph_unchecked.specs.PartSearches.{AreBasesUnchecked, IsStepsUnchecked}
+use Rattle.graph_unchecked.specs.PartSource.{PartsTell, ReadsOn}
+use Rattle.graph_unchecked.specs.Unchecked.{IsComparedUnchecked, IsToldUnchecked, IsWalkUnchecked}
+use Rattle.graph_unchecked.specs.declared.among.IdComparison.{IdComparison}
 
--- the layers that were shown before are shown after, and tell
+-- the layers that were shown before are shown after
+pub shows-after : (known : Option Tree) (tree : Tree) → known ≡ Some tree → (old new : GraphParts) (layers : List Layer)
+    → files_of new ≡ files_of old → AreOfTree known new → Shows known old layers → Shows known new layers
+shows-after known tree is old new layers same of shows =
+    let at = shown-seen known tree is new of in
+    let one : at.0 ≡ layers = same-shown known tree is new old at.0 layers same at.1 shows in
+    subst (Shows known new) one at.1
+
+-- and tell
 pub tells-after : (known : Option Tree) (tree : Tree) → known ≡ Some tree → (old new : GraphParts) (layers : List Layer)
     → files_of new ≡ files_of old → AreOfTree known new → Shows known old layers → IsGraph layers
     → PartsTell known new (told_of layers)
-tells-after known tree is old new layers same of shows graph =
-    let at = shown-seen known tree is new of in
-    let one : at.0 ≡ layers = same-shown known tree is new old at.0 layers same at.1 shows in
-    record { layers = layers; shows = subst (Shows known new) one at.1; graph = graph; told = refl }
-
-pub told-unchecked : {E : Type 0} (known : Option Tree) (new : GraphParts) (layers : List Layer) (first second : ℕ)
-    (r : Result Bool E) → PartsTell known new (told_of layers)
-    → IfOk r (λ found. (t : Told) → PartsTell known new t → IsTrue found → Reaches t.history second first)
-    → IfOk r (λ found. (t : Told) → PartsTell known new t → CountWalks t.history → Reaches t.history second first → IsTrue found)
-    → IfOk r (IsToldUnchecked layers first second)
-told-unchecked known new layers first second (Ok found) tells there all = record {
-  there = there (told_of layers) tells;
-  all = all (told_of layers) tells;
+tells-after known tree is old new layers same of shows graph = record {
+  layers = layers;
+  shows = shows-after known tree is old new layers same of shows;
+  graph = graph;
+  told = refl;
 }
-told-unchecked known new layers first second (Err e) tells there all = tt
 
--- what is answered of the graph that was opened
-module _ (known : Option Tree) (tree : Tree) (is : known ≡ Some tree) (path first second : List ℕ) (opened : GraphParts)
-    (of : ArePartsOf known (λ (t : Tree). opened_at t path) (IsFromPath path) opened) where
-  pub answer-opened : {A : Type 0} (IsSo : List Layer → A → Type 0) (answer : A)
-      → ((layers : List Layer) → Shows known opened layers → IsGraph layers → IsSo layers answer)
-      → IsAnswerAt tree path IsSo answer
-  answer-opened IsSo answer so =
-      let at = of.each of.some.0 of.some.1 in
+-- more was read by a search
+pub reads-after : (known now : Option Tree) → now ≡ known → (old new later : GraphParts) → AreGraphParts new
+    → files_of new ≡ files_of old → AreOfTree now new → ((t : Told) → PartsTell now new t → PartsTell known old t)
+    → later ≡ new → ReadsOn known old later
+reads-after known now is old new later right same of kept ends =
+    let reads : ReadsOn known old new =
+    record {
+      right = right;
+      same = same;
+      of = λ before. subst (λ (k : Option Tree). AreOfTree k new) is of;
+      kept = subst (λ (k : Option Tree). (t : Told) → PartsTell k new t → PartsTell known old t) is kept;
+    } in
+    subst (ReadsOn known old) (sym ends) reads
+
+module _ (known : Option Tree) (new : GraphParts) (layers : List Layer) (tells : PartsTell known new (told_of layers))
+    (first : ℕ) where
+  pub told-unchecked : {E : Type 0} (second : ℕ) (r : Result Bool E)
+      → IfOk r (λ found. (t : Told) → PartsTell known new t → IsTrue found → Reaches t.history second first)
+      → IfOk r (λ found. (t : Told) → PartsTell known new t → CountWalks t.history → Reaches t.history second first
+      → IsTrue found) → IfOk r (IsToldUnchecked layers first second)
+  told-unchecked second (Ok found) there all = record {
+    there = there (told_of layers) tells;
+    all = all (told_of layers) tells;
+  }
+  told-unchecked second (Err e) there all = tt
+
+  pub steps-unchecked : (second : ℕ) (reached : Reached)
+      → ((t : Told) → PartsTell known new t → IsAnyAnswer t.history first second reached)
+      → ((t : Told) → PartsTell known new t → CountWalks t.history → IsAnswer t.history first second reached)
+      → IsStepsUnchecked layers first second reached.walk
+  steps-unchecked second reached answer right = record {
+    there = (answer (told_of layers) tells).walk;
+    shortest = λ counts. (right (told_of layers) tells counts).walk;
+    none = λ counts. (right (told_of layers) tells counts).none;
+  }
+
+  pub bases-unchecked : {E : Type 0} (others : List ℕ) (count : ℕ) → count ≡ total layers → (r : Result Comparison E)
+      → IfOk r (λ found. All (λ (base : Position). base.0 < count) found.bases.positions.items)
+      → IfOk r (λ found. found.bases.visits ≤ 3 * count)
+      → IfOk r (λ found. (t : Told) → PartsTell known new t
+      → All (λ (base : Position). IsCommonAncestor t.history first others base.0) found.bases.positions.items)
+      → IfOk r (λ found. (t : Told) → PartsTell known new t → CountWalks t.history
+      → IsComparisonIn t.history first others found) → IfOk r (AreBasesUnchecked layers first others)
+  bases-unchecked others count is (Ok found) within visits common exact = record {
+    within = subst (λ (n : ℕ). All (λ (base : Position). base.0 < n) found.bases.positions.items) is within;
+    common = common (told_of layers) tells;
+    visits = subst (λ (n : ℕ). found.bases.visits ≤ 3 * n) is visits;
+    exact = exact (told_of layers) tells;
+  }
+  bases-unchecked others count is (Err e) within visits common exact = tt
+
+-- the same with the ids of the commits
+pub walk-of-ids : (layers : List Layer) (first second : ℕ) (walk : Vec Position Global) (ids : Vec (List ℕ) Global)
+    → IsStepsUnchecked layers first second (Some walk) → ids.items ≡ ids_at layers (numbers_of walk.items)
+    → IsWalkUnchecked layers first second (Some ids)
+walk-of-ids layers first second walk ids steps are = record {
+  there = (numbers_of walk.items, steps.there, are);
+  shortest = λ counts. (numbers_of walk.items, steps.shortest counts, are);
+  none = λ counts. tt;
+}
+
+pub no-walk : (layers : List Layer) (first second : ℕ) → IsStepsUnchecked layers first second None
+    → IsWalkUnchecked layers first second None
+no-walk layers first second steps = record { there = tt; shortest = λ counts. tt; none = steps.none }
+
+pub bases-with-ids : (layers : List Layer) (first : ℕ) (others : List ℕ) (comparison : Comparison) (ids : Vec (List ℕ) Global)
+    → AreBasesUnchecked layers first others comparison
+    → ids.items ≡ ids_at layers (numbers_of comparison.bases.positions.items)
+    → IsComparedUnchecked layers first others (record { comparison = comparison; base_ids = ids })
+bases-with-ids layers first others comparison ids bases are = record {
+  common = bases.common;
+  visits = bases.visits;
+  exact = λ counts.
+      let exact = bases.exact counts in
       record {
-        layers = of.some.0;
-        opens = at.opens tree is;
-        graph = at.graph;
-        so = so of.some.0 of.some.1 at.graph;
-      }
-
-  pub first-missing : (now : GraphParts) → SeesMore known opened now
-      → ((layers : List Layer) → Shows known now layers → FoundIn layers first None)
-      → IsAnswerAt tree path (IsFoundBetween IsToldUnchecked first second) FirstMissing
-  first-missing now sees found =
-      answer-opened (IsFoundBetween IsToldUnchecked first second) FirstMissing
-      (λ layers shows graph. found layers (sees.told tree is layers shows))
-
-  pub second-missing : (now later : GraphParts) (p : ℕ) → SeesMore known opened now → SeesMore known now later
-      → ((layers : List Layer) → Shows known now layers → FoundIn layers first (Some p))
-      → ((layers : List Layer) → Shows known later layers → FoundIn layers second None)
-      → IsAnswerAt tree path (IsFoundBetween IsToldUnchecked first second) SecondMissing
-  second-missing now later p sees more found missing =
-      answer-opened (IsFoundBetween IsToldUnchecked first second) SecondMissing
-      (λ layers shows graph.
-      let at = sees.told tree is layers shows in (p, found layers at, missing layers (more.told tree is layers at)))
-
-  pub both-told : (now later : GraphParts) (p q : ℕ) (told : Bool) → SeesMore known opened now → SeesMore known now later
-      → ((layers : List Layer) → Shows known now layers → FoundIn layers first (Some p))
-      → ((layers : List Layer) → Shows known later layers → FoundIn layers second (Some q))
-      → ((layers : List Layer) → Shows known later layers → IsGraph layers → IsToldUnchecked layers p q told)
-      → IsAnswerAt tree path (IsFoundBetween IsToldUnchecked first second) (Known told)
-  both-told now later p q told sees more found there so =
-      answer-opened (IsFoundBetween IsToldUnchecked first second) (Known told)
-      (λ layers shows graph.
-      let at = sees.told tree is layers shows in
-      let after = more.told tree is layers at in (p, q, found layers at, there layers after, so layers after graph))
-
--- parts of what was opened are of the tree
-pub opened-of : (known : Option Tree) (path : List ℕ) (opened now later : GraphParts)
-    → ArePartsOf known (λ (t : Tree). opened_at t path) (IsFromPath path) opened → SeesMore known opened now
-    → SeesMore known now later → AreOfTree known later
-opened-of known path opened now later of sees more =
-    seen-more known now later more (seen-more known opened now sees (seen-shown known opened of.some.0 of.some.1))
+        bases = exact.bases;
+        within = bases.within;
+        visits = exact.visits;
+        ahead = exact.ahead;
+        behind = exact.behind;
+      };
+  ids = are;
+}

@@ -1,12 +1,22 @@
 -- what is answered of commits of a graph that is not checked
-use Rattle.std.specs.Prelude.{◌≡◌, ℕ, List, Bool, IsTrue, Some, None, Ok}
-use Rattle.graph_walks.specs.Walks.{CountWalks, Reaches}
+use Rattle.std.specs.Prelude.{◌≡◌, ℕ, ◌+◌, ◌*◌, ◌≤◌, List, ◌∷◌, All, Bool, IsTrue, IfSome, IfNone, Option, Some, None, Ok, Vec}
+use Rattle.std.specs.Prelude.{slice_get, take}
+use Rattle.std.specs.Global.{Global}
+use Rattle.std.specs.List.{AllZip}
+use Rattle.graph_walks.specs.Walks.{CountWalks, IsWalkBetween, Reaches}
 use Rattle.graph_folder.specs.Tree.{Tree}
 use Rattle.graph_format.specs.Layer.{Layer}
 use Rattle.graph_format.specs.StoredHistory.{history_of}
-use Rattle.gix_commitgraph.specs.Graph.{IsGraph}
+use Rattle.gix_commitgraph.specs.Graph.{IsGraph, total}
 use Rattle.gix_commitgraph.specs.GraphLookup.{FoundIn}
+use Rattle.gix_commitgraph.specs.IdWalks.{ids_at}
+use Rattle.graph_ancestors.specs.WalkAnswer.{IsShortestWalk, numbers_of}
+use Rattle.graph_history.specs.Bases.{IsCommonAncestor}
+use Rattle.graph_history.specs.Comparison.{IsComparisonOf}
 use Rattle.graph_parts.specs.PathOpening.{opened_at}
+use Rattle.graph_unchecked.specs.declared.among.Among.{Among}
+use Rattle.graph_unchecked.specs.declared.among.Among.TheVariants.{Missing, Known as known_of_all}
+use Rattle.graph_unchecked.specs.declared.among.IdComparison.{IdComparison}
 use Rattle.graph_unchecked.specs.declared.between.Between.{Between}
 use Rattle.graph_unchecked.specs.declared.between.Between.TheVariants.{FirstMissing, SecondMissing, Known}
 
@@ -16,6 +26,24 @@ pub record IsToldUnchecked (layers : List Layer) (first second : ℕ) (told : Bo
   pub there : IsTrue told → Reaches (history_of layers) second first
   pub all : CountWalks (history_of layers) → Reaches (history_of layers) second first → IsTrue told
 
+-- The ids on a walk along parents from the first commit to the second: in any graph that is one, and where each generation
+-- number counts the commits of the longest walk it is a shortest one, and none is answered only where there is none.
+pub record IsWalkUnchecked (layers : List Layer) (first second : ℕ) (answer : Option (Vec (List ℕ) Global)) : Type 0 where
+  pub there : IfSome answer (λ ids.
+      (walk : List ℕ) × IsWalkBetween (history_of layers) first second walk × (ids.items ≡ ids_at layers walk))
+  pub shortest : CountWalks (history_of layers) → IfSome answer (λ ids.
+      (walk : List ℕ) × IsShortestWalk (history_of layers) first second walk × (ids.items ≡ ids_at layers walk))
+  pub none : CountWalks (history_of layers) → IfNone answer (¬ Reaches (history_of layers) first second)
+
+-- What the first commit and the others have in common, and the ids of the merge bases: in any graph each base is a common
+-- ancestor, and no commit is visited more than three times; where each generation number counts the commits of the longest walk,
+-- the bases, the numbers on one side alone and the visits are exact.
+pub record IsComparedUnchecked (layers : List Layer) (first : ℕ) (others : List ℕ) (answer : IdComparison) : Type 0 where
+  pub common : All (λ base. IsCommonAncestor (history_of layers) first others base.0) answer.comparison.bases.positions.items
+  pub visits : answer.comparison.bases.visits ≤ 3 * total layers
+  pub exact : CountWalks (history_of layers) → IsComparisonOf layers first others answer.comparison
+  pub ids : answer.base_ids.items ≡ ids_at layers (numbers_of answer.comparison.bases.positions.items)
+
 -- what is found of the commits with two ids: which of them a lookup does not find, or what is so of the commits that it finds
 abbrev pub IsFoundBetween : {A : Type 0} → (List Layer → ℕ → ℕ → A → Type 0) → List ℕ → List ℕ → List Layer → Between A → Type 0
 IsFoundBetween IsSo first second layers FirstMissing = FoundIn layers first None
@@ -23,6 +51,20 @@ IsFoundBetween IsSo first second layers SecondMissing =
     (p : ℕ) × FoundIn layers first (Some p) × FoundIn layers second None
 IsFoundBetween IsSo first second layers (Known answer) =
     (p q : ℕ) × FoundIn layers first (Some p) × FoundIn layers second (Some q) × IsSo layers p q answer
+
+-- a lookup finds an id at this position
+abbrev pub IsFoundAt : List Layer → List ℕ → ℕ → Type 0
+IsFoundAt layers id p = FoundIn layers id (Some p)
+
+-- what is found of the commits with some ids: the first of them that a lookup does not find, by its number, which is 1 for the
+-- first id; or what is so of the commits that it finds
+abbrev pub IsFoundAmong : {A : Type 0} → (List Layer → ℕ → List ℕ → A → Type 0) → List (List ℕ) → List Layer → Among A → Type 0
+IsFoundAmong IsSo ids layers (Missing number) =
+    (place : ℕ) × (number ≡ place + 1)
+    × All (λ id. (p : ℕ) × IsFoundAt layers id p) (take place ids)
+    × ((id : List ℕ) × (slice_get ids place ≡ Some id) × FoundIn layers id None)
+IsFoundAmong IsSo ids layers (known_of_all answer) =
+    (first : ℕ) × (others : List ℕ) × AllZip (IsFoundAt layers) ids (first ∷ others) × IsSo layers first others answer
 
 -- The answer is so of the graph that is opened at the path.
 pub record IsAnswerAt {A : Type 0} (tree : Tree) (path : List ℕ) (IsSo : List Layer → A → Type 0) (answer : A) : Type 0 where

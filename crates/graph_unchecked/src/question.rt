@@ -1,22 +1,19 @@
-//! Questions about the commits with two ids.
+//! Questions about commits, which are given by their ids.
 
-ghost use Rattle.std.specs.Prelude.{◌≡◌, ◌⊎◌, ◌<◌, ℕ, List, IfOk, IfSome, Err};
+ghost use Rattle.std.specs.Prelude.{◌≡◌, ◌⊎◌, ◌∷◌, IfOk, Err};
 ghost use Rattle.std.specs.Option.{ForSome};
 ghost use Rattle.gix_hash_core.specs.Oid.{oid_bytes};
-ghost use Rattle.graph_folder.specs.Tree.{Tree};
-ghost use Rattle.graph_format.specs.Layer.{Layer};
-ghost use Rattle.gix_commitgraph.specs.GraphLookup.{FoundIn, position_number};
-ghost use Rattle.graph_parts.specs.Shown.{AreGraphParts, SeesMore, Shows, commits_of_parts};
-ghost use Rattle.graph_unchecked.specs.Unchecked.{IsAnswerAt, IsFoundBetween, IsToldUnchecked};
+ghost use Rattle.graph_unchecked.specs.Unchecked.{IsAnswerAt, IsComparedUnchecked, IsFoundAmong};
+ghost use Rattle.graph_unchecked.specs.Unchecked.{IsFoundBetween, IsToldUnchecked};
+ghost use Rattle.graph_unchecked.specs.Unchecked.{IsWalkUnchecked};
 
+pub use crate::among::{Among, IdComparison};
 pub use crate::between::Between;
-use crate::search::leads;
+use crate::lookup::{find_among, find_both};
+use crate::search::{compared, leads, walk_ids};
 pub use crate::unread::Unread;
-use gix_commitgraph::Position;
-use gix_hash_core::oid;
+use gix_hash_core::{ObjectId, oid};
 use graph_folder::folder::Folder;
-use graph_parts::opening::open_parts;
-use graph_parts::parts::{GraphParts, Lookup};
 use std::alloc::Global;
 
 /// Whether the commit with the first id is an ancestor of the one with the second, or the same, in
@@ -47,7 +44,7 @@ pub fn is_ancestor<T: Folder>(
     ensures tree { T.tree folder.new ≡ T.tree folder.old }
 {
     let failures = folder.failures();
-    let answer = ask(alloc, folder, path, first, second);
+    let answer = ask_ancestor(alloc, folder, path, first, second);
     if folder.failures() == failures {
         answer
     } else {
@@ -55,8 +52,84 @@ pub fn is_ancestor<T: Folder>(
     }
 }
 
-/// The same, where the folder's count of failures is not looked at.
-fn ask<T: Folder>(
+/// The ids on a shortest walk along parents from the commit with the first id to the one with the
+/// second, both included, in the graph that the path opens; `None` where there is no walk. Its
+/// files are read by parts, as [`is_ancestor`] reads them. Which of several shortest walks is
+/// answered is left open.
+///
+/// The graph is not checked. In one that is right the answer is exact. In any other a walk that is
+/// answered is one along the parents that were read, but it need not be a shortest one, and `None`
+/// promises nothing.
+///
+/// # Errors
+///
+/// `Device` where a read failed, `OutOfMemory`, and `NotByParts` where the graph is to be opened
+/// whole and checked.
+pub fn ancestor_walk<T: Folder>(
+    alloc: Global,
+    folder: &mut T,
+    path: &str,
+    first: oid<'_>,
+    second: oid<'_>,
+) -> Result<Between<Option<Vec<ObjectId>>>, Unread>
+    ensures answer { ForSome (T.tree folder.old) (λ tree. IfOk result
+        (IsAnswerAt tree path.now (IsFoundBetween IsWalkUnchecked
+        (oid_bytes first.entry) (oid_bytes second.entry)))) }
+
+    // Where a device failed, nothing else is answered.
+    ensures failures { (result ≡ Err Unread.Device)
+        ⊎ (T.failure_count folder.new ≡ T.failure_count folder.old) }
+    ensures tree { T.tree folder.new ≡ T.tree folder.old }
+{
+    let failures = folder.failures();
+    let answer = ask_walk(alloc, folder, path, first, second);
+    if folder.failures() == failures {
+        answer
+    } else {
+        Err(Unread::Device)
+    }
+}
+
+/// The merge bases of the commit with the first id and those with the others, the least position
+/// first, and how far they have come apart, in the graph that the path opens. The bases are what
+/// `git merge-base --all FIRST OTHERS..` names. The files are read by parts, as [`is_ancestor`]
+/// reads them.
+///
+/// The graph is not checked. In one that is right the answer is exact. In any other each base is a
+/// common ancestor along the parents that were read, and nothing else is promised of the numbers
+/// but that no commit was visited more than three times.
+///
+/// # Errors
+///
+/// `Device` where a read failed, `OutOfMemory`, and `NotByParts` where the graph is to be opened
+/// whole and checked.
+pub fn compare<T: Folder>(
+    alloc: Global,
+    folder: &mut T,
+    path: &str,
+    first: oid<'_>,
+    others: &[ObjectId],
+) -> Result<Among<IdComparison>, Unread>
+    ensures answer { ForSome (T.tree folder.old) (λ tree. IfOk result
+        (IsAnswerAt tree path.now (IsFoundAmong IsComparedUnchecked
+        (oid_bytes first.entry ∷ others.now)))) }
+
+    // Where a device failed, nothing else is answered.
+    ensures failures { (result ≡ Err Unread.Device)
+        ⊎ (T.failure_count folder.new ≡ T.failure_count folder.old) }
+    ensures tree { T.tree folder.new ≡ T.tree folder.old }
+{
+    let failures = folder.failures();
+    let answer = ask_comparison(alloc, folder, path, first, others);
+    if folder.failures() == failures {
+        answer
+    } else {
+        Err(Unread::Device)
+    }
+}
+
+/// What `is_ancestor` answers, where the folder's count of failures is not looked at.
+fn ask_ancestor<T: Folder>(
     alloc: Global,
     folder: &mut T,
     path: &str,
@@ -68,39 +141,60 @@ fn ask<T: Folder>(
         (oid_bytes first.entry) (oid_bytes second.entry)))) }
     ensures tree { T.tree folder.new ≡ T.tree folder.old }
 {
-    let Some(mut parts) = open_parts(alloc, folder, path)? else {
-        return Err(Unread::NotByParts);
-    };
-    let Some(first) = find(alloc, folder, &mut parts, first)? else {
-        return Ok(Between::FirstMissing);
-    };
-    let Some(second) = find(alloc, folder, &mut parts, second)? else {
-        return Ok(Between::SecondMissing);
-    };
-    let told = leads(alloc, folder, &mut parts, first, second)?;
-    Ok(Between::Known(told))
+    let (mut parts, found) = find_both(alloc, folder, path, first, second)?;
+    match found {
+        Between::FirstMissing => Ok(Between::FirstMissing),
+        Between::SecondMissing => Ok(Between::SecondMissing),
+        Between::Known((first, second)) => {
+            let told = leads(alloc, folder, &mut parts, first, second)?;
+            Ok(Between::Known(told))
+        }
+    }
 }
 
-/// The position of an id.
-fn find<T: Folder>(
+/// What `ancestor_walk` answers, where the folder's count of failures is not looked at.
+fn ask_walk<T: Folder>(
     alloc: Global,
     folder: &mut T,
-    parts: &mut GraphParts,
-    id: oid<'_>,
-) -> Result<Option<Position>, Unread>
-    requires { AreGraphParts parts.old }
-    ensures parts { AreGraphParts parts.new }
-    ensures sees { SeesMore (T.tree folder.old) parts.old parts.new }
-    ensures within { IfOk result (λ answer. IfSome answer (λ pos.
-        pos.0 < commits_of_parts parts.old)) }
-    ensures found { IfOk result (λ answer. (layers : List Layer)
-        → Shows (T.tree folder.old) parts.new layers
-        → FoundIn layers (oid_bytes id.entry) (position_number answer)) }
+    path: &str,
+    first: oid<'_>,
+    second: oid<'_>,
+) -> Result<Between<Option<Vec<ObjectId>>>, Unread>
+    ensures answer { ForSome (T.tree folder.old) (λ tree. IfOk result
+        (IsAnswerAt tree path.now (IsFoundBetween IsWalkUnchecked
+        (oid_bytes first.entry) (oid_bytes second.entry)))) }
     ensures tree { T.tree folder.new ≡ T.tree folder.old }
 {
-    match parts.position_of(alloc, folder, id)? {
-        Lookup::Found(pos) => Ok(Some(pos)),
-        Lookup::Missing => Ok(None),
-        Lookup::NotByParts => Err(Unread::NotByParts),
+    let (mut parts, found) = find_both(alloc, folder, path, first, second)?;
+    match found {
+        Between::FirstMissing => Ok(Between::FirstMissing),
+        Between::SecondMissing => Ok(Between::SecondMissing),
+        Between::Known((first, second)) => {
+            let walk = walk_ids(alloc, folder, &mut parts, first, second)?;
+            Ok(Between::Known(walk))
+        }
+    }
+}
+
+/// What `compare` answers, where the folder's count of failures is not looked at.
+fn ask_comparison<T: Folder>(
+    alloc: Global,
+    folder: &mut T,
+    path: &str,
+    first: oid<'_>,
+    others: &[ObjectId],
+) -> Result<Among<IdComparison>, Unread>
+    ensures answer { ForSome (T.tree folder.old) (λ tree. IfOk result
+        (IsAnswerAt tree path.now (IsFoundAmong IsComparedUnchecked
+        (oid_bytes first.entry ∷ others.now)))) }
+    ensures tree { T.tree folder.new ≡ T.tree folder.old }
+{
+    let (mut parts, found) = find_among(alloc, folder, path, first, others)?;
+    match found {
+        Among::Missing(number) => Ok(Among::Missing(number)),
+        Among::Known((first, others)) => {
+            let comparison = compared(alloc, folder, &mut parts, first, &others)?;
+            Ok(Among::Known(comparison))
+        }
     }
 }

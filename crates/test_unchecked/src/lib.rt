@@ -2,4 +2,14 @@
 #![tactic(auto)]
 
 #[cfg(test)]
+mod damage;
+#[cfg(test)]
+mod exchange;
+#[cfg(test)]
+mod exchanged;
+#[cfg(test)]
+mod graphs;
+#[cfg(test)]
 mod questions;
+#[cfg(test)]
+mod searches;

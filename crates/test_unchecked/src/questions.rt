@@ -1,25 +1,9 @@
-//! Questions about the commits of small graphs, which are built from rows.
+//! Whether one commit is an ancestor of another.
 
-use gix_hash_core::{Kind, ObjectId, digest};
-use graph_folder::folder::Memory;
+use crate::graphs::{graphs, id_of};
 use graph_unchecked::question::{Between, Unread, is_ancestor};
-use graph_vectors::{Row, file_of_rows};
 use std::alloc::Global;
 use std::process::Abort;
-
-/// A root, two commits on it, and a merge of three.
-const LOWER: &[Row<'static>] = &[
-    (0x11, &[], 1),
-    (0x22, &[0], 2),
-    (0x33, &[0], 2),
-    (0x44, &[1, 2, 0], 3),
-];
-
-/// A layer over it: a commit on 0x33, and a merge of three.
-const UPPER: &[Row<'static>] = &[(0x15, &[2], 3), (0x55, &[4, 1, 0], 4)];
-
-/// A layer in which the parent of 0x22 is no commit of the graph.
-const WRONG: &[Row<'static>] = &[(0x11, &[], 1), (0x22, &[7], 2), (0x33, &[1], 3)];
 
 /// Each commit, and those which it leads to.
 const LEADS: &[(u8, &[u8])] = &[
@@ -30,44 +14,6 @@ const LEADS: &[(u8, &[u8])] = &[
     (0x15, &[0x11, 0x33, 0x15]),
     (0x55, &[0x11, 0x22, 0x33, 0x15, 0x55]),
 ];
-
-/// The text, in memory of its own.
-fn owned(rt: &impl Abort, alloc: Global, text: &str) -> String {
-    String::from_str(alloc, text).expect(rt, "memory")
-}
-
-/// The id that repeats a byte.
-fn id_of(byte: u8) -> ObjectId {
-    ObjectId::from([byte; 20])
-}
-
-/// A folder with the chain folder `i/commit-graphs` of both layers, the file `lower` and the file
-/// `wrong`.
-fn graphs(rt: &impl Abort, alloc: Global) -> Memory {
-    let mut memory = Memory::new(alloc);
-    let lower = file_of_rows(alloc, &[], LOWER).expect(rt, "a file");
-    let below = digest(Kind::Sha1, &lower[..lower.len().saturating_sub(20)]);
-    let upper = file_of_rows(alloc, &[below], UPPER).expect(rt, "a file");
-    let copy = Vec::from_slice(alloc, &lower).expect(rt, "memory");
-    let wrong = file_of_rows(alloc, &[], WRONG).expect(rt, "a file");
-    let chain = owned(rt, alloc, "a\nb\n").into_bytes();
-    let files = [
-        ("lower", copy),
-        ("wrong", wrong),
-        ("i/commit-graphs/graph-a.graph", lower),
-        ("i/commit-graphs/graph-b.graph", upper),
-        ("i/commit-graphs/commit-graph-chain", chain),
-    ];
-    for (path, bytes) in files {
-        memory
-            .put_file(owned(rt, alloc, path), bytes)
-            .expect(rt, "memory");
-    }
-    for path in ["i", "i/commit-graphs"] {
-        memory.put_dir(owned(rt, alloc, path)).expect(rt, "memory");
-    }
-    memory
-}
 
 /// Asks about each two of the commits of the graph at the path.
 fn expect_leads(rt: &impl Abort, alloc: Global, path: &str, commits: &[(u8, &[u8])]) {

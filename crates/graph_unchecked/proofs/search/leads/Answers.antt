@@ -13,7 +13,7 @@ returns-clause-told g c = λ tree is layers shows graph.
     let same : known ≡ g.T.Folder.tree c.args.folder.now = ap (λ (k : KnownParts). k.tree) c.is_ancestor.ensures.known in
     let files : files_of new.parts.now ≡ files_of c.args.parts.now =
     ap (λ (k : KnownParts). k.files) c.is_ancestor.ensures.known in
-    told-unchecked known new.parts.now layers c.args.first.0 c.args.second.0 c.is_ancestor.result
+    told-unchecked known new.parts.now layers
     (tells-after known tree (same ∙ is) c.args.parts.now new.parts.now layers files new.of
     (subst (λ (k : Option Tree). Shows k c.args.parts.now layers) (sym same) shows) graph)
-    c.is_ancestor.ensures.yes c.is_ancestor.ensures.no
+    c.args.first.0 c.args.second.0 c.is_ancestor.result c.is_ancestor.ensures.yes c.is_ancestor.ensures.no

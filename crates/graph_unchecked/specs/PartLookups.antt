@@ -1,0 +1,53 @@
+-- For private contracts: which commits have some ids, in files of which parts are read.
+use Rattle.std.specs.Prelude.{◌≡◌, ℕ, ◌+◌, ◌<◌, List, All, Option, Vec, ⊤, None, Some, slice_get, take}
+use Rattle.std.specs.Global.{Global}
+use Rattle.std.specs.List.{AllZip}
+use Rattle.graph_folder.specs.Tree.{Tree}
+use Rattle.graph_format.specs.Layer.{Layer}
+use Rattle.graph_format.specs.declared.Position.{Position}
+use Rattle.gix_commitgraph.specs.GraphLookup.{FoundIn}
+use Rattle.graph_ancestors.specs.WalkAnswer.{numbers_of}
+use Rattle.graph_parts.specs.Shown.{Shows}
+use Rattle.graph_parts.specs.declared.parts.GraphParts.{GraphParts}
+use Rattle.graph_unchecked.specs.Unchecked.{IsAnswerAt, IsFoundAmong, IsFoundAt, IsFoundBetween}
+use Rattle.graph_unchecked.specs.declared.among.Among.{Among}
+use Rattle.graph_unchecked.specs.declared.among.Among.TheVariants.{Missing, Known as known_of_all}
+use Rattle.graph_unchecked.specs.declared.between.Between.{Between}
+use Rattle.graph_unchecked.specs.declared.between.Between.TheVariants.{FirstMissing, SecondMissing, Known}
+
+-- it is so of the graph that is opened at the path, and the parts show it
+abbrev pub IsShownAt : {A : Type 0} → Option Tree → Tree → List ℕ → (List Layer → A → Type 0) → GraphParts × A → Type 0
+IsShownAt known tree path IsSo found =
+    IsAnswerAt tree path (λ layers answer. Shows known found.0 layers × IsSo layers answer) found.1
+
+-- both positions, as numbers
+abbrev pub AreBoth : List Layer → ℕ → ℕ → Position × Position → Type 0
+AreBoth layers p q found = (p ≡ found.0.0) × (q ≡ found.1.0)
+
+-- the first position and the others, as numbers
+abbrev pub AreFirstAndOthers : List Layer → ℕ → List ℕ → Position × Vec Position Global → Type 0
+AreFirstAndOthers layers first others found = (first ≡ found.0.0) × (others ≡ numbers_of found.1.items)
+
+-- the positions of two ids are some of so many
+abbrev pub AreBothWithin : ℕ → Between (Position × Position) → Type 0
+AreBothWithin count FirstMissing = ⊤
+AreBothWithin count SecondMissing = ⊤
+AreBothWithin count (Known found) = (found.0.0 < count) × (found.1.0 < count)
+
+-- so are those of an id and of the others
+abbrev pub AreAllWithin : ℕ → Among (Position × Vec Position Global) → Type 0
+AreAllWithin count (Missing number) = ⊤
+AreAllWithin count (known_of_all found) = (found.0.0 < count) × All (λ pos. pos.0 < count) found.1.items
+
+-- and those of the others
+abbrev pub AreOthersWithin : ℕ → Among (Vec Position Global) → Type 0
+AreOthersWithin count (Missing number) = ⊤
+AreOthersWithin count (known_of_all found) = All (λ pos. pos.0 < count) found.items
+
+-- what is found of the ids after the first, of which the first has the number 2
+abbrev pub AreOthersFound : List Layer → List (List ℕ) → Among (Vec Position Global) → Type 0
+AreOthersFound layers ids (Missing number) =
+    (place : ℕ) × (number ≡ place + 2)
+    × All (λ id. (p : ℕ) × IsFoundAt layers id p) (take place ids)
+    × ((id : List ℕ) × (slice_get ids place ≡ Some id) × FoundIn layers id None)
+AreOthersFound layers ids (known_of_all found) = AllZip (IsFoundAt layers) ids (numbers_of found.items)
