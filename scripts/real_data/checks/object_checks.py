@@ -237,6 +237,18 @@ def check_odd(histories, results, repository):
         run_of = partial(histories.objects, roots.graph(name, {commit: 0}), batch(repository, [commit]))
         runs.append((run_of, partial(judge.verdict, "refused objects 7 position 0\n")))
     check_runs(results, "%s, bytes that are no commit" % roots.kind, runs)
+    check_cut_line(histories, results, roots)
+
+
+def check_cut_line(histories, results, roots):
+    """A commit that ends within the line of a parent: Git skips that line, and passes the graph that it writes."""
+    commit = put_object(roots.repository, unreadable(roots.tree.encode())["a parent without a line end"])
+    roots.repository.write_graph(tips=[commit])
+    answer = histories.objects(roots.repository.graph_path(), batch(roots.repository, [commit]))
+    complaint = judge.verdict("refused objects 7 position 0\n", answer)
+    if roots.repository.git_verdict().status != 0:
+        complaint = "Git refuses it too"
+    results.check("%s, a commit that ends within the line of a parent, beside Git" % roots.kind, complaint)
 
 
 def check_readings(histories, results, roots, odd):
