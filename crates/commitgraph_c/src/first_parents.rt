@@ -49,15 +49,27 @@ pub fn cg_first_parents(graph: CgGraph, pos: u32, out: &mut [u32]) -> CgParents
 fn write_first(commit: Commit<'_>, out: &mut [u32]) -> CgParents
     ensures { TellsFirstParents (commit_parents commit.entry) result out.old out.new }
 {
+    if out.len() == 1 {
+        write_one(commit, out)
+    } else {
+        write_some(commit, out)
+    }
+}
+
+/// Writes the position of a commit's first parent, for which alone there is room.
+#[inline(always)]
+fn write_one(commit: Commit<'_>, out: &mut [u32]) -> CgParents
+    requires { length out.old ≡ 1 }
+    ensures { TellsFirstParents (commit_parents commit.entry) result out.old out.new }
+{
     let (first, second) = parent_edges(&commit);
     if let ParentEdge::GraphPosition(pos) = first
-        && out.len() == 1
         && let Some(code) = code_after(second)
     {
         out[0] = pos.0;
         return CgParents { code, count: 1 };
     }
-    write_some(commit, out)
+    write_items(commit, out)
 }
 
 /// What is told after the first parent where there is no room for more, by the second field; `None`
