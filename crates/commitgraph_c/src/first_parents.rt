@@ -1,7 +1,8 @@
 //! The first parents of a commit, in the time of as many steps as there is room for.
 
-ghost use Rattle.std.specs.Prelude.{◌≡◌, ◌≢◌, ◌↔◌, ◌≤◌, ◌⊎◌, IsSomeAnd, None};
-ghost use Rattle.std.specs.Prelude.{if◌then◌else◌, min, nat_le};
+ghost use Rattle.std.specs.Prelude.{◌≡◌, ◌≢◌, ◌↔◌, ◌≤◌, ◌⊎◌, IfSome, IsSomeAnd, List, None};
+ghost use Rattle.std.specs.Prelude.{Option, if◌then◌else◌, length, min, nat_le, ℕ};
+ghost use Rattle.graph_format.specs.Parents.{second_parents};
 ghost use Rattle.graph_layer.specs.Commit.{commit_parents};
 ghost use Rattle.gix_commitgraph.specs.Graph.{total};
 ghost use Rattle.commitgraph_c.specs.Answers.{HasCommit, layers_of, parents_in};
@@ -46,6 +47,51 @@ pub fn cg_first_parents(graph: CgGraph, pos: u32, out: &mut [u32]) -> CgParents
 /// Writes the positions of a commit's first parents, as many as there is room for.
 #[inline(always)]
 fn write_first(commit: Commit<'_>, out: &mut [u32]) -> CgParents
+    ensures { TellsFirstParents (commit_parents commit.entry) result out.old out.new }
+{
+    if out.len() == 1 {
+        write_one(commit, out)
+    } else {
+        write_some(commit, out)
+    }
+}
+
+/// Writes the position of a commit's first parent, for which alone there is room.
+#[inline(always)]
+fn write_one(commit: Commit<'_>, out: &mut [u32]) -> CgParents
+    requires { length out.old ≡ 1 }
+    ensures { TellsFirstParents (commit_parents commit.entry) result out.old out.new }
+{
+    let (first, second) = parent_edges(&commit);
+    if let ParentEdge::GraphPosition(pos) = first
+        && let Some(code) = code_after(second)
+    {
+        out[0] = pos.0;
+        return CgParents { code, count: 1 };
+    }
+    write_items(commit, out)
+}
+
+/// What is told after the first parent where there is no room for more, by the second field; `None`
+/// where the extra edge list has to say it.
+#[inline(always)]
+fn code_after(second: ParentEdge) -> Option<u32>
+    ensures { IfSome result (λ code. (edges : Option (List ℕ))
+        → ((second_parents second edges).fault ≡ None)
+        × (code ≡ (if nat_le (length (second_parents second edges).positions) 0
+        then 0 else more_parents))) }
+{
+    if matches!(second, ParentEdge::ExtraEdgeIndex(_)) {
+        return None;
+    }
+    // Which of both it is cannot be foreseen: a branch costs more than a choice of two numbers.
+    let is_none = matches!(second, ParentEdge::None);
+    Some(if is_none { 0 } else { MORE_PARENTS })
+}
+
+/// Writes the positions of a commit's first parents, whatever there is room for.
+#[inline(always)]
+fn write_some(commit: Commit<'_>, out: &mut [u32]) -> CgParents
     ensures { TellsFirstParents (commit_parents commit.entry) result out.old out.new }
 {
     let room = out.len();

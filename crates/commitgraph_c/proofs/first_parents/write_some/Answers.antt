@@ -2,7 +2,7 @@ use Rattle.std.proofs.Common.{◌∙◌, sym}
 use Rattle.graph_format.specs.Parents.{edge_of}
 use Rattle.graph_layer.specs.Commit.{commit_layer, commit_record}
 use Rattle.commitgraph_c.proofs.FirstRoom.{none_first, one_first, two_first}
-use Rattle.commitgraph_c.proofs.first_parents.write_first.Goals as goal
+use Rattle.commitgraph_c.proofs.first_parents.write_some.Goals as goal
 
 pub returns-in-None-None : goal.returns-in-None-None
 returns-in-None-None c =
