@@ -1,14 +1,11 @@
 -- One id more is looked up, after those before it.
-use Rattle.std.proofs.Common.{◌≡◌, ◌<◌, ◌+◌, ◌∷◌, ◌++◌, [], List, All, Some, length, slice_get, refl, rules, subst, ◌∙◌, arith}
-use Rattle.std.specs.List.{AllZip}
-use Rattle.std.proofs.lemmas.List.{take_all}
+use Rattle.std.proofs.Common.{◌≡◌, ◌<◌, ◌∷◌, ◌++◌, [], Some, length, slice_get, refl, rules, ◌∙◌, arith}
 use Rattle.std.proofs.lemmas.List.Elements.{All-push}
 use Rattle.std.proofs.lemmas.Option.{slice_get_read}
 use Rattle.graph_format.specs.declared.Position.{Position}
 use Rattle.graph_ancestors.specs.WalkAnswer.{numbers_of}
 use Rattle.graph_parts.specs.Shown.{commits_of_parts}
 use Rattle.graph_parts.proofs.GraphPartLemmas.{same-commits, sees-then}
-use Rattle.graph_unchecked.specs.Unchecked.{IsFoundAt}
 use Rattle.graph_unchecked.proofs.PartLookupLemmas.{found-more, not-found}
 use Rattle.graph_unchecked.proofs.lookup.find_others.Goals as goal
 
