@@ -10,8 +10,8 @@ use Rattle.gix_commitgraph.specs.IdWalks.{ids_at}
 use Rattle.graph_ancestors.specs.WalkAnswer.{numbers_of}
 
 -- one id more
-pub ids-more : (layers : List Layer) (positions : List Position) (i : ℕ) (none : Position) (ids more : List (List ℕ)) (id : List ℕ)
-    → i < length positions → ids ≡ ids_at layers (numbers_of (take i positions))
+pub ids-more : (layers : List Layer) (positions : List Position) (i : ℕ) (none : Position) (ids more : List (List ℕ))
+    (id : List ℕ) → i < length positions → ids ≡ ids_at layers (numbers_of (take i positions))
     → slice_get (graph_ids layers) (get_or positions i none).0 ≡ Some id → more ≡ ids ++ id ∷ []
     → more ≡ ids_at layers (numbers_of (take (i + 1) positions))
 ids-more layers positions i none ids more id within before at pushed =

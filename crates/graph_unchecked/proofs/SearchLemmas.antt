@@ -1,6 +1,6 @@
 -- what a search over parts of a known tree answers
-use Rattle.std.proofs.Common.{◌≡◌, ℕ, ◌*◌, ◌<◌, ◌≤◌, List, All, Bool, IsTrue, Option, Some, None, Result, Ok, Err, IfOk, Vec, refl}
-use Rattle.std.proofs.Common.{sym, subst}
+use Rattle.std.proofs.Common.{◌≡◌, ℕ, ◌*◌, ◌<◌, ◌≤◌, List, All, Bool, IsTrue, Option, Some, None, Result, Ok, Err, IfOk, Vec}
+use Rattle.std.proofs.Common.{refl, sym, subst}
 use Rattle.std.specs.Global.{Global}
 use Rattle.graph_folder.specs.Tree.{Tree}
 use Rattle.graph_walks.specs.Walks.{CountWalks, Reaches}

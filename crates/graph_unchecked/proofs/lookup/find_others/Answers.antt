@@ -22,6 +22,7 @@ loop-place-preserved g c =
     let here : slice_get ids at ≡ Some id =
     slice_get_read ids (length ids) at id refl (omega arith) c.index-others-place.is in
     let sees = rw c.loop-place.invariant.tree at c.find.ensures.sees in
+    let looked = rw c.loop-place.invariant.tree at c.in_ok-pos.ensures.found in
     let within : pos.0 < commits_of_parts mid = rw c.in-Some.is at c.in_ok-pos.ensures.within in
     let pushed : c.push.new.self.items ≡ c.loop-place.found.items ++ pos ∷ [] = search rules in
     record {
@@ -33,7 +34,7 @@ loop-place-preserved g c =
       found = λ layers shows.
           rw pushed (found-more layers ids c.loop-place.found.items at id pos
           (c.loop-place.invariant.found layers (sees.kept layers shows)) here
-          (rw c.as_oid.ensures at (rw c.in-Some.is at (rw c.loop-place.invariant.tree at c.in_ok-pos.ensures.found) layers shows)));
+          (rw c.as_oid.ensures at (rw c.in-Some.is at looked layers shows)));
     }
 
 pub returns-in_default-clause-found : goal.returns-in_default-clause-found
