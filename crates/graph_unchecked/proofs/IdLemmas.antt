@@ -1,20 +1,17 @@
 -- ids that are read one after another
-use Rattle.std.proofs.Common.{◌≡◌, ℕ, ◌+◌, ◌<◌, List, [], ◌∷◌, ◌++◌, length, get_or, take, slice_get, slice_index_or, Option, Some}
-use Rattle.std.proofs.Common.{sym, ap, subst, ◌∙◌}
+use Rattle.std.proofs.Common.{◌≡◌, ℕ, ◌+◌, ◌<◌, List, [], ◌∷◌, ◌++◌, length, get_or, take, slice_get, slice_index_or, Some}
+use Rattle.std.proofs.Common.{sym, ap, ◌∙◌}
 use Rattle.std.proofs.lemmas.List.{map_more, map_push}
 use Rattle.std.proofs.lemmas.Option.{get_or_from_slice_get}
-use Rattle.graph_folder.specs.Tree.{Tree}
 use Rattle.graph_format.specs.Layer.{Layer}
 use Rattle.graph_format.specs.declared.Position.{Position}
 use Rattle.gix_commitgraph.specs.Graph.{graph_ids}
 use Rattle.gix_commitgraph.specs.IdWalks.{ids_at}
 use Rattle.graph_ancestors.specs.WalkAnswer.{numbers_of}
-use Rattle.graph_parts.specs.Shown.{SeesMore, Shows}
-use Rattle.graph_parts.specs.declared.parts.GraphParts.{GraphParts}
 
 -- one id more
-pub ids-more : (layers : List Layer) (positions : List Position) (i : ℕ) (none : Position) (ids more : List (List ℕ)) (id : List ℕ)
-    → i < length positions → ids ≡ ids_at layers (numbers_of (take i positions))
+pub ids-more : (layers : List Layer) (positions : List Position) (i : ℕ) (none : Position) (ids more : List (List ℕ))
+    (id : List ℕ) → i < length positions → ids ≡ ids_at layers (numbers_of (take i positions))
     → slice_get (graph_ids layers) (get_or positions i none).0 ≡ Some id → more ≡ ids ++ id ∷ []
     → more ≡ ids_at layers (numbers_of (take (i + 1) positions))
 ids-more layers positions i none ids more id within before at pushed =

@@ -1,6 +1,6 @@
 -- which commits lookups find in the graph that was opened
-use Rattle.std.proofs.Common.{◌≡◌, ℕ, suc, ◌+◌, ◌<◌, List, [], ◌∷◌, ◌++◌, All, Option, Some, None, Vec, length, take, slice_get, refl, sym}
-use Rattle.std.proofs.Common.{ap, arith, subst, ◌∙◌}
+use Rattle.std.proofs.Common.{◌≡◌, ℕ, suc, ◌+◌, ◌<◌, List, [], ◌∷◌, ◌++◌, All, Option, Some, None, Vec, take, slice_get}
+use Rattle.std.proofs.Common.{ap, arith, refl, sym, subst, ◌∙◌}
 use Rattle.std.specs.Global.{Global}
 use Rattle.std.specs.List.{AllZip}
 use Rattle.std.proofs.lemmas.List.{map-append, take_more}
@@ -20,9 +20,7 @@ use Rattle.graph_parts.specs.declared.parts.GraphParts.{GraphParts}
 use Rattle.graph_parts.proofs.TreeLemmas.{seen-more, seen-shown}
 use Rattle.graph_unchecked.specs.PartLookups.{AreBoth, AreFirstAndOthers, AreOthersFound, IsShownAt}
 use Rattle.graph_unchecked.specs.Unchecked.{IsAnswerAt, IsFoundAmong, IsFoundAt, IsFoundBetween}
-use Rattle.graph_unchecked.specs.declared.among.Among.{Among}
 use Rattle.graph_unchecked.specs.declared.among.Among.TheVariants.{Missing, Known as known_of_all}
-use Rattle.graph_unchecked.specs.declared.between.Between.{Between}
 use Rattle.graph_unchecked.specs.declared.between.Between.TheVariants.{FirstMissing, SecondMissing, Known}
 
 -- what is read after a graph was opened

@@ -1,11 +1,10 @@
 -- what a search over parts of a known tree answers
-use Rattle.std.proofs.Common.{◌≡◌, ℕ, ◌*◌, ◌<◌, ◌≤◌, List, All, Bool, IsTrue, Option, Some, None, Result, Ok, Err, IfOk, Vec, refl}
-use Rattle.std.proofs.Common.{sym, subst}
+use Rattle.std.proofs.Common.{◌≡◌, ℕ, ◌*◌, ◌<◌, ◌≤◌, List, All, Bool, IsTrue, Option, Some, None, Result, Ok, Err, IfOk, Vec}
+use Rattle.std.proofs.Common.{refl, sym, subst}
 use Rattle.std.specs.Global.{Global}
 use Rattle.graph_folder.specs.Tree.{Tree}
 use Rattle.graph_walks.specs.Walks.{CountWalks, Reaches}
 use Rattle.graph_format.specs.Layer.{Layer}
-use Rattle.graph_format.specs.StoredHistory.{history_of}
 use Rattle.graph_format.specs.declared.Position.{Position}
 use Rattle.gix_commitgraph.specs.Graph.{IsGraph, total}
 use Rattle.gix_commitgraph.specs.IdWalks.{ids_at}
@@ -22,7 +21,6 @@ use Rattle.graph_parts.proofs.TreeLemmas.{same-shown, shown-seen}
 use Rattle.graph_unchecked.specs.PartSearches.{AreBasesUnchecked, IsStepsUnchecked}
 use Rattle.graph_unchecked.specs.PartSource.{PartsTell, ReadsOn}
 use Rattle.graph_unchecked.specs.Unchecked.{IsComparedUnchecked, IsToldUnchecked, IsWalkUnchecked}
-use Rattle.graph_unchecked.specs.declared.among.IdComparison.{IdComparison}
 
 -- the layers that were shown before are shown after
 pub shows-after : (known : Option Tree) (tree : Tree) → known ≡ Some tree → (old new : GraphParts) (layers : List Layer)

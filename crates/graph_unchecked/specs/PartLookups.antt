@@ -9,7 +9,7 @@ use Rattle.gix_commitgraph.specs.GraphLookup.{FoundIn}
 use Rattle.graph_ancestors.specs.WalkAnswer.{numbers_of}
 use Rattle.graph_parts.specs.Shown.{Shows}
 use Rattle.graph_parts.specs.declared.parts.GraphParts.{GraphParts}
-use Rattle.graph_unchecked.specs.Unchecked.{IsAnswerAt, IsFoundAmong, IsFoundAt, IsFoundBetween}
+use Rattle.graph_unchecked.specs.Unchecked.{IsAnswerAt, IsFoundAt}
 use Rattle.graph_unchecked.specs.declared.among.Among.{Among}
 use Rattle.graph_unchecked.specs.declared.among.Among.TheVariants.{Missing, Known as known_of_all}
 use Rattle.graph_unchecked.specs.declared.between.Between.{Between}

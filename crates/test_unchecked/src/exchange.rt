@@ -8,20 +8,20 @@ use graph_vectors::{Row, file_of_rows};
 use std::alloc::Global;
 use std::process::Abort;
 
-/// As many commits with the same ids, and as many words: each parent is the root.
-const ROOTS: &[Row<'static>] = &[
+/// As many commits with the same ids, and as many words: each parent of 0x44 is 0x22.
+const OTHERS: &[Row<'static>] = &[
     (0x11, &[], 1),
     (0x22, &[0], 2),
-    (0x33, &[], 1),
-    (0x44, &[0, 0, 0], 2),
+    (0x33, &[0], 2),
+    (0x44, &[1, 1, 1], 3),
 ];
 
 /// These, and one more.
 const MORE: &[Row<'static>] = &[
     (0x11, &[], 1),
     (0x22, &[0], 2),
-    (0x33, &[], 1),
-    (0x44, &[0, 0, 0], 2),
+    (0x33, &[0], 2),
+    (0x44, &[1, 1, 1], 3),
     (0x66, &[], 1),
 ];
 
@@ -67,9 +67,9 @@ impl Outcomes {
         }
     }
 
-    /// Asks whether 0x22 is an ancestor of 0x44.
+    /// Asks whether 0x33 is an ancestor of 0x44.
     fn ask_ancestor(&mut self, rt: &impl Abort, alloc: Global, folder: &mut Exchanged) {
-        let (first, last) = (id_of(0x22), id_of(0x44));
+        let (first, last) = (id_of(0x33), id_of(0x44));
         let told = is_ancestor(alloc, folder, "lower", first.as_oid(), last.as_oid());
         let (yes, no) = (Ok(Between::Known(true)), Ok(Between::Known(false)));
         self.add(rt, told == yes, told == no, told == Err(Unread::NotByParts));
@@ -77,9 +77,9 @@ impl Outcomes {
 
     /// Asks for the walk between them.
     fn ask_walk(&mut self, rt: &impl Abort, alloc: Global, folder: &mut Exchanged) {
-        let (first, last) = (id_of(0x22), id_of(0x44));
+        let (first, last) = (id_of(0x33), id_of(0x44));
         let found = ancestor_walk(alloc, folder, "lower", last.as_oid(), first.as_oid());
-        let walk = Ok(Between::Known(Some(ids_of(rt, alloc, &[0x44, 0x22]))));
+        let walk = Ok(Between::Known(Some(ids_of(rt, alloc, &[0x44, 0x33]))));
         let none = Ok(Between::Known(None));
         self.add(
             rt,
@@ -89,14 +89,13 @@ impl Outcomes {
         );
     }
 
-    /// Asks for the merge bases of 0x44 and 0x33: a parent of 0x44, and later a root that it does
-    /// not lead to.
+    /// Asks for the merge bases of 0x44 and 0x33: 0x33 itself, and later the root.
     fn ask_bases(&mut self, rt: &impl Abort, alloc: Global, folder: &mut Exchanged) {
         let (first, others) = (id_of(0x44), ids_of(rt, alloc, &[0x33]));
         match compare(alloc, folder, "lower", first.as_oid(), &others) {
             Ok(Among::Known(found)) => {
-                let (one, none) = (ids_of(rt, alloc, &[0x33]), ids_of(rt, alloc, &[]));
-                self.add(rt, found.base_ids == one, found.base_ids == none, false);
+                let (one, root) = (ids_of(rt, alloc, &[0x33]), ids_of(rt, alloc, &[0x11]));
+                self.add(rt, found.base_ids == one, found.base_ids == root, false);
             }
             found => self.add(rt, false, false, matches!(found, Err(Unread::NotByParts))),
         }
@@ -124,7 +123,7 @@ fn ask_all(rt: &impl Abort, alloc: Global, rows: &[Row<'_>]) -> Outcomes {
 #[test]
 fn a_file_of_the_same_length_is_answered(rt: HostRuntime) {
     let alloc = rt.alloc();
-    let outcomes = ask_all(&rt, alloc, ROOTS);
+    let outcomes = ask_all(&rt, alloc, OTHERS);
     assert!(&rt; outcomes.before > 0 && outcomes.later > 0);
 }
 
@@ -137,7 +136,7 @@ fn a_file_of_another_length_is_to_be_opened_whole(rt: HostRuntime) {
 
 /// Whether memory is wanted for each question where this call finds none.
 fn is_memory_wanted(rt: &impl Abort, alloc: Global, refused: u32) -> bool {
-    let (first, last) = (id_of(0x22), id_of(0x44));
+    let (first, last) = (id_of(0x33), id_of(0x44));
     let others = ids_of(rt, alloc, &[0x33]);
     let mut folder = exchanged(rt, alloc, LOWER, u32::MAX, refused);
     let told = is_ancestor(alloc, &mut folder, "lower", first.as_oid(), last.as_oid());

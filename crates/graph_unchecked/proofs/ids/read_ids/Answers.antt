@@ -1,5 +1,5 @@
 -- One id more is read, after those before it.
-use Rattle.std.proofs.Common.{◌≡◌, ℕ, ◌+◌, ◌∷◌, ◌++◌, [], List, rules, ◌∙◌}
+use Rattle.std.proofs.Common.{◌≡◌, ◌∷◌, ◌++◌, [], rules, ◌∙◌}
 use Rattle.gix_commitgraph.specs.Position.{Position}
 use Rattle.graph_parts.proofs.GraphPartLemmas.{sees-then}
 use Rattle.graph_unchecked.proofs.IdLemmas.{ids-more}

@@ -1,5 +1,5 @@
 -- What is found is so of the layers that were opened.
-use Rattle.std.proofs.Common.{◌<◌, List, Option, refl, sym, subst, ◌∙◌, arith}
+use Rattle.std.proofs.Common.{◌<◌, Option, refl, sym, subst, ◌∙◌, arith}
 use Rattle.gix_hash_core.specs.Oid.{oid_bytes}
 use Rattle.graph_folder.specs.Tree.{Tree}
 use Rattle.graph_parts.specs.Shown.{SeesMore, Shows, commits_of_parts}

@@ -1,14 +1,11 @@
 -- One id more is looked up, after those before it.
-use Rattle.std.proofs.Common.{◌≡◌, ◌<◌, ◌+◌, ◌∷◌, ◌++◌, [], List, All, Some, length, slice_get, refl, rules, subst, ◌∙◌, arith}
-use Rattle.std.specs.List.{AllZip}
-use Rattle.std.proofs.lemmas.List.{take_all}
+use Rattle.std.proofs.Common.{◌≡◌, ◌<◌, ◌∷◌, ◌++◌, [], Some, length, slice_get, refl, rules, ◌∙◌, arith}
 use Rattle.std.proofs.lemmas.List.Elements.{All-push}
 use Rattle.std.proofs.lemmas.Option.{slice_get_read}
 use Rattle.graph_format.specs.declared.Position.{Position}
 use Rattle.graph_ancestors.specs.WalkAnswer.{numbers_of}
 use Rattle.graph_parts.specs.Shown.{commits_of_parts}
 use Rattle.graph_parts.proofs.GraphPartLemmas.{same-commits, sees-then}
-use Rattle.graph_unchecked.specs.Unchecked.{IsFoundAt}
 use Rattle.graph_unchecked.proofs.PartLookupLemmas.{found-more, not-found}
 use Rattle.graph_unchecked.proofs.lookup.find_others.Goals as goal
 
@@ -25,6 +22,7 @@ loop-place-preserved g c =
     let here : slice_get ids at ≡ Some id =
     slice_get_read ids (length ids) at id refl (omega arith) c.index-others-place.is in
     let sees = rw c.loop-place.invariant.tree at c.find.ensures.sees in
+    let looked = rw c.loop-place.invariant.tree at c.in_ok-pos.ensures.found in
     let within : pos.0 < commits_of_parts mid = rw c.in-Some.is at c.in_ok-pos.ensures.within in
     let pushed : c.push.new.self.items ≡ c.loop-place.found.items ++ pos ∷ [] = search rules in
     record {
@@ -36,7 +34,7 @@ loop-place-preserved g c =
       found = λ layers shows.
           rw pushed (found-more layers ids c.loop-place.found.items at id pos
           (c.loop-place.invariant.found layers (sees.kept layers shows)) here
-          (rw c.as_oid.ensures at (rw c.in-Some.is at (rw c.loop-place.invariant.tree at c.in_ok-pos.ensures.found) layers shows)));
+          (rw c.as_oid.ensures at (rw c.in-Some.is at looked layers shows)));
     }
 
 pub returns-in_default-clause-found : goal.returns-in_default-clause-found
