@@ -10,7 +10,7 @@ FILENAME ~ /commands$/ {
     if (!/^#/ && $2 == program) {
         word = words[++count] = $1
         is_own[word] = 1
-        operands[word] = ($3 == "path" ? " PATH" : $3 == "optional" ? " [PATH]" : "")
+        operands[word] = ($3 == "path" ? " PATH" : $3 == "optional" ? " [PATH]" : $3 == "trusted" ? " [--unchecked] PATH" : "")
         for (id = 1; id <= $4 + 0; id++) operands[word] = operands[word] " HEX"
         if ($4 ~ /\+/) operands[word] = operands[word] ".."
         if ($4 == "range") operands[word] = operands[word] " [FROM TO]"

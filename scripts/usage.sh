@@ -37,10 +37,11 @@ is_own() {
 is_command() {
     [ $# -gt 0 ] && is_own "$1" || return 1
     shift
+    [ "$reads,${1-}" != trusted,--unchecked ] || shift
     case $reads,$# in
-    path,0) return 1 ;;
+    path,0 | trusted,0) return 1 ;;
     optional,0) ;;
-    path,* | optional,*) shift ;;
+    path,* | trusted,* | optional,*) shift ;;
     esac
     takes_ids $#
 }
@@ -67,6 +68,7 @@ usage() {
         {
             printf "%s %s", count++ ? " |" : "usage: " name, $1
             if ($3 == "path") printf " PATH"
+            if ($3 == "trusted") printf " [--unchecked] PATH"
             if ($3 == "optional") printf " [PATH]"
             for (id = 1; id <= $4 + 0; id++) printf " HEX"
             if ($4 ~ /\+/) printf ".."
@@ -84,7 +86,10 @@ help() {
 PATH is a commit-graph file, a folder with a chain of them, or an info folder.
 HEX is the id of a commit in hexadecimal.
 END
-    [ "$name" != historytool ] || echo 'FROM and TO are positions: the first one, and the one after the last.'
+    if [ "$name" = historytool ]; then
+        echo 'FROM and TO are positions: the first one, and the one after the last.'
+        echo 'With --unchecked the graph is trusted: it is read by parts, and not checked.'
+    fi
     echo
     awk -v name="$name" '
         /^#/ || $2 != name { next }

@@ -46,6 +46,8 @@ WRONG = {
     "'find' has no option '-x'": ["find", "-x"],
     "'verify' has no option '-v'": ["verify", "-v"],
     "'find' has no option '--objects'": ["find", "--objects", "HEAD"],
+    "'find' has no option '--unchecked'": ["find", "--unchecked", "HEAD"],
+    "there is no option '--unchecked'": ["--unchecked", "is-ancestor", "HEAD", "HEAD"],
     "after -j there has to be a number": ["verify", "-j"],
     "'0' is no number of jobs from 1 to 99": ["verify", "--objects", "--jobs=0"],
     "'x' is no number of jobs from 1 to 99": ["verify", "--objects", "-jx"],
@@ -225,6 +227,12 @@ def check_statuses(results, clone, repository):
         (["merge-base", "--verbose", "HEAD", "HEAD"], "merge-base\n"),
     ):
         results.check("git cgraph " + " ".join(words), exactly(ask(clone, words, repository), 0, out))
+    clone.put_program("historytool", "echo \"$1 $2 $3\"\n")
+    for command in commands():
+        if command.reads == "trusted" and command.by_git:
+            words = [command.word, "HEAD", "--unchecked", *WORDS[command.word][1][1:]]
+            out = "%s --unchecked info/commit-graph\n" % ASKED.get(command.word, command.word)
+            results.check("git cgraph " + " ".join(words), exactly(ask(clone, words, repository), 0, out))
     clone.put_program("historytool", "echo 'usage: other words' >&2\nexit 2\n")
     answer = ask(clone, ["check"], repository)
     err = "usage: other words\n" + said(["the program does not take these words"])
@@ -245,6 +253,7 @@ def check_repeated(results, clone, repository):
         *(("merge-base", "ab", "aa\nbb\n", twice, True), ("merge-base", "ab", "aa\nbb", twice, True)),
         ("merge-base -v", "base 3 ab", "aa\nbb\n", twice, True),
         *(("is-ancestor", "no", "aa\n", twice, False), ("is-ancestor", "no", "aa", twice, False)),
+        ("is-ancestor --unchecked", "no", "aa\nbb\n", twice, False),
         *(("walk", "none", "aa\nbb\n", right, False), ("merge-base", "none", "aa\nbb\n", "exit 3\n", False)),
         *(("is-ancestor", "yes", "aa\nbb\n", twice, False), ("walk", "refused verify 10", "aa\nbb\n", twice, False)),
     ):

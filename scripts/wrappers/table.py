@@ -32,7 +32,7 @@ class Command(NamedTuple):
     def operands(self, number=None) -> List[str]:
         """A path, if the command reads one or may read one before ids, and so many ids, or as few as it takes."""
         ids = self.least() if number is None else number
-        has_path = self.reads == "path" or self.reads == "optional" and ids > 0
+        has_path = self.reads in ("path", "trusted") or self.reads == "optional" and ids > 0
         return ["."] * has_path + [str(number) for number in range(ids)]
 
 
@@ -48,7 +48,7 @@ def usage(program):
     """The usage text of a program."""
     parts = []
     for command in commands(program):
-        path = {"path": ["PATH"], "optional": ["[PATH]"]}.get(command.reads, [])
+        path = {"path": ["PATH"], "optional": ["[PATH]"], "trusted": ["[--unchecked]", "PATH"]}.get(command.reads, [])
         more = ".." if command.takes_more() else " [FROM TO]" if command.takes_range() else ""
         parts.append(" ".join([command.word, *path, *["HEX"] * command.least()]) + more)
     return "usage: %s %s" % (program, " | ".join(parts))

@@ -2,11 +2,11 @@
 use Rattle.std.proofs.Common.{◌≡◌, ◌⊎◌, ℕ, ◌-◌, ◌<◌, ◌≤◌, List, [], ◌∷◌, length, map, get_or, take, drop}
 use Rattle.std.proofs.Common.{inl, inr, refl, sym, ap, subst, string_bytes, ◌∙◌, arith}
 use Rattle.std.proofs.lemmas.List.{length-map, take_all}
-use Rattle.std.specs.Prelude.{String, Option, Some, None, IfSome, codes}
+use Rattle.std.specs.Prelude.{String, Bool, true, false, Option, Some, None, IfSome, codes}
 use Rattle.std.specs.Global.{Global}
 use Rattle.object_commands.specs.AskedRange.{SpellsRange}
 use Rattle.object_commands.specs.declared.range.PositionRange.{PositionRange}
-use Rattle.history_program.specs.HistorytoolCommands.{AskAfterName, AskHistorytool}
+use Rattle.history_program.specs.HistorytoolCommands.{AreQuestionWords, AskAfterName, AskHistorytool}
 use Rattle.history_program.specs.declared.command.Command.{Command}
 use Rattle.history_program.specs.declared.command.Command.TheVariants as command
 
@@ -15,7 +15,8 @@ pub named_alone : (help version name : List ℕ) (asked : Command) → AskAfterN
     → (name ≡ codes "--help") ⊎ (name ≡ codes "-h") ⊎ (name ≡ codes "--version") ⊎ (name ≡ codes "write")
 named_alone help version name (command.Help text) is = elim is.0 [ inl e ↦ inl cc | inr e ↦ inr (inl cc) ]
 named_alone help version name (command.Version text) is = let e = is.0 in inr (inr (inl cc))
-named_alone help version name (command.IsAncestor path first second) is = let e = is in cc
+named_alone help version name (command.IsAncestor path first second) is = let e = is.0 in cc
+named_alone help version name (command.IsAncestorUnchecked pair) is = let e = is in cc
 named_alone help version name (command.Walk path first second) is = let e = is in cc
 named_alone help version name (command.MergeBase path first others) is = let e = is.0 in cc
 named_alone help version name (command.MergeBaseIds path first others) is = let e = is.0 in cc
@@ -36,7 +37,8 @@ pub named_with_path : (help version name path : List ℕ) (asked : Command) → 
     ⊎ (name ≡ codes "write") ⊎ (name ≡ codes "merge")
 named_with_path help version name path (command.Help text) is = elim is.0 [ inl e ↦ cc | inr e ↦ cc ]
 named_with_path help version name path (command.Version text) is = let e = is.0 in cc
-named_with_path help version name path (command.IsAncestor at first second) is = let e = is in cc
+named_with_path help version name path (command.IsAncestor at first second) is = let e = is.0 in cc
+named_with_path help version name path (command.IsAncestorUnchecked pair) is = let e = is in cc
 named_with_path help version name path (command.Walk at first second) is = let e = is in cc
 named_with_path help version name path (command.MergeBase at first others) is = let e = is.0 in cc
 named_with_path help version name path (command.MergeBaseIds at first others) is = let e = is.0 in cc
@@ -65,25 +67,36 @@ as_many others more same some =
     let equal : length (map string_bytes others) ≡ length (map string_bytes more) = ap length same in
     omega (arith, length-map others string_bytes, length-map more string_bytes)
 
--- a name that asks with a path and ids, and how many ids there are after the first
-pub named_with_ids : (help version name path first : List ℕ) (others : List (String Global)) (asked : Command)
-    → AskAfterName help version (name ∷ path ∷ first ∷ map string_bytes others) asked
-    → (((name ≡ codes "is-ancestor") ⊎ (name ≡ codes "walk")) × (length others ≡ 1))
+-- the words of a question about two ids, or about one and some others
+abbrev pub AskOfTwo : List ℕ → List (List ℕ) → Type 0
+AskOfTwo name words = (unchecked : Bool) × (at one other : List ℕ) × AreQuestionWords name unchecked at (one ∷ other ∷ []) words
+
+-- which name asks with a path and ids, and how many ids there are after the first
+abbrev pub NamedWithIds : List ℕ → List ℕ → List ℕ → List (String Global) → Type 0
+NamedWithIds name path first others =
+    ((name ≡ codes "is-ancestor") × AskOfTwo name (name ∷ path ∷ first ∷ map string_bytes others))
+    ⊎ ((name ≡ codes "walk") × (length others ≡ 1))
     ⊎ (((name ≡ codes "ids") ⊎ (name ≡ codes "objects")) × (length others ≡ 1)
     × ((to : List ℕ) × (range : PositionRange) × (map string_bytes others ≡ to ∷ []) × SpellsRange first to range))
     ⊎ (((name ≡ codes "merge-base") ⊎ (name ≡ codes "merge-base-ids")) × (1 ≤ length others))
+
+pub named_with_ids : (help version name path first : List ℕ) (others : List (String Global)) (asked : Command)
+    → AskAfterName help version (name ∷ path ∷ first ∷ map string_bytes others) asked → NamedWithIds name path first others
 named_with_ids help version name path first others (command.Help text) is = elim is.0 [ inl e ↦ cc | inr e ↦ cc ]
 named_with_ids help version name path first others (command.Version text) is = let e = is.0 in cc
 named_with_ids help version name path first others (command.IsAncestor at one other) is =
-    let e = is in let rest : map string_bytes others ≡ other.now ∷ [] = cc in inl (inl cc, just_one others other.now rest)
+    let e = is.0 in let same : name ≡ codes "is-ancestor" = cc in
+    inl (same, (false, at.now, one.now, other.now, (cc, is.1)))
+named_with_ids help version name path first others (command.IsAncestorUnchecked pair) is =
+    let same : name ≡ codes "is-ancestor" = cc in inl (same, (true, pair.path.now, pair.first.now, pair.second.now, cc))
 named_with_ids help version name path first others (command.Walk at one other) is =
-    let e = is in let rest : map string_bytes others ≡ other.now ∷ [] = cc in inl (inr cc, just_one others other.now rest)
+    let e = is in let rest : map string_bytes others ≡ other.now ∷ [] = cc in inr (inl (cc, just_one others other.now rest))
 named_with_ids help version name path first others (command.MergeBase at one more) is =
     let e = is.0 in let rest : map string_bytes others ≡ map string_bytes more.now = cc in
-    inr (inr (inl cc, as_many others more.now rest is.1))
+    inr (inr (inr (inl cc, as_many others more.now rest is.1)))
 named_with_ids help version name path first others (command.MergeBaseIds at one more) is =
     let e = is.0 in let rest : map string_bytes others ≡ map string_bytes more.now = cc in
-    inr (inr (inr cc, as_many others more.now rest is.1))
+    inr (inr (inr (inr cc, as_many others more.now rest is.1)))
 named_with_ids help version name path first others (command.Check at) is = let e = is in cc
 named_with_ids help version name path first others (command.Show at) is = let e = is in cc
 named_with_ids help version name path first others (command.Ask at) is = let e = is in cc
@@ -91,21 +104,92 @@ named_with_ids help version name path first others (command.Ids at None) is = le
 named_with_ids help version name path first others (command.Ids at (Some range)) is =
     let e = is.2 in let rest : map string_bytes others ≡ is.1 ∷ [] = cc in
     let from : is.0 ≡ first = cc in
-    inr (inl (inl cc, just_one others is.1 rest, (is.1, range, rest, subst (λ (t : List ℕ). SpellsRange t is.1 range) from is.3)))
+    let spells = subst (λ (t : List ℕ). SpellsRange t is.1 range) from is.3 in
+    inr (inr (inl (inl cc, just_one others is.1 rest, (is.1, range, rest, spells))))
 named_with_ids help version name path first others (command.Objects at None) is = let e = is in cc
 named_with_ids help version name path first others (command.Objects at (Some range)) is =
     let e = is.2 in let rest : map string_bytes others ≡ is.1 ∷ [] = cc in
     let from : is.0 ≡ first = cc in
-    inr (inl (inr cc, just_one others is.1 rest, (is.1, range, rest, subst (λ (t : List ℕ). SpellsRange t is.1 range) from is.3)))
+    let spells = subst (λ (t : List ℕ). SpellsRange t is.1 range) from is.3 in
+    inr (inr (inl (inr cc, just_one others is.1 rest, (is.1, range, rest, spells))))
 named_with_ids help version name path first others (command.Write None) is = let e = is in cc
 named_with_ids help version name path first others (command.Write (Some at)) is = let e = is in cc
 named_with_ids help version name path first others (command.Merge at) is = let e = is in cc
+
+-- words that are those of two questions have the same ids
+as_many_words : (name path at : List ℕ) (unchecked taken : Bool) (ids those words : List (List ℕ))
+    → AreQuestionWords name unchecked path ids words → AreQuestionWords name taken at those words → ids ≡ those
+as_many_words name path at false false ids those words is asks = let e = is.0 in let f = asks.0 in cc
+as_many_words name path at false true ids those words is asks =
+    let e = is.0 in let same : path ≡ codes "--unchecked" = cc in absurd (is.1 same)
+as_many_words name path at true false ids those words is asks =
+    let e = asks.0 in let same : at ≡ codes "--unchecked" = cc in absurd (asks.1 same)
+as_many_words name path at true true ids those words is asks = cc
+
+-- of the name of a question about two ids, the words are those of such a question
+of_two : (name path first : List ℕ) (others : List (String Global)) → NamedWithIds name path first others
+    → name ≡ codes "is-ancestor" → AskOfTwo name (name ∷ path ∷ first ∷ map string_bytes others)
+of_two name path first others (inl two) is = two.1
+of_two name path first others (inr (inl walk)) is =
+    let lengths : 4 ≡ 11 = sym (ap length walk.0) ∙ ap length is in absurd (omega (arith, lengths))
+of_two name path first others (inr (inr (inl (inl ids, one, to)))) is =
+    let lengths : 3 ≡ 11 = sym (ap length ids) ∙ ap length is in absurd (omega (arith, lengths))
+of_two name path first others (inr (inr (inl (inr objects, one, to)))) is =
+    let lengths : 7 ≡ 11 = sym (ap length objects) ∙ ap length is in absurd (omega (arith, lengths))
+of_two name path first others (inr (inr (inr (inl base, some)))) is =
+    let lengths : 10 ≡ 11 = sym (ap length base) ∙ ap length is in absurd (omega (arith, lengths))
+of_two name path first others (inr (inr (inr (inr ids, some)))) is =
+    let lengths : 14 ≡ 11 = sym (ap length ids) ∙ ap length is in absurd (omega (arith, lengths))
+
+no_two : (name path first at one other : List ℕ) (unchecked : Bool) → path ≡ codes "--unchecked"
+    → AreQuestionWords name unchecked at (one ∷ other ∷ []) (name ∷ path ∷ first ∷ []) → ⊥
+no_two name path first at one other false option is = let e = is.0 in cc
+no_two name path first at one other true option is = cc
+
+-- a question about two ids has no others
+pub two_asked : (help version path first at one : List ℕ) (unchecked : Bool) (others those : List (String Global))
+    (asked : Command)
+    → AreQuestionWords (codes "is-ancestor") unchecked at (one ∷ map string_bytes those)
+    (codes "is-ancestor" ∷ path ∷ first ∷ map string_bytes others)
+    → AskAfterName help version (codes "is-ancestor" ∷ path ∷ first ∷ map string_bytes others) asked → length those ≡ 1
+two_asked help version path first at one unchecked others those asked is asks =
+    let two = of_two (codes "is-ancestor") path first others (named_with_ids help version (codes "is-ancestor") path first others
+    asked asks) refl in
+    let same = as_many_words (codes "is-ancestor") at two.1 unchecked two.0 (one ∷ map string_bytes those)
+    (two.2 ∷ two.3 ∷ []) _ is two.4 in
+    just_one those two.3 cc
+
+-- where `--unchecked` and one word more follow its name, a question has too few words
+pub too_few_asked : (help version path first : List ℕ) (others : List (String Global)) (asked : Command)
+    → path ≡ codes "--unchecked" → others ≡ []
+    → AskAfterName help version (codes "is-ancestor" ∷ path ∷ first ∷ map string_bytes others) asked → ⊥
+too_few_asked help version path first others asked option none asks =
+    let two = of_two (codes "is-ancestor") path first others (named_with_ids help version (codes "is-ancestor") path first others
+    asked asks) refl in
+    no_two (codes "is-ancestor") path first two.1 two.2 two.3 two.0 option
+    (subst (λ (w : List (String Global)).
+    AreQuestionWords (codes "is-ancestor") two.0 two.1 (two.2 ∷ two.3 ∷ [])
+    (codes "is-ancestor" ∷ path ∷ first ∷ map string_bytes w)) none two.4)
+
+-- the same words, where it is known what they are
+pub known_words : (name at one : List ℕ) (unchecked taken : Bool) (those ids words : List (List ℕ)) → unchecked ≡ taken
+    → those ≡ ids → AreQuestionWords name unchecked at (one ∷ those) words → AreQuestionWords name taken at (one ∷ ids) words
+known_words name at one unchecked taken those ids words is same asked =
+    subst (λ (b : Bool). AreQuestionWords name b at (one ∷ ids) words) is
+    (subst (λ (t : List (List ℕ)). AreQuestionWords name unchecked at (one ∷ t) words) same asked)
+
+-- one word and others
+pub first_word : (words : List (String Global)) (b : String Global) → 1 ≤ length words → b ≡ get_or words 0 b
+    → map string_bytes words ≡ string_bytes b ∷ map string_bytes (take (length words - 1) (drop 1 words))
+first_word [] b least first = absurd (omega arith)
+first_word (w ∷ words) b least first = let all = take_all (length (w ∷ words) - 1) words (omega arith) in cc
 
 -- no words after the program's name ask for nothing
 pub none_asked : (help version : List ℕ) (asked : Command) → AskAfterName help version [] asked → ⊥
 none_asked help version (command.Help text) is = elim is.0 [ inl e ↦ cc | inr e ↦ cc ]
 none_asked help version (command.Version text) is = let e = is.0 in cc
-none_asked help version (command.IsAncestor path first second) is = let e = is in cc
+none_asked help version (command.IsAncestor path first second) is = let e = is.0 in cc
+none_asked help version (command.IsAncestorUnchecked pair) is = let e = is in cc
 none_asked help version (command.Walk path first second) is = let e = is in cc
 none_asked help version (command.MergeBase path first others) is = let e = is.0 in cc
 none_asked help version (command.MergeBaseIds path first others) is = let e = is.0 in cc

@@ -1,7 +1,7 @@
 -- The commands of `historytool`: which words ask for each, and what it may write. The table scripts/commands lists the words:
 -- is-ancestor PATH HEX HEX, ids PATH [FROM TO] and so on; beside these --help or -h, and --version.
 use Rattle.std.specs.Prelude.{◌≡◌, ◌≢◌, ◌⊎◌, ℕ, List, [], ◌∷◌, Some, None, codes, map, string_bytes, Result, Option}
-use Rattle.std.specs.Prelude.{option_map}
+use Rattle.std.specs.Prelude.{Bool, true, false, option_map}
 use Rattle.object_commands.specs.AskedRange.{SpellsRange}
 use Rattle.history_program.specs.declared.command.Command.{Command}
 use Rattle.std.specs.Io.KnownBytes.{Appends}
@@ -20,7 +20,14 @@ use Rattle.history_commands.specs.IsAncestor.{IsTold, is_ancestor_text, is_ances
 use Rattle.history_commands.specs.MergeBases.{MayCompare, merge_base_text, merge_base_ids_text, merge_base_status}
 use Rattle.history_commands.specs.Question.{MayAnswer}
 use Rattle.history_commands.specs.Walk.{IsWalkOfIds, walk_text, walk_status}
+use Rattle.unchecked_commands.specs.UncheckedAncestor.{MayTellUnchecked}
 use Rattle.history_program.specs.declared.command.Command.TheVariants as command
+
+-- these are the words of a question about ids in the graph at the path, after the program's own name: the word `--unchecked`
+-- before the path says that the graph is not to be checked, and is no path itself
+abbrev pub AreQuestionWords : List ℕ → Bool → List ℕ → List (List ℕ) → List (List ℕ) → Type 0
+AreQuestionWords name false path ids words = (words ≡ name ∷ path ∷ ids) × (path ≢ codes "--unchecked")
+AreQuestionWords name true path ids words = words ≡ name ∷ codes "--unchecked" ∷ path ∷ ids
 
 -- the words after the program's own name ask for this command, given the texts of the help and of the version
 abbrev pub AskAfterName : List ℕ → List ℕ → List (List ℕ) → Command → Type 0
@@ -28,13 +35,15 @@ AskAfterName help version words (command.Help text) =
     ((words ≡ codes "--help" ∷ []) ⊎ (words ≡ codes "-h" ∷ [])) × (text.now ≡ help)
 AskAfterName help version words (command.Version text) = (words ≡ codes "--version" ∷ []) × (text.now ≡ version)
 AskAfterName help version words (command.IsAncestor path first second) =
-    words ≡ codes "is-ancestor" ∷ path.now ∷ first.now ∷ second.now ∷ []
+    AreQuestionWords (codes "is-ancestor") false path.now (first.now ∷ second.now ∷ []) words
 AskAfterName help version words (command.Walk path first second) =
     words ≡ codes "walk" ∷ path.now ∷ first.now ∷ second.now ∷ []
 AskAfterName help version words (command.MergeBase path first others) =
     (words ≡ codes "merge-base" ∷ path.now ∷ first.now ∷ map string_bytes others.now) × (others.now ≢ [])
 AskAfterName help version words (command.MergeBaseIds path first others) =
     (words ≡ codes "merge-base-ids" ∷ path.now ∷ first.now ∷ map string_bytes others.now) × (others.now ≢ [])
+AskAfterName help version words (command.IsAncestorUnchecked pair) =
+    AreQuestionWords (codes "is-ancestor") true pair.path.now (pair.first.now ∷ pair.second.now ∷ []) words
 AskAfterName help version words (command.Check path) = words ≡ codes "check" ∷ path.now ∷ []
 AskAfterName help version words (command.Show path) = words ≡ codes "show" ∷ path.now ∷ []
 AskAfterName help version words (command.Ask path) = words ≡ codes "ask" ∷ path.now ∷ []
@@ -79,6 +88,10 @@ HistorytoolMayWrite (command.MergeBase path first others) input unread IsLeftAlo
 HistorytoolMayWrite (command.MergeBaseIds path first others) input unread IsLeftAlone MayOpenAt before after old new status =
     WritesAnswer merge_base_ids_text merge_base_status
     (MayCompare (first.now ∷ map string_bytes others.now) IsLeftAlone (MayOpenAt path.now before after)) old new status
+HistorytoolMayWrite (command.IsAncestorUnchecked pair) input unread IsLeftAlone MayOpenAt before after old new status =
+    WritesAnswer is_ancestor_text is_ancestor_status
+    (MayTellUnchecked pair.first.now pair.second.now IsLeftAlone (MayOpenAt pair.path.now before after) before after)
+    old new status
 HistorytoolMayWrite (command.Check path) input unread IsLeftAlone MayOpenAt before after old new status =
     WritesAnswer check_text check_status (MayFindInAll (MayOpenAt path.now before after)) old new status
 HistorytoolMayWrite (command.Show path) input unread IsLeftAlone MayOpenAt before after old new status =

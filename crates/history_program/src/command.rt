@@ -2,7 +2,12 @@
 
 ghost use Rattle.std.specs.Prelude.{◌≡◌, ◌∷◌, [], ℕ, List, IfOk, IfSome, IsNone};
 ghost use Rattle.std.specs.Prelude.{codes, map, string_bytes};
-ghost use Rattle.history_program.specs.HistorytoolCommands.{AskAfterName, AskHistorytool};
+ghost use Rattle.history_program.specs.HistorytoolCommands.{AreQuestionWords, AskAfterName};
+ghost use Rattle.history_program.specs.HistorytoolCommands.{AskHistorytool};
+ghost use Rattle.graph_commands.specs.OpenerAnswer.{MayOpen};
+ghost use Rattle.graph_commands.specs.WrittenAnswer.{WritesAnswer};
+ghost use Rattle.history_commands.specs.IsAncestor.{is_ancestor_text, is_ancestor_status};
+ghost use Rattle.unchecked_commands.specs.UncheckedAncestor.{MayTellUnchecked};
 ghost use Rattle.history_program.specs.HistorytoolCommands.{TellsOfItself};
 ghost use Rattle.object_commands.specs.AskedRange.{SpellsRange};
 ghost use Rattle.object_commands.specs.declared.range.PositionRange as declared;
@@ -21,6 +26,7 @@ use question_commands::asking::run_ask;
 use show_commands::run::run_show;
 use std::alloc::Global;
 use std::io::{Read, Write};
+use unchecked_commands::ancestor::run_is_ancestor_unchecked;
 use write_commands::run_write;
 
 /// What `historytool` is asked to do.
@@ -72,6 +78,11 @@ pub enum Command<'a> {
         /// The other ids, of which there is one at least.
         others: &'a [String],
     },
+    /// The same as by `IsAncestor` is to be told of a graph that is trusted.
+    IsAncestorUnchecked {
+        /// The graph and the commits.
+        pair: UncheckedPair<'a>,
+    },
     /// The graph is to be checked, with its dates and its filters.
     Check {
         /// The path of the graph.
@@ -111,6 +122,57 @@ pub enum Command<'a> {
         /// The path of the graph.
         path: &'a str,
     },
+}
+
+/// A graph that is trusted, and two commits that it is asked about.
+#[derive(Clone, Copy, Debug)]
+pub struct UncheckedPair<'a> {
+    /// The path of the graph.
+    pub path: &'a str,
+    /// The first id, in hexadecimal digits.
+    pub first: &'a str,
+    /// The second id.
+    pub second: &'a str,
+}
+
+/// The words of a question after its name.
+#[derive(Clone, Copy)]
+struct QuestionWords<'a> {
+    /// Whether the word `--unchecked` stands before the path.
+    unchecked: bool,
+    path: &'a str,
+    first: &'a str,
+    others: &'a [String],
+}
+
+impl<'a> QuestionWords<'a> {
+    /// The words, of which the first is the path, or else the word before it; none where too few
+    /// follow that.
+    fn of(path: &'a str, first: &'a str, others: &'a [String]) -> Option<QuestionWords<'a>>
+        ensures some { IfSome result (λ words. (name : List ℕ)
+            → AreQuestionWords name words.unchecked words.path.now
+            (words.first.now ∷ map string_bytes words.others.now)
+            (name ∷ path.now ∷ first.now ∷ map string_bytes others.now)) }
+        ensures none { IsNone result → (path.now ≡ codes "--unchecked") × (others.now ≡ []) }
+    {
+        match path {
+            "--unchecked" => match others {
+                [] => None,
+                [next, rest @ ..] => Some(QuestionWords {
+                    unchecked: true,
+                    path: first,
+                    first: next,
+                    others: rest,
+                }),
+            },
+            _ => Some(QuestionWords {
+                unchecked: false,
+                path,
+                first,
+                others,
+            }),
+        }
+    }
 }
 
 /// What `historytool` tells of itself.
@@ -194,15 +256,7 @@ impl<'a> Command<'a> {
             (name.now ∷ path.now ∷ first.now ∷ map string_bytes others.now) command }
     {
         match name {
-            "is-ancestor" => match others {
-                [] => None,
-                [second] => Some(Command::IsAncestor {
-                    path,
-                    first,
-                    second,
-                }),
-                _ => None,
-            },
+            "is-ancestor" => Command::is_ancestor(path, first, others),
             "walk" => match others {
                 [] => None,
                 [second] => Some(Command::Walk {
@@ -230,6 +284,38 @@ impl<'a> Command<'a> {
 }
 
 impl<'a> Command<'a> {
+    /// `is-ancestor`, if there is one other id.
+    fn is_ancestor(path: &'a str, first: &'a str, others: &'a [String]) -> Option<Command<'a>>
+        ensures asked { (help version : List ℕ) → IfSome result (AskAfterName help version
+            (codes "is-ancestor" ∷ path.now ∷ first.now ∷ map string_bytes others.now)) }
+        ensures other { IsNone result → (help version : List ℕ) (command : Command)
+            → ¬ AskAfterName help version
+            (codes "is-ancestor" ∷ path.now ∷ first.now ∷ map string_bytes others.now) command }
+    {
+        let QuestionWords {
+            unchecked,
+            path,
+            first,
+            others,
+        } = QuestionWords::of(path, first, others)?;
+        match others {
+            [] => None,
+            [second] if unchecked => Some(Command::IsAncestorUnchecked {
+                pair: UncheckedPair {
+                    path,
+                    first,
+                    second,
+                },
+            }),
+            [second] => Some(Command::IsAncestor {
+                path,
+                first,
+                second,
+            }),
+            _ => None,
+        }
+    }
+
     /// `merge-base`, if there are others.
     fn merge_base(path: &'a str, first: &'a str, others: &'a [String]) -> Option<Command<'a>>
         ensures asked { (help version : List ℕ) → IfSome result (AskAfterName help version
@@ -326,6 +412,7 @@ impl Run for Command<'_> {
                 first,
                 others,
             } => run_merge_base_ids(alloc, folder, path, first, others, output),
+            Command::IsAncestorUnchecked { pair } => pair.is_ancestor(alloc, folder, output),
             Command::Check { path } => run_check(alloc, folder, path, output),
             Command::Show { path } => run_show(alloc, folder, path, output),
             Command::Ask { path } => {
@@ -339,6 +426,31 @@ impl Run for Command<'_> {
             Command::Write { path } => run_write(alloc, input, folder, path, output),
             Command::Merge { path } => run_merge(alloc, folder, path, output),
         }
+    }
+}
+
+impl UncheckedPair<'_> {
+    /// Runs `is-ancestor --unchecked`, and answers the exit status. `WriteFailed` comes where the
+    /// output fails.
+    fn is_ancestor<T: Folder, W: Write>(
+        self,
+        alloc: Global,
+        folder: &mut T,
+        output: &mut W,
+    ) -> Result<u8, WriteFailed>
+        ensures written { IfOk result (WritesAnswer is_ancestor_text is_ancestor_status
+            (MayTellUnchecked self.entry.first.now self.entry.second.now (folder.new ≡ folder.old)
+            (MayOpen (T.tree folder.old) self.entry.path.now (T.failure_count folder.old)
+            (T.failure_count folder.new)) (T.failure_count folder.old) (T.failure_count folder.new))
+            (W.contents output.old) (W.contents output.new)) }
+        ensures tree { T.tree folder.new ≡ T.tree folder.old }
+    {
+        let UncheckedPair {
+            path,
+            first,
+            second,
+        } = self;
+        run_is_ancestor_unchecked(alloc, folder, path, first, second, output)
     }
 }
 

@@ -35,13 +35,13 @@ const STEP_OF_SHA256: &str = "cccccccccccccccccccccccccccccccccccccccccccccccccc
     1111111111111111111111111111111111111111111111111111111111111111\n";
 
 /// A path and the texts of two ids, with the status and the lines of `is-ancestor` and of `walk`.
-type Answer = (
+pub type Answer = (
     (&'static str, &'static str, &'static str),
     (u8, &'static str),
     (u8, &'static str),
 );
 
-const ANSWERS: &[Answer] = &[
+pub const ANSWERS: &[Answer] = &[
     (("file", CS, ONES), (1, "no\n"), (0, STEP)),
     (("file", ONES, CS), (0, "yes\n"), (1, "none\n")),
     (("file", LARGE_CS, TWOS), (1, "no\n"), (0, STEPS)),
@@ -115,7 +115,7 @@ fn says_why_there_is_no_answer_as_ancestor_does(rt: HostRuntime) {
 }
 
 /// Asserts the status of a command, and what it writes.
-fn expect(
+pub(super) fn expect(
     rt: &impl Abort,
     alloc: Global,
     folder: &mut Memory,

@@ -9,11 +9,14 @@ use history_commands::run::{
 };
 use std::alloc::Global;
 use std::process::Abort;
+use unchecked_commands::ancestor::run_is_ancestor_unchecked;
 
 /// A command that asks about the commits with two ids.
 #[derive(Clone, Copy, Debug)]
 pub(super) enum Command {
     IsAncestor,
+    /// With `--unchecked`.
+    IsAncestorUnchecked,
     Walk,
     /// That of `graphtool`.
     Ancestor,
@@ -30,6 +33,9 @@ impl Command {
     ) -> Result<u8, WriteFailed> {
         match self {
             Command::IsAncestor => run_is_ancestor(alloc, folder, path, first, second, out),
+            Command::IsAncestorUnchecked => {
+                run_is_ancestor_unchecked(alloc, folder, path, first, second, out)
+            }
             Command::Walk => run_walk(alloc, folder, path, first, second, out),
             Command::Ancestor => run_ancestor(alloc, folder, path, first, second, out),
         }
@@ -121,6 +127,9 @@ const TWO: &[Row<'static>] = &[(0x11, &[], 1), (0xcc, &[0], 2)];
 /// The second generation number is not one more than the first.
 const WRONG: &[Row<'static>] = &[(0x11, &[], 1), (0xcc, &[0], 3)];
 
+/// The parent of the second commit is no commit of the graph.
+const OUTSIDE: &[Row<'static>] = &[(0x11, &[], 1), (0xcc, &[7], 2)];
+
 /// The bytes of a file of these commits over these base layers.
 fn built(
     rt: &impl Abort,
@@ -201,8 +210,8 @@ fn id(kind: Kind, byte: u8) -> ObjectId {
     }
 }
 
-/// A folder with the files `file`, `criss-cross`, `wrong`, `sha256` of two commits with SHA-256
-/// ids, and `bytes` that are no layer, and with the folder `chain`.
+/// A folder with the files `file`, `criss-cross`, `wrong`, `outside`, `sha256` of two commits with
+/// SHA-256 ids, and `bytes` that are no layer, and with the folder `chain`.
 pub(super) fn graphs(rt: &impl Abort, alloc: Global) -> Memory {
     let mut memory = Memory::new(alloc);
     let rows = [
@@ -210,6 +219,7 @@ pub(super) fn graphs(rt: &impl Abort, alloc: Global) -> Memory {
         ("criss-cross", Kind::Sha1, CRISS_CROSS),
         ("sha256", Kind::Sha256, TWO),
         ("wrong", Kind::Sha1, WRONG),
+        ("outside", Kind::Sha1, OUTSIDE),
     ];
     for (path, kind, rows) in rows {
         let file = built(rt, alloc, kind, &[], rows);

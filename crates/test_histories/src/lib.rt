@@ -27,4 +27,6 @@ mod merge_bases;
 #[cfg(test)]
 mod responding;
 #[cfg(test)]
+mod unchecked;
+#[cfg(test)]
 mod writes;

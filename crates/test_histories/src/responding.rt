@@ -19,6 +19,24 @@ const ROWS: &[(&[&str], u8, &str, &str)] = &[
     (&["-h"], 0, "help\n", ""),
     (&["--version"], 0, "version\n", ""),
     (&["is-ancestor", "file", ONES, CS], 0, "yes\n", ""),
+    (
+        &["is-ancestor", "--unchecked", "file", ONES, CS],
+        0,
+        "yes\n",
+        "",
+    ),
+    (
+        &["is-ancestor", "--unchecked", "nowhere", ONES, CS],
+        1,
+        "refused open 1\n",
+        "",
+    ),
+    (
+        &["is-ancestor", "--unchecked", "file", "0", CS],
+        2,
+        "refused id 1\n",
+        "",
+    ),
     (&["walk", "file", CS, ONES], 0, STEP, ""),
     (
         &["merge-base", "file", CS, ONES],
@@ -54,6 +72,8 @@ const ROWS: &[(&[&str], u8, &str, &str)] = &[
     (&["merge"], 2, "", "usage\n"),
     (&[], 2, "", "usage\n"),
     (&["walk", "file", CS], 2, "", "usage\n"),
+    (&["is-ancestor", "--unchecked", ONES, CS], 2, "", "usage\n"),
+    (&["is-ancestor", "--unchecked", ONES], 2, "", "usage\n"),
     (&["merge-base", "file", CS], 2, "", "usage\n"),
     (&["merge-base-ids", "file", CS], 2, "", "usage\n"),
     (&["ids", "file", "0"], 2, "", "usage\n"),

@@ -31,7 +31,8 @@ def complaint(program, path, verified):
 
 
 def complaint_of_questions(histories, path, verified):
-    """None where `is-ancestor`, `walk`, `merge-base` and `check` of a path refuse what `verify` refused, or else a complaint.
+    """None where `is-ancestor`, `walk`, `merge-base` and `check` of a path refuse what `verify` refused, or else a complaint. A
+    graph that is not checked may be refused so.
 
     Of a graph that passes the first three say, as `ancestor` does, that an id which is nowhere is unknown; and `check`
     begins with the lines of `verify`, or refuses its dates or its filters.
@@ -42,6 +43,9 @@ def complaint_of_questions(histories, path, verified):
         answer = run(path, UNKNOWN, UNKNOWN)
         if answer != unknown:
             return "%s: status %s and %r, beside %r" % (name, answer.status, answer.out[:60], verified.out[:60])
+    answer = histories.is_ancestor_unchecked(path, UNKNOWN, UNKNOWN)
+    if answer not in (unknown, verified._replace(status=1, out=b"unknown 1\n")):
+        return "is-ancestor --unchecked: status %s and %r, beside %r" % (answer.status, answer.out[:60], verified.out[:60])
     answer = histories.check(path)
     further = FURTHER if answer.status else re.compile(re.escape(verified.out) + TOLD)
     if answer != verified and not (verified.status == 0 and not answer.err and further.fullmatch(answer.out)):

@@ -47,6 +47,8 @@ def right_runs(programs, plan, path):
     yield lambda: histories.walk(path, tip, root), lambda answer: judge.exactly(0, ids, "", answer)
     yield lambda: histories.is_ancestor(path, root, tip), lambda answer: judge.exactly(0, "yes\n", "", answer)
     yield lambda: histories.is_ancestor(path, tip, root), lambda answer: judge.exactly(1, "no\n", "", answer)
+    yield lambda: histories.is_ancestor_unchecked(path, root, tip), lambda answer: judge.exactly(0, "yes\n", "", answer)
+    yield lambda: histories.is_ancestor_unchecked(path, tip, root), lambda answer: judge.exactly(1, "no\n", "", answer)
     first, others = asked(plan)
     hexes = [plan.hex_of(number) for number in others]
     yield lambda: histories.merge_base(path, plan.hex_of(first), *hexes), lambda answer: bases_complaint(plan, first, answer)

@@ -102,7 +102,7 @@ def status_of(text):
     """The status that goes with an answer, by its first line."""
     if text.startswith(b"refused id"):
         return 2
-    return 0 if text.startswith((b"layer ", b"ok ", b"position ")) else 1
+    return 0 if text.startswith((b"layer ", b"ok ", b"position ", b"yes\n")) else 1
 
 
 def in_processes(task, parts):

@@ -85,6 +85,10 @@ class HistoryProgram(AnyProgram):
         """The answer to `is-ancestor` of two ids at a path."""
         return self.run("is-ancestor", path, first, second, stdin=subprocess.DEVNULL, **streams)
 
+    def is_ancestor_unchecked(self, path, first, second, **streams):
+        """The answer to `is-ancestor --unchecked` of two ids at a path."""
+        return self.run("is-ancestor", "--unchecked", path, first, second, stdin=subprocess.DEVNULL, **streams)
+
     def walk(self, path, first, second, **streams):
         """The answer to `walk` of two ids at a path."""
         return self.run("walk", path, first, second, stdin=subprocess.DEVNULL, **streams)

@@ -18,6 +18,7 @@ ID = "0" * 40
 OTHER_WORDS = [
     *([], [""], ["help"], ["version"], ["-v"], ["--help", "."], ["--version", "."], ["."], [b"\xff"]),
     *(["walk", ".", ID], ["walk", ".", ID, ID, ID], ["Walk", ".", ID, ID], ["walk", b"\xff", ID, ID]),
+    *(["is-ancestor", "--unchecked"], ["is-ancestor", "--unchecked", ".", ID], ["is-ancestor", "--unchecked", ID, ID]),
     *(["is-ancestor"], ["is-ancestor", ".", ID], ["ancestor", ".", ID, ID], ["verify", "."], ["--walk", ".", ID, ID]),
     *(["merge-base"], ["merge-base", "."], ["merge-base", ".", ID], ["merge-base", ".", ID, b"\xff"]),
     *(["merge-base-ids"], ["merge-base-ids", ".", ID], ["merge-bases", ".", ID, ID]),
@@ -42,6 +43,7 @@ def check_all(histories, results):
     told = helps[0] == helps[1] and helps[0].status == 0 and not helps[0].err
     results.check("historytool --help and -h", None if told and text.startswith(USAGE + "\n") else "they are %r" % (helps,))
     runs = {"is-ancestor": histories.is_ancestor, "walk": histories.walk, "merge-base": histories.merge_base}
+    runs["is-ancestor --unchecked"] = histories.is_ancestor_unchecked
     runs["merge-base-ids"] = histories.merge_base_ids
     for command, run in runs.items():
         exchanged = judge.exactly(2, "refused id 1\n", "", run(ID, ".", ID))

@@ -4,24 +4,30 @@ use Rattle.history_program.specs.HistorytoolCommands.{AskAfterName}
 use Rattle.history_program.proofs.WordsLemmas.{one_word}
 use Rattle.history_program.proofs.command.Command.of_ids.Goals as goal
 
-pub returns-in-len1-others-2-clause-asked : goal.returns-in-len1-others-2-clause-asked
-returns-in-len1-others-2-clause-asked c help version =
+pub returns-in-len1-others-clause-asked : goal.returns-in-len1-others-clause-asked
+returns-in-len1-others-clause-asked c help version =
     let are = one_word c.args.others.now c.to-item.result (omega arith) (omega arith) c.to-item.is in
-    let words : codes "ids" ∷ c.args.path.now ∷ c.args.first.now ∷ c.deref-in-len1-others-2.result.now ∷ []
+    let words : codes "ids" ∷ c.args.path.now ∷ c.args.first.now ∷ c.deref-in-len1-others.result.now ∷ []
     ≡ c.args.name.now ∷ c.args.path.now ∷ c.args.first.now ∷ map string_bytes c.args.others.now
-    = cc (are, c.in-ids.is, c.deref-in-len1-others-2.ensures) in
+    = cc (are, c.in-ids.is, c.deref-in-len1-others.ensures) in
     subst (λ (w : List (List ℕ)). IfSome c.ids_in.result (AskAfterName help version w)) words
     (c.ids_in.ensures.asked help version)
 
-pub returns-in-len1-others-3-clause-asked : goal.returns-in-len1-others-3-clause-asked
-returns-in-len1-others-3-clause-asked c help version =
-    let to = c.to-item-then-others-lt2-4 in
+pub returns-in-len1-others-2-clause-asked : goal.returns-in-len1-others-2-clause-asked
+returns-in-len1-others-2-clause-asked c help version =
+    let to = c.to-item-then-others-lt2-3 in
     let are = one_word c.args.others.now to.result (omega arith) (omega arith) to.is in
-    let words : codes "objects" ∷ c.args.path.now ∷ c.args.first.now ∷ c.deref-in-len1-others-3.result.now ∷ []
+    let words : codes "objects" ∷ c.args.path.now ∷ c.args.first.now ∷ c.deref-in-len1-others-2.result.now ∷ []
     ≡ c.args.name.now ∷ c.args.path.now ∷ c.args.first.now ∷ map string_bytes c.args.others.now
-    = cc (are, c.in-objects.is, c.deref-in-len1-others-3.ensures) in
+    = cc (are, c.in-objects.is, c.deref-in-len1-others-2.ensures) in
     subst (λ (w : List (List ℕ)). IfSome c.objects_in.result (AskAfterName help version w)) words
     (c.objects_in.ensures.asked help version)
+
+pub returns-in-text-clause-asked : goal.returns-in-text-clause-asked
+returns-in-text-clause-asked c help version =
+    subst (λ (name : List ℕ). IfSome c.is_ancestor.result (AskAfterName help version
+    (name ∷ c.args.path.now ∷ c.args.first.now ∷ map string_bytes c.args.others.now)))
+    (sym c.in-text.is) (c.is_ancestor.ensures.asked help version)
 
 pub returns-in-text-2-clause-asked : goal.returns-in-text-2-clause-asked
 returns-in-text-2-clause-asked c help version =

@@ -1,0 +1,3 @@
+pub mod OnlyGraph
+pub mod UncheckedAnswer
+pub mod UncheckedAncestor
