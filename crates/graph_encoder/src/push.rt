@@ -8,6 +8,10 @@ use crate::view::PlanView;
 use gix_hash_core::ObjectId;
 use std::alloc::AllocError;
 
+/// The length of most ids. Where a copy has a length that is known, the processor waits for several
+/// ids at once.
+const SHORT_LEN: usize = 20;
+
 /// Adds a number of four bytes.
 #[tactic(auto, unfolding(crate::specs::Chunks::word_bytes))]
 pub(crate) fn push_word(file: &mut Vec<u8>, number: u32) -> Result<(), AllocError>
@@ -38,7 +42,12 @@ pub(crate) fn push_long(file: &mut Vec<u8>, number: u64) -> Result<(), AllocErro
 pub(crate) fn push_id(file: &mut Vec<u8>, id: &ObjectId) -> Result<(), AllocError>
     ensures { OnOk result (file.new.items ≡ file.old.items ++ id.now) }
 {
-    file.extend_from_slice(id.as_oid().as_bytes())
+    let bytes = id.as_oid().as_bytes();
+    if bytes.len() == SHORT_LEN {
+        file.extend_from_slice(&bytes[..SHORT_LEN])
+    } else {
+        file.extend_from_slice(bytes)
+    }
 }
 
 /// Adds the bytes of these ids, one after another.

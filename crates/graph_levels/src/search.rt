@@ -21,7 +21,7 @@ ghost use Rattle.graph_levels.specs.declared.level.State.TheVariants.{Unseen, Do
 
 use crate::level::{Frame, Level, LevelsError, State};
 use crate::lists::ParentLists;
-use crate::oldest::{CommitTime, oldest_first};
+use crate::oldest::oldest_first;
 use graph_walks::GENERATION_NUMBER_MAX;
 use std::alloc::{AllocError, Global};
 
@@ -232,7 +232,7 @@ impl Search<'_> {
 
     /// Visits commits in this order of their numbers, leaving out numbers past the last commit. It
     /// need not name all.
-    fn visit_each(&mut self, order: &[CommitTime]) -> Result<(), LevelsError>
+    fn visit_each(&mut self, order: &[u32]) -> Result<(), LevelsError>
         requires going { IsUnderWay self.old }
         requires input { HasFittingInput self.old }
         requires empty { length self.old.stack.items ≡ 0 }
@@ -242,9 +242,10 @@ impl Search<'_> {
         ensures cycle { IfErr result
             (IsLevelsRefusal (length self.old.below.now) self.old.parents.now) }
     {
-        for place in order {
-            if place.commit < self.parents.len() {
-                self.visit(place.commit)?;
+        for number in order {
+            let commit = *number as usize;
+            if commit < self.parents.len() {
+                self.visit(commit)?;
             }
         }
         Ok(())

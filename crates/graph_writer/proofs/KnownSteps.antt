@@ -14,8 +14,13 @@ use Rattle.gix_commitgraph.proofs.layers.LayerListLemmas.{get-front}
 use Rattle.graph_format.specs.Layer.{Layer}
 use Rattle.graph_format.specs.Lookup.{scan}
 use Rattle.graph_format.proofs.ScanLemmas.{scan-none}
-use Rattle.std.proofs.lemmas.Option.{slice_get_within}
+use Rattle.std.proofs.lemmas.Option.{slice_get_within, slice_get-get_or, same_Some}
+use Rattle.gix_chunk_core.specs.FirstFault.{first_below}
+use Rattle.gix_chunk_core.proofs.FirstFaultLemmas.{first_below-none_from}
 use Rattle.graph_writer.proofs.NewIdSteps.{scan-holds}
+use Rattle.graph_writer.specs.Known.{ids_below}
+use Rattle.graph_writer.specs.SortedPlaces.{IsOrder}
+use Rattle.graph_writer.specs.declared.resolve.Known.{Known}
 use Rattle.graph_writer.specs.WriteRefusal.{is_unknown, parent_at}
 use Rattle.graph_writer.specs.declared.commit.NewCommit.{NewCommit}
 use Rattle.graph_writer.specs.declared.commit.WriteError.TheVariants as error
@@ -104,3 +109,30 @@ lists-more P old new n parents count same last each here i lt =
     subst (λ (k : ℕ). P k (parent_list new k)) number
     (subst (P n) (sym (ap (parent_list new) (sym count) ∙ last)) here))
     (cases_lt i n)
+
+-- The parents of the commits at the places before this one are known.
+abbrev pub AreFoundTo : Known → ℕ → Type 0
+AreFoundTo known n = (p : ℕ) → p < n → (i : ℕ) → slice_get known.order.now p ≡ Some i
+    → parent_at (ids_below known) known.commits.now i ≡ None
+
+-- so are those of one more
+pub found-more : (known : Known) (n i : ℕ) → slice_get known.order.now n ≡ Some i
+    → parent_at (ids_below known) known.commits.now i ≡ None → AreFoundTo known n → AreFoundTo known (n + 1)
+found-more known n i at here each p lt j at_p =
+    ⊎_elim
+    (λ (before : p < n). each p before j at_p)
+    (λ (not_before : n ≤ p).
+    let place : n ≡ p = omega arith in
+    let number : i ≡ j = same_Some i j (sym at ∙ ap (slice_get known.order.now) place ∙ at_p) in
+    sym (ap (parent_at (ids_below known) known.commits.now) number) ∙ here)
+    (cases_lt p n)
+
+-- each commit has a place, so all parents are known
+pub all-found : (known : Known) → IsOrder known.commits.now known.order.now → AreFoundTo known (length known.order.now)
+    → first_below (parent_at (ids_below known) known.commits.now) (length known.commits.now) ≡ None
+all-found known order each =
+    first_below-none_from (parent_at (ids_below known) known.commits.now) (length known.commits.now)
+    (λ i lt.
+    let found = order.mixed.all i lt in
+    each found.0 found.1 i
+    (slice_get-get_or known.order.now found.0 i found.1 ∙ ap (λ (n : ℕ). Some n) found.2))

@@ -3,6 +3,7 @@ pub mod NullSteps
 pub mod NumberSteps
 pub mod PlaceSteps
 pub mod MixedSteps
+pub mod FrontSteps
 pub mod SearchSteps
 pub mod OrderSteps
 pub mod KnownSteps

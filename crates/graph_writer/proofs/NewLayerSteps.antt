@@ -5,11 +5,9 @@ use Rattle.std.proofs.lemmas.List.{length-map}
 use Rattle.std.proofs.lemmas.List.Elements.{All-map}
 use Rattle.std.proofs.lemmas.Option.{slice_get_within, slice_get-get_or, get_or_from_slice_get, slice_get-map}
 use Rattle.gix_commitgraph.specs.Graph.{graph_ids, total}
-use Rattle.gix_commitgraph.proofs.lookup.ElementLemmas.{some-place, all-at}
 use Rattle.graph_format.specs.Layer.{Layer}
 use Rattle.graph_format.specs.Order.{AreAscending}
 use Rattle.graph_levels.specs.ParentLists.{commit_count, parent_list}
-use Rattle.graph_levels.specs.declared.lists.ParentLists.{ParentLists}
 use Rattle.graph_writer.specs.NewCommits.{new_ids, HoldIds}
 use Rattle.graph_writer.specs.NewLayers.{IsNewLayer, ids_in_order}
 use Rattle.graph_writer.specs.SortedPlaces.{ArePlaces, IsMixed, IsOrder, sorted_ids}
@@ -63,26 +61,18 @@ module _ (commits : List NewCommit) (places : List Place) (are : ArePlaces commi
   }
 
 -- commits in the order of their ids, with the parents of each
-pub new-layer : (commits : List NewCommit) (layers : List Layer) (lists : ParentLists) (new : NewLayer)
-    → IsOrder commits new.order.items
-    → ((i : ℕ) → i < length commits → All (λ q. q < total layers + length commits) (parent_list lists i))
-    → ((i : ℕ) (commit : NewCommit) → slice_get commits i ≡ Some commit
-    → HoldIds (graph_ids layers ++ ids_in_order commits new.order.items) (parent_list lists i) commit.parents.items)
+pub new-layer : (commits : List NewCommit) (layers : List Layer) (new : NewLayer) → IsOrder commits new.order.items
     → commit_count new.parents ≡ length new.order.items
-    → ((p i : ℕ) → slice_get new.order.items p ≡ Some i → parent_list new.parents p ≡ parent_list lists i)
+    → ((p : ℕ) → p < commit_count new.parents → All (λ q. q < total layers + length commits) (parent_list new.parents p))
+    → ((p i : ℕ) (commit : NewCommit) → slice_get new.order.items p ≡ Some i → slice_get commits i ≡ Some commit
+    → HoldIds (graph_ids layers ++ ids_in_order commits new.order.items) (parent_list new.parents p) commit.parents.items)
     → IsNewLayer layers commits new
-new-layer commits layers lists new order within ids listed parents = record {
+new-layer commits layers new order listed within parents = record {
   as_many = order.mixed.as_many;
   each = order.mixed.each;
   all = order.mixed.all;
   ascending = order.ascending;
   listed = listed ∙ order.mixed.as_many;
-  within = λ p lt.
-      let at = some-place new.order.items p (omega (arith, lt, order.mixed.as_many)) in
-      subst (All (λ q. q < total layers + length commits)) (sym (parents p at.0 at.1))
-      (within at.0 (all-at (λ i. i < length commits) new.order.items p at.0 order.mixed.each at.1));
-  parents = λ p i commit at here.
-      subst
-      (λ (ps : List ℕ). HoldIds (graph_ids layers ++ ids_in_order commits new.order.items) ps commit.parents.items)
-      (sym (parents p i at)) (ids i commit here);
+  within = λ p lt. within p (omega (arith, lt, listed, order.mixed.as_many));
+  parents = parents;
 }

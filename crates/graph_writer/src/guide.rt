@@ -1,5 +1,8 @@
-//! Where a commit may stand in the order of ids. Nothing is promised of it: what is found there is
-//! compared with the whole id.
+//! Where a commit may stand in the order of ids. Nothing is promised of that: what is found there
+//! is compared with the whole id.
+
+ghost use Rattle.std.specs.Prelude.{◌≡◌, ◌<◌, ◌≤◌, ℕ, length, slice_index};
+ghost use Rattle.gix_commitgraph.specs.Fronts.{front_of};
 
 use crate::commit::NewCommit;
 use crate::order::FrontPlace;
@@ -7,14 +10,18 @@ use gix_hash_core::ObjectId;
 use std::alloc::{AllocError, Global};
 
 /// About how many ids share a start.
-const IDS_EACH: usize = 4;
+const IDS_EACH: usize = 2;
 
 /// How many fronts are looked at from a start on. More than these hardly ever share one.
-const MOST_EACH: usize = 16;
+const MOST_EACH: usize = 8;
 
 /// The number that the first eight bytes of an id make. Two ids hardly ever have one front, unless
 /// someone made them so.
-pub(crate) fn front(id: &ObjectId) -> u64 {
+pub(crate) fn front(id: &ObjectId) -> u64
+    ensures front { result ≡ front_of id.now }
+    ensures long { 8 ≤ length id.now }
+    ensures bytes { (k : ℕ) → slice_index id.now k < 256 }
+{
     let id = id.as_oid().as_bytes();
     u64::from_be_bytes([id[0], id[1], id[2], id[3], id[4], id[5], id[6], id[7]])
 }
@@ -73,9 +80,9 @@ fn bucket_of(front: u64, buckets: usize) -> usize {
 /// How many commits have their parents guessed at a time.
 const BLOCK: usize = 128;
 
-/// Guessed places of the parents of commits, which are taken one by one. They are guessed for a
-/// block of commits at a time, each step for all of them, so that the processor waits for many
-/// reads at once. Its cache has what they read when the guesses are taken.
+/// Guessed places of the parents of commits in the order of ids, which are taken one by one. They
+/// are guessed for a block of commits at a time, each step for all of them, so that the processor
+/// waits for many reads at once. Its cache has what they read when the guesses are taken.
 #[derive(Drop)]
 pub(crate) struct Guesses<'a> {
     guide: &'a Guide,
@@ -106,22 +113,24 @@ impl<'a> Guesses<'a> {
         }
     }
 
-    /// Makes the guesses of a block, if one begins at the commit of this number.
-    pub(crate) fn go_on(&mut self, number: usize) -> Result<(), AllocError> {
-        if number % BLOCK == 0 {
-            self.guess_block(number)?;
+    /// Makes the guesses of a block, if one begins at this place.
+    pub(crate) fn go_on(&mut self, place: usize) -> Result<(), AllocError> {
+        if place % BLOCK == 0 {
+            self.guess_block(place)?;
         }
         Ok(())
     }
 
-    /// Makes the guesses of the block that begins at the commit of this number.
-    fn guess_block(&mut self, number: usize) -> Result<(), AllocError> {
+    /// Makes the guesses of the block that begins at this place.
+    fn guess_block(&mut self, place: usize) -> Result<(), AllocError> {
         self.wanted.clear();
         self.guessed.clear();
         self.places.clear();
         self.next = 0;
-        for commit in self.commits.iter().skip(number).take(BLOCK) {
-            for id in &commit.parents {
+        let commits = self.commits;
+        let order = self.order;
+        for number in order.iter().skip(place).take(BLOCK) {
+            for id in parents_of(commits, *number) {
                 self.wanted.push(front(id))?;
             }
         }
@@ -129,8 +138,6 @@ impl<'a> Guesses<'a> {
         for front in &self.wanted {
             self.guessed.push(guide.guess(*front))?;
         }
-        let commits = self.commits;
-        let order = self.order;
         for (place, front) in self.guessed.iter().zip(self.wanted.iter()) {
             let found = front_at(commits, order, *place) == *front;
             self.places.push(if found { *place } else { u32::MAX })?;
@@ -147,6 +154,14 @@ impl<'a> Guesses<'a> {
             }
             None => 0,
         }
+    }
+}
+
+/// The parents of the commit of this number, none past the last.
+fn parents_of(commits: &[NewCommit], number: usize) -> &[ObjectId] {
+    match commits.get(number) {
+        Some(commit) => &commit.parents,
+        None => &[],
     }
 }
 

@@ -1,12 +1,10 @@
 //! What a new layer is to say of its commits.
 
-ghost use Rattle.std.specs.Prelude.{◌≡◌, ◌<◌, ◌+◌, ◌≤◌, ℕ, IfOk, IfErr, Some, None, length, map};
-ghost use Rattle.std.specs.Prelude.{All, slice_get};
+ghost use Rattle.std.specs.Prelude.{◌≡◌, ◌≤◌, IfOk, IfErr, None, length};
 ghost use Rattle.gix_chunk_core.specs.FirstFault.{first_below};
 ghost use Rattle.gix_commitgraph.specs.Graph.{graph_ids, total};
 ghost use Rattle.graph_format.specs.Reports.{Reports};
 ghost use Rattle.graph_format.specs.declared.TheConstants as limits;
-ghost use Rattle.graph_levels.specs.ParentLists.{commit_count, parent_list};
 ghost use Rattle.graph_writer.specs.NewCommits.{layers_of_below};
 ghost use Rattle.graph_writer.specs.WriteRefusal.{kind_to_write, below_at, new_layer_refusal};
 ghost use Rattle.graph_writer.specs.WriteRefusal.{plain_refusal, MayRefuseNewLayer};
@@ -21,7 +19,7 @@ use gix_commitgraph::MAX_COMMITS;
 use gix_hash_core::Kind;
 use graph_history::Checked;
 use graph_levels::ParentLists;
-use std::alloc::{AllocError, Global};
+use std::alloc::Global;
 
 /// What a new layer is to say of its commits: their order, and the positions of their parents.
 #[derive(Debug, Drop)]
@@ -67,8 +65,7 @@ impl NewLayer {
             order: &order,
         };
         let guide = Guide::of(alloc, &places)?;
-        let lists = known.resolve(alloc, &guide)?;
-        let parents = in_order(alloc, &order, &lists)?;
+        let parents = known.resolve(alloc, &guide)?;
         Ok(NewLayer { order, parents })
     }
 }
@@ -119,18 +116,4 @@ fn number_below(below: Option<&Checked<'_>>) -> u32
         Some(graph) => graph.num_commits(),
         None => 0,
     }
-}
-
-/// Lists in this order of their numbers.
-fn in_order(alloc: Global, order: &[usize], lists: &ParentLists) -> Result<ParentLists, AllocError>
-    requires { All (λ i. i < commit_count lists.now) order.now }
-    ensures listed { IfOk result (λ parents. commit_count parents ≡ length order.now) }
-    ensures parents { IfOk result (λ parents. (p i : ℕ) → slice_get order.now p ≡ Some i
-        → parent_list parents p ≡ parent_list lists.now i) }
-{
-    let mut parents = ParentLists::new(alloc);
-    for number in order {
-        parents.push(lists.of(*number))?;
-    }
-    Ok(parents)
 }

@@ -35,6 +35,7 @@ pub(crate) struct Known<'a> {
 impl Known<'_> {
     ghost use Rattle.graph_writer.specs.Known.{IsKnown, ids_below, new_ids_in_order};
     ghost use Rattle.graph_writer.specs.Known.{is_unknown_to, all_ids};
+    ghost use Rattle.graph_writer.specs.declared.commit.WriteError.TheVariants.{Parent};
 
     /// The place of the commit with an id among those that are handed in, in the order of ids.
     fn search(&self, id: &ObjectId) -> Option<usize>
@@ -121,16 +122,51 @@ impl Known<'_> {
         Ok(None)
     }
 
-    /// The positions of the parents of each commit, in the order in which the commits came.
+    /// The number of the first parent of a commit that is not known, if there is one.
+    fn unknown_parent(&self, commit: &NewCommit) -> Option<usize>
+        requires { IsKnown self.now }
+        ensures { result ≡ position (is_unknown_to self.now) commit.now.parents.items }
+    {
+        let parents = commit.parents.as_slice();
+        for (number, id) in parents.iter().enumerate() {
+            match self.position_of(id, 0) {
+                Some(_) => {}
+                None => return Some(number),
+            }
+        }
+        None
+    }
+
+    /// The refusal of the first parent that is not known, in the order in which the commits came.
+    /// This parent of this commit is not known.
+    fn first_unknown(&self, number: usize, parent: usize) -> WriteError
+        requires known { IsKnown self.now }
+        requires number { number < length self.now.commits.now }
+        requires unknown { parent_at (ids_below self.now) self.now.commits.now number
+            ≡ Some (Parent number parent) }
+        ensures { first_below (parent_at (ids_below self.now) self.now.commits.now)
+            (length self.now.commits.now) ≡ Some result }
+    {
+        for earlier in 0..number {
+            match self.unknown_parent(&self.commits[earlier]) {
+                Some(parent) => return WriteError::Parent(earlier, parent),
+                None => {}
+            }
+        }
+        WriteError::Parent(number, parent)
+    }
+
+    /// The positions of the parents of each commit, in the order of ids.
     pub(crate) fn resolve(&self, alloc: Global, guide: &Guide) -> Result<ParentLists, WriteError>
         requires { IsKnown self.now }
         ensures count { IfOk result (λ lists.
-            commit_count lists ≡ length self.now.commits.now) }
-        ensures within { IfOk result (λ lists. (i : ℕ) → i < commit_count lists
-            → All (λ p. p < self.now.start + length self.now.commits.now) (parent_list lists i)) }
-        ensures ids { IfOk result (λ lists.
-            (i : ℕ) (commit : NewCommit) → slice_get self.now.commits.now i ≡ Some commit
-            → HoldIds (all_ids self.now) (parent_list lists i) commit.parents.items) }
+            commit_count lists ≡ length self.now.order.now) }
+        ensures within { IfOk result (λ lists. (p : ℕ) → p < commit_count lists
+            → All (λ q. q < self.now.start + length self.now.commits.now) (parent_list lists p)) }
+        ensures ids { IfOk result (λ lists. (p i : ℕ) (commit : NewCommit)
+            → slice_get self.now.order.now p ≡ Some i
+            → slice_get self.now.commits.now i ≡ Some commit
+            → HoldIds (all_ids self.now) (parent_list lists p) commit.parents.items) }
         ensures found { IfOk result (λ _.
             first_below (parent_at (ids_below self.now) self.now.commits.now)
             (length self.now.commits.now) ≡ None) }
@@ -141,10 +177,11 @@ impl Known<'_> {
         let mut guesses = Guesses::of(alloc, guide, self.commits, self.order);
         let mut lists = ParentLists::new(alloc);
         let mut positions = Vec::new(alloc);
-        for (number, commit) in self.commits.iter().enumerate() {
-            guesses.go_on(number)?;
-            match self.put_parents(commit, &mut guesses, &mut positions)? {
-                Some(parent) => return Err(WriteError::Parent(number, parent)),
+        for place in 0..self.order.len() {
+            guesses.go_on(place)?;
+            let number = self.order[place];
+            match self.put_parents(&self.commits[number], &mut guesses, &mut positions)? {
+                Some(parent) => return Err(self.first_unknown(number, parent)),
                 None => lists.push(&positions)?,
             }
         }

@@ -9,6 +9,7 @@ use Rattle.graph_levels.specs.ParentLists.{commit_count, parent_list}
 use Rattle.graph_writer.specs.NewCommits.{layers_of_below, HoldIds}
 use Rattle.graph_writer.specs.NewLayers.{ids_in_order}
 use Rattle.graph_writer.specs.SortedPlaces.{IsOrder}
+use Rattle.graph_writer.specs.declared.commit.NewCommit.{NewCommit}
 use Rattle.graph_writer.specs.declared.new_layer.NewLayer.{NewLayer}
 use Rattle.graph_writer.proofs.NewLayerSteps.{new-layer}
 use Rattle.graph_writer.proofs.RefusalSteps.{own_fault, refused-plain, refused-twice, refused-below, refused-many, refused-later}
@@ -57,16 +58,16 @@ returns-then-commits-start-clause-refusal c =
     (refused-many layers commits own c.in_ok-order.ensures.once c.in_ok-check_all_new.ensures
     (lt-ltb MAX_COMMITS (total layers + length commits) many))
 
-pub returns-in_err-lists-clause-refusal : goal.returns-in_err-lists-clause-refusal
-returns-in_err-lists-clause-refusal c =
+pub returns-in_err-parents-clause-refusal : goal.returns-in_err-parents-clause-refusal
+returns-in_err-parents-clause-refusal c =
     let layers : List Layer = layers_of_below c.args.below in
     let commits = c.args.commits.now in
     let own : own_fault layers commits ≡ None = plain-own layers commits c.in_ok-check_alone.ensures in
     let few : total layers + length commits ≤ MAX_COMMITS =
     omega (arith, c.if-commits-start.false, c.number_below-start.ensures.commits, c.number_below-start.ensures.few) in
-    let handed = err_from_is_err_and c.from_residual-in_err-lists.result c.from_residual-in_err-lists.ensures.1 in
+    let handed = err_from_is_err_and c.from_residual-in_err-parents.result c.from_residual-in_err-parents.ensures.1 in
     rw (handed.1, handed.2)
-    (elim c.in_err-lists.ensures.unknown [
+    (elim c.in_err-parents.ensures.unknown [
       | inl memory ↦ inr (memory, c.in_ok-check_alone.ensures)
       | inr is ↦
           inl
@@ -81,29 +82,20 @@ resolve-requires c = record {
   few = omega (arith, c.if-commits-start.false, c.number_below-start.ensures.few);
 }
 
-pub in_order-requires : goal.in_order-requires
-in_order-requires c =
-    subst (All (λ i. i < commit_count c.in_ok-lists.lists)) (sym c.deref-4.ensures.value)
-    (subst (λ (n : ℕ). All (λ i. i < n) c.in_ok-order.order.items) (sym c.in_ok-lists.ensures.count)
-    c.in_ok-order.ensures.order.mixed.each)
-
 pub returns-clause-layer : goal.returns-clause-layer
 returns-clause-layer c =
     let layers : List Layer = layers_of_below c.args.below in
     let commits = c.args.commits.now in
-    let order : List ℕ = c.in_ok-order.order.items in
-    let lists = c.in_ok-lists.lists in
-    let new : NewLayer = record { order = c.in_ok-order.order; parents = c.in_ok-parents.parents } in
-    new-layer commits layers lists new c.in_ok-order.ensures.order
-    (λ i lt.
-    subst (λ (s : ℕ). All (λ q. q < s + length commits) (parent_list lists i)) c.number_below-start.ensures.commits
-    (c.in_ok-lists.ensures.within i (omega (arith, lt, c.in_ok-lists.ensures.count))))
-    (λ i commit here.
-    subst (λ (xs : List ℕ). HoldIds (graph_ids layers ++ ids_in_order commits xs) (parent_list lists i) commit.parents.items)
-    c.deref-2.ensures.value (c.in_ok-lists.ensures.ids i commit here))
-    (c.in_ok-parents.ensures.listed ∙ ap length c.deref-4.ensures.value)
-    (λ p i at.
-    c.in_ok-parents.ensures.parents p i (ap (λ (xs : List ℕ). slice_get xs p) c.deref-4.ensures.value ∙ at))
+    let parents = c.in_ok-parents.parents in
+    let new : NewLayer = record { order = c.in_ok-order.order; parents = parents } in
+    new-layer commits layers new c.in_ok-order.ensures.order
+    (c.in_ok-parents.ensures.count ∙ ap length c.deref-2.ensures.value)
+    (subst (λ (s : ℕ). (p : ℕ) → p < commit_count parents → All (λ q. q < s + length commits) (parent_list parents p))
+    c.number_below-start.ensures.commits c.in_ok-parents.ensures.within)
+    (subst
+    (λ (xs : List ℕ). (p i : ℕ) (commit : NewCommit) → slice_get xs p ≡ Some i → slice_get commits i ≡ Some commit
+    → HoldIds (graph_ids layers ++ ids_in_order commits xs) (parent_list parents p) commit.parents.items)
+    c.deref-2.ensures.value c.in_ok-parents.ensures.ids)
 
 pub returns-clause-accepted : goal.returns-clause-accepted
 returns-clause-accepted c =
@@ -115,4 +107,4 @@ returns-clause-accepted c =
     let some : (length commits == 0) ≡ false = plain-some layers commits c.in_ok-check_alone.ensures in
     refused-later layers commits None own c.in_ok-order.ensures.once c.in_ok-check_all_new.ensures
     (le-ltb MAX_COMMITS (total layers + length commits) few)
-    (refused-nothing layers commits false None c.in_ok-lists.ensures.found some refl)
+    (refused-nothing layers commits false None c.in_ok-parents.ensures.found some refl)
