@@ -14,7 +14,7 @@
  * - No call keeps a pointer that it was given. No call is made from a signal handler, or in the child of a process with
  *   threads before it execs. Memory comes from malloc, realloc and free.
  * - What an out parameter holds before a call does not matter, but for the cg_graph or the cg_bytes that a call hands out, which
- *   has to be CG_CLOSED or CG_NO_BYTES.
+ *   has to be CG_CLOSED or CG_NO_BYTES, and for a cg_lent, which has to be CG_NOT_LENT or what was lent before.
  * - Where a call answers a code, CG_OK, 0, is a full answer, and any other the number of the cause: see CG_OK. Other codes than
  *   those that are named beside a call do not come. Calls with a graph that is CG_CLOSED answer CG_CLOSED_GRAPH, or as each says.
  *
@@ -243,7 +243,7 @@ cg_path_error cg_open_known(const char *path, size_t path_len, uint32_t what, co
 
 /* Opens the graph and checks it, as cg_verify does. *verdict is always written, and has the code of the error: on CG_OK the
  * statistics, and then `counts` is written as by cg_verify; on 301 to 399 the fault; elsewhere code and layer alone. Only such a
- * graph answers cg_ancestor_walk, cg_is_ancestor, cg_are_ancestors and cg_merge_bases. The rest is as in cg_open. */
+ * graph answers cg_ancestor_walk, cg_is_ancestor, cg_are_ancestors, cg_merge_bases and cg_merge_bases_of. The rest is as in cg_open. */
 struct cg_verdict;
 struct cg_count;
 cg_error cg_open_checked(const cg_file *files, size_t count, bool distinct_ids, struct cg_verdict *verdict,
@@ -291,6 +291,23 @@ uint64_t cg_lookup_all(cg_graph graph, const uint8_t *ids, size_t ids_len, size_
  * and writes nothing, for another length, for a position that is none, and for CG_CLOSED. */
 size_t cg_id_at(cg_graph graph, uint32_t pos, uint8_t *out, size_t len);
 size_t cg_tree_at(cg_graph graph, uint32_t pos, uint8_t *out, size_t len);
+
+/* The bytes of an id that is lent, as many as cg_id_len says: they lie in the graph, stay as they are, and are gone once cg_close or
+ * cg_check is called with it. CG_NOT_LENT are none. */
+typedef struct cg_lent { const uint8_t *bytes; size_t len; } cg_lent;
+#if defined(__cplusplus) && __cplusplus >= 201103L
+#define CG_NOT_LENT (cg_lent{ reinterpret_cast<const uint8_t *>(""), 0 })
+#elif defined(__cplusplus)
+static inline cg_lent cg_not_lent() { cg_lent none = { reinterpret_cast<const uint8_t *>(""), 0 }; return none; }
+#define CG_NOT_LENT (cg_not_lent())
+#else
+#define CG_NOT_LENT ((cg_lent){ (const uint8_t *)"", 0 })
+#endif
+
+/* Lends the id at a position, or that of its commit's root tree; false, and *out is left as it was, for a position that is none, and
+ * for CG_CLOSED. */
+bool cg_lend_id(cg_graph graph, uint32_t pos, cg_lent *out);
+bool cg_lend_tree(cg_graph graph, uint32_t pos, cg_lent *out);
 
 /* How many of many questions were answered, by a call for positions or for pairs. `code` is
  *   CG_CLOSED_GRAPH; else

@@ -47,7 +47,7 @@ SANITIZED = "-Zsanitizer=thread -Cunsafe-allow-abi-mismatch=sanitizer"
 """Flags of a nightly Rust compiler. Its standard library is not built with them."""
 CALLING_ALL = ("ask.c", "large.c", "memory.c", "threads.c")
 """The programs that make each call. Those of layout.c are the calls that write a struct."""
-IN_HEADER = {"cg_strerror", "cg_closed", "cg_no_bytes"}
+IN_HEADER = {"cg_strerror", "cg_closed", "cg_no_bytes", "cg_not_lent"}
 """Functions that the header has whole."""
 STRICT = ["-D_GNU_SOURCE", "-Wall", "-Wextra", "-Wpedantic", "-Werror"]
 COUNTING = threading.Lock()
@@ -428,7 +428,7 @@ def rust_tests(crate, environment):
     """The tests of the Rust crate, and that of its threads under ThreadSanitizer, where a toolchain can."""
     done = run("cargo", "test", "--quiet", "--offline", cwd=crate, env=environment)
     expect("Rust: tests", done.returncode == 0 and "4 threads read" in done.stdout, done)
-    expect("Rust: the tests are all made", all(f"{n} passed" in done.stdout for n in (21, 4)), done)
+    expect("Rust: the tests are all made", all(f"{n} passed" in done.stdout for n in (22, 4)), done)
     command = ["cargo", "+nightly", "test", "--quiet", "--offline", "--test", "threads", "--target", "x86_64-unknown-linux-gnu"]
     at = {**environment, "RUSTFLAGS": SANITIZED}
     if run(*command, "--no-run", cwd=crate, env=at).returncode:
@@ -537,7 +537,8 @@ def c(compiler, archive, scratch, graphs):
     plus = {"gcc": "g++", "clang": "clang++"}[compiler]
     including = scratch / compiler / "including"
     including.write_text('#include "commitgraph.h"\ncg_graph closed(void);\ncg_graph closed(void) { return CG_CLOSED; }\n'
-                         'cg_bytes no_bytes(void);\ncg_bytes no_bytes(void) { return CG_NO_BYTES; }\n')
+                         'cg_bytes no_bytes(void);\ncg_bytes no_bytes(void) { return CG_NO_BYTES; }\n'
+                         'cg_lent not_lent(void);\ncg_lent not_lent(void) { return CG_NOT_LENT; }\n')
     for command, standard in ((compiler, "c99"), (compiler, "c11"), (plus, "c++98"), (plus, "c++17")):
         if present(command, f"the header as {standard}"):
             kind = "c++" if command == plus else "c"
@@ -584,7 +585,7 @@ def installed(compilers, scratch, graphs):
     page = (prefix / "share/man/man3/commitgraph.3").read_text()
     header = (prefix / "include/commitgraph.h").read_text()
     missing = [name for name in re.findall(r"^(?:static inline )?[\w ]+ \*?(cg_[a-z_]+)\(", header, re.MULTILINE) if name not in page]
-    expect("the manual page names each call", missing == ["cg_closed", "cg_no_bytes"], missing)
+    expect("the manual page names each call", missing == ["cg_closed", "cg_not_lent", "cg_no_bytes"], missing)
     number = (TOP / "VERSION").read_text().split(",")[0]
     first, second, third = map(int, number.split("."))
     expect("the header has the version", f"#define CG_VERSION {10000 * first + 100 * second + third}\n" in header, number)

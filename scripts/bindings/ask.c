@@ -117,13 +117,22 @@ static void print_ids(cg_graph graph, const uint32_t *positions, uint64_t count)
     }
 }
 
+/* Whether a call lends the id that was written, and none past the last position. */
+static bool is_lent(bool (*lend)(cg_graph, uint32_t, cg_lent *), cg_graph graph, uint32_t pos, const uint8_t *id) {
+    cg_lent lent = CG_NOT_LENT, none = CG_NOT_LENT;
+    if (lend(graph, cg_num_commits(graph), &none) || lend(graph, CG_NOWHERE, &none) || none.len) return false;
+    return lend(graph, pos, &lent) && lent.len == cg_id_len(graph) && !memcmp(lent.bytes, id, lent.len);
+}
+
 /* The line of a commit, as `graphtool list` has it. */
 static void print_line(cg_graph graph, uint32_t pos, cg_commit commit, cg_parent_count answer, const uint32_t *parents) {
     uint8_t id[32];
     printf("%" PRIu32 " ", pos);
     print_hex(id, cg_id_at(graph, pos, id, cg_id_len(graph)));
     putchar(' ');
+    if (!is_lent(cg_lend_id, graph, pos, id)) printf("lent ");
     print_hex(id, cg_tree_at(graph, pos, id, cg_id_len(graph)));
+    if (!is_lent(cg_lend_tree, graph, pos, id)) printf("lent ");
     printf(" %" PRIu32 " %" PRIu64 " ", commit.generation, commit.time);
     for (uint64_t i = 0; i < answer.count; i++) printf(i ? ",%" PRIu32 : "%" PRIu32, parents[i]);
     if (answer.code) printf(answer.count ? ",!%" PRIu32 : "!%" PRIu32, answer.code - 360);
@@ -478,6 +487,7 @@ static bool closed_answers(void) {
     cg_graph none = CG_CLOSED;
     cg_bases bases = { .code = 7 };
     cg_two two = { 0, 0 };
+    cg_lent lent = CG_NOT_LENT;
     if (cg_lookup_all(CG_CLOSED, id, 20, 20, out, 1) || cg_ids_at(CG_CLOSED, out, 1, id, 20).code != CG_CLOSED_GRAPH) return false;
     if (cg_merge_bases_of(CG_CLOSED, &two, 1, &bases, 1, out, 1).code != CG_CLOSED_GRAPH || bases.code != 7) return false;
     if (!refuses(CG_CLOSED, NULL, 0, (cg_write_error){ .code = CG_WRITE_NOTHING })) return false;
@@ -490,6 +500,7 @@ static bool closed_answers(void) {
     verdict.called = 7;
     bool good = cg_num_commits(CG_CLOSED) == 0 && cg_id_len(CG_CLOSED) == 0 && cg_lookup(CG_CLOSED, id, 20) == CG_NOWHERE
         && cg_id_at(CG_CLOSED, 0, id, 20) == 0 && cg_tree_at(CG_CLOSED, 0, id, 20) == 0 && !cg_commit_at(CG_CLOSED, 0, &commit)
+        && !cg_lend_id(CG_CLOSED, 0, &lent) && !cg_lend_tree(CG_CLOSED, 0, &lent) && lent.len == 0
         && cg_commits(CG_CLOSED, 0, &commit, 1) == 0 && cg_parents(CG_CLOSED, 0, out, 1).code == CG_CLOSED_GRAPH
         && cg_first_parents(CG_CLOSED, 0, out, 1).code == CG_CLOSED_GRAPH && cg_matches(CG_CLOSED, 0, id, 1).code == CG_CLOSED_GRAPH
         && cg_parents_from(CG_CLOSED, 0, &answer, 1, out, 1).commits == 0

@@ -60,6 +60,9 @@ static void tell_commits(cg_graph graph, FILE *file, uint32_t count) {
         agree(cg_commit_at(graph, pos, &one) && one.time == times[pos] && one.generation == numbers[pos]);
         agree(cg_id_at(graph, pos, ids + (size_t)pos * LEN, LEN) == LEN);
         agree(cg_tree_at(graph, pos, trees + (size_t)pos * LEN, LEN) == LEN);
+        cg_lent lent = CG_NOT_LENT;
+        agree(cg_lend_id(graph, pos, &lent) && lent.len == LEN && !memcmp(lent.bytes, ids + (size_t)pos * LEN, LEN));
+        agree(cg_lend_tree(graph, pos, &lent) && lent.len == LEN && !memcmp(lent.bytes, trees + (size_t)pos * LEN, LEN));
         agree(cg_lookup(graph, ids + (size_t)pos * LEN, LEN) == pos);
     }
     put(file, times, count, sizeof *times);

@@ -14,6 +14,7 @@ AT(cg_known, kind, 32);
 SIZE(cg_path_error, 24); AT(cg_path_error, code, 0); AT(cg_path_error, layer, 8); AT(cg_path_error, length, 16);
 SIZE(cg_layer_info, 16); AT(cg_layer_info, first, 0); AT(cg_layer_info, num_commits, 4); AT(cg_layer_info, bases, 8);
 AT(cg_layer_info, hash, 12);
+SIZE(cg_lent, 16); AT(cg_lent, bytes, 0); AT(cg_lent, len, 8);
 SIZE(cg_layer_verdict, 28); AT(cg_layer_verdict, code, 0); AT(cg_layer_verdict, num_commits, 4);
 AT(cg_layer_verdict, min_generation, 8); AT(cg_layer_verdict, max_generation, 12); AT(cg_layer_verdict, max_parents, 16);
 AT(cg_layer_verdict, position, 20); AT(cg_layer_verdict, byte, 24);

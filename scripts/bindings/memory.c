@@ -236,6 +236,7 @@ static outcome reading(void) {
     cg_commit commit;
     cg_parent_count answers[4];
     cg_layer_info layer;
+    cg_lent lent = CG_NOT_LENT;
     size_t len = cg_id_at(graph, from, id, cg_id_len(graph));
     uint64_t last = cg_num_layers(graph) - 1;
     if (!cg_layer(graph, last, &layer) || cg_layer_checksum(graph, last, id, len) != len) return WRONG;
@@ -249,7 +250,7 @@ static outcome reading(void) {
         && cg_commits(graph, from, &commit, 1) == cg_num_commits(graph) - from && cg_parents(graph, from, out, 4).code == CG_OK
         && cg_first_parents(graph, from, out, 4).code == CG_OK && cg_matches(graph, from, id, len).code == CG_OBJECT_OTHER_CONTENTS
         && cg_parents_from(graph, 0, answers, 4, out, 8).commits > 0 && cg_chain_line(id, len, 0).found
-        && cg_version() == CG_VERSION;
+        && cg_lend_id(graph, from, &lent) && cg_lend_tree(graph, from, &lent) && lent.len == len && cg_version() == CG_VERSION;
     return good && !refused ? DONE : WRONG;
 }
 

@@ -66,6 +66,9 @@ static uint64_t sum(void) {
         all = all * 31 + cg_merge_bases(graph, pos, &pos, 1, out, ROOM).length;
         all = all * 31 + cg_parents(graph, pos, out, ROOM).count + cg_first_parents(graph, pos, out, 1).count + cg_matches(graph, pos, id, len).code + cg_commit_at(graph, pos, commits) + commits[0].time;
         all = all * 31 + cg_tree_at(graph, pos, id, len) + id[0] + cg_chain_line(id, len, 0).next;
+        cg_lent lent = CG_NOT_LENT;
+        if (cg_lend_id(graph, pos, &lent)) all = all * 31 + lent.bytes[len - 1];
+        if (cg_lend_tree(graph, pos, &lent)) all = all * 31 + lent.bytes[len - 1];
         all = all * 31 + cg_ids_at(graph, &pos, 1, id, len).answered + cg_lookup_all(graph, id, len, len, out, 1) + out[0];
         cg_bases bases = { 0, 0, 0, 0, 0 };
         all = all * 31 + cg_merge_bases_of(graph, &(cg_two){ pos, count - 1 }, 1, &bases, 1, out, ROOM).length + bases.ahead;

@@ -63,6 +63,28 @@ impl<'g> Commit<'g> {
         id
     }
 
+    /// The bytes of its id, which are lent from the graph.
+    #[inline]
+    pub fn id_bytes(&self) -> &'g [u8] {
+        let mut lent = sys::NOT_LENT;
+        // SAFETY: `raw` is open, and stays so as long as the graph is borrowed; so many bytes lie there, and do not change.
+        unsafe {
+            sys::cg_lend_id(self.graph.raw, self.pos.0, &mut lent);
+            std::slice::from_raw_parts(lent.bytes, lent.len)
+        }
+    }
+
+    /// The bytes of the id of its root tree, which are lent from the graph.
+    #[inline]
+    pub fn root_tree_id_bytes(&self) -> &'g [u8] {
+        let mut lent = sys::NOT_LENT;
+        // SAFETY: as above.
+        unsafe {
+            sys::cg_lend_tree(self.graph.raw, self.pos.0, &mut lent);
+            std::slice::from_raw_parts(lent.bytes, lent.len)
+        }
+    }
+
     /// What its record says, but for its ids and its parents, by one call.
     #[inline]
     pub fn record(&self) -> Record {

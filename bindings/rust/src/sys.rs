@@ -103,6 +103,15 @@ pub struct Reached {
 }
 
 #[repr(C)]
+#[derive(Clone, Copy)]
+pub struct Lent {
+    pub bytes: *const u8,
+    pub len: usize,
+}
+
+pub const NOT_LENT: Lent = Lent { bytes: b"".as_ptr(), len: 0 };
+
+#[repr(C)]
 #[derive(Clone, Copy, Default)]
 pub struct ParentCount {
     pub code: u32,
@@ -270,6 +279,8 @@ extern "C" {
     pub fn cg_lookup(graph: Graph, id: *const u8, len: usize) -> u32;
     pub fn cg_id_at(graph: Graph, pos: u32, out: *mut u8, len: usize) -> usize;
     pub fn cg_tree_at(graph: Graph, pos: u32, out: *mut u8, len: usize) -> usize;
+    pub fn cg_lend_id(graph: Graph, pos: u32, out: *mut Lent) -> bool;
+    pub fn cg_lend_tree(graph: Graph, pos: u32, out: *mut Lent) -> bool;
     pub fn cg_commit_at(graph: Graph, pos: u32, out: *mut Commit) -> bool;
     pub fn cg_commits(graph: Graph, first: u32, out: *mut Commit, len: usize) -> u32;
     pub fn cg_parents(graph: Graph, pos: u32, out: *mut u32, len: usize) -> ParentCount;
@@ -349,6 +360,7 @@ mod layout {
     laid_out!(LayerVerdict, 28, code 0, num_commits 4, min_generation 8, max_generation 12, max_parents 16);
     laid_out!(LayerVerdict, 28, position 20, byte 24);
     laid_out!(Commit, 16, time 0, generation 8);
+    laid_out!(Lent, 16, bytes 0, len 8);
     laid_out!(ParentCount, 16, code 0, count 8);
     laid_out!(Block, 16, commits 0, length 8);
     laid_out!(Verdict, 56, code 0, num_commits 4, longest 8, has_longest 12, position 16, other 20, called 24);

@@ -90,6 +90,15 @@ fn blocks_tell_of_each_commit_once() {
 }
 
 #[test]
+fn ids_are_lent_as_they_are_copied() {
+    let graph = Graph::at(&made().chain).unwrap();
+    let lent: Vec<_> = graph.iter_commits().map(|commit| (commit.id_bytes(), commit.root_tree_id_bytes())).collect();
+    for (commit, (id, tree)) in graph.iter_commits().zip(lent) {
+        assert_eq!((commit.id().as_bytes(), commit.root_tree_id().as_bytes()), (id, tree));
+    }
+}
+
+#[test]
 fn each_pair_is_answered_as_alone() {
     let graph = Checked::at(&made().chain).unwrap();
     let all = first(graph.graph().num_commits());
