@@ -40,9 +40,9 @@ def try_part(program, content, masks, start):
 
 
 def pairs(content):
-    """The pairs of ids that are asked for: each commit of the file beside the last one, and an id that is nowhere."""
+    """The pairs of ids that are asked for: the first commit of the file and the last, either way, and an id that is nowhere."""
     ids = [commit.hex() for commit in reading.read(content).ids]
-    return [*((commit, ids[-1]) for commit in ids), (ids[-1], ids[0]), ("e" * len(ids[0]), ids[0])]
+    return [(ids[0], ids[-1]), (ids[-1], ids[0]), ("e" * len(ids[0]), ids[0])]
 
 
 def complaint_of(bench, content, asked, kinds):
