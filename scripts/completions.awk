@@ -33,24 +33,26 @@ END {
     else write_fish()
 }
 
-# Notes the options of an item: their names, what they take, what they do, and the command that they are for, if it is one.
-function end_item(    colon, terms, number, at, text, command, parts) {
+# Notes the options of an item: their names, what they take, what they do, and the commands that they are for, if they are for
+# some alone.
+function end_item(    colon, terms, number, at, text, own, end, parts, count) {
     if (item == "") return
     colon = index(item, ": ")
     text = substr(item, colon + 2)
     number = split(substr(item, 1, colon - 1), terms, "`")
     item = ""
     if (text ~ /^With `/) {
-        split(text, parts, /[` ]/)
-        command = parts[3]
-        sub(/^With `[^`]*`, /, "", text)
+        end = index(text, "`, ")
+        count = split(substr(text, 1, end), parts, "`")
+        for (at = 2; at <= count; at += 2) own = own " " first_word(parts[at])
+        text = substr(text, end + 3)
     }
     for (at = 2; at <= number; at += 2) {
         options++
         name[options] = first_word(terms[at])
         takes[options] = substr(terms[at], length(name[options]) + 2)
         does[options] = short(text)
-        is_for[options] = command
+        is_for[options] = substr(own, 2)
         others[options] = substr(item_names(terms, number), 2)
     }
 }
@@ -82,7 +84,12 @@ function quoted(text) {
     return "'" text "'"
 }
 
-function write_bash(    at, all, with_commits, shared, own, with_folder) {
+# Whether an option is for a command.
+function is_own(option, command) {
+    return index(" " is_for[option] " ", " " command " ") > 0
+}
+
+function write_bash(    at, of, all, with_commits, shared, own, with_folder) {
     for (at = 1; at <= count; at++) {
         all = all " " commands[at]
         if (takes_commits[commands[at]]) with_commits = with_commits " | " commands[at] ",*"
@@ -91,7 +98,7 @@ function write_bash(    at, all, with_commits, shared, own, with_folder) {
         if (takes[at] == "<folder>") with_folder = with_folder " | " name[at]
         if (name[at] !~ /^--/ && name[at] != others[at]) continue
         if (is_for[at] == "") shared = shared " " name[at]
-        else own[is_for[at]] = own[is_for[at]] " " name[at]
+        else for (of = 1; of <= count; of++) if (is_own(at, commands[of])) own[commands[of]] = own[commands[of]] " " name[at]
     }
     print "# Completion of `git cgraph` for bash, which Git's own completion finds by the name of this function.\n"
     printf "_git_cgraph() {\n    local commands=%s options=%s\n", quoted(substr(all, 2)), quoted(substr(shared, 2))
@@ -123,7 +130,7 @@ function write_zsh(    at) {
 
 # What stands after a command.
 function write_zsh_command(command,    at, own) {
-    for (at = 1; at <= options; at++) if (is_for[at] == command) own = own " " zsh_option(at)
+    for (at = 1; at <= options; at++) if (is_own(at, command)) own = own " " zsh_option(at)
     if (takes_commits[command]) own = own " '*: :->commits'"
     printf "    %s) operands=(%s) ;;\n", command, substr(own, 2)
 }

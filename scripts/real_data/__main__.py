@@ -12,7 +12,7 @@ NAME is a file of the folder `checks`, such as show_checks; without one, all are
 - `ancestor`: a shortest walk between each pair of commits, or that there is none, as
   `git merge-base --is-ancestor` says, and how many commits were visited: in a line the one right number.
 - `is-ancestor` and `walk`: the same pairs and damaged folders, by ids; also with `--unchecked`, where a wrong file may be
-  passed, but a `yes` has to be so by the parents that stand in it.
+  passed, but a `yes` or a walk has to be so by the parents that stand in it.
 - `merge-base`: the bases that `git merge-base --all` names, and how many commits are ahead and behind by the
   parents that Git lists; where times are in order, also as `git rev-list --left-right --count` counts them. How many
   were visited lies within the bounds that the parents and the generation numbers give.

@@ -173,6 +173,9 @@ def check_completion(results, clone, repository):
         ("verify", "--a"): {"--all-checks"},
         ("verify", "--ob"): {"--objects", "--object-dir"},
         ("merge-base", "--a"): {"--all"},
+        ("is-ancestor", "--u"): {"--unchecked"},
+        ("walk", "--u"): {"--unchecked"},
+        ("merge-base", "--u"): set(),
         ("find", "-q", "anno"): {"annotated"},
         ("--object-dir", "su"): {"sub"},
     }.items():

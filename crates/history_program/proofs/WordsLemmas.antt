@@ -17,7 +17,8 @@ named_alone help version name (command.Help text) is = elim is.0 [ inl e ↦ inl
 named_alone help version name (command.Version text) is = let e = is.0 in inr (inr (inl cc))
 named_alone help version name (command.IsAncestor path first second) is = let e = is.0 in cc
 named_alone help version name (command.IsAncestorUnchecked pair) is = let e = is in cc
-named_alone help version name (command.Walk path first second) is = let e = is in cc
+named_alone help version name (command.Walk path first second) is = let e = is.0 in cc
+named_alone help version name (command.WalkUnchecked pair) is = let e = is in cc
 named_alone help version name (command.MergeBase path first others) is = let e = is.0 in cc
 named_alone help version name (command.MergeBaseIds path first others) is = let e = is.0 in cc
 named_alone help version name (command.Check path) is = let e = is in cc
@@ -39,7 +40,8 @@ named_with_path help version name path (command.Help text) is = elim is.0 [ inl 
 named_with_path help version name path (command.Version text) is = let e = is.0 in cc
 named_with_path help version name path (command.IsAncestor at first second) is = let e = is.0 in cc
 named_with_path help version name path (command.IsAncestorUnchecked pair) is = let e = is in cc
-named_with_path help version name path (command.Walk at first second) is = let e = is in cc
+named_with_path help version name path (command.Walk at first second) is = let e = is.0 in cc
+named_with_path help version name path (command.WalkUnchecked pair) is = let e = is in cc
 named_with_path help version name path (command.MergeBase at first others) is = let e = is.0 in cc
 named_with_path help version name path (command.MergeBaseIds at first others) is = let e = is.0 in cc
 named_with_path help version name path (command.Check at) is = let e = is in inl cc
@@ -67,6 +69,10 @@ as_many others more same some =
     let equal : length (map string_bytes others) ≡ length (map string_bytes more) = ap length same in
     omega (arith, length-map others string_bytes, length-map more string_bytes)
 
+-- the name of a question about two ids
+abbrev pub IsOfTwo : List ℕ → Type 0
+IsOfTwo name = (name ≡ codes "is-ancestor") ⊎ (name ≡ codes "walk")
+
 -- the words of a question about two ids, or about one and some others
 abbrev pub AskOfTwo : List ℕ → List (List ℕ) → Type 0
 AskOfTwo name words = (unchecked : Bool) × (at one other : List ℕ) × AreQuestionWords name unchecked at (one ∷ other ∷ []) words
@@ -74,8 +80,7 @@ AskOfTwo name words = (unchecked : Bool) × (at one other : List ℕ) × AreQues
 -- which name asks with a path and ids, and how many ids there are after the first
 abbrev pub NamedWithIds : List ℕ → List ℕ → List ℕ → List (String Global) → Type 0
 NamedWithIds name path first others =
-    ((name ≡ codes "is-ancestor") × AskOfTwo name (name ∷ path ∷ first ∷ map string_bytes others))
-    ⊎ ((name ≡ codes "walk") × (length others ≡ 1))
+    (IsOfTwo name × AskOfTwo name (name ∷ path ∷ first ∷ map string_bytes others))
     ⊎ (((name ≡ codes "ids") ⊎ (name ≡ codes "objects")) × (length others ≡ 1)
     × ((to : List ℕ) × (range : PositionRange) × (map string_bytes others ≡ to ∷ []) × SpellsRange first to range))
     ⊎ (((name ≡ codes "merge-base") ⊎ (name ≡ codes "merge-base-ids")) × (1 ≤ length others))
@@ -86,17 +91,20 @@ named_with_ids help version name path first others (command.Help text) is = elim
 named_with_ids help version name path first others (command.Version text) is = let e = is.0 in cc
 named_with_ids help version name path first others (command.IsAncestor at one other) is =
     let e = is.0 in let same : name ≡ codes "is-ancestor" = cc in
-    inl (same, (false, at.now, one.now, other.now, (cc, is.1)))
+    inl (inl same, (false, at.now, one.now, other.now, (cc, is.1)))
 named_with_ids help version name path first others (command.IsAncestorUnchecked pair) is =
-    let same : name ≡ codes "is-ancestor" = cc in inl (same, (true, pair.path.now, pair.first.now, pair.second.now, cc))
+    let same : name ≡ codes "is-ancestor" = cc in inl (inl same, (true, pair.path.now, pair.first.now, pair.second.now, cc))
 named_with_ids help version name path first others (command.Walk at one other) is =
-    let e = is in let rest : map string_bytes others ≡ other.now ∷ [] = cc in inr (inl (cc, just_one others other.now rest))
+    let e = is.0 in let same : name ≡ codes "walk" = cc in
+    inl (inr same, (false, at.now, one.now, other.now, (cc, is.1)))
+named_with_ids help version name path first others (command.WalkUnchecked pair) is =
+    let same : name ≡ codes "walk" = cc in inl (inr same, (true, pair.path.now, pair.first.now, pair.second.now, cc))
 named_with_ids help version name path first others (command.MergeBase at one more) is =
     let e = is.0 in let rest : map string_bytes others ≡ map string_bytes more.now = cc in
-    inr (inr (inr (inl cc, as_many others more.now rest is.1)))
+    inr (inr (inl cc, as_many others more.now rest is.1))
 named_with_ids help version name path first others (command.MergeBaseIds at one more) is =
     let e = is.0 in let rest : map string_bytes others ≡ map string_bytes more.now = cc in
-    inr (inr (inr (inr cc, as_many others more.now rest is.1)))
+    inr (inr (inr cc, as_many others more.now rest is.1))
 named_with_ids help version name path first others (command.Check at) is = let e = is in cc
 named_with_ids help version name path first others (command.Show at) is = let e = is in cc
 named_with_ids help version name path first others (command.Ask at) is = let e = is in cc
@@ -105,13 +113,13 @@ named_with_ids help version name path first others (command.Ids at (Some range))
     let e = is.2 in let rest : map string_bytes others ≡ is.1 ∷ [] = cc in
     let from : is.0 ≡ first = cc in
     let spells = subst (λ (t : List ℕ). SpellsRange t is.1 range) from is.3 in
-    inr (inr (inl (inl cc, just_one others is.1 rest, (is.1, range, rest, spells))))
+    inr (inl (inl cc, just_one others is.1 rest, (is.1, range, rest, spells)))
 named_with_ids help version name path first others (command.Objects at None) is = let e = is in cc
 named_with_ids help version name path first others (command.Objects at (Some range)) is =
     let e = is.2 in let rest : map string_bytes others ≡ is.1 ∷ [] = cc in
     let from : is.0 ≡ first = cc in
     let spells = subst (λ (t : List ℕ). SpellsRange t is.1 range) from is.3 in
-    inr (inr (inl (inr cc, just_one others is.1 rest, (is.1, range, rest, spells))))
+    inr (inl (inr cc, just_one others is.1 rest, (is.1, range, rest, spells)))
 named_with_ids help version name path first others (command.Write None) is = let e = is in cc
 named_with_ids help version name path first others (command.Write (Some at)) is = let e = is in cc
 named_with_ids help version name path first others (command.Merge at) is = let e = is in cc
@@ -126,20 +134,23 @@ as_many_words name path at true false ids those words is asks =
     let e = asks.0 in let same : at ≡ codes "--unchecked" = cc in absurd (asks.1 same)
 as_many_words name path at true true ids those words is asks = cc
 
--- of the name of a question about two ids, the words are those of such a question
-of_two : (name path first : List ℕ) (others : List (String Global)) → NamedWithIds name path first others
-    → name ≡ codes "is-ancestor" → AskOfTwo name (name ∷ path ∷ first ∷ map string_bytes others)
+-- a name of other letters is no such name
+no_name : (name other : List ℕ) → IsOfTwo name → name ≡ other → (length other ≡ 11 → ⊥) → (length other ≡ 4 → ⊥) → ⊥
+no_name name other (inl is) same eleven four = eleven (sym (ap length same) ∙ ap length is)
+no_name name other (inr is) same eleven four = four (sym (ap length same) ∙ ap length is)
+
+-- of such a name, the words are those of such a question
+of_two : (name path first : List ℕ) (others : List (String Global)) → NamedWithIds name path first others → IsOfTwo name
+    → AskOfTwo name (name ∷ path ∷ first ∷ map string_bytes others)
 of_two name path first others (inl two) is = two.1
-of_two name path first others (inr (inl walk)) is =
-    let lengths : 4 ≡ 11 = sym (ap length walk.0) ∙ ap length is in absurd (omega (arith, lengths))
-of_two name path first others (inr (inr (inl (inl ids, one, to)))) is =
-    let lengths : 3 ≡ 11 = sym (ap length ids) ∙ ap length is in absurd (omega (arith, lengths))
-of_two name path first others (inr (inr (inl (inr objects, one, to)))) is =
-    let lengths : 7 ≡ 11 = sym (ap length objects) ∙ ap length is in absurd (omega (arith, lengths))
-of_two name path first others (inr (inr (inr (inl base, some)))) is =
-    let lengths : 10 ≡ 11 = sym (ap length base) ∙ ap length is in absurd (omega (arith, lengths))
-of_two name path first others (inr (inr (inr (inr ids, some)))) is =
-    let lengths : 14 ≡ 11 = sym (ap length ids) ∙ ap length is in absurd (omega (arith, lengths))
+of_two name path first others (inr (inl (inl ids, one, to))) is =
+    absurd (no_name name (codes "ids") is ids (λ e. omega (arith, e)) (λ e. omega (arith, e)))
+of_two name path first others (inr (inl (inr objects, one, to))) is =
+    absurd (no_name name (codes "objects") is objects (λ e. omega (arith, e)) (λ e. omega (arith, e)))
+of_two name path first others (inr (inr (inl base, some))) is =
+    absurd (no_name name (codes "merge-base") is base (λ e. omega (arith, e)) (λ e. omega (arith, e)))
+of_two name path first others (inr (inr (inr ids, some))) is =
+    absurd (no_name name (codes "merge-base-ids") is ids (λ e. omega (arith, e)) (λ e. omega (arith, e)))
 
 no_two : (name path first at one other : List ℕ) (unchecked : Bool) → path ≡ codes "--unchecked"
     → AreQuestionWords name unchecked at (one ∷ other ∷ []) (name ∷ path ∷ first ∷ []) → ⊥
@@ -147,29 +158,24 @@ no_two name path first at one other false option is = let e = is.0 in cc
 no_two name path first at one other true option is = cc
 
 -- a question about two ids has no others
-pub two_asked : (help version path first at one : List ℕ) (unchecked : Bool) (others those : List (String Global))
-    (asked : Command)
-    → AreQuestionWords (codes "is-ancestor") unchecked at (one ∷ map string_bytes those)
-    (codes "is-ancestor" ∷ path ∷ first ∷ map string_bytes others)
-    → AskAfterName help version (codes "is-ancestor" ∷ path ∷ first ∷ map string_bytes others) asked → length those ≡ 1
-two_asked help version path first at one unchecked others those asked is asks =
-    let two = of_two (codes "is-ancestor") path first others (named_with_ids help version (codes "is-ancestor") path first others
-    asked asks) refl in
-    let same = as_many_words (codes "is-ancestor") at two.1 unchecked two.0 (one ∷ map string_bytes those)
-    (two.2 ∷ two.3 ∷ []) _ is two.4 in
+pub two_asked : (help version name path first at one : List ℕ) (unchecked : Bool) (others those : List (String Global))
+    (asked : Command) → IsOfTwo name
+    → AreQuestionWords name unchecked at (one ∷ map string_bytes those) (name ∷ path ∷ first ∷ map string_bytes others)
+    → AskAfterName help version (name ∷ path ∷ first ∷ map string_bytes others) asked → length those ≡ 1
+two_asked help version name path first at one unchecked others those asked named is asks =
+    let two = of_two name path first others (named_with_ids help version name path first others asked asks) named in
+    let same = as_many_words name at two.1 unchecked two.0 (one ∷ map string_bytes those) (two.2 ∷ two.3 ∷ []) _ is two.4 in
     just_one those two.3 cc
 
 -- where `--unchecked` and one word more follow its name, a question has too few words
-pub too_few_asked : (help version path first : List ℕ) (others : List (String Global)) (asked : Command)
+pub too_few_asked : (help version name path first : List ℕ) (others : List (String Global)) (asked : Command) → IsOfTwo name
     → path ≡ codes "--unchecked" → others ≡ []
-    → AskAfterName help version (codes "is-ancestor" ∷ path ∷ first ∷ map string_bytes others) asked → ⊥
-too_few_asked help version path first others asked option none asks =
-    let two = of_two (codes "is-ancestor") path first others (named_with_ids help version (codes "is-ancestor") path first others
-    asked asks) refl in
-    no_two (codes "is-ancestor") path first two.1 two.2 two.3 two.0 option
+    → AskAfterName help version (name ∷ path ∷ first ∷ map string_bytes others) asked → ⊥
+too_few_asked help version name path first others asked named option none asks =
+    let two = of_two name path first others (named_with_ids help version name path first others asked asks) named in
+    no_two name path first two.1 two.2 two.3 two.0 option
     (subst (λ (w : List (String Global)).
-    AreQuestionWords (codes "is-ancestor") two.0 two.1 (two.2 ∷ two.3 ∷ [])
-    (codes "is-ancestor" ∷ path ∷ first ∷ map string_bytes w)) none two.4)
+    AreQuestionWords name two.0 two.1 (two.2 ∷ two.3 ∷ []) (name ∷ path ∷ first ∷ map string_bytes w)) none two.4)
 
 -- the same words, where it is known what they are
 pub known_words : (name at one : List ℕ) (unchecked taken : Bool) (those ids words : List (List ℕ)) → unchecked ≡ taken
@@ -190,7 +196,8 @@ none_asked help version (command.Help text) is = elim is.0 [ inl e ↦ cc | inr 
 none_asked help version (command.Version text) is = let e = is.0 in cc
 none_asked help version (command.IsAncestor path first second) is = let e = is.0 in cc
 none_asked help version (command.IsAncestorUnchecked pair) is = let e = is in cc
-none_asked help version (command.Walk path first second) is = let e = is in cc
+none_asked help version (command.Walk path first second) is = let e = is.0 in cc
+none_asked help version (command.WalkUnchecked pair) is = let e = is in cc
 none_asked help version (command.MergeBase path first others) is = let e = is.0 in cc
 none_asked help version (command.MergeBaseIds path first others) is = let e = is.0 in cc
 none_asked help version (command.Check path) is = let e = is in cc

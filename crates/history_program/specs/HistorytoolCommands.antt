@@ -21,6 +21,7 @@ use Rattle.history_commands.specs.MergeBases.{MayCompare, merge_base_text, merge
 use Rattle.history_commands.specs.Question.{MayAnswer}
 use Rattle.history_commands.specs.Walk.{IsWalkOfIds, walk_text, walk_status}
 use Rattle.unchecked_commands.specs.UncheckedAncestor.{MayTellUnchecked}
+use Rattle.unchecked_commands.specs.UncheckedWalk.{MayWalkUnchecked}
 use Rattle.history_program.specs.declared.command.Command.TheVariants as command
 
 -- these are the words of a question about ids in the graph at the path, after the program's own name: the word `--unchecked`
@@ -37,13 +38,15 @@ AskAfterName help version words (command.Version text) = (words ≡ codes "--ver
 AskAfterName help version words (command.IsAncestor path first second) =
     AreQuestionWords (codes "is-ancestor") false path.now (first.now ∷ second.now ∷ []) words
 AskAfterName help version words (command.Walk path first second) =
-    words ≡ codes "walk" ∷ path.now ∷ first.now ∷ second.now ∷ []
+    AreQuestionWords (codes "walk") false path.now (first.now ∷ second.now ∷ []) words
 AskAfterName help version words (command.MergeBase path first others) =
     (words ≡ codes "merge-base" ∷ path.now ∷ first.now ∷ map string_bytes others.now) × (others.now ≢ [])
 AskAfterName help version words (command.MergeBaseIds path first others) =
     (words ≡ codes "merge-base-ids" ∷ path.now ∷ first.now ∷ map string_bytes others.now) × (others.now ≢ [])
 AskAfterName help version words (command.IsAncestorUnchecked pair) =
     AreQuestionWords (codes "is-ancestor") true pair.path.now (pair.first.now ∷ pair.second.now ∷ []) words
+AskAfterName help version words (command.WalkUnchecked pair) =
+    AreQuestionWords (codes "walk") true pair.path.now (pair.first.now ∷ pair.second.now ∷ []) words
 AskAfterName help version words (command.Check path) = words ≡ codes "check" ∷ path.now ∷ []
 AskAfterName help version words (command.Show path) = words ≡ codes "show" ∷ path.now ∷ []
 AskAfterName help version words (command.Ask path) = words ≡ codes "ask" ∷ path.now ∷ []
@@ -91,6 +94,10 @@ HistorytoolMayWrite (command.MergeBaseIds path first others) input unread IsLeft
 HistorytoolMayWrite (command.IsAncestorUnchecked pair) input unread IsLeftAlone MayOpenAt before after old new status =
     WritesAnswer is_ancestor_text is_ancestor_status
     (MayTellUnchecked pair.first.now pair.second.now IsLeftAlone (MayOpenAt pair.path.now before after) before after)
+    old new status
+HistorytoolMayWrite (command.WalkUnchecked pair) input unread IsLeftAlone MayOpenAt before after old new status =
+    WritesAnswer walk_text walk_status
+    (MayWalkUnchecked pair.first.now pair.second.now IsLeftAlone (MayOpenAt pair.path.now before after) before after)
     old new status
 HistorytoolMayWrite (command.Check path) input unread IsLeftAlone MayOpenAt before after old new status =
     WritesAnswer check_text check_status (MayFindInAll (MayOpenAt path.now before after)) old new status

@@ -7,7 +7,9 @@ ghost use Rattle.history_program.specs.HistorytoolCommands.{AskHistorytool};
 ghost use Rattle.graph_commands.specs.OpenerAnswer.{MayOpen};
 ghost use Rattle.graph_commands.specs.WrittenAnswer.{WritesAnswer};
 ghost use Rattle.history_commands.specs.IsAncestor.{is_ancestor_text, is_ancestor_status};
+ghost use Rattle.history_commands.specs.Walk.{walk_text, walk_status};
 ghost use Rattle.unchecked_commands.specs.UncheckedAncestor.{MayTellUnchecked};
+ghost use Rattle.unchecked_commands.specs.UncheckedWalk.{MayWalkUnchecked};
 ghost use Rattle.history_program.specs.HistorytoolCommands.{TellsOfItself};
 ghost use Rattle.object_commands.specs.AskedRange.{SpellsRange};
 ghost use Rattle.object_commands.specs.declared.range.PositionRange as declared;
@@ -27,6 +29,7 @@ use show_commands::run::run_show;
 use std::alloc::Global;
 use std::io::{Read, Write};
 use unchecked_commands::ancestor::run_is_ancestor_unchecked;
+use unchecked_commands::walk::run_walk_unchecked;
 use write_commands::run_write;
 
 /// What `historytool` is asked to do.
@@ -80,6 +83,11 @@ pub enum Command<'a> {
     },
     /// The same as by `IsAncestor` is to be told of a graph that is trusted.
     IsAncestorUnchecked {
+        /// The graph and the commits.
+        pair: UncheckedPair<'a>,
+    },
+    /// The same as by `Walk` is to be found in a graph that is trusted.
+    WalkUnchecked {
         /// The graph and the commits.
         pair: UncheckedPair<'a>,
     },
@@ -257,15 +265,7 @@ impl<'a> Command<'a> {
     {
         match name {
             "is-ancestor" => Command::is_ancestor(path, first, others),
-            "walk" => match others {
-                [] => None,
-                [second] => Some(Command::Walk {
-                    path,
-                    first,
-                    second,
-                }),
-                _ => None,
-            },
+            "walk" => Command::walk(path, first, others),
             "ids" => match others {
                 [] => None,
                 [to] => Command::ids_in(path, first, to),
@@ -308,6 +308,38 @@ impl<'a> Command<'a> {
                 },
             }),
             [second] => Some(Command::IsAncestor {
+                path,
+                first,
+                second,
+            }),
+            _ => None,
+        }
+    }
+
+    /// `walk`, if there is one other id.
+    fn walk(path: &'a str, first: &'a str, others: &'a [String]) -> Option<Command<'a>>
+        ensures asked { (help version : List ℕ) → IfSome result (AskAfterName help version
+            (codes "walk" ∷ path.now ∷ first.now ∷ map string_bytes others.now)) }
+        ensures other { IsNone result → (help version : List ℕ) (command : Command)
+            → ¬ AskAfterName help version
+            (codes "walk" ∷ path.now ∷ first.now ∷ map string_bytes others.now) command }
+    {
+        let QuestionWords {
+            unchecked,
+            path,
+            first,
+            others,
+        } = QuestionWords::of(path, first, others)?;
+        match others {
+            [] => None,
+            [second] if unchecked => Some(Command::WalkUnchecked {
+                pair: UncheckedPair {
+                    path,
+                    first,
+                    second,
+                },
+            }),
+            [second] => Some(Command::Walk {
                 path,
                 first,
                 second,
@@ -413,12 +445,10 @@ impl Run for Command<'_> {
                 others,
             } => run_merge_base_ids(alloc, folder, path, first, others, output),
             Command::IsAncestorUnchecked { pair } => pair.is_ancestor(alloc, folder, output),
+            Command::WalkUnchecked { pair } => pair.walk(alloc, folder, output),
             Command::Check { path } => run_check(alloc, folder, path, output),
             Command::Show { path } => run_show(alloc, folder, path, output),
-            Command::Ask { path } => {
-                let asked = run_ask(alloc, input, folder, path, output)?;
-                Ok(asked.status)
-            }
+            Command::Ask { path } => Ok(run_ask(alloc, input, folder, path, output)?.status),
             Command::Ids { path, range } => run_ids(alloc, folder, path, range, output),
             Command::Objects { path, range } => {
                 run_objects(alloc, input, folder, path, range, output)
@@ -451,6 +481,29 @@ impl UncheckedPair<'_> {
             second,
         } = self;
         run_is_ancestor_unchecked(alloc, folder, path, first, second, output)
+    }
+
+    /// Runs `walk --unchecked`, and answers the exit status. `WriteFailed` comes where the output
+    /// fails.
+    fn walk<T: Folder, W: Write>(
+        self,
+        alloc: Global,
+        folder: &mut T,
+        output: &mut W,
+    ) -> Result<u8, WriteFailed>
+        ensures written { IfOk result (WritesAnswer walk_text walk_status
+            (MayWalkUnchecked self.entry.first.now self.entry.second.now (folder.new ≡ folder.old)
+            (MayOpen (T.tree folder.old) self.entry.path.now (T.failure_count folder.old)
+            (T.failure_count folder.new)) (T.failure_count folder.old) (T.failure_count folder.new))
+            (W.contents output.old) (W.contents output.new)) }
+        ensures tree { T.tree folder.new ≡ T.tree folder.old }
+    {
+        let UncheckedPair {
+            path,
+            first,
+            second,
+        } = self;
+        run_walk_unchecked(alloc, folder, path, first, second, output)
     }
 }
 

@@ -10,6 +10,7 @@ use history_commands::run::{
 use std::alloc::Global;
 use std::process::Abort;
 use unchecked_commands::ancestor::run_is_ancestor_unchecked;
+use unchecked_commands::walk::run_walk_unchecked;
 
 /// A command that asks about the commits with two ids.
 #[derive(Clone, Copy, Debug)]
@@ -18,6 +19,8 @@ pub(super) enum Command {
     /// With `--unchecked`.
     IsAncestorUnchecked,
     Walk,
+    /// With `--unchecked`.
+    WalkUnchecked,
     /// That of `graphtool`.
     Ancestor,
 }
@@ -37,6 +40,7 @@ impl Command {
                 run_is_ancestor_unchecked(alloc, folder, path, first, second, out)
             }
             Command::Walk => run_walk(alloc, folder, path, first, second, out),
+            Command::WalkUnchecked => run_walk_unchecked(alloc, folder, path, first, second, out),
             Command::Ancestor => run_ancestor(alloc, folder, path, first, second, out),
         }
     }

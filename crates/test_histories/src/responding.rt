@@ -38,6 +38,13 @@ const ROWS: &[(&[&str], u8, &str, &str)] = &[
         "",
     ),
     (&["walk", "file", CS, ONES], 0, STEP, ""),
+    (&["walk", "--unchecked", "file", CS, ONES], 0, STEP, ""),
+    (
+        &["walk", "--unchecked", "nowhere", CS, ONES],
+        1,
+        "refused open 1\n",
+        "",
+    ),
     (
         &["merge-base", "file", CS, ONES],
         0,
@@ -74,6 +81,8 @@ const ROWS: &[(&[&str], u8, &str, &str)] = &[
     (&["walk", "file", CS], 2, "", "usage\n"),
     (&["is-ancestor", "--unchecked", ONES, CS], 2, "", "usage\n"),
     (&["is-ancestor", "--unchecked", ONES], 2, "", "usage\n"),
+    (&["walk", "--unchecked", ONES, CS], 2, "", "usage\n"),
+    (&["walk", "--unchecked", ONES], 2, "", "usage\n"),
     (&["merge-base", "file", CS], 2, "", "usage\n"),
     (&["merge-base-ids", "file", CS], 2, "", "usage\n"),
     (&["ids", "file", "0"], 2, "", "usage\n"),

@@ -19,12 +19,12 @@ use Rattle.graph_unchecked.specs.declared.between.Between.{Between}
 use Rattle.graph_unchecked.specs.declared.between.Between.TheVariants.{FirstMissing, SecondMissing, Known}
 use Rattle.graph_unchecked.specs.declared.unread.Unread.{Unread}
 use Rattle.graph_unchecked.specs.declared.unread.Unread.TheVariants.{Device}
-use Rattle.history_commands.specs.IsAncestor.{IsTold, is_ancestor_text, is_ancestor_status}
+use Rattle.history_commands.specs.IsAncestor.{IsTold}
 use Rattle.history_commands.specs.Question.{MayAnswer}
 use Rattle.history_commands.specs.declared.question.Answer.{Answer}
 use Rattle.unchecked_commands.specs.OnlyGraph.{IsOnlyGraph}
-use Rattle.unchecked_commands.specs.UncheckedAncestor.{IsYesSo, MayTellUnchecked, answer_of}
-use Rattle.unchecked_commands.specs.UncheckedAnswer.{IsFoundUnchecked}
+use Rattle.unchecked_commands.specs.UncheckedAncestor.{IsYesSo, answer_of}
+use Rattle.unchecked_commands.specs.UncheckedAnswer.{IsFoundUnchecked, MayAnswerUnchecked}
 use Rattle.unchecked_commands.proofs.OnlyGraphLemmas.{so_of_only}
 
 none_spelled : (text id : List ℕ) (error : IdError) → SpellsNone text error → SpellsId text id → ⊥
@@ -32,7 +32,7 @@ none_spelled text id Length none spells = none spells.0
 none_spelled text id Digit none spells = none.1 (decode_of-ok text id spells.1).1
 
 -- for the texts of two ids the folder is not left alone
-pub answers_ids : {A : Type 0} (IsSo : List Layer → ℕ → ℕ → A → Type 0) (first second a b : List ℕ)
+answers_ids : {A : Type 0} (IsSo : List Layer → ℕ → ℕ → A → Type 0) (first second a b : List ℕ)
     (IsLeftAlone WasLeftAlone : Type 0) (Opens : Result (List Layer) OpenError → Type 0) (answer : Result (Answer A) Refusal)
     → SpellsId first a → SpellsId second b → MayAnswer IsSo first second IsLeftAlone Opens answer
     → MayAnswer IsSo first second WasLeftAlone Opens answer
@@ -84,24 +84,25 @@ kept-other result old new other (inl device) = absurd (other device)
 kept-other result old new other (inr kept) = kept
 
 -- what the command wrote that checks the graph
-pub checked-told : {E : Type 0} (first second a b : List ℕ) (IsLeftAlone WasLeftAlone : Type 0) (known seen : Option Tree)
-    (path : List ℕ) (old from new : ℕ) (result : Result ℕ E) (before after : Option (List ℕ)) → SpellsId first a
-    → SpellsId second b → seen ≡ known → from ≡ old
-    → IfOk result (WritesAnswer is_ancestor_text is_ancestor_status
-    (MayAnswer IsTold first second IsLeftAlone (MayOpen seen path from new)) before after)
-    → IfOk result (WritesAnswer is_ancestor_text is_ancestor_status
-    (MayTellUnchecked first second WasLeftAlone (MayOpen known path old new) old new) before after)
-checked-told first second a b IsLeftAlone WasLeftAlone known seen path old from new (Ok status) before after one other same
-    counted written =
+pub checked : {A E : Type 0} (IsSo IsThere : List Layer → ℕ → ℕ → A → Type 0) (text_of : Result (Answer A) Refusal → List ℕ)
+    (status_of : Result (Answer A) Refusal → ℕ) (first second a b : List ℕ) (IsLeftAlone WasLeftAlone : Type 0)
+    (known seen : Option Tree) (path : List ℕ) (old from new : ℕ) (result : Result ℕ E) (before after : Option (List ℕ))
+    → SpellsId first a → SpellsId second b → seen ≡ known → from ≡ old
+    → IfOk result (WritesAnswer text_of status_of
+    (MayAnswer IsSo first second IsLeftAlone (MayOpen seen path from new)) before after)
+    → IfOk result (WritesAnswer text_of status_of
+    (MayAnswerUnchecked IsSo IsThere first second WasLeftAlone (MayOpen known path old new) old new) before after)
+checked IsSo IsThere text_of status_of first second a b IsLeftAlone WasLeftAlone known seen path old from new (Ok status) before
+    after one other same counted written =
     let answer = written.0 in
     let seen_at_old =
-    subst (λ (n : ℕ). MayAnswer IsTold first second IsLeftAlone (MayOpen seen path n new) answer) counted written.1 in
+    subst (λ (n : ℕ). MayAnswer IsSo first second IsLeftAlone (MayOpen seen path n new) answer) counted written.1 in
     let may =
-    subst (λ (t : Option Tree). MayAnswer IsTold first second IsLeftAlone (MayOpen t path old new) answer) same seen_at_old in (
+    subst (λ (t : Option Tree). MayAnswer IsSo first second IsLeftAlone (MayOpen t path old new) answer) same seen_at_old in (
       answer,
-      inl (answers_ids IsTold first second a b IsLeftAlone WasLeftAlone (MayOpen known path old new) answer one other may),
+      inl (answers_ids IsSo first second a b IsLeftAlone WasLeftAlone (MayOpen known path old new) answer one other may),
       written.2,
       written.3,
     )
-checked-told first second a b IsLeftAlone WasLeftAlone known seen path old from new (Err failed) before after one other same
-    counted written = tt
+checked IsSo IsThere text_of status_of first second a b IsLeftAlone WasLeftAlone known seen path old from new (Err failed) before
+    after one other same counted written = tt

@@ -1,3 +1,4 @@
 pub mod OnlyGraph
 pub mod UncheckedAnswer
 pub mod UncheckedAncestor
+pub mod UncheckedWalk

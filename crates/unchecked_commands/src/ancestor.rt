@@ -81,7 +81,7 @@ fn told_by_parts<T: Folder>(
 }
 
 /// What is found by parts, in the words of the commands.
-fn answer_of<A>(found: Between<A>) -> Answer<A>
+pub(crate) fn answer_of<A>(found: Between<A>) -> Answer<A>
     ensures { result ≡ answer_of found }
 {
     match found {

@@ -5,3 +5,4 @@
 
 pub mod ancestor;
 pub mod law;
+pub mod walk;

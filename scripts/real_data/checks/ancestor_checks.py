@@ -64,6 +64,7 @@ def check_file(programs, results, repository):
     known, path = min(words), repository.graph_path()
     commands = {"ancestor": programs[0].ancestor, "is-ancestor": programs[1].is_ancestor, "walk": programs[1].walk}
     commands["is-ancestor --unchecked"] = programs[1].is_ancestor_unchecked
+    commands["walk --unchecked"] = programs[1].walk_unchecked
     for name, pair, number in (("first", (UNKNOWN, known), 1), ("second", (known, UNKNOWN), 2), ("both", (UNKNOWN,) * 2, 1)):
         for command, run in commands.items():
             complaint = judge.exactly(1, "unknown %d\n" % number, "", run(path, *pair))
@@ -88,18 +89,18 @@ def check_pairs(programs, results, repository, name, walks):
 
     def answer(pair):
         questions = (histories.is_ancestor(path, *reversed(pair)), histories.walk(path, *pair))
-        unchecked = histories.is_ancestor_unchecked(path, *reversed(pair))
-        return repository.reaches(*pair), program.ancestor(path, *pair), *questions, unchecked
+        unchecked = (histories.is_ancestor_unchecked(path, *reversed(pair)), histories.walk_unchecked(path, *pair))
+        return repository.reaches(*pair), program.ancestor(path, *pair), questions, unchecked
 
     def complaint(pair, answers):
-        reached, ancestor, is_ancestor, walk, unchecked = answers
+        reached, ancestor, *asked = answers
         expected = (0, "yes\n", "") if reached else (1, "no\n", "")
-        told = judge.exactly(*expected, is_ancestor) or judge.exactly(*expected, unchecked)
-        return walks.judge(*pair, reached, ancestor) or told or walks.judge_ids(*pair, reached, walk)
+        complaints = [judge.exactly(*expected, told) or walks.judge_ids(*pair, reached, walk) for told, walk in asked]
+        return walks.judge(*pair, reached, ancestor) or next(filter(None, complaints), None)
 
     pairs = list(itertools.product(walks.words, repeat=2))
     runs = [(lambda pair=pair: answer(pair), lambda answers, pair=pair: complaint(pair, answers)) for pair in pairs]
-    check_runs(results, "%s, ancestor, is-ancestor, also unchecked, and walk, each pair of %s" % (repository.object_format, name), runs)
+    check_runs(results, "%s, ancestor, is-ancestor and walk, also unchecked, each pair of %s" % (repository.object_format, name), runs)
     base_checks.check_bases(histories, results, repository, name, walks)
 
 

@@ -43,9 +43,10 @@ def complaint_of_questions(histories, path, verified):
         answer = run(path, UNKNOWN, UNKNOWN)
         if answer != unknown:
             return "%s: status %s and %r, beside %r" % (name, answer.status, answer.out[:60], verified.out[:60])
-    answer = histories.is_ancestor_unchecked(path, UNKNOWN, UNKNOWN)
-    if answer not in (unknown, verified._replace(status=1, out=b"unknown 1\n")):
-        return "is-ancestor --unchecked: status %s and %r, beside %r" % (answer.status, answer.out[:60], verified.out[:60])
+    for name, run in (("is-ancestor", histories.is_ancestor_unchecked), ("walk", histories.walk_unchecked)):
+        answer = run(path, UNKNOWN, UNKNOWN)
+        if answer not in (unknown, verified._replace(status=1, out=b"unknown 1\n")):
+            return "%s --unchecked: status %s and %r, beside %r" % (name, answer.status, answer.out[:60], verified.out[:60])
     answer = histories.check(path)
     further = FURTHER if answer.status else re.compile(re.escape(verified.out) + TOLD)
     if answer != verified and not (verified.status == 0 and not answer.err and further.fullmatch(answer.out)):

@@ -49,6 +49,7 @@ def right_runs(programs, plan, path):
     yield lambda: histories.is_ancestor(path, tip, root), lambda answer: judge.exactly(1, "no\n", "", answer)
     yield lambda: histories.is_ancestor_unchecked(path, root, tip), lambda answer: judge.exactly(0, "yes\n", "", answer)
     yield lambda: histories.is_ancestor_unchecked(path, tip, root), lambda answer: judge.exactly(1, "no\n", "", answer)
+    yield lambda: histories.walk_unchecked(path, tip, root), lambda answer: judge.exactly(0, ids, "", answer)
     first, others = asked(plan)
     hexes = [plan.hex_of(number) for number in others]
     yield lambda: histories.merge_base(path, plan.hex_of(first), *hexes), lambda answer: bases_complaint(plan, first, answer)

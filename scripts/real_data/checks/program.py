@@ -93,6 +93,10 @@ class HistoryProgram(AnyProgram):
         """The answer to `walk` of two ids at a path."""
         return self.run("walk", path, first, second, stdin=subprocess.DEVNULL, **streams)
 
+    def walk_unchecked(self, path, first, second, **streams):
+        """The answer to `walk --unchecked` of two ids at a path."""
+        return self.run("walk", "--unchecked", path, first, second, stdin=subprocess.DEVNULL, **streams)
+
     def merge_base(self, path, first, *others, **streams):
         """The answer to `merge-base` of two ids or more at a path."""
         return self.run("merge-base", path, first, *others, stdin=subprocess.DEVNULL, **streams)

@@ -19,6 +19,7 @@ OTHER_WORDS = [
     *([], [""], ["help"], ["version"], ["-v"], ["--help", "."], ["--version", "."], ["."], [b"\xff"]),
     *(["walk", ".", ID], ["walk", ".", ID, ID, ID], ["Walk", ".", ID, ID], ["walk", b"\xff", ID, ID]),
     *(["is-ancestor", "--unchecked"], ["is-ancestor", "--unchecked", ".", ID], ["is-ancestor", "--unchecked", ID, ID]),
+    *(["walk", "--unchecked"], ["walk", "--unchecked", ".", ID], ["walk", "--unchecked", ID, ID], ["ids", "--unchecked", "."]),
     *(["is-ancestor"], ["is-ancestor", ".", ID], ["ancestor", ".", ID, ID], ["verify", "."], ["--walk", ".", ID, ID]),
     *(["merge-base"], ["merge-base", "."], ["merge-base", ".", ID], ["merge-base", ".", ID, b"\xff"]),
     *(["merge-base-ids"], ["merge-base-ids", ".", ID], ["merge-bases", ".", ID, ID]),
@@ -44,6 +45,7 @@ def check_all(histories, results):
     results.check("historytool --help and -h", None if told and text.startswith(USAGE + "\n") else "they are %r" % (helps,))
     runs = {"is-ancestor": histories.is_ancestor, "walk": histories.walk, "merge-base": histories.merge_base}
     runs["is-ancestor --unchecked"] = histories.is_ancestor_unchecked
+    runs["walk --unchecked"] = histories.walk_unchecked
     runs["merge-base-ids"] = histories.merge_base_ids
     for command, run in runs.items():
         exchanged = judge.exactly(2, "refused id 1\n", "", run(ID, ".", ID))

@@ -1,7 +1,7 @@
 """Checks questions with `--unchecked` about damaged files, beside a slow reading of the file.
 
-Of a right file the answer is the one that there is. Of any other it may be the refusal of `verify`; and `yes` only where a
-walk leads there along the parents that stand in the file, between commits with these ids.
+Of a right file the answer is the one that there is, or a shortest walk. Of any other it may be the refusal of `verify`; and
+`yes` or a walk only where a walk leads there along the parents that stand in the file, between commits with these ids.
 """
 
 import tempfile
@@ -19,7 +19,8 @@ def check_all(histories, results, every_value=False):
         parts = [(histories.path, content, masks, start) for start in range(0, len(content), PART)]
         answers = many.in_processes(try_part, parts)
         complaints, kinds = [complaint for complaint, _ in answers if complaint], set().union(*(kinds for _, kinds in answers))
-        results.check("each byte of a file changed, %s, is-ancestor --unchecked" % name, complaints[0] if complaints else None)
+        title = "each byte of a file changed, %s, is-ancestor and walk --unchecked" % name
+        results.check(title, complaints[0] if complaints else None)
         left_out = sorted({"refused", "unknown"} - kinds)
         results.check("the same, %s, each kind of answer" % name, "none is %s" % left_out if left_out else None)
 
@@ -57,6 +58,9 @@ def complaint_of(bench, content, asked, kinds):
         kinds.update(text.decode("latin-1").split()[:1])
         if text.decode("latin-1") not in wanted or status != many.status_of(text):
             return "%s, %s: status %s and %r, expected %r" % (first, second, status, text[:80], min(wanted))
+        status, text = bench.run("walk", "--unchecked", bench.path, second, first)
+        if not leads.may_be_found(second, first, verified, status, text.decode("latin-1")):
+            return "walk, %s, %s: status %s and %r" % (second, first, status, text[:80])
     return None
 
 
@@ -72,6 +76,34 @@ class Leads:
         for place, (commit, record) in enumerate(zip(layer.ids, layer.records)):
             self.places.setdefault(commit.hex(), []).append(place)
             self.parents.append([item for item in reading.parents_of(layer, record) if 0 <= item < len(layer.ids)])
+
+    def may_be_found(self, first, second, verified, status, text):
+        """Whether this may be the answer to `walk` of two ids: of a right file a shortest walk, or that there is none; of any
+        other a walk that is there, or any other answer."""
+        shortest, is_right = self.shortest(first, second), verified.startswith("ok ")
+        if status == 0:
+            ids = text.splitlines()
+            return text.endswith("\n") and self.is_walk(first, second, ids) and (not is_right or len(ids) == shortest)
+        none = {"unknown %d\n" % (number + 1) for number in range(2)} | {"none\n"}
+        missing = [number for number, commit in enumerate((first, second)) if commit not in self.places]
+        right = "unknown %d\n" % (missing[0] + 1) if missing else "none\n"
+        return status == 1 and text in ({right} if is_right else none | {verified}) and not (is_right and shortest)
+
+    def is_walk(self, first, second, ids):
+        """Whether some walk along parents has these ids, from one to the other."""
+        there = set(self.places.get(first, []))
+        for commit in ids[1:]:
+            there = {parent for place in there for parent in self.parents[place]}.intersection(self.places.get(commit, []))
+        return ids[:1] == [first] and ids[-1:] == [second] and bool(there)
+
+    def shortest(self, first, second):
+        """How many commits a shortest walk from one id to the other has, or None."""
+        there, seen, count = set(self.places.get(first, [])), set(), 1
+        while there and not there.intersection(self.places.get(second, [])):
+            seen |= there
+            there = {parent for place in there for parent in self.parents[place]} - seen
+            count += 1
+        return count if there else None
 
     def told(self, first, second):
         """What may be told of two ids: `yes`, where some commit with the second leads to one with the first, or why not."""

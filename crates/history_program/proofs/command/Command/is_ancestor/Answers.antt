@@ -1,5 +1,5 @@
 -- A question about two ids has just two.
-use Rattle.std.proofs.Common.{◌≡◌, ◌∷◌, [], codes, map, string_bytes, arith, true, false}
+use Rattle.std.proofs.Common.{◌≡◌, ◌∷◌, [], codes, map, string_bytes, arith, true, false, inl, refl}
 use Rattle.history_program.proofs.WordsLemmas.{known_words, one_word, two_asked}
 use Rattle.history_program.proofs.command.Command.is_ancestor.Goals as goal
 
@@ -7,16 +7,18 @@ pub returns-in-empty-clause-other : goal.returns-in-empty-clause-other
 returns-in-empty-clause-other c none help version asked asks =
     let words = c.in_ok-unchecked.field-0 in
     let two =
-    two_asked help version c.args.path.now c.args.first.now words.path.now words.first.now words.unchecked c.args.others.now
-    words.others.now asked (c.in_ok-unchecked.ensures.some (codes "is-ancestor")) asks in
+    two_asked help version (codes "is-ancestor") c.args.path.now c.args.first.now words.path.now
+    words.first.now words.unchecked c.args.others.now words.others.now asked (inl refl)
+    (c.in_ok-unchecked.ensures.some (codes "is-ancestor")) asks in
     omega (arith, two, c.in-empty.len_below)
 
 pub returns-in_default-clause-other : goal.returns-in_default-clause-other
 returns-in_default-clause-other c none help version asked asks =
     let words = c.in_ok-unchecked.field-0 in
     let two =
-    two_asked help version c.args.path.now c.args.first.now words.path.now words.first.now words.unchecked c.args.others.now
-    words.others.now asked (c.in_ok-unchecked.ensures.some (codes "is-ancestor")) asks in
+    two_asked help version (codes "is-ancestor") c.args.path.now c.args.first.now words.path.now
+    words.first.now words.unchecked c.args.others.now words.others.now asked (inl refl)
+    (c.in_ok-unchecked.ensures.some (codes "is-ancestor")) asks in
     omega (arith, two)
 
 pub returns-in-len1-clause-asked : goal.returns-in-len1-clause-asked

@@ -4,22 +4,22 @@ use Rattle.history_program.specs.HistorytoolCommands.{AskAfterName}
 use Rattle.history_program.proofs.WordsLemmas.{one_word}
 use Rattle.history_program.proofs.command.Command.of_ids.Goals as goal
 
-pub returns-in-len1-others-clause-asked : goal.returns-in-len1-others-clause-asked
-returns-in-len1-others-clause-asked c help version =
+pub returns-in-len1-clause-asked : goal.returns-in-len1-clause-asked
+returns-in-len1-clause-asked c help version =
     let are = one_word c.args.others.now c.to-item.result (omega arith) (omega arith) c.to-item.is in
-    let words : codes "ids" ∷ c.args.path.now ∷ c.args.first.now ∷ c.deref-in-len1-others.result.now ∷ []
+    let words : codes "ids" ∷ c.args.path.now ∷ c.args.first.now ∷ c.deref.result.now ∷ []
     ≡ c.args.name.now ∷ c.args.path.now ∷ c.args.first.now ∷ map string_bytes c.args.others.now
-    = cc (are, c.in-ids.is, c.deref-in-len1-others.ensures) in
+    = cc (are, c.in-ids.is, c.deref.ensures) in
     subst (λ (w : List (List ℕ)). IfSome c.ids_in.result (AskAfterName help version w)) words
     (c.ids_in.ensures.asked help version)
 
-pub returns-in-len1-others-2-clause-asked : goal.returns-in-len1-others-2-clause-asked
-returns-in-len1-others-2-clause-asked c help version =
-    let to = c.to-item-then-others-lt2-3 in
+pub returns-in-len1-others-clause-asked : goal.returns-in-len1-others-clause-asked
+returns-in-len1-others-clause-asked c help version =
+    let to = c.to-item-then-others-lt2-2 in
     let are = one_word c.args.others.now to.result (omega arith) (omega arith) to.is in
-    let words : codes "objects" ∷ c.args.path.now ∷ c.args.first.now ∷ c.deref-in-len1-others-2.result.now ∷ []
+    let words : codes "objects" ∷ c.args.path.now ∷ c.args.first.now ∷ c.deref-in-len1-others.result.now ∷ []
     ≡ c.args.name.now ∷ c.args.path.now ∷ c.args.first.now ∷ map string_bytes c.args.others.now
-    = cc (are, c.in-objects.is, c.deref-in-len1-others-2.ensures) in
+    = cc (are, c.in-objects.is, c.deref-in-len1-others.ensures) in
     subst (λ (w : List (List ℕ)). IfSome c.objects_in.result (AskAfterName help version w)) words
     (c.objects_in.ensures.asked help version)
 
@@ -28,6 +28,12 @@ returns-in-text-clause-asked c help version =
     subst (λ (name : List ℕ). IfSome c.is_ancestor.result (AskAfterName help version
     (name ∷ c.args.path.now ∷ c.args.first.now ∷ map string_bytes c.args.others.now)))
     (sym c.in-text.is) (c.is_ancestor.ensures.asked help version)
+
+pub returns-in-walk-clause-asked : goal.returns-in-walk-clause-asked
+returns-in-walk-clause-asked c help version =
+    subst (λ (name : List ℕ). IfSome c.walk.result (AskAfterName help version
+    (name ∷ c.args.path.now ∷ c.args.first.now ∷ map string_bytes c.args.others.now)))
+    (sym c.in-walk.is) (c.walk.ensures.asked help version)
 
 pub returns-in-text-2-clause-asked : goal.returns-in-text-2-clause-asked
 returns-in-text-2-clause-asked c help version =
