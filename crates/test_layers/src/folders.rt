@@ -279,6 +279,49 @@ fn reads_from_disk(rt: HostRuntime) {
     fs::remove_dir_all(&rt, FOLDER).expect(&rt, "no folder");
 }
 
+/// Compares parts of the first of two files, and of the other between them.
+fn compare_open_files<T: Folder>(
+    rt: &impl Abort,
+    alloc: Global,
+    folder: &mut T,
+    first: &Stored<'_>,
+    other: &Stored<'_>,
+) {
+    for part in [(0, 10), (5, 10), (290, 20)] {
+        assert!(rt; has_part(alloc, folder, first, part));
+        assert!(rt; has_part(alloc, folder, other, part));
+        assert!(rt; has_part(alloc, folder, first, part));
+    }
+}
+
+#[test]
+fn a_file_stays_open_until_its_beginning_is_read(rt: HostRuntime) {
+    let alloc = rt.alloc();
+    let (old, new) = ("graph_folder_old", "graph_folder_new");
+    let (short, long) = (
+        write_file(&rt, alloc, old, 300),
+        write_file(&rt, alloc, new, 400),
+    );
+    let before = Stored {
+        path: old,
+        bytes: &short,
+        len: 300,
+    };
+    let other = Stored {
+        path: new,
+        bytes: &long,
+        len: 400,
+    };
+    let mut disk = Disk::new(&rt);
+    compare_open_files(&rt, alloc, &mut disk, &before, &other);
+    fs::rename(&rt, new, old).expect(&rt, "another file in its place");
+    assert!(rt; has_part(alloc, &mut disk, &before, (5, 10)));
+    let after = Stored { path: old, ..other };
+    assert!(rt; has_part(alloc, &mut disk, &after, (0, 10)));
+    assert!(rt; has_part(alloc, &mut disk, &after, (5, 10)));
+    fs::remove_file(&rt, old).expect(&rt, "no file");
+}
+
 /// What a host does to a file: how many bytes the file has and how many the host says, how many of
 /// them a read gives at most, and the number of the read that fails.
 #[derive(Clone, Copy)]

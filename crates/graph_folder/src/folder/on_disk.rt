@@ -13,11 +13,23 @@ use std::fs;
 use std::fs::OpenFile;
 use std::rt::Files;
 
-/// The file system of a host. What stands in it is not known.
+/// A file of which a part was read, at its path, and its length as the host said it.
 #[derive(Drop)]
-pub struct Disk<'r, R> {
+struct OpenedFile<F: Drop> {
+    path: String,
+    file: F,
+    file_len: u64,
+}
+
+/// The file system of a host. What stands in it is not known.
+///
+/// The file of which a part was read last stays open, and its next parts are read from it, also
+/// where another file has taken its place. A part from the beginning of a file opens it anew.
+#[derive(Drop)]
+pub struct Disk<'r, R: Files> {
     rt: &'r R,
     failures: u64,
+    opened: Option<OpenedFile<R::File>>,
 }
 
 impl<'r, R: Files> Disk<'r, R> {
@@ -25,7 +37,11 @@ impl<'r, R: Files> Disk<'r, R> {
     pub fn new(rt: &'r R) -> Disk<'r, R>
         ensures { ⟦<Disk<'r, R> as Folder>⟧.failure_count result ≡ 0 }
     {
-        Disk { rt, failures: 0 }
+        Disk {
+            rt,
+            failures: 0,
+            opened: None,
+        }
     }
 
     /// All bytes of the file at the path. A host may open a folder as it opens a file.
@@ -57,9 +73,10 @@ impl<'r, R: Files> Disk<'r, R> {
         gives_bytes(alloc, &mut file, bytes)
     }
 
-    /// A part of the file at the path, if the host says how long it is.
+    /// A part of the file at the path, if the host says how long it is. If there is one, the file
+    /// stays open.
     fn read_part_of(
-        &self,
+        &mut self,
         alloc: Global,
         path: &str,
         start: u64,
@@ -69,7 +86,42 @@ impl<'r, R: Files> Disk<'r, R> {
             R.File.stream_bytes R.File.remaining start part.bytes.items) }
         ensures size { IfPart result (λ part.
             length part.bytes.items ≡ min len (part.file_len - start)) }
+        ensures failures { self.new.failures ≡ self.old.failures }
     {
+        let Some(mut opened) = self.opened_file(alloc, path, start)? else {
+            return Ok(None);
+        };
+        let part = read_part_from(alloc, &mut opened.file, opened.file_len, start, len)?;
+        if part.is_some() {
+            self.opened = Some(opened);
+        }
+        Ok(part)
+    }
+
+    /// The file at the path, if the host says how long it is: the one that is open, unless its
+    /// beginning is to be read.
+    fn opened_file(
+        &mut self,
+        alloc: Global,
+        path: &str,
+        start: u64,
+    ) -> Result<Option<OpenedFile<R::File>>, ReadError>
+        ensures failures { self.new.failures ≡ self.old.failures }
+    {
+        if let Some(opened) = self.opened.take() {
+            if start > 0 && opened.path.as_str() == path {
+                return Ok(Some(opened));
+            }
+        }
+        self.open_measured(alloc, path)
+    }
+
+    /// The file at the path, opened, if the host says how long it is.
+    fn open_measured(
+        &self,
+        alloc: Global,
+        path: &str,
+    ) -> Result<Option<OpenedFile<R::File>>, ReadError> {
         let file_len = match fs::metadata(self.rt, path) {
             Ok(metadata) if metadata.is_file() => metadata.len(),
             _ => 0,
@@ -77,8 +129,13 @@ impl<'r, R: Files> Disk<'r, R> {
         if file_len == 0 {
             return Ok(None);
         }
-        let mut file = fs::open(self.rt, path).map_err(|_| ReadError::NotOpened)?;
-        read_part_from(alloc, &mut file, file_len, start, len)
+        let file = fs::open(self.rt, path).map_err(|_| ReadError::NotOpened)?;
+        let path = String::from_str(alloc, path).map_err(|_| ReadError::OutOfMemory)?;
+        Ok(Some(OpenedFile {
+            path,
+            file,
+            file_len,
+        }))
     }
 
     /// Counts a read with this answer, if it is one that the device failed.
