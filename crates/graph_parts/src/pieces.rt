@@ -48,8 +48,8 @@ pub(crate) struct Pieces {
 }
 
 impl Pieces {
-    /// The pieces at a place, of which none was read, and so many are to be read one by one. Nothing
-    /// is allocated.
+    /// The pieces at a place, of which none was read, and so many are to be read one by one.
+    /// Nothing is allocated.
     pub(crate) fn new(alloc: Global, place: Place, most_alone: usize) -> Pieces
         ensures place { result.place ≡ place }
         ensures none { KeepsNothing result }
