@@ -4,11 +4,12 @@ use Rattle.std.proofs.Common.{Option, Some, None}
 use Rattle.std.proofs.Common.{refl, sym, ap, subst, ◌∙◌, arith}
 use Rattle.std.specs.List.{AllZip, slice_get, sum_by}
 use Rattle.std.specs.Option.{option_map_or}
+use Rattle.std.specs.Vec.{with_item}
 use Rattle.std.proofs.Math.ListN.{set}
 use Rattle.std.proofs.lemmas.List.{take-map}
 use Rattle.std.proofs.lemmas.List.Elements.{All-head, All-tail}
 use Rattle.std.proofs.lemmas.List.Sums.{sum_by-cons, sum_by_more, sum_by_more_le}
-use Rattle.std.proofs.lemmas.Option.{get_or_from_slice_get, same_Some, slice_get_within}
+use Rattle.std.proofs.lemmas.Option.{get_or_from_slice_get, same_Some, slice_get_read, slice_get_within}
 use Rattle.std.proofs.lemmas.Slice.Zip.{AllZip-long}
 use Rattle.graph_folder.specs.Tree.{Tree}
 use Rattle.graph_format.specs.Layer.{Layer, record_at}
@@ -29,6 +30,7 @@ use Rattle.graph_parts.specs.Stored.{StoresAt, StoresCommit, StoresEdge}
 use Rattle.graph_parts.specs.declared.layer.LayerParts.{LayerParts}
 use Rattle.graph_parts.specs.declared.layer.StoredCommit.{StoredCommit}
 use Rattle.graph_parts.specs.declared.parts.GraphParts.{GraphParts}
+use Rattle.graph_parts.specs.declared.parts.Spot.{Spot}
 use Rattle.graph_parts.proofs.LayerPartLemmas.{counted-ids, shown-words}
 use Rattle.graph_parts.proofs.ZipLemmas.{all-get, all-set, get-map, get-set, map-set, zip-get, zip-set, zip-unset}
 
@@ -194,6 +196,18 @@ module _ (known : Option Tree) (old new : GraphParts) (l : ℕ) (part more : Lay
           ∙ graph_ids-counted layers l (commits_in_all (take l (files_of new))) left at.layer id
           at.counted at.there (said at.layer at.shows)
 
+-- the part of an index was read
+pub reads-at : (known : Option Tree) (old : GraphParts) (l : ℕ) (part more : LayerParts) → AreGraphParts old
+    → l < length old.layers.items → part ≡ get_or old.layers.items l part → SeesMoreOfLayer known part more → IsLayerParts more
+    → ReadsAt known old (record { layers = with_item old.layers l more }) l part more
+reads-at known old l part more right within at sees kept = record {
+  right = right;
+  here = slice_get_read old.layers.items (length old.layers.items) l part refl within at;
+  is = refl;
+  sees = sees;
+  kept = kept;
+}
+
 -- the part of a position
 pub part-of : (parts : GraphParts) (pos l left : ℕ) → IsSpotOf (files_of parts) pos (record { layer = l; pos = left })
     → l < length parts.layers.items
@@ -204,6 +218,25 @@ part-of parts pos l left lies =
 pub left-within : (parts : GraphParts) (pos l left : ℕ) (part : LayerParts) → slice_get parts.layers.items l ≡ Some part
     → IsSpotOf (files_of parts) pos (record { layer = l; pos = left }) → left < commits_in part.file
 left-within parts pos l left part here lies = rw (same-file None parts l part lies.file here lies.there) lies.within
+
+-- it was read
+module _ (known : Option Tree) (old : GraphParts) (pos : ℕ) (spot : Spot) (part : LayerParts) (right : AreGraphParts old)
+    (lies : IsSpotOf (files_of old) pos spot) (at : part ≡ get_or old.layers.items spot.layer part) where
+  spot-within : spot.layer < length old.layers.items
+  spot-within = part-of old pos spot.layer spot.pos lies
+
+  spot-there : slice_get old.layers.items spot.layer ≡ Some part
+  spot-there = slice_get_read old.layers.items (length old.layers.items) spot.layer part refl spot-within at
+
+  pub spot-part : IsLayerParts part
+  spot-part = all-get IsLayerParts old.layers.items spot.layer part right.each spot-there
+
+  pub spot-left : spot.pos < commits_in part.file
+  spot-left = left-within old pos spot.layer spot.pos part spot-there lies
+
+  pub reads-spot : (more : LayerParts) → SeesMoreOfLayer known part more → IsLayerParts more
+      → ReadsAt known old (record { layers = with_item old.layers spot.layer more }) spot.layer part more
+  reads-spot more sees kept = reads-at known old spot.layer part more right spot-within at sees kept
 
 -- the graph has as many commits as the parts
 pub shows-total : (known : Option Tree) (parts : List LayerParts) (layers : List Layer) → AllZip (ShowsLayer known) parts layers

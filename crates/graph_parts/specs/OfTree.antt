@@ -7,7 +7,7 @@ use Rattle.graph_parts.specs.PieceBlocks.{AreOf}
 use Rattle.graph_parts.specs.declared.layer.LayerParts.{LayerParts}
 use Rattle.graph_parts.specs.declared.parts.GraphParts.{GraphParts}
 
--- The file begins with the head, and has all blocks that are kept.
+-- The file begins with the head, and has all that is kept.
 pub record IsOfFile (part : LayerParts) (file : List ℕ) : Type 0 where
   pub begins : BeginsWith file part.file.head.front.items part.file.head.len
   pub ids : AreOf part.ids file

@@ -29,7 +29,7 @@ commits_of_parts parts = sum_by commits_of_part parts.layers.items
 abbrev pub edge_count_at : GraphParts → ℕ → ℕ
 edge_count_at parts l = option_map_or edge_count (slice_get (files_of parts) l) 0
 
--- the layers are those of files that begin with the heads and have all blocks that are kept
+-- the layers are those of files that begin with the heads and have all that is kept
 abbrev pub Shows : Option Tree → GraphParts → List Layer → Type 0
 Shows known parts layers = AllZip (ShowsLayer known) parts.layers.items layers
 
@@ -38,7 +38,7 @@ pub record AreGraphParts (parts : GraphParts) : Type 0 where
   pub each : All IsLayerParts parts.layers.items
   pub few : commits_of_parts parts ≤ MAX_COMMITS
 
--- More blocks of the same files may be kept, where the tree is known those of its files.
+-- More of the same files may be kept, where the tree is known those of its files.
 pub record SeesMore (known : Option Tree) (old new : GraphParts) : Type 0 where
   pub same : files_of new ≡ files_of old
   pub kept : (layers : List Layer) → Shows known new layers → Shows known old layers

@@ -9,7 +9,7 @@ use Rattle.graph_parts.specs.PieceBlocks.{AreOf, AreSized}
 use Rattle.graph_parts.specs.PartFiles.{AreIds, AreRecords, AreEdges}
 use Rattle.graph_parts.specs.declared.layer.LayerParts.{LayerParts}
 
--- The parts of a layer's file lie where its head says, and each block has its length.
+-- The parts of a layer's file lie where its head says, and each stretch has its length.
 pub record IsLayerParts (part : LayerParts) : Type 0 where
   pub head : IsHead part.file.head
   pub ids : AreIds part.file.head part.ids.place
@@ -19,7 +19,7 @@ pub record IsLayerParts (part : LayerParts) : Type 0 where
   pub sized_records : AreSized part.records
   pub sized_edges : AreSized part.edges
 
--- The layer is that of a file which begins with the head and has all blocks that are kept: where the tree is known, of the one
+-- The layer is that of a file which begins with the head and has all that is kept: where the tree is known, of the one
 -- at the path.
 pub record ShowsLayer (known : Option Tree) (part : LayerParts) (layer : Layer) : Type 0 where
   pub of : IsLayerOfHead known (string_bytes part.file.path) part.file.head layer
@@ -32,7 +32,7 @@ abbrev pub ShowsAll : LayerParts → Type 0
 ShowsAll part = (known : Option Tree) (layer : Layer)
     → IsLayerOfHead known (string_bytes part.file.path) part.file.head layer → ShowsLayer known part layer
 
--- More blocks of the same file may be kept, where the tree is known those of its file.
+-- More of the same file may be kept, where the tree is known those of its file.
 pub record SeesMoreOfLayer (known : Option Tree) (old new : LayerParts) : Type 0 where
   pub same : new.file ≡ old.file
   pub kept : (layer : Layer) → ShowsLayer known new layer → ShowsLayer known old layer

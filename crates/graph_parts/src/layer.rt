@@ -42,8 +42,8 @@ pub struct StoredCommit {
     pub second: ParentEdge,
 }
 
-/// The file of a layer, and the blocks that were read of its ids, its records and the words of its
-/// extra edge list.
+/// The file of a layer, and what was read of its ids, its records and the words of its extra edge
+/// list.
 #[derive(Drop)]
 pub(crate) struct LayerParts {
     pub(crate) file: ChainLayer,
@@ -98,6 +98,7 @@ fn edges_in(head: &Head) -> Place
 impl LayerParts {
     /// The parts of the file that begins with this head, of which none was read. Nothing is
     /// allocated.
+    #[tactic(auto, using(crate::proofs::BlockLemmas::none_kept))]
     pub(crate) fn new(alloc: Global, file: ChainLayer) -> LayerParts
         requires { IsHead file.head }
         ensures parts { IsLayerParts result }
@@ -111,13 +112,14 @@ impl LayerParts {
         );
         LayerParts {
             file,
-            ids: Pieces::new(alloc, ids),
-            records: Pieces::new(alloc, records),
-            edges: Pieces::new(alloc, edges),
+            ids: Pieces::new(alloc, ids, ids.whole_blocks()),
+            records: Pieces::new(alloc, records, records.whole_blocks()),
+            // The words of a list lie one after another.
+            edges: Pieces::new(alloc, edges, 0),
         }
     }
 
-    /// Reads the block of the id at a position of the layer, unless it is kept: whether it is now.
+    /// Reads the id at a position of the layer, unless it is kept: whether it is now.
     pub(crate) fn read_id<T: Folder>(
         &mut self,
         alloc: Global,
@@ -138,7 +140,7 @@ impl LayerParts {
             .read(alloc, folder, self.file.path.as_str(), len, pos as usize)
     }
 
-    /// The id at a position of the layer, whose block is kept.
+    /// The id at a position of the layer, which is kept.
     pub(crate) fn kept_id(&self, pos: u32) -> &[u8]
         requires parts { IsLayerParts self.now }
         requires pos { pos < commits_in self.now.file }

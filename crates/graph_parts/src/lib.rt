@@ -1,5 +1,5 @@
 //! The commits of commit-graph files of which only parts are read: of each layer its first bytes,
-//! and blocks of ids, records and words of the extra edge list, which are kept.
+//! and ids, records and words of the extra edge list, which are kept.
 #![tactic(auto)]
 
 mod layer;

@@ -25,11 +25,12 @@ use std::alloc::Global;
 
 /// Files that make a graph, and the parts of them that were read.
 ///
-/// Each block that was read is kept, so a commit that is asked for again is not read again, and the
-/// memory grows with what is asked for. A call that reads answers `None` where a file no longer has
-/// the length that it had, or is to be read whole. Its errors are those of a read: `NotOpened`,
-/// `Device` and `OutOfMemory`, and the folder's count of failures rises with `Device`. More can be
-/// asked after each of them.
+/// What was read is kept, so a commit that is asked for again is not read again, and the memory
+/// grows with what is asked for. Ids and records are read one by one, as many of each as they make
+/// blocks of 128, and then by blocks, as words are. A call that reads answers `None` where a file
+/// no longer has the length that it had, or is to be read whole. Its errors are those of a read:
+/// `NotOpened`, `Device` and `OutOfMemory`, and the folder's count of failures rises with `Device`.
+/// More can be asked after each of them.
 #[derive(Drop)]
 pub struct GraphParts {
     pub(crate) layers: Vec<LayerParts>,

@@ -1,16 +1,21 @@
-//! Pieces of one size that lie one after another in a file, of which blocks are read and kept.
+//! Pieces of one size that lie one after another in a file, of which parts are read and kept.
 
-ghost use Rattle.std.specs.Prelude.{◌≡◌, ◌+◌, ◌*◌, ◌<◌, ◌≤◌, ℕ, List, [], length, slice_range};
-ghost use Rattle.std.specs.Prelude.{IfErr, IfOk, IfSome, IsSomeAnd, IsTrue, OnOk, Some};
+ghost use Rattle.std.specs.Prelude.{◌≡◌, ◌+◌, ◌*◌, ◌<◌, ◌≤◌, ℕ, List, Vec, length, slice_range};
+ghost use Rattle.std.specs.Prelude.{IfErr, IfNone, IfOk, IfSome, IsSomeAnd, IsTrue, OnErr, OnOk};
+ghost use Rattle.std.specs.Global.{Global};
 ghost use Rattle.std.specs.Option.{ForSome};
 ghost use Rattle.graph_folder.specs.Tree.{file_at};
 ghost use Rattle.graph_folder.specs.Failures.{failures_after};
-ghost use Rattle.graph_parts.specs.PieceBlocks.{AreOf, AreSized, FitsIn, HaveSameBlocks, HasPiece};
-ghost use Rattle.graph_parts.specs.PieceBlocks.{ReadsMore, block_len, block_start};
+ghost use Rattle.graph_parts.specs.PieceBlocks.{AddsStretch, AreOf, AreSized, FitsIn, HasPiece};
+ghost use Rattle.graph_parts.specs.PieceBlocks.{HasStretch, IsPieceOf, KeepsNothing, KeepsSame};
+ghost use Rattle.graph_parts.specs.PieceBlocks.{LacksStretch, ReadsMore, stretch_count};
+ghost use Rattle.graph_parts.specs.PieceBlocks.{stretch_first, stretch_len, stretch_start};
+ghost use Rattle.graph_parts.specs.declared.pieces.Stretch.TheVariants.{Alone, Block};
 
 use graph_find::reading::read_range;
 use graph_folder::folder::{Folder, ReadError};
 use std::alloc::Global;
+use std::collections::BTreeMap;
 
 /// How many pieces a block has, but for the last one.
 pub const BLOCK_LEN: usize = 128;
@@ -23,27 +28,42 @@ pub(crate) struct Place {
     pub(crate) count: usize,
 }
 
-/// Pieces at a place, and the blocks of them that were read.
+/// Pieces that are read at once.
+#[derive(Clone, Copy)]
+pub(crate) enum Stretch {
+    /// Those of the block of this number.
+    Block(usize),
+    /// The piece of this index alone.
+    Alone(usize),
+}
+
+/// Pieces at a place, and those of them that were read: first one by one, so many of them, and then
+/// by blocks. So few pieces are read quickly and take little memory, and many take few reads.
 #[derive(Drop)]
 pub(crate) struct Pieces {
     pub(crate) place: Place,
+    most_alone: usize,
+    alone: BTreeMap<usize, Vec<u8>>,
     blocks: Vec<Option<Vec<u8>>>,
 }
 
 impl Pieces {
-    /// The pieces at a place, of which none was read. Nothing is allocated.
-    pub(crate) fn new(alloc: Global, place: Place) -> Pieces
+    /// The pieces at a place, of which none was read, and so many are to be read one by one.
+    /// Nothing is allocated.
+    pub(crate) fn new(alloc: Global, place: Place, most_alone: usize) -> Pieces
         ensures place { result.place ≡ place }
-        ensures none { result.blocks.items ≡ [] }
+        ensures none { KeepsNothing result }
     {
         Pieces {
             place,
+            most_alone,
+            alone: BTreeMap::new(alloc),
             blocks: Vec::new(alloc),
         }
     }
 
-    /// Reads the block of a piece of the file at the path, unless it is kept: whether it is now.
-    /// It is not where the file no longer has its length, or is to be read whole.
+    /// Reads a piece of the file at the path, unless it is kept: whether it is now. It is not where
+    /// the file no longer has its length, or is to be read whole.
     pub(crate) fn read<T: Folder>(
         &mut self,
         alloc: Global,
@@ -61,37 +81,23 @@ impl Pieces {
         ensures failures { T.failure_count folder.new
             ≡ failures_after result (T.failure_count folder.old) }
     {
-        let number = index / BLOCK_LEN;
-        self.grow_to(number)?;
-        if self.blocks[number].is_some() {
+        if self.kept(index).is_some() {
             return Ok(true);
         }
+        let stretch = self.stretch_of(index);
         match self
             .place
-            .read_block(alloc, folder, path, file_len, number)?
+            .read_stretch(alloc, folder, path, file_len, stretch)?
         {
-            Some(block) => {
-                self.blocks[number] = Some(block);
+            Some(bytes) => {
+                self.keep(stretch, bytes)?;
                 Ok(true)
             }
             None => Ok(false),
         }
     }
 
-    /// Makes room for the block of this number.
-    fn grow_to(&mut self, number: usize) -> Result<(), ReadError>
-        ensures place { self.new.place ≡ self.old.place }
-        ensures room { OnOk result (number < length self.new.blocks.items) }
-        ensures same { HaveSameBlocks self.old self.new }
-        ensures memory { IfErr result (λ error. error ≡ ReadError.OutOfMemory) }
-    {
-        while self.blocks.len() <= number {
-            self.blocks.push(None).map_err(|_| ReadError::OutOfMemory)?;
-        }
-        Ok(())
-    }
-
-    /// A piece whose block is kept.
+    /// A piece that is kept.
     pub(crate) fn piece(&self, index: usize) -> &[u8]
         requires index { index < self.now.place.count }
         requires sized { AreSized self.now }
@@ -101,38 +107,142 @@ impl Pieces {
             ≡ slice_range file (self.now.place.start + self.now.place.size * index)
             (self.now.place.start + self.now.place.size * index + self.now.place.size) }
     {
-        let start = self.place.size * (index % BLOCK_LEN);
-        match &self.blocks[index / BLOCK_LEN] {
-            Some(block) => &block[start..start + self.place.size],
+        match self.kept(index) {
+            Some(piece) => piece,
             None => unreachable!(),
+        }
+    }
+
+    /// A piece, if it is kept.
+    fn kept(&self, index: usize) -> Option<&[u8]>
+        requires index { index < self.now.place.count }
+        requires sized { AreSized self.now }
+        ensures size { IfSome result (λ piece. length piece.now ≡ self.now.place.size) }
+        ensures piece { IfSome result (λ piece. (file : List ℕ) → AreOf self.now file
+            → piece.now ≡ slice_range file (self.now.place.start + self.now.place.size * index)
+            (self.now.place.start + self.now.place.size * index + self.now.place.size)) }
+        ensures some { IfSome result (λ _. HasPiece self.now index) }
+        ensures none { IfNone result ((stretch : Stretch) → IsPieceOf stretch index
+            → LacksStretch self.now stretch) }
+    {
+        match self.block(index / BLOCK_LEN) {
+            Some(block) => {
+                let start = self.place.size * (index % BLOCK_LEN);
+                Some(&block[start..start + self.place.size])
+            }
+            None => match self.alone.get(&index) {
+                Some(piece) => Some(piece),
+                None => None,
+            },
+        }
+    }
+
+    /// The block of this number, if it is kept.
+    fn block(&self, number: usize) -> Option<&[u8]>
+        ensures some { IfSome result (λ block. (bytes : Vec ℕ Global)
+            × HasStretch self.now (Block number) bytes × (bytes.items ≡ block.now)) }
+        ensures none { IfNone result (LacksStretch self.now (Block number)) }
+    {
+        if self.blocks.len() <= number {
+            return None;
+        }
+        match &self.blocks[number] {
+            Some(block) => Some(block),
+            None => None,
+        }
+    }
+
+    /// What is to be read for a piece.
+    fn stretch_of(&self, index: usize) -> Stretch
+        ensures { IsPieceOf result index }
+    {
+        if self.alone.len() < self.most_alone {
+            Stretch::Alone(index)
+        } else {
+            Stretch::Block(index / BLOCK_LEN)
+        }
+    }
+
+    /// Keeps the bytes of a stretch, of which nothing is kept.
+    fn keep(&mut self, stretch: Stretch, bytes: Vec<u8>) -> Result<(), ReadError>
+        requires { LacksStretch self.old stretch }
+        ensures adds { OnOk result (AddsStretch self.old self.new stretch bytes) }
+        ensures same { OnErr result (KeepsSame self.old self.new) }
+        ensures memory { IfErr result (λ error. error ≡ ReadError.OutOfMemory) }
+    {
+        match stretch {
+            Stretch::Block(number) => self.keep_block(number, bytes),
+            Stretch::Alone(index) => self.keep_alone(index, bytes),
+        }
+    }
+
+    /// Keeps a block that is not kept.
+    fn keep_block(&mut self, number: usize, block: Vec<u8>) -> Result<(), ReadError>
+        requires { LacksStretch self.old (Block number) }
+        ensures adds { OnOk result (AddsStretch self.old self.new (Block number) block) }
+        ensures same { OnErr result (KeepsSame self.old self.new) }
+        ensures memory { IfErr result (λ error. error ≡ ReadError.OutOfMemory) }
+    {
+        self.grow_to(number)?;
+        self.blocks[number] = Some(block);
+        Ok(())
+    }
+
+    /// Makes room for the block of this number.
+    fn grow_to(&mut self, number: usize) -> Result<(), ReadError>
+        ensures room { OnOk result (number < length self.new.blocks.items) }
+        ensures same { KeepsSame self.old self.new }
+        ensures memory { IfErr result (λ error. error ≡ ReadError.OutOfMemory) }
+    {
+        while self.blocks.len() <= number {
+            self.blocks.push(None).map_err(|_| ReadError::OutOfMemory)?;
+        }
+        Ok(())
+    }
+
+    /// Keeps a piece alone that is not kept so.
+    fn keep_alone(&mut self, index: usize, piece: Vec<u8>) -> Result<(), ReadError>
+        requires { LacksStretch self.old (Alone index) }
+        ensures adds { OnOk result (AddsStretch self.old self.new (Alone index) piece) }
+        ensures same { OnErr result (KeepsSame self.old self.new) }
+        ensures memory { IfErr result (λ error. error ≡ ReadError.OutOfMemory) }
+    {
+        match self.alone.insert(index, piece) {
+            Ok(_) => Ok(()),
+            Err(_) => Err(ReadError::OutOfMemory),
         }
     }
 }
 
 impl Place {
-    /// Reads the block of this number of the file at the path, if the file still has its length.
-    fn read_block<T: Folder>(
+    /// How many blocks have all their pieces.
+    pub(crate) fn whole_blocks(self) -> usize {
+        self.count / BLOCK_LEN
+    }
+
+    /// Reads a stretch of the file at the path, if the file still has its length.
+    fn read_stretch<T: Folder>(
         self,
         alloc: Global,
         folder: &mut T,
         path: &str,
         file_len: usize,
-        number: usize,
+        stretch: Stretch,
     ) -> Result<Option<Vec<u8>>, ReadError>
-        requires number { BLOCK_LEN * number < self.count }
+        requires within { stretch_first stretch < self.count }
         requires fits { FitsIn self file_len }
-        ensures size { IfOk result (λ answer. IfSome answer (λ block.
-            length block.items ≡ block_len self number)) }
+        ensures size { IfOk result (λ answer. IfSome answer (λ bytes.
+            length bytes.items ≡ stretch_len self stretch)) }
         ensures part { ForSome (T.tree folder.old) (λ tree.
-            IfOk result (λ answer. IfSome answer (λ block. IsSomeAnd (file_at tree path.now)
-            (λ file. slice_range file (block_start self number)
-            (block_start self number + block_len self number) ≡ block.items)))) }
+            IfOk result (λ answer. IfSome answer (λ bytes. IsSomeAnd (file_at tree path.now)
+            (λ file. slice_range file (stretch_start self stretch)
+            (stretch_start self stretch + stretch_len self stretch) ≡ bytes.items)))) }
         ensures tree { T.tree folder.new ≡ T.tree folder.old }
         ensures failures { T.failure_count folder.new
             ≡ failures_after result (T.failure_count folder.old) }
     {
-        let first = BLOCK_LEN * number;
-        let count = BLOCK_LEN.min(self.count - first);
+        let first = self.first_of(stretch);
+        let count = self.pieces_in(stretch);
         read_range(
             alloc,
             folder,
@@ -141,5 +251,28 @@ impl Place {
             self.start + self.size * first,
             self.size * count,
         )
+    }
+
+    /// The index of the first piece of a stretch.
+    fn first_of(self, stretch: Stretch) -> usize
+        requires { stretch_first stretch < self.count }
+        ensures { result ≡ stretch_first stretch }
+    {
+        match stretch {
+            Stretch::Block(number) => BLOCK_LEN * number,
+            Stretch::Alone(index) => index,
+        }
+    }
+
+    /// How many pieces a stretch has. The last block has those that are left.
+    fn pieces_in(self, stretch: Stretch) -> usize
+        requires { stretch_first stretch < self.count }
+        ensures count { result ≡ stretch_count self stretch }
+        ensures within { stretch_first stretch + result ≤ self.count }
+    {
+        match stretch {
+            Stretch::Block(number) => BLOCK_LEN.min(self.count - BLOCK_LEN * number),
+            Stretch::Alone(_) => 1,
+        }
     }
 }

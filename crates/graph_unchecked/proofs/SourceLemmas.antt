@@ -44,8 +44,8 @@ reads_on known old new right sees = record {
 }
 
 -- the files have as many commits as the parts
-pub counted_files : (parts : GraphParts) → commits_in_all (files_of parts) ≡ commits_of_parts parts
-counted_files parts = count-files parts.layers.items
+pub as_many : (parts : GraphParts) → commits_in_all (files_of parts) ≡ commits_of_parts parts
+as_many parts = count-files parts.layers.items
 
 -- the generation number that is read
 pub number-told : (known : Option Tree) (parts : GraphParts) (p : ℕ) (commit : StoredCommit)

@@ -18,8 +18,8 @@ use std::alloc::Global;
 
 /// Whether the commit with the first id is an ancestor of the one with the second, or the same, in
 /// the graph that the path opens. Its files are read by parts: of each layer its first bytes, and
-/// blocks of ids, records and words of the extra edge list. What is read is kept until the answer,
-/// with a bit for each commit of the graph.
+/// ids, records and words of the extra edge list. What is read is kept until the answer, with a bit
+/// for each commit of the graph.
 ///
 /// The graph is not checked. In one that is right the answer is exact. In any other a yes still
 /// names a walk that is there, but a no promises nothing.
@@ -46,11 +46,7 @@ pub fn is_ancestor<T: Folder>(
 {
     let failures = folder.failures();
     let answer = ask_ancestor(alloc, folder, path, first, second);
-    if folder.failures() == failures {
-        answer
-    } else {
-        Err(Unread::Device)
-    }
+    unless_failed(folder, failures, answer)
 }
 
 /// The ids on a shortest walk along parents from the commit with the first id to the one with the
@@ -84,11 +80,7 @@ pub fn ancestor_walk<T: Folder>(
 {
     let failures = folder.failures();
     let answer = ask_walk(alloc, folder, path, first, second);
-    if folder.failures() == failures {
-        answer
-    } else {
-        Err(Unread::Device)
-    }
+    unless_failed(folder, failures, answer)
 }
 
 /// The merge bases of the commit with the first id and those with the others, the least position
@@ -122,6 +114,18 @@ pub fn compare<T: Folder>(
 {
     let failures = folder.failures();
     let answer = ask_comparison(alloc, folder, path, first, others);
+    unless_failed(folder, failures, answer)
+}
+
+/// The answer, unless the folder has failed a read since it counted so many failures.
+fn unless_failed<T: Folder, A: Drop>(
+    folder: &T,
+    failures: u64,
+    answer: Result<A, Unread>,
+) -> Result<A, Unread>
+    ensures { (result ≡ Err Unread.Device)
+        ⊎ ((result ≡ answer) × (T.failure_count folder.now ≡ failures)) }
+{
     if folder.failures() == failures {
         answer
     } else {

@@ -21,7 +21,7 @@ use graph_parts::parts::GraphParts;
 use std::alloc::Global;
 
 /// The generation number of the commit at a position.
-#[tactic(auto, using(crate::proofs::SourceLemmas::reads_on, crate::proofs::SourceLemmas::counted_files))]
+#[tactic(auto, using(crate::proofs::SourceLemmas::reads_on, crate::proofs::SourceLemmas::as_many))]
 pub(crate) fn read_number<T: Folder>(
     alloc: Global,
     folder: &mut T,
@@ -44,7 +44,7 @@ pub(crate) fn read_number<T: Folder>(
 
 /// What both parent fields of the commit at a position say. They are refused where they cannot be
 /// those of a right graph.
-#[tactic(auto, using(crate::proofs::SourceLemmas::reads_on, crate::proofs::SourceLemmas::counted_files))]
+#[tactic(auto, using(crate::proofs::SourceLemmas::reads_on, crate::proofs::SourceLemmas::as_many))]
 pub(crate) fn read_fields<T: Folder>(
     alloc: Global,
     folder: &mut T,
@@ -77,7 +77,7 @@ pub(crate) fn read_fields<T: Folder>(
 
 /// What a word of the extra edge list says of the layer in which a position lies. It is refused
 /// where it cannot be that of a right graph.
-#[tactic(auto, using(crate::proofs::SourceLemmas::reads_on, crate::proofs::SourceLemmas::counted_files))]
+#[tactic(auto, using(crate::proofs::SourceLemmas::reads_on, crate::proofs::SourceLemmas::as_many))]
 pub(crate) fn read_word<T: Folder>(
     alloc: Global,
     folder: &mut T,

@@ -55,7 +55,7 @@ impl<'a, T: Folder> CommitSource for PartCommits<'a, T> {
 
     ghost may_fail = { λ _ _. ⊤ };
 
-    #[tactic(auto, using(crate::proofs::SourceLemmas::counted_files))]
+    #[tactic(auto, using(crate::proofs::SourceLemmas::as_many))]
     fn num_commits(&self) -> u32 {
         the_history_of_a_graph_is_that_of_its_layers();
         self.parts.commits()
@@ -69,7 +69,7 @@ impl<'a, T: Folder> CommitSource for PartCommits<'a, T> {
         read_fields(self.alloc, self.folder, self.parts, pos)
     }
 
-    #[tactic(auto, using(crate::proofs::SourceLemmas::counted_files))]
+    #[tactic(auto, using(crate::proofs::SourceLemmas::as_many))]
     fn layer_of(&self, pos: Position) -> usize {
         self.parts.layer_of(pos)
     }

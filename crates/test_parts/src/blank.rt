@@ -16,6 +16,18 @@ pub struct Blank<'a> {
     pub bytes: u64,
 }
 
+impl<'a> Blank<'a> {
+    /// Such a folder, of which nothing was asked for.
+    pub fn new(head: &'a [u8], len: u64) -> Blank<'a> {
+        Blank {
+            head,
+            len,
+            parts: 0,
+            bytes: 0,
+        }
+    }
+}
+
 impl Folder for Blank<'_> {
     ghost tree = { λ _. None };
 

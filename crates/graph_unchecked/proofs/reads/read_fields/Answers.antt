@@ -3,7 +3,7 @@ use Rattle.std.proofs.Common.{◌≡◌, IsTrue, rules, sym, ◌∙◌}
 use Rattle.graph_parts.specs.PartFiles.{commits_in_all}
 use Rattle.graph_parts.specs.Shown.{files_of}
 use Rattle.graph_unchecked.specs.PartSource.{word_total}
-use Rattle.graph_unchecked.proofs.SourceLemmas.{counted_files, fields-as, fields-read, reads_on}
+use Rattle.graph_unchecked.proofs.SourceLemmas.{as_many, fields-as, fields-read, reads_on}
 use Rattle.graph_unchecked.proofs.reads.read_fields.Goals as goal
 
 pub returns-in_err-commit-clause-reads : goal.returns-in_err-commit-clause-reads
@@ -34,7 +34,7 @@ returns-clause-fields g c =
     let l = c.layer_of-layer.result in
     let commit = c.in-Some.commit in
     let count : c.commits-count.result ≡ commits_in_all files =
-    c.commits-count.ensures.count ∙ sym (counted_files c.args.parts.now) in
+    c.commits-count.ensures.count ∙ sym (as_many c.args.parts.now) in
     let yes : IsTrue c.are_fields_there.result = search rules in
     fields-read known c.commit_at.new.self files c.commit_at.ensures.sees.same c.commit_at.ensures.parts p commit l
     c.layer_of-layer.ensures.file

@@ -3,7 +3,7 @@ use Rattle.std.proofs.Common.{◌≡◌, IsTrue, rules, sym, ◌∙◌}
 use Rattle.graph_parts.specs.PartFiles.{commits_in_all}
 use Rattle.graph_parts.specs.Shown.{files_of}
 use Rattle.graph_unchecked.specs.PartSource.{word_total}
-use Rattle.graph_unchecked.proofs.SourceLemmas.{counted_files, reads_on, word-as, word-read}
+use Rattle.graph_unchecked.proofs.SourceLemmas.{as_many, reads_on, word-as, word-read}
 use Rattle.graph_unchecked.proofs.reads.read_word.Goals as goal
 
 pub returns-in_err-word-clause-reads : goal.returns-in_err-word-clause-reads
@@ -32,7 +32,7 @@ returns-clause-word g c =
     let l = c.args.layer in
     let word = c.in-Some.word in
     let count : c.commits-count.result ≡ commits_in_all files =
-    c.commits-count.ensures.count ∙ sym (counted_files c.args.parts.now) in
+    c.commits-count.ensures.count ∙ sym (as_many c.args.parts.now) in
     let yes : IsTrue c.is_word_there.result = search rules in
     word-read (g.T.Folder.tree c.args.folder.now) c.edge_at.new.self files c.edge_at.ensures.sees.same c.edge_at.ensures.parts
     c.args.pos.0 l c.args.index word c.requires.lies c.requires.index

@@ -1,10 +1,7 @@
 -- More is read of the layer in which the position lies.
-use Rattle.std.proofs.Common.{length, refl, arith}
-use Rattle.std.specs.Vec.{with_item}
-use Rattle.std.proofs.lemmas.Option.{slice_get_read}
-use Rattle.graph_parts.specs.ShownLayer.{IsLayerParts}
-use Rattle.graph_parts.proofs.GraphPartLemmas.{left-within, new-parts, new-sees, new-stores, part-of}
-use Rattle.graph_parts.proofs.ZipLemmas.{all-get, ok-some}
+use Rattle.std.proofs.Common.{arith}
+use Rattle.graph_parts.proofs.GraphPartLemmas.{new-stores, new-parts, new-sees, part-of, reads-spot, spot-left, spot-part}
+use Rattle.graph_parts.proofs.ZipLemmas.{ok-some}
 use Rattle.graph_parts.proofs.parts.GraphParts.commit_at.Goals as goal
 
 pub index_mut-requires : goal.index_mut-requires
@@ -18,69 +15,36 @@ index_mut-requires g c =
 
 pub commit_at-requires-clause-parts : goal.commit_at-requires-clause-parts
 commit_at-requires-clause-parts g c =
-    let items = c.args.self.now.layers.items in
-    let spot = c.spot_of-spot.result in
-    let within = part-of c.args.self.now c.args.pos.0 spot.layer spot.pos c.spot_of-spot.ensures in
-    all-get IsLayerParts items spot.layer c.index_mut.result.now c.requires.parts.each
-    (slice_get_read items (length items) spot.layer c.index_mut.result.now refl within c.index_mut.ensures.value)
+    spot-part (g.T.Folder.tree c.args.folder.now) c.args.self.now c.args.pos.0 c.spot_of-spot.result c.index_mut.result.now
+    c.requires.parts c.spot_of-spot.ensures c.index_mut.ensures.value
 
 pub commit_at-requires-clause-pos : goal.commit_at-requires-clause-pos
 commit_at-requires-clause-pos g c =
-    let items = c.args.self.now.layers.items in
-    let spot = c.spot_of-spot.result in
-    let within = part-of c.args.self.now c.args.pos.0 spot.layer spot.pos c.spot_of-spot.ensures in
-    left-within c.args.self.now c.args.pos.0 spot.layer spot.pos c.index_mut.result.now
-    (slice_get_read items (length items) spot.layer c.index_mut.result.now refl within c.index_mut.ensures.value)
-    c.spot_of-spot.ensures
+    spot-left (g.T.Folder.tree c.args.folder.now) c.args.self.now c.args.pos.0 c.spot_of-spot.result c.index_mut.result.now
+    c.requires.parts c.spot_of-spot.ensures c.index_mut.ensures.value
 
 pub returns-clause-parts : goal.returns-clause-parts
 returns-clause-parts g c =
-    let items = c.args.self.now.layers.items in
-    let spot = c.spot_of-spot.result in
-    let within = part-of c.args.self.now c.args.pos.0 spot.layer spot.pos c.spot_of-spot.ensures in
-    new-parts (g.T.Folder.tree c.args.folder.now) c.args.self.now
-    (record { layers = with_item c.args.self.now.layers spot.layer c.commit_at.new.self })
-    spot.layer c.index_mut.result.now c.commit_at.new.self
-    (record {
-      right = c.requires.parts;
-      here = slice_get_read items (length items) spot.layer c.index_mut.result.now refl within c.index_mut.ensures.value;
-      is = refl;
-      sees = c.commit_at.ensures.sees;
-      kept = c.commit_at.ensures.parts;
-    })
+    let known = g.T.Folder.tree c.args.folder.now in
+    new-parts known c.args.self.now _ c.spot_of-spot.result.layer c.index_mut.result.now c.commit_at.new.self
+    (reads-spot known c.args.self.now c.args.pos.0 c.spot_of-spot.result c.index_mut.result.now c.requires.parts
+    c.spot_of-spot.ensures c.index_mut.ensures.value c.commit_at.new.self c.commit_at.ensures.sees c.commit_at.ensures.parts)
 
 pub returns-clause-sees : goal.returns-clause-sees
 returns-clause-sees g c =
-    let items = c.args.self.now.layers.items in
-    let spot = c.spot_of-spot.result in
-    let within = part-of c.args.self.now c.args.pos.0 spot.layer spot.pos c.spot_of-spot.ensures in
-    new-sees (g.T.Folder.tree c.args.folder.now) c.args.self.now
-    (record { layers = with_item c.args.self.now.layers spot.layer c.commit_at.new.self })
-    spot.layer c.index_mut.result.now c.commit_at.new.self
-    (record {
-      right = c.requires.parts;
-      here = slice_get_read items (length items) spot.layer c.index_mut.result.now refl within c.index_mut.ensures.value;
-      is = refl;
-      sees = c.commit_at.ensures.sees;
-      kept = c.commit_at.ensures.parts;
-    })
+    let known = g.T.Folder.tree c.args.folder.now in
+    new-sees known c.args.self.now _ c.spot_of-spot.result.layer c.index_mut.result.now c.commit_at.new.self
+    (reads-spot known c.args.self.now c.args.pos.0 c.spot_of-spot.result c.index_mut.result.now c.requires.parts
+    c.spot_of-spot.ensures c.index_mut.ensures.value c.commit_at.new.self c.commit_at.ensures.sees c.commit_at.ensures.parts)
 
 pub returns-clause-stores : goal.returns-clause-stores
 returns-clause-stores g c =
-    let items = c.args.self.now.layers.items in
+    let known = g.T.Folder.tree c.args.folder.now in
     let spot = c.spot_of-spot.result in
-    let within = part-of c.args.self.now c.args.pos.0 spot.layer spot.pos c.spot_of-spot.ensures in
     ok-some c.commit_at.result _ _
     (λ answer said.
-    new-stores (g.T.Folder.tree c.args.folder.now) c.args.self.now
-    (record { layers = with_item c.args.self.now.layers spot.layer c.commit_at.new.self })
-    spot.layer c.index_mut.result.now c.commit_at.new.self
-    (record {
-      right = c.requires.parts;
-      here = slice_get_read items (length items) spot.layer c.index_mut.result.now refl within c.index_mut.ensures.value;
-      is = refl;
-      sees = c.commit_at.ensures.sees;
-      kept = c.commit_at.ensures.parts;
-    })
+    new-stores known c.args.self.now _ spot.layer c.index_mut.result.now c.commit_at.new.self
+    (reads-spot known c.args.self.now c.args.pos.0 spot c.index_mut.result.now c.requires.parts c.spot_of-spot.ensures
+    c.index_mut.ensures.value c.commit_at.new.self c.commit_at.ensures.sees c.commit_at.ensures.parts)
     c.args.pos.0 spot.pos c.spot_of-spot.ensures answer said)
     c.commit_at.ensures.stores

@@ -1,13 +1,10 @@
--- The blocks so far are those that were kept.
-use Rattle.std.proofs.Common.{◌≡◌, ◌+◌, ◌-◌, length}
-use Rattle.graph_parts.specs.PieceBlocks.{HaveSameBlocks}
+-- What is kept so far is what was kept.
+use Rattle.std.proofs.Common.{◌+◌, ◌-◌, length}
+use Rattle.graph_parts.specs.PieceBlocks.{KeepsSame}
 use Rattle.graph_parts.proofs.pieces.Pieces.grow_to.Given as goal
 
 abbrev pub invariant-loop-self : goal.invariant-loop-self
-invariant-loop-self l = record {
-  place : l.self.place ≡ l.fn.self.place;
-  same : HaveSameBlocks l.fn.self l.self;
-}
+invariant-loop-self l = KeepsSame l.fn.self l.self
 
 abbrev pub decreases-loop-self : goal.decreases-loop-self
 decreases-loop-self l = (l.number + 1) - length l.self.blocks.items

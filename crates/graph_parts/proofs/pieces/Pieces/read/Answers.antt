@@ -1,48 +1,50 @@
--- One block more is kept at most, and it is that of the piece.
-use Rattle.std.proofs.Common.{◌≡◌, ◌/◌, true, false, Some, is_some, rules, refl}
-use Rattle.graph_parts.proofs.BlockLemmas.{adds-set, none-there, reads-block, reads-same, set-there, some-there}
+-- One stretch more is kept at most, and it is one of the piece.
+use Rattle.std.proofs.Common.{◌≡◌, true, false, is_some, rules}
+use Rattle.graph_parts.specs.PieceBlocks.{HasPiece}
+use Rattle.graph_parts.proofs.BlockLemmas.{if-missing, if-there, reads-same, reads-stretch, same-start, stretch-within}
 use Rattle.graph_parts.proofs.pieces.Pieces.read.Goals as goal
-
-pub returns-in_err-grow_to-clause-reads : goal.returns-in_err-grow_to-clause-reads
-returns-in_err-grow_to-clause-reads g c =
-    reads-same (g.T.Folder.tree c.args.folder.now) c.args.path.now c.args.self.now c.grow_to.new.self c.grow_to.ensures.place
-    c.grow_to.ensures.same c.requires.sized
 
 pub returns-then-is_some-clause-reads : goal.returns-then-is_some-clause-reads
 returns-then-is_some-clause-reads g c =
-    reads-same (g.T.Folder.tree c.args.folder.now) c.args.path.now c.args.self.now c.grow_to.new.self c.grow_to.ensures.place
-    c.grow_to.ensures.same c.requires.sized
+    let pieces = c.args.self.now in
+    reads-same (g.T.Folder.tree c.args.folder.now) c.args.path.now pieces pieces (same-start pieces) c.requires.sized
 
 pub returns-then-is_some-clause-there : goal.returns-then-is_some-clause-there
 returns-then-is_some-clause-there g c = λ there.
-    let yes : is_some c.index.result.now ≡ true = search rules in
-    some-there c.grow_to.new.self (c.args.index / 128) c.index.result.now c.index.ensures c.in_ok-grow_to.ensures.room yes
+    let yes : is_some c.kept.result ≡ true = search rules in
+    if-there c.kept.result (HasPiece c.args.self.now c.args.index) c.kept.ensures.some yes
 
-pub returns-in_err-block-clause-reads : goal.returns-in_err-block-clause-reads
-returns-in_err-block-clause-reads g c =
-    reads-same (g.T.Folder.tree c.args.folder.now) c.args.path.now c.args.self.now c.grow_to.new.self c.grow_to.ensures.place
-    c.grow_to.ensures.same c.requires.sized
+pub read_stretch-requires-clause-within : goal.read_stretch-requires-clause-within
+read_stretch-requires-clause-within g c =
+    stretch-within c.stretch_of-stretch.result c.args.index c.args.self.now.place.count c.stretch_of-stretch.ensures
+    c.requires.index
 
-pub returns-in-Some-clause-reads : goal.returns-in-Some-clause-reads
-returns-in-Some-clause-reads g c =
-    let number = c.args.index / 128 in
-    let grown = c.grow_to.new.self in
-    let room = c.in_ok-grow_to.ensures.room in
-    let no : is_some c.index.result.now ≡ false = search rules in
-    reads-block (g.T.Folder.tree c.args.folder.now) c.args.path.now c.args.self.now _ number c.in-Some.block
-    (adds-set c.args.self.now grown _ number c.in-Some.block c.grow_to.ensures.place c.grow_to.ensures.same room
-    (none-there grown number c.index.result.now c.index.ensures room no) refl refl)
-    c.requires.sized
-    (rw (c.in-Some.is, c.grow_to.ensures.place) at c.in_ok-block.ensures.size)
-    (λ tree is. rw (c.in-Some.is, c.grow_to.ensures.place) at (c.in_ok-block.ensures.part tree is))
+pub returns-in_err-bytes-clause-reads : goal.returns-in_err-bytes-clause-reads
+returns-in_err-bytes-clause-reads g c =
+    let pieces = c.args.self.now in
+    reads-same (g.T.Folder.tree c.args.folder.now) c.args.path.now pieces pieces (same-start pieces) c.requires.sized
 
-pub returns-in-Some-clause-there : goal.returns-in-Some-clause-there
-returns-in-Some-clause-there g c = λ there. (
-  c.in-Some.block,
-  set-there c.grow_to.new.self.blocks.items (c.args.index / 128) (Some c.in-Some.block) c.in_ok-grow_to.ensures.room,
+pub keep-requires : goal.keep-requires
+keep-requires g c =
+    let no : is_some c.kept.result ≡ false = search rules in
+    if-missing c.kept.result _ c.kept.ensures.none no c.stretch_of-stretch.result c.stretch_of-stretch.ensures
+
+pub returns-in_ok-keep-in-Some-clause-reads : goal.returns-in_ok-keep-in-Some-clause-reads
+returns-in_ok-keep-in-Some-clause-reads g c =
+    reads-stretch (g.T.Folder.tree c.args.folder.now) c.args.path.now c.args.self.now c.keep.new.self
+    c.stretch_of-stretch.result c.in-Some.bytes c.in_ok-keep-in-Some.ensures.adds c.requires.sized
+    (rw c.in-Some.is at c.in_ok-bytes.ensures.size)
+    (λ tree is. rw c.in-Some.is at (c.in_ok-bytes.ensures.part tree is))
+
+pub returns-in_ok-keep-in-Some-clause-there : goal.returns-in_ok-keep-in-Some-clause-there
+returns-in_ok-keep-in-Some-clause-there g c = λ there. (
+  c.stretch_of-stretch.result,
+  c.in-Some.bytes,
+  c.stretch_of-stretch.ensures,
+  c.in_ok-keep-in-Some.ensures.adds.there,
 )
 
 pub returns-in-None-clause-reads : goal.returns-in-None-clause-reads
 returns-in-None-clause-reads g c =
-    reads-same (g.T.Folder.tree c.args.folder.now) c.args.path.now c.args.self.now c.grow_to.new.self c.grow_to.ensures.place
-    c.grow_to.ensures.same c.requires.sized
+    let pieces = c.args.self.now in
+    reads-same (g.T.Folder.tree c.args.folder.now) c.args.path.now pieces pieces (same-start pieces) c.requires.sized

@@ -1,0 +1,6 @@
+-- As many bytes are read as the stretch has.
+use Rattle.graph_parts.proofs.pieces.Place.read_stretch.Goals as goal
+
+pub returns-clause-part : goal.returns-clause-part
+returns-clause-part g c = λ tree is.
+    rw (← c.first_of-first.ensures, ← c.pieces_in-count.ensures.count) (c.read_range.ensures.part tree is)
