@@ -5,19 +5,19 @@ use Rattle.std.proofs.lemmas.Bool.{cases_lt, cases_eq}
 use Rattle.std.proofs.lemmas.List.{length-set, length_push, get_or-set_same, get_or-set_other}
 use Rattle.graph_ancestors.specs.declared.links.Links.{Links}
 use Rattle.graph_ancestors.specs.declared.links.TheConstants.{FEW}
-use Rattle.graph_ancestors.specs.Marks.{Marked, IsMarked, LeadsTo, there, on, AreLinked, number_in}
+use Rattle.graph_ancestors.specs.Marks.{Marked, IsMarked, LinksTo, there, on, AreLinked, number_in}
 use Rattle.graph_ancestors.proofs.QueueLemmas.{commit_old, commit_new}
 
-pub leads_nowhere : {before : List ℕ} {i : ℕ} → LeadsTo before 0 i → ⊥
+pub leads_nowhere : {before : List ℕ} {i : ℕ} → LinksTo before 0 i → ⊥
 leads_nowhere h = elim h [ ]
 
-pub leads_cases : {before : List ℕ} {i j : ℕ} → LeadsTo before (suc i) j → (i ≡ j) ⊎ LeadsTo before (get_or before i 0) j
+pub leads_cases : {before : List ℕ} {i j : ℕ} → LinksTo before (suc i) j → (i ≡ j) ⊎ LinksTo before (get_or before i 0) j
 leads_cases there = inl refl
 leads_cases (on h) = inr h
 
 -- links to places below n lead on as before where those from them stay
 leads_kept : (after : List ℕ) (n : ℕ) {before : List ℕ} {p i : ℕ} → ((k : ℕ) → k < n → get_or after k 0 ≡ get_or before k 0)
-    → ((k : ℕ) → k < n → get_or before k 0 ≤ k) → p ≤ n → LeadsTo before p i → LeadsTo after p i
+    → ((k : ℕ) → k < n → get_or before k 0 ≤ k) → p ≤ n → LinksTo before p i → LinksTo after p i
 leads_kept after n same back le there = there
 leads_kept after n {before} same back le (on {i = k} h) =
     let lt : k < n = omega arith in
@@ -59,7 +59,7 @@ none_linked links marked none are =
     (λ (le : length marked ≤ 0). omega arith)
     (cases_lt 0 (length marked))
   where
-    nowhere : (lasts : List ℕ) → length lasts ≡ 0 → (k : ℕ) → LeadsTo links.before.items (get_or lasts k 0) 0 → ⊥
+    nowhere : (lasts : List ℕ) → length lasts ≡ 0 → (k : ℕ) → LinksTo links.before.items (get_or lasts k 0) 0 → ⊥
     nowhere [] e k h = leads_nowhere h
     nowhere (x ∷ xs) e k h = absurd (omega arith)
 
@@ -100,24 +100,24 @@ module _ (old new : Links) (marked : List Marked) (e : Marked) (few : length mar
       ∙ length-set old.before.items (length marked) (get_or old.lasts.items (e.number % FEW) 0)
 
   -- what the last link of a remainder led to
-  leads_old : (q i : ℕ) → LeadsTo old.before.items (get_or old.lasts.items q 0) i
-      → LeadsTo new.before.items (get_or new.lasts.items q 0) i
+  leads_old : (q i : ℕ) → LinksTo old.before.items (get_or old.lasts.items q 0) i
+      → LinksTo new.before.items (get_or new.lasts.items q 0) i
   leads_old q i h =
       let kept = leads_kept new.before.items (length marked) (λ k lt. from_old k (λ same. omega arith)) are.before (are.last q) h
       in
       ⊎_elim
       (λ (same : q ≡ e.number % FEW).
-      let to : LeadsTo new.before.items (get_or new.before.items (length marked) 0) i =
-      subst (λ (p : ℕ). LeadsTo new.before.items p i) (ap (λ (k : ℕ). get_or old.lasts.items k 0) same ∙ sym from_new) kept in
-      subst (λ (p : ℕ). LeadsTo new.before.items p i)
+      let to : LinksTo new.before.items (get_or new.before.items (length marked) 0) i =
+      subst (λ (p : ℕ). LinksTo new.before.items p i) (ap (λ (k : ℕ). get_or old.lasts.items k 0) same ∙ sym from_new) kept in
+      subst (λ (p : ℕ). LinksTo new.before.items p i)
       (sym (ap (λ (k : ℕ). get_or new.lasts.items k 0) same ∙ last_new)) (on to))
       (λ (apart : q ≢ e.number % FEW).
-      subst (λ (p : ℕ). LeadsTo new.before.items p i) (sym (last_other q apart)) kept)
+      subst (λ (p : ℕ). LinksTo new.before.items p i) (sym (last_other q apart)) kept)
       (cases_eq q (e.number % FEW))
 
-  leads_new : (q i : ℕ) → q ≡ e.number % FEW → i ≡ length marked → LeadsTo new.before.items (get_or new.lasts.items q 0) i
+  leads_new : (q i : ℕ) → q ≡ e.number % FEW → i ≡ length marked → LinksTo new.before.items (get_or new.lasts.items q 0) i
   leads_new q i same at =
-      subst (λ (p : ℕ). LeadsTo new.before.items p i)
+      subst (λ (p : ℕ). LinksTo new.before.items p i)
       (ap suc at ∙ sym (ap (λ (k : ℕ). get_or new.lasts.items k 0) same ∙ last_new)) there
 
   pub are_linked-pushed : AreLinked new (marked ++ e ∷ [])
@@ -142,7 +142,7 @@ module _ (old new : Links) (marked : List Marked) (e : Marked) (few : length mar
     leads = λ i lt.
         ⊎_elim
         (λ (lo : i < length marked).
-        subst (λ (n : ℕ). LeadsTo new.before.items (get_or new.lasts.items (n % FEW) 0) i) (sym (commit_old marked e i lo))
+        subst (λ (n : ℕ). LinksTo new.before.items (get_or new.lasts.items (n % FEW) 0) i) (sym (commit_old marked e i lo))
         (leads_old (number_in marked i % FEW) i (are.leads i lo)))
         (λ (hi : length marked ≤ i).
         let at : i ≡ length marked = omega (arith, lt, long) in

@@ -33,9 +33,9 @@ AreBits bits marked = (n : ℕ) → (bit_of bits n ≡ 1) ↔ IsMarked marked n
 
 -- Along the links from each place to one before it, a link leads to a place: to the one whose place it is, plus 1, or on from
 -- there.
-pub data LeadsTo : List ℕ → ℕ → ℕ → Type 0 where
-  there : {before : List ℕ} {i : ℕ} → LeadsTo before (suc i) i
-  on : {before : List ℕ} {i j : ℕ} → LeadsTo before (slice_index_or before i 0) j → LeadsTo before (suc i) j
+pub data LinksTo : List ℕ → ℕ → ℕ → Type 0 where
+  there : {before : List ℕ} {i : ℕ} → LinksTo before (suc i) i
+  on : {before : List ℕ} {i j : ℕ} → LinksTo before (slice_index_or before i 0) j → LinksTo before (suc i) j
 
 -- The links lead to each number that is marked, from the last one with its remainder.
 pub record AreLinked (links : Links) (marked : List Marked) : Type 0 where
@@ -44,7 +44,7 @@ pub record AreLinked (links : Links) (marked : List Marked) : Type 0 where
   pub before : (i : ℕ) → i < length marked → slice_index_or links.before.items i 0 ≤ i
   pub last : (k : ℕ) → slice_index_or links.lasts.items k 0 ≤ length marked
   pub leads : (i : ℕ) → i < length marked
-      → LeadsTo links.before.items (slice_index_or links.lasts.items (number_in marked i % FEW) 0) i
+      → LinksTo links.before.items (slice_index_or links.lasts.items (number_in marked i % FEW) 0) i
 
 -- The numbers are below a bound. They are those whose bit is set in the table; or, while that is empty, those to which the links
 -- lead.

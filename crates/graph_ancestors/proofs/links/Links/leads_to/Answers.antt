@@ -1,6 +1,6 @@
 use Rattle.std.proofs.Common.{◌≡◌, ◌∙◌, ℕ, suc, ◌-◌, ◌<◌, ◌≤◌, length, arith, ap, sym, subst, ⊎_elim, get_or}
 use Rattle.std.proofs.lemmas.List.{get_or_read}
-use Rattle.graph_ancestors.specs.Marks.{LeadsTo, number_in}
+use Rattle.graph_ancestors.specs.Marks.{LinksTo, number_in}
 use Rattle.graph_ancestors.proofs.LinkLemmas.{leads_cases, number_get}
 use Rattle.graph_ancestors.proofs.links.Links.leads_to.Goals as goal
 
@@ -21,6 +21,6 @@ loop-link-preserved c =
           ⊎_elim
           (λ (at : k ≡ i).
           absurd (c.if-marked-place.false (sym (number_get marked k _ inside) ∙ ap (number_in marked) at ∙ same)))
-          (λ (further : LeadsTo before (get_or before k 0) i). subst (λ (p : ℕ). LeadsTo before p i) (sym read) further)
-          (leads_cases (subst (λ (p : ℕ). LeadsTo before p i) link (c.loop-link.invariant.left i lt same)));
+          (λ (further : LinksTo before (get_or before k 0) i). subst (λ (p : ℕ). LinksTo before p i) (sym read) further)
+          (leads_cases (subst (λ (p : ℕ). LinksTo before p i) link (c.loop-link.invariant.left i lt same)));
     }

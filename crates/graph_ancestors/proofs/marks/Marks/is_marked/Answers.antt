@@ -5,8 +5,8 @@ use Rattle.graph_ancestors.proofs.marks.Marks.is_marked.Goals as goal
 
 pub returns-then-is_empty : goal.returns-then-is_empty
 returns-then-is_empty c =
-    let same : c.deref.result.now ≡ c.args.self.now.marked = cc (c.deref.ensures.value, ap (λ (m : Marking). m.marked) c.self.view_is)
-    in
+    let same : c.deref.result.now ≡ c.args.self.now.marked =
+    cc (c.deref.ensures.value, ap (λ (m : Marking). m.marked) c.self.view_is) in
     subst (λ (ms : List Marked). IsTrue c.leads_to.result ↔ IsMarked ms c.args.number) same c.leads_to.ensures
 
 pub returns : goal.returns

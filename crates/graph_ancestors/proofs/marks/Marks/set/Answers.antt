@@ -48,7 +48,9 @@ set_bits-requires-clause-none c n =
     let none : length c.self.inside.bits.items ≡ 0 =
     grind (arith, nat_tests, c.is_empty.ensures, c.if-not-is_empty.false) in
     no_bit c.resize.new.self.items
-    (λ k lt. c.resize.ensures.by_index.1 k 0 (search rules) (omega (arith, none)) (omega (arith, lt, c.in_ok-resize.ensures.len))) n
+    (λ k lt.
+    c.resize.ensures.by_index.1 k 0 (search rules) (omega (arith, none)) (omega (arith, lt, c.in_ok-resize.ensures.len)))
+    n
 
 pub push_bit-requires-2-clause-bits : goal.push_bit-requires-2-clause-bits
 push_bit-requires-2-clause-bits c =
