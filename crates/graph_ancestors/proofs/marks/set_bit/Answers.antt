@@ -1,4 +1,4 @@
-use Rattle.std.proofs.Common.{◌<◌, ◌*◌, ◌/◌, length, refl, arith}
+use Rattle.std.proofs.Common.{◌<◌, ◌/◌, length, arith}
 use Rattle.std.proofs.lemmas.List.{get_or_read}
 use Rattle.graph_ancestors.proofs.MarkLemmas.{bit_here, bit_there}
 use Rattle.graph_ancestors.proofs.marks.set_bit.Goals as goal

@@ -1,4 +1,4 @@
-use Rattle.std.proofs.Common.{◌≡◌, ◌<◌, List, length, take, get_or, rules, arith, sym, subst}
+use Rattle.std.proofs.Common.{◌<◌, List, length, take, get_or, rules, arith, sym, subst}
 use Rattle.std.proofs.lemmas.List.{take_more}
 use Rattle.graph_ancestors.specs.Marks.{Marked, AreBits}
 use Rattle.graph_ancestors.proofs.LinkLemmas.{marked_at_place}

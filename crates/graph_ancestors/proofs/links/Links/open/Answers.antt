@@ -1,4 +1,4 @@
-use Rattle.std.proofs.Common.{◌≡◌, ℕ, ◌<◌, length, rules, arith}
+use Rattle.std.proofs.Common.{◌≡◌, length, rules, arith}
 use Rattle.std.proofs.lemmas.Bool.Decides.{nat_tests}
 use Rattle.graph_ancestors.proofs.LinkLemmas.{are_linked-none, none_linked, zeros_none, zeros_filled}
 use Rattle.graph_ancestors.proofs.links.Links.open.Goals as goal

@@ -1,4 +1,4 @@
-use Rattle.std.proofs.Common.{◌≡◌, ◌∙◌, ℕ, ◌+◌, ◌%◌, ◌<◌, List, length, set, rules, arith, ap, sym, subst}
+use Rattle.std.proofs.Common.{◌≡◌, ◌∙◌, ℕ, ◌+◌, ◌%◌, List, length, set, arith, ap, sym, subst}
 use Rattle.std.proofs.lemmas.List.{get_or_read}
 use Rattle.std.specs.Vec.{with_item}
 use Rattle.graph_ancestors.specs.declared.links.Links.{Links}

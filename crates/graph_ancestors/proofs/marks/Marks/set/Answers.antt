@@ -1,4 +1,4 @@
-use Rattle.std.proofs.Common.{◌≡◌, ◌<◌, ◌*◌, ◌/◌, ◌+◌, List, length, is_ok, ap, rules, arith, sym, subst}
+use Rattle.std.proofs.Common.{◌≡◌, ◌<◌, ◌/◌, ◌+◌, List, length, is_ok, ap, rules, arith, subst}
 use Rattle.std.proofs.lemmas.Bool.Decides.{nat_tests}
 use Rattle.graph_ancestors.specs.Marks.{Marking, Marked, AreBits, IsMarked}
 use Rattle.graph_ancestors.proofs.MarkLemmas.{no_bit, within_pushed}
