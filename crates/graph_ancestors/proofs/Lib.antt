@@ -1,5 +1,6 @@
 pub mod MarkLemmas
 pub mod QueueLemmas
+pub mod LinkLemmas
 pub mod ListLemmas
 pub mod FieldLemmas
 pub mod InMemoryLemmas

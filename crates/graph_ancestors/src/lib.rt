@@ -14,6 +14,7 @@ mod checking;
 pub mod commits;
 mod in_memory;
 pub mod law;
+mod links;
 mod lists;
 mod marks;
 mod search;
