@@ -10,8 +10,9 @@ ghost use Rattle.commitgraph_c.specs.Verdict.{TellsCalls, closed_verdict, refusa
 ghost use Rattle.commitgraph_c.specs.Verdict.{commits_before, refusal_in_layer};
 ghost use Rattle.commitgraph_c.specs.Verdict.{options_of, refusal_at, refusal_of, told_count};
 
-use crate::codes::{CLOSED_GRAPH, OUT_OF_MEMORY, STOPPED};
-use crate::codes::{commit_code, fan_byte, layer_code, parent_code};
+use crate::codes::{
+    CLOSED_GRAPH, OUT_OF_MEMORY, STOPPED, commit_code, fan_byte, layer_code, parent_code,
+};
 use crate::handle::CgGraph;
 use gix_commitgraph::verify::{Outcome, VerifyError, VerifyOptions};
 use gix_commitgraph::{Graph, Position};

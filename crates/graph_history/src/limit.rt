@@ -43,17 +43,17 @@ pub struct Limit<'f> {
 impl<'f> Limit<'f> {
     /// Whether what visits at most so many commits is never stopped.
     pub(crate) fn allows(self, most: u64) -> bool
-        ensures most { IsTrue result → most ≤ self.visits }
-        ensures flag { IsTrue result → self.flag ≡ None }
-        ensures stops { result ≡ false → MayBeStopped (bound_of self) most }
+        ensures most { IsTrue result → most ≤ self.entry.visits }
+        ensures flag { IsTrue result → self.entry.flag ≡ None }
+        ensures stops { result ≡ false → MayBeStopped (bound_of self.entry) most }
     {
         self.visits >= most && self.flag.is_none()
     }
 
     /// Whether what has visited so many commits is stopped.
     pub(crate) fn stops_after(self, visits: u64) -> bool
-        ensures stops { IsTrue result → StopsAfter (bound_of self) visits }
-        ensures on { result ≡ false → visits < self.visits }
+        ensures stops { IsTrue result → StopsAfter (bound_of self.entry) visits }
+        ensures on { result ≡ false → visits < self.entry.visits }
     {
         if visits >= self.visits {
             return true;
@@ -66,7 +66,7 @@ impl<'f> Limit<'f> {
 
     /// A limit of so many visits more, with the same flag.
     pub(crate) fn with_more(self, visits: u64) -> Limit<'f>
-        ensures { result.flag ≡ self.flag }
+        ensures { result.flag ≡ self.entry.flag }
     {
         Limit {
             visits: self.visits.saturating_add(visits),

@@ -69,7 +69,7 @@ impl<'f, S: CommitSource> CommitSource for Limited<'f, S> {
         if self.limit.stops_after(self.visits) {
             return Err(LimitError::Stopped);
         }
-        self.visits += 1;
+        self.visits = self.visits.saturating_add(1);
         match self.commits.parent_fields(pos) {
             Ok(fields) => Ok(fields),
             Err(error) => Err(LimitError::Source(error)),

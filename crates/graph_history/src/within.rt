@@ -16,6 +16,7 @@ use crate::limit::{Limit, LimitError, Stopped};
 use crate::limited::Limited;
 use crate::owned::CheckedGraph;
 use gix_commitgraph::file::Commit;
+use gix_commitgraph::law::check::a_check_of_a_graph_calls_on_each_position_once;
 use gix_commitgraph::verify::{VerifyError, VerifyOptions};
 use gix_commitgraph::{Graph, Position};
 use graph_ancestors::{AnySearcher, InMemory, Reached};
@@ -43,19 +44,19 @@ impl<'g> Checked<'g> {
         requires from { from.0 < total self.now.layers }
         requires to { to.0 < total self.now.layers }
         ensures answer { IfOk result (IsAnswer (history_of self.now.layers) from.0 to.0) }
-        ensures within { IfOk result (λ reached. reached.visits ≤ limit.visits) }
-        ensures refused { IfErr result (EndsEarly (bound_of limit) (total self.now.layers)
+        ensures within { IfOk result (λ reached. reached.visits ≤ limit.entry.visits) }
+        ensures refused { IfErr result (EndsEarly (bound_of limit.entry) (total self.now.layers)
             ((from.0 ≡ to.0) ⊎ MayLead (history_of self.now.layers) from.0 to.0)) }
     {
         if limit.allows(self.graph.num_commits() as u64) {
             return self.whole_walk(alloc, from, to);
         }
         let mut commits = Limited::new(InMemory::new(self.graph), limit.with_more(AHEAD));
-        let reached = AnySearcher::new(alloc).ancestor_walk(&mut commits, from, to)?;
-        if reached.visits as u64 > limit.visits {
-            return Err(LimitError::Stopped);
+        match AnySearcher::new(alloc).ancestor_walk(&mut commits, from, to) {
+            Ok(reached) if reached.visits as u64 <= limit.visits => Ok(reached),
+            Ok(_) => Err(LimitError::Stopped),
+            Err(error) => Err(error),
         }
-        Ok(reached)
     }
 
     /// What [`Checked::ancestor_walk`] answers. No more commits are visited than there are.
@@ -72,8 +73,8 @@ impl<'g> Checked<'g> {
         ensures refused { IfErr result (IsSource (λ _. (from.0 ≡ to.0)
             ⊎ MayLead (history_of self.now.layers) from.0 to.0)) }
     {
-        let mut commits = InMemory::new(self.graph);
-        match AnySearcher::new(alloc).ancestor_walk(&mut commits, from, to) {
+        let mut whole = InMemory::new(self.graph);
+        match AnySearcher::new(alloc).ancestor_walk(&mut whole, from, to) {
             Ok(reached) => Ok(reached),
             Err(error) => Err(LimitError::Source(error)),
         }
@@ -98,7 +99,7 @@ impl<'g> Checked<'g> {
         requires descendant { descendant.0 < total self.now.layers }
         ensures found { IfOk result (λ found.
             IsTrue found ↔ Reaches (history_of self.now.layers) descendant.0 ancestor.0) }
-        ensures refused { IfErr result (EndsEarly (bound_of limit) (total self.now.layers)
+        ensures refused { IfErr result (EndsEarly (bound_of limit.entry) (total self.now.layers)
             ((descendant.0 ≢ ancestor.0)
             × MayLead (history_of self.now.layers) descendant.0 ancestor.0)) }
     {
@@ -131,18 +132,18 @@ impl<'g> Checked<'g> {
         requires others { All (λ other. other.0 < total self.now.layers) others.now }
         ensures exact { IfOk result (IsComparisonOf self.now.layers first.0
             (numbers_of others.now)) }
-        ensures within { IfOk result (λ c. c.bases.visits ≤ limit.visits) }
-        ensures refused { IfErr result (EndsEarly (bound_of limit) (3 * total self.now.layers) ⊤) }
+        ensures within { IfOk result (λ c. c.bases.visits ≤ limit.entry.visits) }
+        ensures refused { IfErr result (EndsEarly (bound_of limit.entry) (3 * total self.now.layers) ⊤) }
     {
         if limit.allows(3 * self.graph.num_commits() as u64) {
             return self.whole_comparison(alloc, first, others);
         }
         let mut commits = Limited::new(InMemory::new(self.graph), limit);
-        let comparison = AnyComparer::new(alloc).compare(&mut commits, first, others)?;
-        if comparison.bases.visits > limit.visits {
-            return Err(LimitError::Stopped);
+        match AnyComparer::new(alloc).compare(&mut commits, first, others) {
+            Ok(comparison) if comparison.bases.visits <= limit.visits => Ok(comparison),
+            Ok(_) => Err(LimitError::Stopped),
+            Err(error) => Err(error),
         }
-        Ok(comparison)
     }
 
     /// What [`Checked::compare`] answers. No commit is visited more than three times.
@@ -159,8 +160,8 @@ impl<'g> Checked<'g> {
         ensures visits { IfOk result (λ c. c.bases.visits ≤ 3 * total self.now.layers) }
         ensures refused { IfErr result (IsSource (λ _. ⊤)) }
     {
-        let mut commits = InMemory::new(self.graph);
-        match AnyComparer::new(alloc).compare(&mut commits, first, others) {
+        let mut whole = InMemory::new(self.graph);
+        match AnyComparer::new(alloc).compare(&mut whole, first, others) {
             Ok(comparison) => Ok(comparison),
             Err(error) => Err(LimitError::Source(error)),
         }
@@ -185,21 +186,29 @@ impl CheckedGraph {
         ensures graph { IfOk result (λ checked. checked.layers ≡ graph) }
         ensures options { IfOk result (λ checked. checked.options ≡ options) }
         ensures sound { IfOk result (λ _. IsSoundWith options graph) }
-        ensures refusal { IfErr result (MayRefuseWithin (bound_of limit) options graph) }
+        ensures refusal { IfErr result (MayRefuseWithin (bound_of limit.entry) options graph) }
     {
+        a_check_of_a_graph_calls_on_each_position_once::<Stopped>();
         let mut visits = 0u32;
-        let outcome = graph.verify_integrity_with(alloc, options, &mut |_: &Commit<'_>| {
-            if limit.stops_after(visits as u64) {
-                Err(Stopped)
-            } else {
-                visits = visits.saturating_add(1);
-                Ok(())
-            }
-        })?;
-        Ok(CheckedGraph {
-            graph,
+        let found = graph.verify_integrity_with(
+            alloc,
             options,
-            outcome,
-        })
+            &mut |_: &Commit<'_>| {
+                if limit.stops_after(visits as u64) {
+                    Err(Stopped)
+                } else {
+                    visits = visits.saturating_add(1);
+                    Ok(())
+                }
+            },
+        );
+        match found {
+            Ok(outcome) => Ok(CheckedGraph {
+                graph,
+                options,
+                outcome,
+            }),
+            Err(error) => Err(error),
+        }
     }
 }
