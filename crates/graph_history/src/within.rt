@@ -133,7 +133,8 @@ impl<'g> Checked<'g> {
         ensures exact { IfOk result (IsComparisonOf self.now.layers first.0
             (numbers_of others.now)) }
         ensures within { IfOk result (λ c. c.bases.visits ≤ limit.entry.visits) }
-        ensures refused { IfErr result (EndsEarly (bound_of limit.entry) (3 * total self.now.layers) ⊤) }
+        ensures refused { IfErr result
+            (EndsEarly (bound_of limit.entry) (3 * total self.now.layers) ⊤) }
     {
         if limit.allows(3 * self.graph.num_commits() as u64) {
             return self.whole_comparison(alloc, first, others);
