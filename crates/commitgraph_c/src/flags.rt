@@ -1,9 +1,7 @@
 //! Flags that stop a search or a check, and limits.
 
 ghost use Rattle.std.specs.Prelude.{◌≡◌, ◌≢◌, ◌⊎◌, IsSome, is_some};
-ghost use Rattle.graph_history.specs.Limits.{bound_of};
 ghost use Rattle.commitgraph_c.specs.Codes.{out_of_memory};
-ghost use Rattle.commitgraph_c.specs.ToldLimit.{told_bound};
 
 use crate::codes::OUT_OF_MEMORY;
 use crate::flag::KeptFlag;
@@ -24,7 +22,8 @@ pub struct CgLimit {
 impl CgLimit {
     /// The limit.
     pub(crate) fn limit(self) -> Limit<'static>
-        ensures { bound_of result ≡ told_bound self }
+        ensures visits { result.visits ≡ self.visits }
+        ensures flag { is_some result.flag ≡ is_some self.flag.address.held }
     {
         let CgLimit { visits, flag } = self;
         let flag = match flag.kept() {

@@ -10,7 +10,7 @@ ghost use Rattle.graph_history.specs.Limits.{MayBeStopped};
 ghost use Rattle.commitgraph_c.specs.Answers.{IsChecked, TellsAnswer, TellsBases, TellsNoBases};
 ghost use Rattle.commitgraph_c.specs.Codes.{closed_graph, no_such_position, not_checked, stopped};
 ghost use Rattle.commitgraph_c.specs.Files.{told_graph};
-ghost use Rattle.commitgraph_c.specs.ToldLimit.{end_code, told_bound};
+ghost use Rattle.commitgraph_c.specs.ToldLimit.{told_bound};
 ghost use Rattle.commitgraph_c.specs.Verdict.{IsRefusedWithin, TellsCounts, TellsStats};
 ghost use Rattle.commitgraph_c.specs.Verdict.{closed_verdict, options_of, told_unopened};
 
@@ -24,17 +24,7 @@ use crate::query::{self, CgLeads, CgReached};
 use gix_commitgraph::verify::VerifyOptions;
 use gix_commitgraph::{GraphError, Position};
 use graph_history::{CheckedGraph, LimitError};
-use std::alloc::{AllocError, Global};
-
-/// The number of what ended a search before its answer.
-fn end_code(error: LimitError<AllocError>) -> u32
-    ensures { result ≡ end_code error }
-{
-    match error {
-        LimitError::Stopped => STOPPED,
-        LimitError::Source(_) => OUT_OF_MEMORY,
-    }
-}
+use std::alloc::Global;
 
 /// Looks for a shortest walk as `cg_ancestor_walk` does, unless the limit stops it.
 pub fn cg_ancestor_walk_within(
@@ -71,7 +61,8 @@ pub fn cg_ancestor_walk_within(
     }
     match checked.ancestor_walk_within(alloc, Position(from), Position(to), limit.limit()) {
         Ok(reached) => query::tell(&reached, out),
-        Err(error) => query::refused(end_code(error)),
+        Err(LimitError::Stopped) => query::refused(STOPPED),
+        Err(LimitError::Source(_)) => query::refused(OUT_OF_MEMORY),
     }
 }
 
@@ -109,7 +100,8 @@ pub fn cg_is_ancestor_within(
     let (ancestor, descendant) = (Position(ancestor), Position(descendant));
     match checked.is_ancestor_within(alloc, ancestor, descendant, limit.limit()) {
         Ok(found) => CgLeads { code: 0, found },
-        Err(error) => query::untold(end_code(error)),
+        Err(LimitError::Stopped) => query::untold(STOPPED),
+        Err(LimitError::Source(_)) => query::untold(OUT_OF_MEMORY),
     }
 }
 
@@ -151,7 +143,8 @@ pub fn cg_merge_bases_within(
     };
     match checked.compare_within(alloc, Position(first), &others, limit.limit()) {
         Ok(comparison) => bases::tell(&comparison, out),
-        Err(error) => bases::refused(end_code(error)),
+        Err(LimitError::Stopped) => bases::refused(STOPPED),
+        Err(LimitError::Source(_)) => bases::refused(OUT_OF_MEMORY),
     }
 }
 

@@ -1,7 +1,6 @@
-use Rattle.std.proofs.Common.{◌≡◌, ℕ, ◌^◌, ◌<◌, rules}
+use Rattle.std.proofs.Common.{◌^◌, ◌<◌, rules}
 use Rattle.gix_commitgraph.specs.Graph.{total}
 use Rattle.graph_history.specs.Limits.{bound_of}
-use Rattle.graph_history.specs.declared.limit.Stopped.{Stopped}
 use Rattle.graph_history.proofs.LimitLemmas.{refused_within}
 use Rattle.graph_history.proofs.owned.CheckedGraph.new_within.Goals as goal
 
