@@ -65,7 +65,7 @@ IN_PYTHON = re.compile(r"^    ([A-Z]\w+) = (\d+)$", re.MULTILINE)
 IN_PYTHON_SAID = re.compile(r'^    Code\.(\w+): "(.+)",$', re.MULTILINE)
 IN_SPECS = re.compile(
     r"^(?:\w+_code \S.* = |refusal_of \S.* = refusal_in_\w+ |told_\w+_fault \(.* = without_\w+ |told_write .* = write_code |told_mismatch .* = (?:matched_code |record \{ code = ))(\d+)\b"
-    r"|^(?:out_of_memory|closed_graph|not_checked|no_such_position|path_not_utf8|no_dates|more_parents|path_wanted|no_such_layer|no_ids) = (\d+)$",
+    r"|^(?:out_of_memory|closed_graph|not_checked|no_such_position|path_not_utf8|no_dates|more_parents|path_wanted|no_such_layer|stopped|no_ids) = (\d+)$",
     re.MULTILINE,
 )
 NEVER = 309

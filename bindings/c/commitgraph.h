@@ -7,14 +7,14 @@
  * - A pointer is valid for the length beside it. Beside a length of 0 it may be NULL: that is tested, since the proofs speak of
  *   pointers that are not null; no other pointer is. What a call writes does not overlap what it reads, and what it reads does
  *   not change until it returns (a mapped file can change: see cg_open).
- * - A cg_graph is CG_CLOSED, or a copy of what cg_open, cg_open_known, cg_open_checked or cg_check wrote, and neither cg_close
- *   nor cg_check was yet given. All copies are one graph. Nobody looks into it or changes it.
- * - Threads: any number of calls may read one graph at a time. cg_close, or cg_check, is called once, when no call on the
- *   graph is running, and none follows.
+ * - A cg_graph is CG_CLOSED, or a copy of what cg_open, cg_open_known, cg_open_checked, cg_check or cg_check_within wrote, and
+ *   none of cg_close, cg_check and cg_check_within was yet given it. All copies are one graph. Nobody looks into it or changes it.
+ * - Threads: any number of calls may read one graph at a time. cg_close, or cg_check, or cg_check_within, is called once, when no
+ *   call on the graph is running, and none follows.
  * - No call keeps a pointer that it was given. No call is made from a signal handler, or in the child of a process with
  *   threads before it execs. Memory comes from malloc, realloc and free.
- * - What an out parameter holds before a call does not matter, but for the cg_graph or the cg_bytes that a call hands out, which
- *   has to be CG_CLOSED or CG_NO_BYTES, and for a cg_lent, which has to be CG_NOT_LENT or what was lent before.
+ * - What an out parameter holds before a call does not matter, but for the cg_graph, the cg_bytes or the cg_flag that a call hands
+ *   out, which has to be CG_CLOSED, CG_NO_BYTES or CG_NO_FLAG, and for a cg_lent, which has to be CG_NOT_LENT or what was lent before.
  * - Where a call answers a code, CG_OK, 0, is a full answer, and any other the number of the cause: see CG_OK. Other codes than
  *   those that are named beside a call do not come. Calls with a graph that is CG_CLOSED answer CG_CLOSED_GRAPH, or as each says.
  *
@@ -56,6 +56,7 @@ enum cg_code {
     CG_MORE_PARENTS = 7,
     CG_PATH_WANTED = 8,
     CG_NO_SUCH_LAYER = 9,
+    CG_STOPPED = 10,
 
     /* Nothing is opened at a path: "open N" in docs/REFUSALS.md. */
     CG_OPEN_NOTHING_FOUND = 21,
@@ -190,7 +191,9 @@ typedef struct cg_error { uint32_t code; uint64_t layer; } cg_error;
 /* Opens the graph of these layers, the lowest first: one file, or the files of a chain (see cg_chain_line). On CG_OK *out is the
  * graph, which is the caller's to close; else *out is left as it was. What *out was before is not freed: let it be CG_CLOSED.
  *
- * The bytes and the paths are copied, so that they may go once the call has returned; a graph takes 20 bytes a commit, and 4 a
+ * The bytes and the paths are copied, and none are kept in place of that: no reference outlives a call, and whoever changed bytes
+ * that were lent, as another process changes a mapped file, would change a graph that was checked. They may go once the call has
+ * returned; a graph takes 20 bytes a commit, and 4 a
  * word of the extra edge list, besides the bytes. What is no layer is refused before it is copied. All that is read of a graph
  * is read of the copy: where a mapped file changes meanwhile, the graph is one of the bytes that were copied, but no proof says
  * so. A mapped file that gets shorter meanwhile ends the program by SIGBUS, as any read of it does; who fears a change reads the
@@ -243,7 +246,8 @@ cg_path_error cg_open_known(const char *path, size_t path_len, uint32_t what, co
 
 /* Opens the graph and checks it, as cg_verify does. *verdict is always written, and has the code of the error: on CG_OK the
  * statistics, and then `counts` is written as by cg_verify; on 301 to 399 the fault; elsewhere code and layer alone. Only such a
- * graph answers cg_ancestor_walk, cg_is_ancestor, cg_are_ancestors, cg_merge_bases and cg_merge_bases_of. The rest is as in cg_open. */
+ * graph answers cg_ancestor_walk, cg_is_ancestor, cg_are_ancestors, cg_merge_bases, cg_merge_bases_of and cg_write, and those of these
+ * that stop within a limit. The rest is as in cg_open. */
 struct cg_verdict;
 struct cg_count;
 cg_error cg_open_checked(const cg_file *files, size_t count, bool distinct_ids, struct cg_verdict *verdict,
@@ -254,6 +258,39 @@ cg_error cg_open_checked(const cg_file *files, size_t count, bool distinct_ids, 
  * codes are those of cg_verify, and `called` is 0 where it is not CG_OK. Then *out is left as it was, and `counts` too. */
 uint32_t cg_check(cg_graph graph, bool distinct_ids, struct cg_verdict *verdict, struct cg_count *counts, size_t counts_len,
                   cg_graph *out);
+
+/* A flag that stops calls, or none. The rules for a cg_graph are those for it, with cg_flag_free for cg_close. A thread may raise it while
+ * calls of others look at it. No call takes a function of the caller's in its place: the proofs could not speak of it. */
+typedef struct cg_flag { const void *address; bool kept; } cg_flag;
+#if defined(__cplusplus) && __cplusplus >= 201103L
+#define CG_NO_FLAG (cg_flag{ NULL, false })
+#elif defined(__cplusplus)
+static inline cg_flag cg_no_flag() { cg_flag none = { NULL, false }; return none; }
+#define CG_NO_FLAG (cg_no_flag())
+#else
+#define CG_NO_FLAG ((cg_flag){ NULL, false })
+#endif
+
+/* Makes a flag, which is not raised. On CG_OK *out is the flag, which is the caller's to free; on CG_OUT_OF_MEMORY *out is left as it
+ * was. */
+uint32_t cg_flag_new(cg_flag *out);
+
+/* Raises a flag, for good: calls that look at it stop, and so do later ones. Answers whether there was one. */
+bool cg_flag_raise(cg_flag flag);
+
+/* Frees a flag, and answers whether there was one: false of CG_NO_FLAG, with which nothing is done. */
+bool cg_flag_free(cg_flag flag);
+
+/* When a call stops before its end: how many commits it may visit, and a flag, or CG_NO_FLAG, at which it looks before it reads the
+ * parents of each, or goes on past each. A call that stops answers CG_STOPPED, and writes no more than where it is refused otherwise.
+ * With UINT64_MAX and CG_NO_FLAG none stops. An answer that is given is that of the call without a limit. */
+typedef struct cg_limit { uint64_t visits; cg_flag flag; } cg_limit;
+
+/* Checks a graph as cg_check does, unless the limit stops the check. It visits the commits in their order, so that CG_STOPPED tells the
+ * first one, at `position`, that it did not go on with. The digest of a file, which comes before its commits, is not stopped. The
+ * graph that is passed is given back then too. */
+uint32_t cg_check_within(cg_graph graph, bool distinct_ids, cg_limit limit, struct cg_verdict *verdict, struct cg_count *counts,
+                         size_t counts_len, cg_graph *out);
 
 /* Frees a graph, and answers whether there was one: false of CG_CLOSED, with which nothing is done. */
 bool cg_close(cg_graph graph);
@@ -292,8 +329,8 @@ uint64_t cg_lookup_all(cg_graph graph, const uint8_t *ids, size_t ids_len, size_
 size_t cg_id_at(cg_graph graph, uint32_t pos, uint8_t *out, size_t len);
 size_t cg_tree_at(cg_graph graph, uint32_t pos, uint8_t *out, size_t len);
 
-/* The bytes of an id that is lent, as many as cg_id_len says: they lie in the graph, stay as they are, and are gone once cg_close or
- * cg_check is called with it. CG_NOT_LENT are none. */
+/* The bytes of an id that is lent, as many as cg_id_len says: they lie in the graph, stay as they are, and are gone once cg_close,
+ * cg_check or cg_check_within is called with it. CG_NOT_LENT are none. */
 typedef struct cg_lent { const uint8_t *bytes; size_t len; } cg_lent;
 #if defined(__cplusplus) && __cplusplus >= 201103L
 #define CG_NOT_LENT (cg_lent{ reinterpret_cast<const uint8_t *>(""), 0 })
@@ -311,7 +348,7 @@ bool cg_lend_tree(cg_graph graph, uint32_t pos, cg_lent *out);
 
 /* How many of many questions were answered, by a call for positions or for pairs. `code` is
  *   CG_CLOSED_GRAPH; else
- *   CG_NOT_CHECKED         from the call for pairs alone, where the graph is none that cg_open_checked or cg_check has handed out; else
+ *   CG_NOT_CHECKED         from the call for pairs alone, where the graph is none that a check has handed out; else
  *   CG_OK                  where `answered` is as many as were asked, or as there is room for, if that is fewer; else
  *   CG_NO_SUCH_POSITION    where the next position, or one of the next pair, is none: that of number `answered`; else
  *   CG_OUT_OF_MEMORY       from the call for pairs alone, where memory ran out on the next pair.
@@ -370,6 +407,7 @@ cg_block cg_parents_from(cg_graph graph, uint32_t first, cg_parent_count *answer
  *   CG_CHECK_PARENT_OUT_OF_RANGE    its parent at position `other` is none of its layer or of those below;
  *   CG_CHECK_GENERATION             its generation number is not `other`;
  *   CG_CHECK_DUPLICATE_ID           its id stands at the earlier position `other` too: only where distinct ids are asked for;
+ *   CG_STOPPED                      the check stopped before the commit at `position`: from cg_check_within alone;
  *   CG_OUT_OF_MEMORY                memory ran out before the check was done; and CG_CLOSED_GRAPH.
  * What is not named is 0, but for `called`: the number of commits that the check passed before the fault, or of all on CG_OK.
  * To ask something of each commit during the check, go over this many commits in their order: what you refuse there comes before
@@ -407,8 +445,9 @@ uint32_t cg_verify_layer(cg_graph graph, uint64_t layer, cg_layer_verdict *out);
 
 /* A search for a walk. `code` is
  *   CG_CLOSED_GRAPH; else
- *   CG_NOT_CHECKED         where the graph is none that cg_open_checked or cg_check has handed out; else
+ *   CG_NOT_CHECKED         where the graph is none that a check has handed out; else
  *   CG_NO_SUCH_POSITION    where a position is none; else
+ *   CG_STOPPED             from a call with a limit alone, which stopped it; or
  *   CG_OUT_OF_MEMORY; else
  *   CG_OK: `length` is the number of commits on a shortest walk, both ends included, or 0 where there is none, and `visits`
  *      that of the commits that were visited.
@@ -419,6 +458,10 @@ typedef struct cg_reached { uint32_t code, visits; uint64_t length; } cg_reached
 /* Looks for a shortest walk along parents, and writes its positions, as many as there is room for. */
 cg_reached cg_ancestor_walk(cg_graph graph, uint32_t from, uint32_t to, uint32_t *out, size_t len);
 
+/* The same, unless the limit stops it: on CG_OK `visits` is at most what the limit allows. CG_STOPPED does not come where that is as many
+ * as the graph has commits, and there is no flag. */
+cg_reached cg_ancestor_walk_within(cg_graph graph, uint32_t from, uint32_t to, cg_limit limit, uint32_t *out, size_t len);
+
 /* Whether a commit is an ancestor of another: `found` says so on CG_OK, and is false elsewhere. The codes are those of
  * cg_reached. */
 typedef struct cg_leads { uint32_t code; bool found; } cg_leads;
@@ -426,6 +469,9 @@ typedef struct cg_leads { uint32_t code; bool found; } cg_leads;
 /* Looks whether the commit at `ancestor` is an ancestor of the one at `descendant`, which then leads to it along parents. A
  * commit is its own ancestor. The order is that of `git merge-base --is-ancestor`. */
 cg_leads cg_is_ancestor(cg_graph graph, uint32_t ancestor, uint32_t descendant);
+
+/* The same, unless the limit stops it, as cg_ancestor_walk_within. A commit is visited where its parents are read. */
+cg_leads cg_is_ancestor_within(cg_graph graph, uint32_t ancestor, uint32_t descendant, cg_limit limit);
 
 /* Two commits, by their positions, in the order of cg_is_ancestor. */
 typedef struct cg_pair { uint32_t ancestor, descendant; } cg_pair;
@@ -443,12 +489,17 @@ typedef struct cg_bases { uint32_t code, ahead, behind; uint64_t visits, length;
  * many as there is room for. */
 cg_bases cg_merge_bases(cg_graph graph, uint32_t first, const uint32_t *others, size_t count, uint32_t *out, size_t len);
 
+/* The same, unless the limit stops it, as cg_ancestor_walk_within; but CG_STOPPED may come up to three times as many visits as the graph
+ * has commits, since those at the greatest generation number are visited again where more is found out about them. */
+cg_bases cg_merge_bases_within(cg_graph graph, uint32_t first, const uint32_t *others, size_t count, cg_limit limit,
+                               uint32_t *out, size_t len);
+
 /* Two commits, by their positions. */
 typedef struct cg_two { uint32_t first, other; } cg_two;
 
 /* How many pairs were compared. `code` is
  *   CG_CLOSED_GRAPH; else
- *   CG_NOT_CHECKED         where the graph is none that cg_open_checked or cg_check has handed out; else
+ *   CG_NOT_CHECKED         where the graph is none that a check has handed out; else
  *   CG_OK                  where `answered` is as many as were asked, or as `answers` has room for, if that is fewer; else
  *   CG_NO_SUCH_POSITION    where a position of the next pair, whose number `answered` is, is none; else
  *   CG_OUT_OF_MEMORY       where memory ran out on that pair.
@@ -529,7 +580,7 @@ static inline cg_bytes cg_no_bytes() { cg_bytes none = { NULL, false }; return n
 
 /* Why no layer was written. `code` is CG_OK where one was, else the first of these that holds; commits that are handed in, and the
  * parents of one, count from 0:
- *   CG_NOT_CHECKED               the graph is open, and none that cg_open_checked or cg_check has handed out;
+ *   CG_NOT_CHECKED               the graph is open, and none that a check has handed out;
  *   CG_WRITE_NO_IDS              an id of `commit` has neither 20 nor 32 bytes, or not as many as its own;
  *   CG_WRITE_KIND                an id of `commit` is of another kind than the first commit, or than the graph;
  *   CG_WRITE_NULL_ID, CG_WRITE_NULL_TREE, CG_WRITE_TIME    of `commit`; these four are looked for together, commit by commit;
@@ -585,6 +636,7 @@ static inline const char *cg_strerror(uint32_t code) {
     case CG_MORE_PARENTS: return "the commit has more parents than there is room for";
     case CG_PATH_WANTED: return "it has to be known what stands at one more path";
     case CG_NO_SUCH_LAYER: return "the graph has no such layer";
+    case CG_STOPPED: return "a limit or a flag stopped the call";
     case CG_OPEN_NOTHING_FOUND: return "no file or folder is at the path";
     case CG_OPEN_NOT_OPENED: return "a file is not there or may not be read";
     case CG_OPEN_READ_FAILED: return "reading a file failed";

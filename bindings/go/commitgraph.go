@@ -12,8 +12,10 @@ package commitgraph
 import "C"
 
 import (
+	"context"
 	"errors"
 	"io"
+	"math"
 	"os"
 	"runtime"
 	"strings"
@@ -63,6 +65,12 @@ type Layer struct {
 // .git/objects/info, and checks it; with distinctIDs also that no id stands in two layers. Where the chain of an info folder cannot
 // be read, the error is the refusal of the folder's file, if it has one.
 func Open(path string, distinctIDs bool) (*Graph, error) {
+	return OpenWithin(context.Background(), path, distinctIDs, math.MaxUint64)
+}
+
+// OpenWithin opens a graph as Open does, unless its check is stopped: where it would have to visit more commits, or the context is
+// done, whose error is answered then. What reads the files does not look at the context, and neither do the digests of the files.
+func OpenWithin(ctx context.Context, path string, distinctIDs bool, visits uint64) (*Graph, error) {
 	known := &paths{asked: path}
 	defer known.free()
 	if !utf8.ValidString(path) {
@@ -79,11 +87,49 @@ func Open(path string, distinctIDs bool) (*Graph, error) {
 	var verdict C.cg_verdict
 	var counts [1]C.cg_count
 	graph := &Graph{}
-	if code := C.cg_check(raw, C.bool(distinctIDs), &verdict, &counts[0], 0, &graph.raw); code != C.CG_OK {
-		return nil, &Error{Code: uint32(code), Layer: uint64(verdict.layer), Position: uint32(verdict.position)}
+	err = within(ctx, visits, func(limit C.cg_limit) C.uint32_t {
+		given := raw
+		raw = C.cg_graph{}
+		return C.cg_check_within(given, C.bool(distinctIDs), limit, &verdict, &counts[0], 0, &graph.raw)
+	})
+	C.cg_close(raw)
+	if errors.As(err, &refused) {
+		refused.Layer, refused.Position = uint64(verdict.layer), uint32(verdict.position)
+	}
+	if err != nil {
+		return nil, err
 	}
 	runtime.SetFinalizer(graph, (*Graph).Close)
 	return graph, nil
+}
+
+// within makes a call that stops where it would have to visit more commits, or where the context is done.
+func within(ctx context.Context, visits uint64, call func(C.cg_limit) C.uint32_t) error {
+	limit := C.cg_limit{visits: C.uint64_t(visits)}
+	if ctx.Done() != nil {
+		if code := C.cg_flag_new(&limit.flag); code != C.CG_OK {
+			return &Error{Code: uint32(code)}
+		}
+		defer C.cg_flag_free(limit.flag)
+		ended, raised := make(chan struct{}), make(chan struct{})
+		go func() {
+			defer close(raised)
+			select {
+			case <-ctx.Done():
+				C.cg_flag_raise(limit.flag)
+			case <-ended:
+			}
+		}()
+		defer func() { close(ended); <-raised }()
+	}
+	code := call(limit)
+	switch {
+	case code == C.CG_OK:
+		return nil
+	case code == C.CG_STOPPED && ctx.Err() != nil:
+		return ctx.Err()
+	}
+	return &Error{Code: uint32(code)}
 }
 
 // paths are what is known of paths, which all begin at the root.
@@ -378,12 +424,18 @@ func (g *Graph) Parents(position uint32) ([]uint32, error) {
 
 // IsAncestor says whether a commit is an ancestor of another, in the order of git merge-base --is-ancestor.
 func (g *Graph) IsAncestor(ancestor, descendant uint32) (bool, error) {
+	return g.IsAncestorWithin(context.Background(), ancestor, descendant, math.MaxUint64)
+}
+
+// IsAncestorWithin says so, unless it would have to visit more commits, or the context is done, whose error is answered then.
+func (g *Graph) IsAncestorWithin(ctx context.Context, ancestor, descendant uint32, visits uint64) (bool, error) {
 	defer runtime.KeepAlive(g)
-	told := C.cg_is_ancestor(g.raw, C.uint32_t(ancestor), C.uint32_t(descendant))
-	if told.code != C.CG_OK {
-		return false, &Error{Code: uint32(told.code)}
-	}
-	return bool(told.found), nil
+	var told C.cg_leads
+	err := within(ctx, visits, func(limit C.cg_limit) C.uint32_t {
+		told = C.cg_is_ancestor_within(g.raw, C.uint32_t(ancestor), C.uint32_t(descendant), limit)
+		return told.code
+	})
+	return bool(told.found), err
 }
 
 // Comparison is what a commit and some others have in common, and how far they have come apart.
@@ -397,13 +449,23 @@ type Comparison struct {
 
 // Compare finds the merge bases that git merge-base --all FIRST OTHERS.. names.
 func (g *Graph) Compare(first uint32, others ...uint32) (Comparison, error) {
+	return g.CompareWithin(context.Background(), math.MaxUint64, first, others...)
+}
+
+// CompareWithin finds them, unless it would have to visit more commits, or the context is done, whose error is answered then.
+func (g *Graph) CompareWithin(ctx context.Context, visits uint64, first uint32, others ...uint32) (Comparison, error) {
 	defer runtime.KeepAlive(g)
 	asked := append(append([]uint32{}, others...), 0)
 	for room := 64; ; {
 		out := make([]uint32, room)
-		told := C.cg_merge_bases(g.raw, C.uint32_t(first), (*C.uint32_t)(&asked[0]), C.size_t(len(others)), (*C.uint32_t)(&out[0]), C.size_t(room))
-		if told.code != C.CG_OK {
-			return Comparison{}, &Error{Code: uint32(told.code)}
+		var told C.cg_bases
+		err := within(ctx, visits, func(limit C.cg_limit) C.uint32_t {
+			told = C.cg_merge_bases_within(g.raw, C.uint32_t(first), (*C.uint32_t)(&asked[0]), C.size_t(len(others)), limit,
+				(*C.uint32_t)(&out[0]), C.size_t(room))
+			return told.code
+		})
+		if err != nil {
+			return Comparison{}, err
 		}
 		if uint64(told.length) <= uint64(room) {
 			return Comparison{out[:told.length], uint32(told.ahead), uint32(told.behind)}, nil

@@ -1,6 +1,7 @@
 package commitgraph
 
 import (
+	"context"
 	"encoding/hex"
 	"errors"
 	"os"
@@ -315,6 +316,44 @@ func (r *repository) is(file string, bytes []byte, err error) {
 	wanted, failed := os.ReadFile(file)
 	if err != nil || failed != nil || string(bytes) != string(wanted) {
 		r.Error(file, err, failed)
+	}
+}
+
+// TestLimits has all answered within as many commits as there are, and stopped within none, and where a context is done.
+func TestLimits(t *testing.T) {
+	r := made(t)
+	r.git("commit-graph", "write", "--reachable")
+	done, end := context.WithCancel(context.Background())
+	end()
+	open, stop := context.WithCancel(context.Background())
+	defer stop()
+	graph, err := OpenWithin(open, r.info, true, 8)
+	if err != nil {
+		t.Fatal(err)
+	}
+	defer graph.Close()
+	first, _ := hex.DecodeString(r.ids[0])
+	last, _ := hex.DecodeString(r.ids[7])
+	root, tip := graph.Lookup(first), graph.Lookup(last)
+	whole, _ := graph.Compare(tip, root)
+	for _, ctx := range []context.Context{context.Background(), open} {
+		leads, err := graph.IsAncestorWithin(ctx, root, tip, 8)
+		found, failed := graph.CompareWithin(ctx, 24, tip, root)
+		if !leads || err != nil || failed != nil || !reflect.DeepEqual(found, whole) {
+			t.Error(leads, err, found, failed)
+		}
+		_, err = graph.IsAncestorWithin(ctx, root, tip, 0)
+		r.refused(err, 10, 0, 0)
+		_, err = graph.CompareWithin(ctx, 0, tip, root)
+		r.refused(err, 10, 0, 0)
+		_, err = OpenWithin(ctx, r.info, true, 6)
+		r.refused(err, 10, 0, 0)
+	}
+	_, opened := OpenWithin(done, r.info, true, 8)
+	_, asked := graph.IsAncestorWithin(done, root, tip, 8)
+	_, compared := graph.CompareWithin(done, 24, tip, root)
+	if opened != context.Canceled || asked != context.Canceled || compared != context.Canceled {
+		t.Error(opened, asked, compared)
 	}
 }
 

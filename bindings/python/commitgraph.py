@@ -37,6 +37,7 @@ class Code(enum.IntEnum):
     MORE_PARENTS = 7
     PATH_WANTED = 8
     NO_SUCH_LAYER = 9
+    STOPPED = 10
     OPEN_NOTHING_FOUND = 21
     OPEN_NOT_OPENED = 22
     OPEN_READ_FAILED = 23
@@ -130,6 +131,7 @@ SENTENCES = {
     Code.MORE_PARENTS: "the commit has more parents than there is room for",
     Code.PATH_WANTED: "it has to be known what stands at one more path",
     Code.NO_SUCH_LAYER: "the graph has no such layer",
+    Code.STOPPED: "a limit or a flag stopped the call",
     Code.OPEN_NOTHING_FOUND: "no file or folder is at the path",
     Code.OPEN_NOT_OPENED: "a file is not there or may not be read",
     Code.OPEN_READ_FAILED: "reading a file failed",
@@ -290,6 +292,14 @@ class _Bytes(ctypes.Structure):
     _fields_ = (("address", c_void_p), ("kept", c_bool))
 
 
+class _Flag(ctypes.Structure):
+    _fields_ = (("address", c_void_p), ("kept", c_bool))
+
+
+class _Limit(ctypes.Structure):
+    _fields_ = (("visits", c_uint64), ("flag", _Flag))
+
+
 class _WriteError(ctypes.Structure):
     _fields_ = (
         *((name, c_uint32) for name in ("code", "position")),
@@ -308,8 +318,11 @@ CALLS = {
         _PathError,
         (c_void_p, c_size_t, c_uint32, POINTER(_Known), c_size_t, c_void_p, c_size_t, POINTER(_Graph)),
     ),
-    "cg_check": (c_uint32, (_Graph, c_bool, POINTER(_Verdict), c_void_p, c_size_t, POINTER(_Graph))),
+    "cg_check_within": (c_uint32, (_Graph, c_bool, _Limit, POINTER(_Verdict), c_void_p, c_size_t, POINTER(_Graph))),
     "cg_close": (c_bool, (_Graph,)),
+    "cg_flag_new": (c_uint32, (POINTER(_Flag),)),
+    "cg_flag_raise": (c_bool, (_Flag,)),
+    "cg_flag_free": (c_bool, (_Flag,)),
     "cg_num_commits": (c_uint32, (_Graph,)),
     "cg_id_len": (c_size_t, (_Graph,)),
     "cg_lookup": (c_uint32, (_Graph, c_void_p, c_size_t)),
@@ -319,8 +332,8 @@ CALLS = {
     "cg_tree_at": (c_size_t, (_Graph, c_uint32, c_void_p, c_size_t)),
     "cg_commit_at": (c_bool, (_Graph, c_uint32, POINTER(_Commit))),
     "cg_parents": (_ParentCount, (_Graph, c_uint32, c_void_p, c_size_t)),
-    "cg_is_ancestor": (_Leads, (_Graph, c_uint32, c_uint32)),
-    "cg_merge_bases": (_Bases, (_Graph, c_uint32, c_void_p, c_size_t, c_void_p, c_size_t)),
+    "cg_is_ancestor_within": (_Leads, (_Graph, c_uint32, c_uint32, _Limit)),
+    "cg_merge_bases_within": (_Bases, (_Graph, c_uint32, c_void_p, c_size_t, _Limit, c_void_p, c_size_t)),
     "cg_merge_bases_of": (_Compared, (_Graph, POINTER(_Two), c_size_t, POINTER(_Bases), c_size_t, c_void_p, c_size_t)),
     "cg_write": (_WriteError, (_Graph, POINTER(_NewCommit), c_size_t, POINTER(_Bytes))),
     "cg_bytes_copy": (c_uint64, (_Bytes, c_uint64, c_void_p, c_size_t)),
@@ -375,6 +388,28 @@ class NewCommit(NamedTuple):
     """Seconds since 1970-01-01 00:00:00 UTC."""
 
 
+class Flag:
+    """A flag by which one thread stops what another one asks. It is never lowered."""
+
+    def __init__(self) -> None:
+        self._flag = _Flag(None, False)
+        code = _library.cg_flag_new(self._flag)
+        if code:
+            raise Error(code)
+
+    def raise_(self) -> None:
+        """Raises the flag, for good: calls that look at it stop, and so do later ones."""
+        _library.cg_flag_raise(self._flag)
+
+    def __del__(self) -> None:
+        _library.cg_flag_free(self._flag)
+
+
+def _limit(visits: int | None, flag: Flag | None) -> _Limit:
+    most = 2**64 - 1 if visits is None else min(max(visits, 0), 2**64 - 1)
+    return _Limit(most, flag._flag if flag else _Flag(None, False))
+
+
 class Graph:
     """A commit-graph that its check has found right. Positions count from 0 over all layers."""
 
@@ -392,12 +427,12 @@ class Graph:
             raise Error(error.code, layer, verdict.position, named)
 
     @classmethod
-    def _checked(cls, opened: _Graph, distinct_ids: bool) -> "Graph":
+    def _checked(cls, opened: _Graph, distinct_ids: bool, limit: _Limit) -> "Graph":
         """The graph that was opened, which is checked, and closed where it is refused."""
         graph = cls.__new__(cls)
         graph._graph = _Graph(None, False)
         verdict, counts = _Verdict(), (c_uint32 * 2)()
-        code = _library.cg_check(opened, distinct_ids, verdict, counts, 0, graph._graph)
+        code = _library.cg_check_within(opened, distinct_ids, limit, verdict, counts, 0, graph._graph)
         if code:
             raise Error(code, verdict.layer, verdict.position)
         return graph
@@ -469,19 +504,23 @@ class Graph:
                 return out[: told.count]
             room = told.count
 
-    def is_ancestor(self, ancestor: int, descendant: int) -> bool:
-        """Whether a commit is an ancestor of another, in the order of `git merge-base --is-ancestor`."""
-        told = _library.cg_is_ancestor(self._graph, _place(ancestor), _place(descendant))
+    def is_ancestor(self, ancestor: int, descendant: int, visits: int | None = None, flag: Flag | None = None) -> bool:
+        """Whether a commit is an ancestor of another, in the order of `git merge-base --is-ancestor`. It is an error with
+        `Code.STOPPED` where more commits than `visits` would have to be visited, or the flag was raised."""
+        told = _library.cg_is_ancestor_within(self._graph, _place(ancestor), _place(descendant), _limit(visits, flag))
         if told.code:
             raise Error(told.code)
         return bool(told.found)
 
-    def compare(self, first: int, others: Sequence[int]) -> Comparison:
-        """The merge bases that `git merge-base --all FIRST OTHERS..` names, and how far the commits have come apart."""
-        asked, room = _places(others), 64
+    def compare(
+        self, first: int, others: Sequence[int], visits: int | None = None, flag: Flag | None = None
+    ) -> Comparison:
+        """The merge bases that `git merge-base --all FIRST OTHERS..` names, and how far the commits have come apart. It is stopped as
+        `is_ancestor` is."""
+        asked, room, limit = _places(others), 64, _limit(visits, flag)
         while True:
             out = (c_uint32 * room)()
-            told = _library.cg_merge_bases(self._graph, _place(first), asked, len(others), out, room)
+            told = _library.cg_merge_bases_within(self._graph, _place(first), asked, len(others), limit, out, room)
             if told.code:
                 raise Error(told.code)
             if told.length <= room:
@@ -651,8 +690,11 @@ def _refusal(told: _PathError, root: bytes, path: bytes, known: list[_Standing])
     return Error(told.code, told.layer, path=whole if is_of_file else "")
 
 
-def open(path: str | os.PathLike[str], distinct_ids: bool = False) -> Graph:
-    """Opens the graph at a path, of a file, of a folder with a chain or of an info folder, and checks it.
+def open(
+    path: str | os.PathLike[str], distinct_ids: bool = False, visits: int | None = None, flag: Flag | None = None
+) -> Graph:
+    """Opens the graph at a path, of a file, of a folder with a chain or of an info folder, and checks it. The check is stopped as
+    `Graph.is_ancestor` is; the digests of files are not.
 
     OSError is raised where a file cannot be read, and Error where the graph is refused. Where the chain of an info folder cannot
     be read, it is the refusal of the folder's file, if it has one."""
@@ -667,4 +709,4 @@ def open(path: str | os.PathLike[str], distinct_ids: bool = False) -> Graph:
         if file is None:
             raise
         opened = _opened(root, file, FILE, known)
-    return Graph._checked(opened, distinct_ids)
+    return Graph._checked(opened, distinct_ids, _limit(visits, flag))

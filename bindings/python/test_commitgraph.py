@@ -8,7 +8,7 @@ import unittest
 from collections.abc import Callable
 
 import commitgraph
-from commitgraph import Code, Error, Graph, NewCommit
+from commitgraph import Code, Error, Flag, Graph, NewCommit
 
 WHO = {f"GIT_{who}_{what}": "a@b" for who in ("AUTHOR", "COMMITTER") for what in ("NAME", "EMAIL")}
 WHEN = {"GIT_AUTHOR_DATE": "1000000000 +0000", "GIT_COMMITTER_DATE": "1000000000 +0000"}
@@ -161,6 +161,23 @@ class OverGit(unittest.TestCase):
         (pathlib.Path(os.fsdecode(named)) / "commit-graphs/commit-graph-chain").unlink()
         (pathlib.Path(os.fsdecode(named)) / "commit-graph").write_bytes(b"CGPH")
         self.refused(Code.FILE_TOO_SHORT, lambda: commitgraph.open(os.fsdecode(named)))
+
+    def test_limits(self) -> None:
+        """Within as many commits as there are all is answered; within none, and after a flag was raised, it is stopped."""
+        self.git("commit-graph", "write", "--reachable")
+        flag, raised = Flag(), Flag()
+        raised.raise_()
+        with commitgraph.open(self.info, visits=8, flag=flag) as graph:
+            root, tip = graph.lookup(self.ids[0]), graph.lookup(self.ids[-1])
+            assert root is not None and tip is not None
+            for wide in ({"visits": 8}, {"flag": flag}, {"visits": 24, "flag": flag}):
+                self.assertTrue(graph.is_ancestor(root, tip, **wide))
+                self.assertEqual(graph.compare(tip, [root], **wide), graph.compare(tip, [root]))
+            for narrow in ({"visits": 0}, {"visits": -1}, {"flag": raised}):
+                self.refused(Code.STOPPED, lambda: graph.is_ancestor(root, tip, **narrow))
+                self.refused(Code.STOPPED, lambda: graph.compare(tip, [root], **narrow))
+                self.refused(Code.STOPPED, lambda: commitgraph.open(self.info, **narrow))
+        self.refused(Code.STOPPED, lambda: commitgraph.open(self.info, visits=6), position=6)
 
     def test_refusals(self) -> None:
         self.git("commit-graph", "write", "--reachable")

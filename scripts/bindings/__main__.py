@@ -47,7 +47,7 @@ SANITIZED = "-Zsanitizer=thread -Cunsafe-allow-abi-mismatch=sanitizer"
 """Flags of a nightly Rust compiler. Its standard library is not built with them."""
 CALLING_ALL = ("ask.c", "large.c", "memory.c", "threads.c")
 """The programs that make each call. Those of layout.c are the calls that write a struct."""
-IN_HEADER = {"cg_strerror", "cg_closed", "cg_no_bytes", "cg_not_lent"}
+IN_HEADER = {"cg_strerror", "cg_closed", "cg_no_bytes", "cg_no_flag", "cg_not_lent"}
 """Functions that the header has whole."""
 STRICT = ["-D_GNU_SOURCE", "-Wall", "-Wextra", "-Wpedantic", "-Werror"]
 COUNTING = threading.Lock()
@@ -538,6 +538,7 @@ def c(compiler, archive, scratch, graphs):
     including = scratch / compiler / "including"
     including.write_text('#include "commitgraph.h"\ncg_graph closed(void);\ncg_graph closed(void) { return CG_CLOSED; }\n'
                          'cg_bytes no_bytes(void);\ncg_bytes no_bytes(void) { return CG_NO_BYTES; }\n'
+                         'cg_flag no_flag(void);\ncg_flag no_flag(void) { return CG_NO_FLAG; }\n'
                          'cg_lent not_lent(void);\ncg_lent not_lent(void) { return CG_NOT_LENT; }\n')
     for command, standard in ((compiler, "c99"), (compiler, "c11"), (plus, "c++98"), (plus, "c++17")):
         if present(command, f"the header as {standard}"):
@@ -585,7 +586,7 @@ def installed(compilers, scratch, graphs):
     page = (prefix / "share/man/man3/commitgraph.3").read_text()
     header = (prefix / "include/commitgraph.h").read_text()
     missing = [name for name in re.findall(r"^(?:static inline )?[\w ]+ \*?(cg_[a-z_]+)\(", header, re.MULTILINE) if name not in page]
-    expect("the manual page names each call", missing == ["cg_closed", "cg_not_lent", "cg_no_bytes"], missing)
+    expect("the manual page names each call", missing == ["cg_closed", "cg_no_flag", "cg_not_lent", "cg_no_bytes"], missing)
     number = (TOP / "VERSION").read_text().split(",")[0]
     first, second, third = map(int, number.split("."))
     expect("the header has the version", f"#define CG_VERSION {10000 * first + 100 * second + third}\n" in header, number)
@@ -651,7 +652,7 @@ def python(library):
         return
     tests = TOP / "bindings/python/test_commitgraph.py"
     done = run(sys.executable, "-B", tests, env={**os.environ, "COMMITGRAPH_LIB": str(library.parent)})
-    expect("Python: tests", done.returncode == 0 and "Ran 6 tests" in done.stderr, done)
+    expect("Python: tests", done.returncode == 0 and "Ran 7 tests" in done.stderr, done)
 
 
 def parts(archive, scratch, graphs):

@@ -266,6 +266,64 @@ static bool answers_pairs(cg_graph graph, uint32_t from, uint32_t to, bool leads
     return some.code == CG_NO_SUCH_POSITION && some.answered == 3 && !memcmp(out, wanted, 5) && !none.code && !none.answered;
 }
 
+static bool is_stopped(cg_reached told, const uint32_t *out) {
+    return told.code == CG_STOPPED && !told.visits && !told.length && out[0] == 7;
+}
+
+/* Whether the searches with a limit answer what those without do, where it allows the visits that these make, and else stop. Where both
+ * are one commit, or their numbers allow no walk, nothing is read, and a flag is not looked at. */
+static bool stops_walk(cg_graph graph, uint32_t from, uint32_t to, cg_reached whole, const uint32_t *walk) {
+    uint32_t out[ROOM], last = whole.visits - (whole.visits > 0);
+    bool reads = from != to && whole.visits;
+    cg_flag flag = CG_NO_FLAG;
+    if (cg_flag_new(&flag)) return false;
+    cg_limit limits[] = { { whole.visits, CG_NO_FLAG }, { UINT64_MAX, CG_NO_FLAG }, { whole.visits, flag } };
+    cg_limit none = { 0, CG_NO_FLAG }, few = { last, CG_NO_FLAG };
+    for (int i = 0; i < 3; i++) {
+        cg_reached told = cg_ancestor_walk_within(graph, from, to, limits[i], out, ROOM);
+        if (told.code || told.visits != whole.visits || told.length != whole.length) return false;
+        if (memcmp(out, walk, told.length * sizeof *out)) return false;
+        limits[i].visits = UINT64_MAX;
+        cg_leads leads = cg_is_ancestor_within(graph, to, from, limits[i]);
+        if (leads.code || leads.found != (whole.length > 0)) return false;
+    }
+    out[0] = 7;
+    if (whole.visits && !is_stopped(cg_ancestor_walk_within(graph, from, to, few, out, ROOM), out)) return false;
+    cg_leads leads = cg_is_ancestor_within(graph, to, from, none);
+    if (leads.code != (reads ? CG_STOPPED : CG_OK) || leads.found != (!reads && whole.length)) return false;
+    if (!cg_flag_raise(flag)) return false;
+    leads = cg_is_ancestor_within(graph, to, from, limits[2]);
+    if (leads.code != (reads ? CG_STOPPED : CG_OK) || leads.found != (!reads && whole.length)) return false;
+    if (reads && !is_stopped(cg_ancestor_walk_within(graph, from, to, limits[2], out, ROOM), out)) return false;
+    uint32_t past = cg_num_commits(graph);
+    bool good = cg_ancestor_walk_within(graph, past, to, limits[2], out, ROOM).code == CG_NO_SUCH_POSITION;
+    good = good && cg_is_ancestor_within(graph, to, past, none).code == CG_NO_SUCH_POSITION;
+    return cg_flag_free(flag) && good;
+}
+
+/* Whether the search for merge bases with a limit answers what the one without does, or stops, in the same way. */
+static bool stops_bases(cg_graph graph, uint32_t first, const uint32_t *others, size_t count, cg_bases whole, const uint32_t *bases) {
+    uint32_t out[ROOM];
+    cg_flag flag = CG_NO_FLAG;
+    if (cg_flag_new(&flag)) return false;
+    cg_limit enough = { whole.visits, CG_NO_FLAG }, flagged = { UINT64_MAX, flag }, few = { whole.visits - 1, CG_NO_FLAG };
+    for (int i = 0; i < 3; i++) {
+        cg_limit limit = i == 2 ? flagged : enough;
+        if (i == 1) limit.visits = UINT64_MAX;
+        cg_bases told = cg_merge_bases_within(graph, first, others, count, limit, out, ROOM);
+        if (memcmp(&told.ahead, &whole.ahead, sizeof told - offsetof(cg_bases, ahead)) || told.code) return false;
+        if (memcmp(out, bases, told.length * sizeof *out)) return false;
+    }
+    out[0] = 7;
+    if (!cg_flag_raise(flag)) return false;
+    for (int i = 0; whole.visits && i < 2; i++) {
+        cg_bases told = cg_merge_bases_within(graph, first, others, count, i ? flagged : few, out, ROOM);
+        if (told.code != CG_STOPPED || told.visits || told.length || told.ahead || told.behind || out[0] != 7) return false;
+    }
+    bool good = cg_merge_bases_within(graph, cg_num_commits(graph), others, count, few, out, ROOM).code == CG_NO_SUCH_POSITION;
+    return cg_flag_free(flag) && good;
+}
+
 /* A shortest walk from a commit to another, and how many commits were visited. */
 static int ancestor(cg_graph graph, char **hex) {
     uint32_t from = position_of(graph, hex[0]), to = position_of(graph, hex[1]), out[ROOM];
@@ -273,7 +331,7 @@ static int ancestor(cg_graph graph, char **hex) {
     cg_reached reached = cg_ancestor_walk(graph, from, to, out, ROOM);
     cg_leads leads = cg_is_ancestor(graph, to, from);
     if (reached.code || reached.length > ROOM || leads.code || leads.found != (reached.length > 0)) return 9;
-    if (!answers_pairs(graph, from, to, leads.found)) return 9;
+    if (!answers_pairs(graph, from, to, leads.found) || !stops_walk(graph, from, to, reached, out)) return 9;
     if (reached.length) printf("walk");
     else printf("none");
     for (uint64_t i = 0; i < reached.length; i++) printf(" %" PRIu32, out[i]);
@@ -421,6 +479,7 @@ static int bases(cg_graph graph, int count, char **hex) {
     cg_bases found = cg_merge_bases(graph, position_of(graph, hex[0]), others, (size_t)count - 1, out, ROOM);
     if (found.code) { printf("refused bases %s\n", cg_strerror(found.code)); return 1; }
     if (!answers_two(graph, position_of(graph, hex[0]), others, (uint32_t)count - 1) || !writes_on(graph)) return 9;
+    if (!stops_bases(graph, position_of(graph, hex[0]), others, (size_t)count - 1, found, out)) return 9;
     print_ids(graph, out, found.length);
     printf("ahead %" PRIu32 " behind %" PRIu32 "\n", found.ahead, found.behind);
     return 0;
@@ -488,6 +547,7 @@ static bool closed_answers(void) {
     cg_bases bases = { .code = 7 };
     cg_two two = { 0, 0 };
     cg_lent lent = CG_NOT_LENT;
+    cg_limit limit = { 0, CG_NO_FLAG };
     if (cg_lookup_all(CG_CLOSED, id, 20, 20, out, 1) || cg_ids_at(CG_CLOSED, out, 1, id, 20).code != CG_CLOSED_GRAPH) return false;
     if (cg_merge_bases_of(CG_CLOSED, &two, 1, &bases, 1, out, 1).code != CG_CLOSED_GRAPH || bases.code != 7) return false;
     if (!refuses(CG_CLOSED, NULL, 0, (cg_write_error){ .code = CG_WRITE_NOTHING })) return false;
@@ -496,6 +556,11 @@ static bool closed_answers(void) {
     if (cg_close(CG_CLOSED) || cg_num_layers(CG_CLOSED) || cg_layer(CG_CLOSED, 0, &layer) || layer.first != 7) return false;
     if (cg_layer_checksum(CG_CLOSED, 0, id, 20) || cg_base_id_at(CG_CLOSED, 0, 0, id, 20)) return false;
     if (cg_check(CG_CLOSED, true, &verdict, &count, 1, &none) != CG_CLOSED_GRAPH || verdict.code != CG_CLOSED_GRAPH) return false;
+    if (cg_check_within(CG_CLOSED, true, limit, &verdict, &count, 1, &none) != CG_CLOSED_GRAPH || verdict.code != CG_CLOSED_GRAPH) return false;
+    if (cg_flag_raise(CG_NO_FLAG) || cg_flag_free(CG_NO_FLAG)) return false;
+    if (cg_ancestor_walk_within(CG_CLOSED, 0, 0, limit, out, 1).code != CG_CLOSED_GRAPH) return false;
+    if (cg_is_ancestor_within(CG_CLOSED, 0, 0, limit).code != CG_CLOSED_GRAPH) return false;
+    if (cg_merge_bases_within(CG_CLOSED, 0, out, 1, limit, out, 1).code != CG_CLOSED_GRAPH) return false;
     if (none.opened || verdict.called) return false;
     verdict.called = 7;
     bool good = cg_num_commits(CG_CLOSED) == 0 && cg_id_len(CG_CLOSED) == 0 && cg_lookup(CG_CLOSED, id, 20) == CG_NOWHERE
@@ -616,6 +681,29 @@ static bool same_layers(cg_graph one, cg_graph other) {
         && !cg_layer_checksum(one, count, id[0], 20);
 }
 
+/* Whether the check with a limit tells the verdict where it allows the commits before the fault, or all, and one visit fewer stops it. */
+static bool stops_check(const cg_file *files, size_t files_count, cg_verdict found) {
+    cg_verdict verdict = { .code = 7 };
+    cg_count count = { .parents = 7 };
+    cg_graph opened = CG_CLOSED, checked = CG_CLOSED;
+    cg_limit limit = { found.called, CG_NO_FLAG };
+    if (cg_open(files, files_count, &opened).code) return false;
+    if (cg_check_within(opened, false, limit, &verdict, &count, 1, &checked) != found.code || verdict.code != found.code) return false;
+    if (verdict.position != found.position || verdict.other != found.other || verdict.longest != found.longest) return false;
+    if (cg_close(checked) != !found.code || (found.code && count.parents != 7)) return false;
+    cg_flag flag = CG_NO_FLAG;
+    if (cg_flag_new(&flag) || !cg_flag_raise(flag) || !cg_flag_raise(flag)) return false;
+    for (int turn = 0; found.called && turn < 2; turn++) {
+        limit = turn ? (cg_limit){ UINT64_MAX, flag } : (cg_limit){ found.called - 1, CG_NO_FLAG };
+        opened = checked = CG_CLOSED;
+        count.parents = 7;
+        if (cg_open(files, files_count, &opened).code) return false;
+        if (cg_check_within(opened, false, limit, &verdict, &count, 1, &checked) != CG_STOPPED || verdict.code != CG_STOPPED) return false;
+        if (verdict.position != (turn ? 0 : found.called - 1) || verdict.called || checked.opened || count.parents != 7) return false;
+    }
+    return cg_flag_free(flag);
+}
+
 /* Whether the check of an open graph hands it out checked where it is right, and tells what cg_verify tells. */
 static bool same_checked(const cg_file *files, size_t files_count, cg_graph graph) {
     cg_graph opened = CG_CLOSED, checked = CG_CLOSED;
@@ -623,6 +711,7 @@ static bool same_checked(const cg_file *files, size_t files_count, cg_graph grap
     cg_count counts[ROOM], count = { .parents = 7 };
     if (cg_open(files, files_count, &opened).code || !same_layers(opened, graph)) return false;
     uint32_t code = cg_verify(opened, false, &found, counts, ROOM);
+    if (!stops_check(files, files_count, found)) return false;
     if (cg_check(opened, false, &verdict, &count, 1, &checked) != code || verdict.code != code) return false;
     bool good = checked.opened == !code && (code || same_layers(checked, graph)) && (code || !found.kinds || count.parents == counts[0].parents)
         && cg_is_ancestor(checked, 0, 0).code == (code ? CG_CLOSED_GRAPH : cg_num_commits(checked) ? CG_OK : CG_NO_SUCH_POSITION);

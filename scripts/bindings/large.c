@@ -143,6 +143,35 @@ static void tell_bases(cg_graph graph, FILE *file, uint32_t first, uint32_t *oth
     }
 }
 
+/* A walk from a commit that takes many visits, and a comparison: within as many they answer the same, within half of them and after a
+ * flag was raised they stop. So does a check of as many commits. */
+static void stop(const cg_file *file, cg_graph graph, cg_pair pair) {
+    uint32_t count = cg_num_commits(graph), *out = room(count, sizeof *out);
+    cg_flag flag = CG_NO_FLAG;
+    agree(!cg_flag_new(&flag));
+    cg_reached whole = cg_ancestor_walk(graph, pair.descendant, pair.ancestor, out, count);
+    cg_bases all = cg_merge_bases(graph, pair.descendant, &pair.ancestor, 1, out, count);
+    agree(whole.visits > KINDS && all.visits > KINDS);
+    for (int turn = 0; turn < 3; turn++) {
+        cg_limit limit = { turn == 1 ? KINDS / 2 : turn ? UINT64_MAX : count, flag };
+        cg_limit walks = { turn ? limit.visits : whole.visits, flag }, compares = { turn ? limit.visits : all.visits, flag };
+        if (turn == 2) agree(cg_flag_raise(flag));
+        cg_reached reached = cg_ancestor_walk_within(graph, pair.descendant, pair.ancestor, walks, out, count);
+        cg_bases bases = cg_merge_bases_within(graph, pair.descendant, &pair.ancestor, 1, compares, out, count);
+        cg_leads leads = cg_is_ancestor_within(graph, pair.ancestor, pair.descendant, limit);
+        agree(reached.code == (turn ? CG_STOPPED : CG_OK) && reached.visits == (turn ? 0 : whole.visits));
+        agree(bases.code == (turn ? CG_STOPPED : CG_OK) && bases.visits == (turn ? 0 : all.visits));
+        agree(leads.code == (turn ? CG_STOPPED : CG_OK) && leads.found == (!turn && whole.length));
+        cg_graph opened = CG_CLOSED, checked = CG_CLOSED;
+        cg_verdict verdict;
+        agree(!cg_open(file, 1, &opened).code);
+        uint32_t code = cg_check_within(opened, true, limit, &verdict, NULL, 0, &checked);
+        agree(code == (turn ? CG_STOPPED : CG_OK) && verdict.position == (turn == 1 ? KINDS / 2 : 0));
+        agree(cg_close(checked) == !code);
+    }
+    agree(cg_flag_free(flag));
+}
+
 /* A text of many lines, each of one letter. */
 static void read_lines(uint32_t count) {
     size_t len = 2 * (size_t)count, start = 0;
@@ -207,7 +236,7 @@ static void write_again(cg_graph graph, uint32_t count) {
     cg_close(again);
 }
 
-static void tell(cg_graph graph, cg_graph checked, const char *questions, const char *answers) {
+static void tell(const cg_file *layer, cg_graph graph, cg_graph checked, const char *questions, const char *answers) {
     size_t len;
     uint32_t *asked = (uint32_t *)(void *)read_all(questions, &len), count = cg_num_commits(graph), pairs = asked[0];
     cg_pair *first_pair = (cg_pair *)(void *)(asked + 1);
@@ -218,6 +247,7 @@ static void tell(cg_graph graph, cg_graph checked, const char *questions, const 
     tell_parents(graph, file, count);
     tell_chunks(graph, file, count);
     tell_walk(checked, file, *first_pair);
+    stop(layer, checked, *first_pair);
     tell_pairs(checked, file, first_pair, pairs);
     asked += 1 + 2 * (size_t)pairs;
     tell_bases(checked, file, asked[0], asked + 2, asked[1]);
@@ -266,7 +296,7 @@ int main(int argc, char **argv) {
     print_check(graph, false);
     print_check(graph, true);
     if (argc == 2) tell_chunks(graph, NULL, cg_num_commits(graph));
-    if (argc == 4) tell(graph, checked, argv[2], argv[3]);
+    if (argc == 4) tell(&file, graph, checked, argv[2], argv[3]);
     cg_close(graph);
     cg_close(checked);
     return 0;

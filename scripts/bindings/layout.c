@@ -41,6 +41,8 @@ SIZE(cg_compared, 24); AT(cg_compared, code, 0); AT(cg_compared, answered, 8); A
 SIZE(cg_new_commit, 56); AT(cg_new_commit, id, 0); AT(cg_new_commit, id_len, 8); AT(cg_new_commit, tree, 16);
 AT(cg_new_commit, tree_len, 24); AT(cg_new_commit, parents, 32); AT(cg_new_commit, parents_len, 40); AT(cg_new_commit, time, 48);
 SIZE(cg_bytes, 16); AT(cg_bytes, address, 0); AT(cg_bytes, kept, 8);
+SIZE(cg_flag, 16); AT(cg_flag, address, 0); AT(cg_flag, kept, 8);
+SIZE(cg_limit, 24); AT(cg_limit, visits, 0); AT(cg_limit, flag, 8);
 SIZE(cg_write_error, 40); AT(cg_write_error, code, 0); AT(cg_write_error, position, 4); AT(cg_write_error, commit, 8);
 AT(cg_write_error, other, 16); AT(cg_write_error, layer, 24); AT(cg_write_error, expected, 32);
 SIZE(cg_line, 24); AT(cg_line, found, 0); AT(cg_line, end, 8); AT(cg_line, next, 16);

@@ -94,18 +94,23 @@ static outcome open_known(void) {
     return opening((cg_error){ told.code, told.layer }, opened);
 }
 
-/* The check of a graph that is opened before, without refusals. */
-static outcome check_graph(void) {
+/* The check of a graph that is opened before, without refusals; with a limit that it does not come to, or without one. */
+static outcome checking(bool limited) {
     cg_graph opened = CG_CLOSED, checked = { files, false };
     long later = left;
     left = NONE;
     if (cg_open(files, layers, &opened).code) return WRONG;
     left = later;
     memset(counts, OTHER, sizeof counts);
-    uint32_t code = cg_check(opened, true, &verdict, counts, 8, &checked);
+    cg_limit limit = { cg_num_commits(opened), CG_NO_FLAG };
+    uint32_t code = limited ? cg_check_within(opened, true, limit, &verdict, counts, 8, &checked)
+                            : cg_check(opened, true, &verdict, counts, 8, &checked);
     if (verdict.code != code || (code && (verdict.called || !unwritten(counts, sizeof counts)))) return WRONG;
     return opening((cg_error){ code, 0 }, checked);
 }
+
+static outcome check_graph(void) { return checking(false); }
+static outcome check_within(void) { return checking(true); }
 
 static outcome open_checked(void) {
     cg_graph opened = { files, false };
@@ -135,6 +140,31 @@ static outcome walk(void) {
     memset(out, OTHER, sizeof out);
     outcome found = outcome_of(cg_ancestor_walk(graph, from, to, out, ROOM).code);
     return found == NO_MEMORY && !unwritten(out, sizeof out) ? WRONG : found;
+}
+
+/* The searches within a limit that they do not come to. */
+static outcome within(cg_limit limit) {
+    uint32_t others[2] = { to, from };
+    memset(out, OTHER, sizeof out);
+    cg_reached walked = cg_ancestor_walk_within(graph, from, to, limit, out, ROOM);
+    if (walked.code != CG_OK) return unwritten(out, sizeof out) ? outcome_of(walked.code) : WRONG;
+    cg_leads leads = cg_is_ancestor_within(graph, to, from, limit);
+    if (leads.code != CG_OK) return outcome_of(leads.code);
+    memset(out, OTHER, sizeof out);
+    cg_bases found = cg_merge_bases_within(graph, from, others, 2, limit, out, ROOM);
+    return found.code == CG_OK || unwritten(out, sizeof out) ? outcome_of(found.code) : WRONG;
+}
+
+static outcome without_flag(void) { return within((cg_limit){ UINT64_MAX, CG_NO_FLAG }); }
+
+/* A flag, and the searches with it. */
+static outcome with_flag(void) {
+    cg_flag flag = { files, false };
+    uint32_t code = cg_flag_new(&flag);
+    if (code != CG_OK) return flag.address == (void *)files && !flag.kept ? outcome_of(code) : WRONG;
+    outcome found = within((cg_limit){ UINT64_MAX, flag });
+    bool raised = cg_flag_raise(flag);
+    return cg_flag_free(flag) && raised ? found : WRONG;
 }
 
 static outcome ancestor(void) { return outcome_of(cg_is_ancestor(graph, to, from).code); }
@@ -298,6 +328,7 @@ int main(int argc, char **argv) {
     printf("open_checked %ld\n", refusals("open_checked", open_checked));
     printf("open_known %ld\n", refusals("open_known", open_known));
     printf("check %ld\n", refusals("check", check_graph));
+    printf("check_within %ld\n", refusals("check_within", check_within));
     printf("verify %ld\n", refusals("verify", verify));
     printf("verify_layer %ld\n", refusals("verify_layer", verify_layer));
     printf("walk %ld\n", refusals("walk", walk));
@@ -305,6 +336,8 @@ int main(int argc, char **argv) {
     printf("ancestors %ld\n", refusals("ancestors", ancestors));
     printf("one_pair %ld\n", refusals("one_pair", one_pair));
     printf("three_pairs %ld\n", refusals("three_pairs", three_pairs));
+    printf("without_flag %ld\n", refusals("without_flag", without_flag));
+    printf("with_flag %ld\n", refusals("with_flag", with_flag));
     printf("dates %ld\n", refusals("dates", dates));
     printf("probe %ld\n", refusals("probe", probe));
     printf("bases %ld\n", refusals("bases", bases));

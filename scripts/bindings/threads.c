@@ -8,6 +8,8 @@
 enum { THREADS = 4, ROOM = 64 };
 static cg_graph graph;
 static cg_file file;
+/* All threads raise it. */
+static cg_flag flag;
 
 /* How many commits graphs have that are opened and checked by this thread, and closed again. */
 static uint32_t opened(void) {
@@ -39,6 +41,22 @@ static uint64_t written(void) {
         size += count;
     }
     return all * 31 + size + cg_bytes_free(bytes);
+}
+
+/* What calls answer with a flag that another thread may have raised before: a check stops, and searches that read nothing do not. */
+static uint64_t stopped(void) {
+    cg_limit limit = { UINT64_MAX, flag };
+    cg_graph own = CG_CLOSED, checked = CG_CLOSED;
+    cg_verdict verdict;
+    cg_count counts[1];
+    uint32_t out[ROOM], last = cg_num_commits(graph) - 1;
+    cg_flag other = CG_NO_FLAG;
+    uint64_t all = cg_flag_new(&other) + cg_flag_raise(flag) + cg_open(&file, 1, &own).code;
+    all = all * 31 + cg_ancestor_walk_within(graph, last, last, limit, out, ROOM).code;
+    all = all * 31 + cg_is_ancestor_within(graph, last, last, limit).found;
+    all = all * 31 + cg_merge_bases_within(graph, 0, &last, 1, limit, out, ROOM).code;
+    all = all * 31 + cg_check_within(own, false, limit, &verdict, counts, 1, &checked);
+    return all * 31 + cg_flag_free(other);
 }
 
 /* A number made from all that a graph answers. */
@@ -76,7 +94,7 @@ static uint64_t sum(void) {
     }
     all = all * 31 + cg_corrected_dates(graph, dates, ROOM).length + dates[count - 1];
     all = all * 31 + cg_probe_path(graph, (const uint8_t *)"a", 1, out, 0, (uint8_t *)commits, 0).code;
-    all = all * 31 + opened() + written();
+    all = all * 31 + opened() + written() + stopped();
     return all * 31 + cg_version() + cg_verify(graph, true, &verdict, counts, ROOM) + verdict.longest + counts[0].commits;
 }
 
@@ -96,6 +114,7 @@ int main(int argc, char **argv) {
     file = (cg_file){ bytes, fread(bytes, 1, sizeof bytes, input), (const uint8_t *)argv[1], strlen(argv[1]) };
     fclose(input);
     if (cg_open_checked(&file, 1, false, &verdict, counts, 1, &graph).code) return 3;
+    if (cg_flag_new(&flag)) return 5;
     uint64_t alone = sum();
     for (int i = 0; i < THREADS; i++)
         if (pthread_create(&threads[i], NULL, read_graph, &sums[i])) return 4;
@@ -105,5 +124,5 @@ int main(int argc, char **argv) {
         wrong += sums[i] != alone;
     }
     cg_close(graph);
-    return wrong;
+    return wrong + !cg_flag_free(flag);
 }

@@ -4,7 +4,7 @@ use crate::error::fault_of;
 use crate::open::{open, Place};
 use crate::room::{collected, positions_of, room_for};
 use crate::verify::{outcome_of, ROOM};
-use crate::{codes, sys, Graph, OpenError, Outcome, PairError, Position, QueryError, VerifyOptions};
+use crate::{codes, sys, Graph, Limit, OpenError, Outcome, PairError, Position, QueryError, VerifyOptions};
 use std::path::Path;
 
 /// A graph that its check has found right.
@@ -66,17 +66,41 @@ impl Checked {
     ///
     /// `Check` with the first fault, or `OutOfMemory`. The graph is dropped then.
     pub fn of_graph(graph: Graph, options: VerifyOptions) -> Result<Checked, OpenError> {
+        Checked::given_back(graph, options, |given, verdict, counts, raw| {
+            // SAFETY: `given` is open, and no copy of it is used from here on; `raw` is CG_CLOSED, and the other pointers are
+            // those of a value, and of an array of ROOM places.
+            unsafe { sys::cg_check(given, options.distinct_ids, verdict, counts, ROOM, raw) }
+        })
+    }
+
+    /// Checks a graph that is open, as [`Checked::of_graph`] does, unless the limit stops the check.
+    ///
+    /// # Errors
+    ///
+    /// Those of [`Checked::of_graph`], and `Stopped` at the first commit that the check did not go on with. The graph is dropped
+    /// then too.
+    pub fn of_graph_within(graph: Graph, options: VerifyOptions, limit: Limit<'_>) -> Result<Checked, OpenError> {
+        Checked::given_back(graph, options, |given, verdict, counts, raw| {
+            // SAFETY: as in `Checked::of_graph`; the limit borrows its flag, which is not freed.
+            unsafe { sys::cg_check_within(given, options.distinct_ids, limit.raw(), verdict, counts, ROOM, raw) }
+        })
+    }
+
+    /// The graph that a call checks, which is handed one, closes it, and hands it out again where it is right.
+    fn given_back(
+        graph: Graph,
+        options: VerifyOptions,
+        check: impl FnOnce(sys::Graph, *mut sys::Verdict, *mut sys::Count, *mut sys::Graph) -> u32,
+    ) -> Result<Checked, OpenError> {
         let mut counts = [sys::Count::default(); ROOM];
         let mut verdict = sys::Verdict::default();
         let (mut raw, given) = (sys::CLOSED, graph.raw);
         // The call closes it.
         std::mem::forget(graph);
-        // SAFETY: `given` is open, and no copy of it is used from here on; `raw` is CG_CLOSED, and the other pointers are those
-        // of a value, and of an array with its length.
-        unsafe { sys::cg_check(given, options.distinct_ids, &mut verdict, counts.as_mut_ptr(), ROOM, &mut raw) };
-        match verdict.code {
+        match check(given, &mut verdict, counts.as_mut_ptr(), &mut raw) {
             codes::OK => Checked::found_right(Graph::of_raw(raw), options, &verdict, &counts),
             codes::OUT_OF_MEMORY => Err(OpenError::OutOfMemory),
+            codes::STOPPED => Err(OpenError::Stopped { pos: Position(verdict.position) }),
             _ => Err(OpenError::Check(fault_of(&verdict))),
         }
     }
@@ -118,11 +142,31 @@ impl Checked {
 
     /// Looks for a shortest walk along parents from one commit to another, both included.
     pub fn ancestor_walk(&self, from: Position, to: Position) -> Result<Reached, QueryError> {
+        self.walk_by(from, to, |out, len| {
+            // SAFETY: `raw` is open, and there is room for `len` numbers.
+            unsafe { sys::cg_ancestor_walk(self.graph.raw, from.0, to.0, out, len) }
+        })
+    }
+
+    /// What [`Checked::ancestor_walk`] answers, unless the limit stops the search, which is `Stopped` then.
+    pub fn ancestor_walk_within(&self, from: Position, to: Position, limit: Limit<'_>) -> Result<Reached, QueryError> {
+        self.walk_by(from, to, |out, len| {
+            // SAFETY: as in `ancestor_walk`; here and below, the limit borrows its flag, which is not freed.
+            unsafe { sys::cg_ancestor_walk_within(self.graph.raw, from.0, to.0, limit.raw(), out, len) }
+        })
+    }
+
+    /// The walk from one commit to another that a call writes into a room.
+    fn walk_by(
+        &self,
+        from: Position,
+        to: Position,
+        search: impl Fn(*mut u32, usize) -> sys::Reached,
+    ) -> Result<Reached, QueryError> {
         let mut visits = 0;
         let walk = positions_of(self.longest_walk(from, to), |out| {
-            // SAFETY: `raw` is open, the pointer and the length are those of a slice, and a position is one number.
-            let reached =
-                unsafe { sys::cg_ancestor_walk(self.graph.raw, from.0, to.0, out.as_mut_ptr().cast(), out.len()) };
+            // A position is one number.
+            let reached = search(out.as_mut_ptr().cast(), out.len());
             refusal_of(reached.code)?;
             visits = reached.visits;
             Ok::<_, QueryError>(reached.length)
@@ -148,6 +192,19 @@ impl Checked {
         Ok(leads.found)
     }
 
+    /// What [`Checked::is_ancestor`] answers, unless the limit stops the search, which is `Stopped` then.
+    pub fn is_ancestor_within(
+        &self,
+        ancestor: Position,
+        descendant: Position,
+        limit: Limit<'_>,
+    ) -> Result<bool, QueryError> {
+        // SAFETY: `raw` is open.
+        let leads = unsafe { sys::cg_is_ancestor_within(self.graph.raw, ancestor.0, descendant.0, limit.raw()) };
+        refusal_of(leads.code)?;
+        Ok(leads.found)
+    }
+
     /// Whether the first commit of each pair is an ancestor of the second, as [`Checked::is_ancestor`] answers for one pair. The
     /// memory of the search is filled once for all pairs.
     pub fn are_ancestors(&self, pairs: &[(Position, Position)]) -> Result<Vec<bool>, PairError> {
@@ -165,17 +222,39 @@ impl Checked {
     /// The merge bases of a commit and some others, which `git merge-base --all FIRST OTHERS..` names, the least position
     /// first; and how far the commits have come apart.
     pub fn compare(&self, first: Position, others: &[Position]) -> Result<Comparison, QueryError> {
-        let (mut ahead, mut behind) = (0, 0);
-        let bases = positions_of(64, |out| {
-            let (places, count, room) = (others.as_ptr().cast(), others.len(), out.as_mut_ptr().cast());
-            // SAFETY: `raw` is open, each pointer and length are those of a slice, and a position is one number.
-            let bases = unsafe { sys::cg_merge_bases(self.graph.raw, first.0, places, count, room, out.len()) };
-            refusal_of(bases.code)?;
-            (ahead, behind) = (bases.ahead, bases.behind);
-            Ok::<_, QueryError>(bases.length)
-        })?;
-        Ok(Comparison { bases, ahead, behind })
+        let (places, count) = (others.as_ptr().cast(), others.len());
+        compare_by(|out, len| {
+            // SAFETY: `raw` is open, there is room for `len` numbers, and a position is one number.
+            unsafe { sys::cg_merge_bases(self.graph.raw, first.0, places, count, out, len) }
+        })
     }
+
+    /// What [`Checked::compare`] answers, unless the limit stops the search, which is `Stopped` then.
+    pub fn compare_within(
+        &self,
+        first: Position,
+        others: &[Position],
+        limit: Limit<'_>,
+    ) -> Result<Comparison, QueryError> {
+        let (places, count) = (others.as_ptr().cast(), others.len());
+        compare_by(|out, len| {
+            // SAFETY: as in `compare`.
+            unsafe { sys::cg_merge_bases_within(self.graph.raw, first.0, places, count, limit.raw(), out, len) }
+        })
+    }
+}
+
+/// The comparison that a call makes, which writes the merge bases into a room.
+fn compare_by(search: impl Fn(*mut u32, usize) -> sys::Bases) -> Result<Comparison, QueryError> {
+    let (mut ahead, mut behind) = (0, 0);
+    let bases = positions_of(64, |out| {
+        // A position is one number.
+        let bases = search(out.as_mut_ptr().cast(), out.len());
+        refusal_of(bases.code)?;
+        (ahead, behind) = (bases.ahead, bases.behind);
+        Ok::<_, QueryError>(bases.length)
+    })?;
+    Ok(Comparison { bases, ahead, behind })
 }
 
 /// Checks a graph that is open, without reading its files again.
@@ -220,6 +299,7 @@ fn refusal_of(code: u32) -> Result<(), QueryError> {
     match code {
         codes::OK => Ok(()),
         codes::NO_SUCH_POSITION => Err(QueryError::NoSuchPosition),
+        codes::STOPPED => Err(QueryError::Stopped),
         _ => Err(QueryError::OutOfMemory),
     }
 }

@@ -6,6 +6,7 @@ pub(crate) const NO_SUCH_POSITION: u32 = 4;
 pub(crate) const NO_DATES: u32 = 6;
 pub(crate) const MORE_PARENTS: u32 = 7;
 pub(crate) const PATH_WANTED: u32 = 8;
+pub(crate) const STOPPED: u32 = 10;
 pub(crate) const OPEN_NOTHING_FOUND: u32 = 21;
 pub(crate) const OPEN_CHAIN_NOT_TEXT: u32 = 24;
 pub(crate) const FILE_TOO_SHORT: u32 = 101;

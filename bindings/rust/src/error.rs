@@ -50,6 +50,11 @@ pub enum OpenError {
         /// Why the chain was not.
         chain: Box<OpenError>,
     },
+    /// A limit stopped the check.
+    Stopped {
+        /// The first commit that it did not go on with.
+        pos: Position,
+    },
     /// Memory ran out.
     OutOfMemory,
 }
@@ -94,6 +99,7 @@ impl fmt::Display for OpenError {
                 write!(f, "; ")?;
                 write_with_source(f, chain)
             }
+            OpenError::Stopped { pos } => write!(f, "a limit or a flag stopped the check before the commit at position {pos}"),
             OpenError::OutOfMemory => f.write_str(OUT_OF_MEMORY),
         }
     }
@@ -324,6 +330,8 @@ impl<E: std::error::Error + 'static> std::error::Error for VerifyError<E> {
 pub enum QueryError {
     /// A position is none of the graph's.
     NoSuchPosition,
+    /// A limit stopped the search.
+    Stopped,
     /// Memory ran out.
     OutOfMemory,
 }
@@ -332,6 +340,7 @@ impl fmt::Display for QueryError {
     fn fmt(&self, f: &mut fmt::Formatter<'_>) -> fmt::Result {
         f.write_str(match self {
             QueryError::NoSuchPosition => "the graph has no such position",
+            QueryError::Stopped => "a limit or a flag stopped the search",
             QueryError::OutOfMemory => OUT_OF_MEMORY,
         })
     }

@@ -225,6 +225,22 @@ pub struct Bytes {
     pub kept: bool,
 }
 
+#[repr(C)]
+#[derive(Clone, Copy, Debug)]
+pub struct Flag {
+    pub address: *const c_void,
+    pub kept: bool,
+}
+
+pub const NO_FLAG: Flag = Flag { address: std::ptr::null(), kept: false };
+
+#[repr(C)]
+#[derive(Clone, Copy)]
+pub struct Limit {
+    pub visits: u64,
+    pub flag: Flag,
+}
+
 pub const NO_BYTES: Bytes = Bytes { address: std::ptr::null(), kept: false };
 
 #[repr(C)]
@@ -268,7 +284,19 @@ extern "C" {
         counts_len: usize,
         out: *mut Graph,
     ) -> u32;
+    pub fn cg_check_within(
+        graph: Graph,
+        distinct_ids: bool,
+        limit: Limit,
+        verdict: *mut Verdict,
+        counts: *mut Count,
+        counts_len: usize,
+        out: *mut Graph,
+    ) -> u32;
     pub fn cg_close(graph: Graph) -> bool;
+    pub fn cg_flag_new(out: *mut Flag) -> u32;
+    pub fn cg_flag_raise(flag: Flag) -> bool;
+    pub fn cg_flag_free(flag: Flag) -> bool;
     pub fn cg_num_layers(graph: Graph) -> u64;
     pub fn cg_layer(graph: Graph, layer: u64, out: *mut Layer) -> bool;
     pub fn cg_verify_layer(graph: Graph, layer: u64, out: *mut LayerVerdict) -> u32;
@@ -303,7 +331,16 @@ extern "C" {
         counts_len: usize,
     ) -> u32;
     pub fn cg_ancestor_walk(graph: Graph, from: u32, to: u32, out: *mut u32, len: usize) -> Reached;
+    pub fn cg_ancestor_walk_within(
+        graph: Graph,
+        from: u32,
+        to: u32,
+        limit: Limit,
+        out: *mut u32,
+        len: usize,
+    ) -> Reached;
     pub fn cg_is_ancestor(graph: Graph, ancestor: u32, descendant: u32) -> Leads;
+    pub fn cg_is_ancestor_within(graph: Graph, ancestor: u32, descendant: u32, limit: Limit) -> Leads;
     pub fn cg_are_ancestors(graph: Graph, pairs: *const Pair, count: usize, out: *mut u8, len: usize) -> Answered;
     pub fn cg_corrected_dates(graph: Graph, out: *mut u64, len: usize) -> Dates;
     pub fn cg_probe_path(
@@ -320,6 +357,15 @@ extern "C" {
         first: u32,
         others: *const u32,
         count: usize,
+        out: *mut u32,
+        len: usize,
+    ) -> Bases;
+    pub fn cg_merge_bases_within(
+        graph: Graph,
+        first: u32,
+        others: *const u32,
+        count: usize,
+        limit: Limit,
         out: *mut u32,
         len: usize,
     ) -> Bases;
@@ -379,5 +425,7 @@ mod layout {
     laid_out!(Compared, 24, code 0, answered 8, length 16);
     laid_out!(NewCommit, 56, id 0, id_len 8, tree 16, tree_len 24, parents 32, parents_len 40, time 48);
     laid_out!(Bytes, 16, address 0, kept 8);
+    laid_out!(Flag, 16, address 0, kept 8);
+    laid_out!(Limit, 24, visits 0, flag 8);
     laid_out!(WriteError, 40, code 0, position 4, commit 8, other 16, layer 24, expected 32);
 }

@@ -3,7 +3,7 @@
 mod made;
 
 use commitgraph::{Checked, Commit, Fault, FileError, Graph, GraphError, IdError, Kind, ObjectId, OpenError, PairError, Position, ProbeError};
-use commitgraph::{DatesError, LayerFault, Mismatch, Place, QueryError, VerifyError, VerifyOptions};
+use commitgraph::{DatesError, Flag, LayerFault, Limit, Mismatch, Place, QueryError, VerifyError, VerifyOptions};
 use made::{git, long_lists, made};
 use std::error::Error;
 use std::ffi::OsStr;
@@ -167,6 +167,37 @@ fn an_open_graph_is_checked_as_at_its_path() {
     assert_eq!(Checked::try_from(Graph::at(&made().file).unwrap()).unwrap().options(), VerifyOptions::default());
     let refused = Checked::try_from(Graph::at(&made().faulty).unwrap()).unwrap_err();
     assert!(matches!(refused, OpenError::Check(Fault::Generation { .. })), "{refused}");
+}
+
+#[test]
+fn a_limit_stops_searches_and_a_check() {
+    let options = VerifyOptions::default();
+    let checked = Checked::at(&made().chain).unwrap();
+    let (count, first) = (checked.graph().num_commits(), Position(0));
+    let walks = (0..count).map(|last| (Position(last), checked.ancestor_walk(Position(last), first).unwrap()));
+    let (last, walk) = walks.max_by_key(|(_, walk)| walk.visits).unwrap();
+    let compared = checked.compare(last, &[first]).unwrap();
+    let (flag, raised) = (Flag::new().unwrap(), Flag::new().unwrap());
+    raised.raise();
+    assert!(walk.visits > 1);
+    let all = Limit { visits: Some(walk.visits.into()), flag: Some(&flag) };
+    let wide = Limit { visits: None, flag: Some(&flag) };
+    assert_eq!(checked.ancestor_walk_within(last, first, all), Ok(walk.clone()));
+    assert_eq!(checked.compare_within(last, &[first], wide), Ok(compared.clone()));
+    assert_eq!(checked.compare_within(last, &[first], Limit::default()), Ok(compared));
+    assert_eq!(checked.is_ancestor_within(first, last, wide), checked.is_ancestor(first, last));
+    let few = Limit { visits: Some(u64::from(walk.visits) - 1), flag: None };
+    assert_eq!(checked.ancestor_walk_within(last, first, few), Err(QueryError::Stopped));
+    for narrow in [Limit { visits: Some(0), flag: None }, Limit { visits: None, flag: Some(&raised) }] {
+        assert_eq!(checked.ancestor_walk_within(last, first, narrow), Err(QueryError::Stopped));
+        assert_eq!(checked.compare_within(last, &[first], narrow), Err(QueryError::Stopped));
+        assert_eq!(checked.is_ancestor_within(first, last, narrow), Err(QueryError::Stopped));
+        let stopped = Checked::of_graph_within(Graph::at(&made().chain).unwrap(), options, narrow).unwrap_err();
+        assert!(matches!(stopped, OpenError::Stopped { pos: Position(0) }), "{stopped}");
+    }
+    let all = Limit { visits: Some(count.into()), flag: Some(&flag) };
+    let again = Checked::of_graph_within(Graph::at(&made().chain).unwrap(), options, all).unwrap();
+    assert_eq!(again.outcome(), checked.outcome());
 }
 
 #[test]

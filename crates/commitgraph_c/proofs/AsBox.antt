@@ -1,5 +1,5 @@
--- What a value that C owns comes with is what a box of it owns, and what std's calls on boxes are passed for it: of a graph, and
--- of bytes that are kept.
+-- What a value that C owns comes with is what a box of it owns, and what std's calls on boxes are passed for it: of a graph, of
+-- bytes that are kept, and of a flag.
 use mathlib.Core.List.{[], ◌∷◌}
 use mir.Raw.{raw}
 use mir.Syntax.{Dict, Ty, impl, tnil, tcons, dnil}
@@ -16,6 +16,8 @@ use Rattle.commitgraph_c.specs.contracts.opened.Opened as Graph
 use Rattle.commitgraph_c.proofs.opened.Opened.TheLaws as graph
 use Rattle.commitgraph_c.specs.contracts.kept.Kept as Kept
 use Rattle.commitgraph_c.proofs.kept.Kept.TheLaws as kept
+use Rattle.commitgraph_c.specs.contracts.flag.KeptFlag as KeptFlag
+use Rattle.commitgraph_c.proofs.flag.KeptFlag.TheLaws as flag
 
 -- the layout that a call is passed for the allocator
 abbrev pub heap_layout : Ty
@@ -54,6 +56,13 @@ bytes_box = boxed Kept.the_row kept.the_row_laws refl
 
 abbrev pub bytes_drop : Dict
 bytes_drop = impl ("commitgraph_c::commitgraph_c++kept++Kept+Destruct::drop" ∷ []) tnil dnil
+
+-- a box of a flag, and how it is let go
+abbrev pub flag_box : Bx
+flag_box = boxed KeptFlag.the_row flag.the_row_laws refl
+
+abbrev pub flag_drop : Dict
+flag_drop = impl ("commitgraph_c::commitgraph_c++flag++KeptFlag+Destruct::drop" ∷ []) tnil dnil
 
 -- what is there
 pub there : {T : Type 0} (m : Option T) → IsSome m → (x : T) × (m ≡ Some x)

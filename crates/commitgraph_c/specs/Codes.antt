@@ -42,6 +42,9 @@ path_wanted = 8
 abbrev pub no_such_layer : ℕ
 no_such_layer = 9
 
+abbrev pub stopped : ℕ
+stopped = 10
+
 abbrev pub no_ids : ℕ
 no_ids = 712
 

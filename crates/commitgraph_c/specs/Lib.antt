@@ -18,3 +18,4 @@ pub mod State
 pub mod ToldDates
 pub mod ToldWrite
 pub mod Verdict
+pub mod ToldLimit

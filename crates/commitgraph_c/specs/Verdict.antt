@@ -16,10 +16,12 @@ use Rattle.gix_commitgraph.specs.declared.verify.VerifyError.{VerifyError}
 use Rattle.gix_commitgraph.specs.declared.verify.VerifyError.TheVariants as error
 use Rattle.gix_commitgraph.specs.declared.verify.VerifyOptions.{VerifyOptions}
 use Rattle.graph_history.specs.Checked.{MayRefuseWith}
+use Rattle.graph_history.specs.Limits.{Bound, MayRefuseWithin}
+use Rattle.graph_history.specs.declared.limit.Stopped.{Stopped}
 use Rattle.graph_ancestors.specs.declared.checking.NoFault.{NoFault}
 use Rattle.commitgraph_c.specs.Answers.{written}
 use Rattle.commitgraph_c.specs.Files.{IsOpenedFrom}
-use Rattle.commitgraph_c.specs.Codes.{closed_graph, commit_code, fan_byte, layer_code, out_of_memory, parent_code}
+use Rattle.commitgraph_c.specs.Codes.{closed_graph, commit_code, fan_byte, layer_code, out_of_memory, parent_code, stopped}
 use Rattle.commitgraph_c.specs.declared.check.CgCount.{CgCount}
 use Rattle.commitgraph_c.specs.declared.check.CgVerdict.{CgVerdict}
 use Rattle.commitgraph_c.specs.declared.open.CgError.{CgError}
@@ -53,7 +55,7 @@ abbrev pub refusal_in_commit : ℕ → Position → ℕ → CgVerdict
 refusal_in_commit code pos other = refusal_at code pos.0 other 0 0
 
 -- how a fault is told: its number, and its place
-abbrev pub refusal_of : VerifyError NoFault → CgVerdict
+abbrev pub refusal_of : {E : Type 0} → VerifyError E → CgVerdict
 refusal_of error.TooManyFiles = refusal_in_layer 301 0 0 0
 refusal_of (error.BaseCount layer) = refusal_in_layer 302 layer 0 0
 refusal_of (error.BaseId layer index) = refusal_in_layer 303 layer 0 index
@@ -62,7 +64,7 @@ refusal_of (error.Commit pos fault) = refusal_in_commit (commit_code fault) pos 
 refusal_of (error.Parent pos fault) = refusal_in_commit (parent_code fault) pos 0
 refusal_of (error.ParentOutOfRange pos parent) = refusal_in_commit 307 pos parent.0
 refusal_of (error.Generation pos expected) = refusal_in_commit 308 pos expected
-refusal_of (error.Processor pos fault) = refusal_in_commit 309 pos 0
+refusal_of (error.Processor pos stop) = refusal_in_commit stopped pos 0
 refusal_of error.OutOfMemory = refusal_in_layer out_of_memory 0 0 0
 refusal_of (error.DuplicateId pos earlier) = refusal_in_commit 311 pos earlier.0
 
@@ -131,6 +133,13 @@ pub record IsRefused (options : VerifyOptions) (layers : List Layer) (v : CgVerd
   pub error : VerifyError NoFault
   pub told : v ≡ with_calls v.called (refusal_of error)
   pub may : MayRefuseWith options layers error
+
+-- The verdict on a graph whose check answers an error within a limit: its first fault, that an allocation failed, or that it was
+-- stopped.
+pub record IsRefusedWithin (bound : Bound) (options : VerifyOptions) (layers : List Layer) (v : CgVerdict) : Type 0 where
+  pub error : VerifyError Stopped
+  pub told : v ≡ refusal_of error
+  pub may : MayRefuseWithin bound options layers error
 
 -- The verdict on a graph: the code is 0 only where it keeps what the options ask for, and else says why not.
 pub record IsVerdict (options : VerifyOptions) (layers : List Layer) (v : CgVerdict) : Type 0 where

@@ -70,7 +70,7 @@ pub fn cg_merge_bases(
 }
 
 /// Whether all numbers are below a limit.
-fn are_below(numbers: &[u32], limit: u32) -> bool
+pub(crate) fn are_below(numbers: &[u32], limit: u32) -> bool
     ensures below { IsTrue result → All (λ number. number < limit) numbers.now }
     ensures not_below { result ≡ false → Any (λ number. limit ≤ number) numbers.now }
 {
@@ -78,7 +78,7 @@ fn are_below(numbers: &[u32], limit: u32) -> bool
 }
 
 /// The positions of these numbers, if there is memory.
-fn positions_of(alloc: Global, numbers: &[u32]) -> Result<Vec<Position>, AllocError>
+pub(crate) fn positions_of(alloc: Global, numbers: &[u32]) -> Result<Vec<Position>, AllocError>
     ensures { IfOk result (λ found. numbers_of found.items ≡ numbers.now) }
 {
     let mut found = Vec::with_capacity(alloc, numbers.len())?;
@@ -105,7 +105,7 @@ pub(crate) fn tell(comparison: &Comparison, out: &mut [u32]) -> CgBases
 }
 
 /// An answer that tells of no merge base.
-fn refused(code: u32) -> CgBases
+pub(crate) fn refused(code: u32) -> CgBases
     ensures code { result.code ≡ code }
     ensures nothing { TellsNoBases result }
 {

@@ -10,7 +10,9 @@ ghost use Rattle.commitgraph_c.specs.Verdict.{TellsCalls, closed_verdict, refusa
 ghost use Rattle.commitgraph_c.specs.Verdict.{commits_before, refusal_in_layer};
 ghost use Rattle.commitgraph_c.specs.Verdict.{options_of, refusal_at, refusal_of, told_count};
 
-use crate::codes::{CLOSED_GRAPH, OUT_OF_MEMORY, commit_code, fan_byte, layer_code, parent_code};
+use crate::codes::{
+    CLOSED_GRAPH, OUT_OF_MEMORY, STOPPED, commit_code, fan_byte, layer_code, parent_code,
+};
 use crate::handle::CgGraph;
 use gix_commitgraph::verify::{Outcome, VerifyError, VerifyOptions};
 use gix_commitgraph::{Graph, Position};
@@ -177,8 +179,8 @@ pub(crate) fn right(outcome: &Outcome, counts: &mut [CgCount]) -> CgVerdict
     }
 }
 
-/// Tells why a graph is refused.
-pub(crate) fn wrong(error: VerifyError<NoFault>) -> CgVerdict
+/// Tells why a graph is refused. What a processor answers, stops the check.
+pub(crate) fn wrong<E: Drop>(error: VerifyError<E>) -> CgVerdict
     ensures told { result ≡ refusal_of error }
     ensures code { result.code ≢ 0 }
     ensures called { result.called ≡ 0 }
@@ -198,7 +200,7 @@ pub(crate) fn wrong(error: VerifyError<NoFault>) -> CgVerdict
         VerifyError::Parent { pos, error } => in_commit(parent_code(error), pos, 0),
         VerifyError::ParentOutOfRange { pos, parent } => in_commit(307, pos, parent.0),
         VerifyError::Generation { pos, expected } => in_commit(308, pos, expected),
-        VerifyError::Processor { pos, .. } => in_commit(309, pos, 0),
+        VerifyError::Processor { pos, .. } => in_commit(STOPPED, pos, 0),
         VerifyError::OutOfMemory => refused(OUT_OF_MEMORY),
         VerifyError::DuplicateId { pos, earlier } => in_commit(311, pos, earlier.0),
     }

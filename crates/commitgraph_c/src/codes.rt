@@ -28,6 +28,8 @@ pub const PATH_WANTED: u32 = 8;
 
 pub const NO_SUCH_LAYER: u32 = 9;
 
+pub const STOPPED: u32 = 10;
+
 pub const NO_IDS: u32 = 712;
 
 /// Why the table of chunks is refused.

@@ -14,6 +14,9 @@ mod codes;
 mod compare;
 mod dates;
 mod first_parents;
+mod flag;
+mod flag_handle;
+mod flags;
 mod handle;
 mod kept;
 mod kept_handle;
@@ -33,6 +36,7 @@ mod probes;
 mod query;
 mod read;
 mod version;
+mod within;
 mod write;
 
 pub use bases::{CgBases, cg_merge_bases};
@@ -42,6 +46,8 @@ pub use check::{CgCount, CgVerdict, cg_verify};
 pub use compare::{CgCompared, CgTwo, cg_merge_bases_of};
 pub use dates::{CgDates, cg_corrected_dates};
 pub use first_parents::cg_first_parents;
+pub use flag_handle::{CgFlag, CgFlagAddress, CgFlagOwned, CgFlagOwner};
+pub use flags::{CgLimit, cg_flag_free, cg_flag_new, cg_flag_raise};
 pub use handle::{CgAddress, CgGraph, CgOwned, CgOwner};
 pub use kept_handle::{CgBytes, CgBytesAddress, CgBytesOwned, CgBytesOwner};
 pub use known::CgKnown;
@@ -61,4 +67,7 @@ pub use read::{
     CgCommit, cg_commit_at, cg_id_at, cg_id_len, cg_lookup, cg_num_commits, cg_tree_at,
 };
 pub use version::cg_version;
+pub use within::{
+    cg_ancestor_walk_within, cg_check_within, cg_is_ancestor_within, cg_merge_bases_within,
+};
 pub use write::{CgWriteError, cg_bytes_copy, cg_bytes_free, cg_write};

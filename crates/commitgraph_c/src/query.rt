@@ -101,7 +101,7 @@ pub fn cg_is_ancestor(alloc: Global, graph: CgGraph, ancestor: u32, descendant: 
 }
 
 /// Tells an answer, and writes the positions of its walk.
-fn tell(reached: &Reached, out: &mut [u32]) -> CgReached
+pub(crate) fn tell(reached: &Reached, out: &mut [u32]) -> CgReached
     ensures code { result.code ≡ 0 }
     ensures tells { TellsWalk reached.now result out.old out.new }
 {
@@ -132,7 +132,7 @@ pub(crate) fn write_positions(positions: &[Position], out: &mut [u32])
 }
 
 /// An answer that tells of no walk.
-fn refused(code: u32) -> CgReached
+pub(crate) fn refused(code: u32) -> CgReached
     ensures code { result.code ≡ code }
     ensures nothing { (result.visits ≡ 0) × (result.length ≡ 0) }
 {
@@ -144,7 +144,7 @@ fn refused(code: u32) -> CgReached
 }
 
 /// An answer that tells nothing.
-fn untold(code: u32) -> CgLeads
+pub(crate) fn untold(code: u32) -> CgLeads
     ensures code { result.code ≡ code }
     ensures nothing { result.found ≡ false }
 {

@@ -17,3 +17,4 @@ pub mod LowestLemmas
 pub mod LowerLemmas
 pub mod ReloadLemmas
 pub mod ComparisonLemmas
+pub mod LimitLemmas

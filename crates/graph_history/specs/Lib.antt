@@ -8,3 +8,4 @@ pub mod Paint
 pub mod Painting
 pub mod Reload
 pub mod LowerStatistics
+pub mod Limits

@@ -1,0 +1,127 @@
+-- Searches of a right graph in memory that a limit may stop, and checks that it may.
+use Rattle.std.proofs.Common.{◌≡◌, ◌≢◌, ◌⊎◌, ℕ, zero, suc, ◌+◌, ◌^◌, ◌-◌, ◌<◌, min, List, [], ◌∷◌, ◌++◌, length, sym, ap, ◌∙◌}
+use Rattle.std.proofs.Common.{subst, ⊎_elim, arith, length-append, Result, Ok, Err, IfErr}
+use Rattle.std.specs.Prelude.{⊤}
+use Rattle.std.specs.List.{range_with_len}
+use Rattle.graph_format.specs.Layer.{Layer}
+use Rattle.graph_format.specs.Points.{Point, StopsAt, Agrees, calls, call, first_fault}
+use Rattle.graph_format.specs.StoredHistory.{history_of}
+use Rattle.graph_format.proofs.PointLemmas.{calls-append}
+use Rattle.gix_commitgraph.specs.Distinct.{IsDeservedWith}
+use Rattle.gix_commitgraph.specs.Graph.{total}
+use Rattle.gix_commitgraph.specs.Verify.{points_with, cause_of}
+use Rattle.gix_commitgraph.specs.declared.verify.Outcome.{Outcome}
+use Rattle.gix_commitgraph.specs.declared.verify.VerifyError.{VerifyError}
+use Rattle.gix_commitgraph.specs.declared.verify.VerifyError.TheVariants as error
+use Rattle.gix_commitgraph.specs.declared.verify.VerifyOptions.{VerifyOptions}
+use Rattle.graph_ancestors.specs.WalkAnswer.{MayLead}
+use Rattle.graph_ancestors.specs.Source.{Told, told_of}
+use Rattle.graph_history.specs.Limits.{Bound, EndsEarly, IfSource, IsSource, MayBeStopped, MayRefuseWithin, StopsAfter}
+use Rattle.graph_history.specs.declared.limit.LimitError.{LimitError}
+use Rattle.graph_history.specs.declared.limit.LimitError.TheVariants as limited
+use Rattle.graph_history.specs.declared.limit.Stopped.{Stopped}
+use Rattle.graph_history.proofs.ReloadLemmas.{counted}
+
+module _ (layers after : List Layer) (same : after ≡ layers) (from to : ℕ) where
+  -- no read of a graph in memory fails, so an error is that of an allocation
+  pub walk_error : (G : Type 0)
+      → ((from ≢ to) × ⊥) ⊎ (G × ((t : Told) → t ≡ told_of after → (from ≡ to) ⊎ MayLead t.history from to))
+      → (from ≡ to) ⊎ MayLead (history_of layers) from to
+  walk_error G told =
+      ⊎_elim
+      (λ (failed : (from ≢ to) × ⊥). absurd failed.1)
+      (λ (refused : G × ((t : Told) → t ≡ told_of after → (from ≡ to) ⊎ MayLead t.history from to)).
+      refused.1 (told_of layers) (ap told_of (sym same)))
+      told
+
+  pub lead_error : (G : Type 0)
+      → (from ≢ to) × (⊥ ⊎ (G × ((t : Told) → t ≡ told_of after → MayLead t.history from to)))
+      → (from ≢ to) × MayLead (history_of layers) from to
+  lead_error G told = (
+    told.0,
+    ⊎_elim
+        (λ (failed : ⊥). absurd failed)
+        (λ (refused : G × ((t : Told) → t ≡ told_of after → MayLead t.history from to)).
+        refused.1 (told_of layers) (ap told_of (sym same)))
+        told.1,
+  )
+
+  -- or it was stopped
+  module _ {E : Type 0} (bound : Bound) (most : ℕ) (may : MayBeStopped bound most) (Gives : E → Type 0) where
+    pub walk_ended : (e : LimitError E)
+        → ((from ≢ to) × IfSource (λ x. ⊥) e)
+        ⊎ (IsSource Gives e × ((t : Told) → t ≡ told_of after → (from ≡ to) ⊎ MayLead t.history from to))
+        → EndsEarly bound most ((from ≡ to) ⊎ MayLead (history_of layers) from to) e
+    walk_ended limited.Stopped told = may
+    walk_ended (limited.Source e) told = walk_error (Gives e) told
+
+    pub lead_ended : (e : LimitError E)
+        → (from ≢ to) × (IfSource (λ x. ⊥) e
+        ⊎ (IsSource Gives e × ((t : Told) → t ≡ told_of after → MayLead t.history from to)))
+        → EndsEarly bound most ((from ≢ to) × MayLead (history_of layers) from to) e
+    lead_ended limited.Stopped told = may
+    lead_ended (limited.Source e) told = lead_error (Gives e) told
+
+    pub leads_ended : {T : Type 0} (r : Result T (LimitError E))
+        → IfErr r (λ e. (from ≢ to) × (IfSource (λ x. ⊥) e
+        ⊎ (IsSource Gives e × ((t : Told) → t ≡ told_of after → MayLead t.history from to))))
+        → IfErr r (EndsEarly bound most ((from ≢ to) × MayLead (history_of layers) from to))
+    leads_ended (Ok x) told = tt
+    leads_ended (Err e) told = lead_ended e told
+
+-- what ends a comparison before its end
+pub comparison_ended : {E : Type 0} (bound : Bound) (most : ℕ) → MayBeStopped bound most → (e : LimitError E)
+    → EndsEarly bound most ⊤ e
+comparison_ended bound most may limited.Stopped = may
+comparison_ended bound most may (limited.Source e) = tt
+
+-- the number at a place of a range
+range_at : (k n : ℕ) (before : List ℕ) (p : ℕ) (after : List ℕ) → range_with_len k n ≡ before ++ p ∷ after
+    → (p ≡ k + length before) × (length before < n)
+range_at k zero before p after same =
+    let none = ap length same in (
+      omega (arith, none, length-append before (p ∷ after)),
+      omega (arith, none, length-append before (p ∷ after)),
+    )
+range_at k (suc n) [] p after same = let first : k ≡ p = cc in (omega (arith, first), omega arith)
+range_at k (suc n) (x ∷ before) p after same =
+    let rest : range_with_len (k + 1) n ≡ before ++ p ∷ after = cc in
+    let at = range_at (k + 1) n before p after rest in (omega (arith, at.0), omega (arith, at.1))
+
+-- A check by a processor that counts the commits on which it is called, and answers that it is stopped.
+module _ {F : Type 0} (step : F → ℕ → Result (Unit {0}) Stopped → F → Type 0) (value : F → ℕ) (bound_at : F → Bound)
+    (more : (f : F) (p : ℕ) (g : F) → step f p (Ok tt) g
+    → (value g ≡ min (value f + 1) (2 ^ 32 - 1)) × (bound_at g ≡ bound_at f))
+    (stops : (f : F) (p : ℕ) (e : Stopped) (g : F) → step f p (Err e) g → StopsAfter (bound_at f) (value f))
+    (bound : Bound) (options : VerifyOptions) (layers : List Layer)
+    (all : calls (points_with {E = Stopped} options layers) ≡ range_with_len 0 (total layers)) (few : total layers < 2 ^ 32)
+    (f g : F) (none : value f ≡ 0) (same : bound_at f ≡ bound) where
+  stopped_at : (p : ℕ) (e : Stopped) → StopsAt step (points_with {E = Stopped} options layers) f g p e
+      → (p < total layers) × StopsAfter bound p
+  stopped_at p e at =
+      let earlier : List ℕ = calls at.before in
+      let split : range_with_len 0 (total layers) ≡ earlier ++ p ∷ calls at.after =
+      sym all ∙ ap calls at.split ∙ calls-append at.before (call p ∷ at.after) in
+      let place = range_at 0 (total layers) earlier p (calls at.after) split in
+      let counts = counted (λ h q k. step h q (Ok tt) k) value bound_at more earlier f at.then at.accepted
+      (omega (arith, none, place.1, few)) in
+      let visits : value at.then ≡ p = omega (arith, counts.0, none, place.0) in (
+        omega (arith, place.0, place.1),
+        subst (λ (n : ℕ). StopsAfter bound n) visits
+            (subst (λ (b : Bound). StopsAfter b (value at.then)) (counts.1 ∙ same) (stops at.then p e g at.answered)),
+      )
+
+  pub refused_within : (x : VerifyError Stopped)
+      → Agrees step (points_with {E = Stopped} options layers) f g {T = Outcome} cause_of (Err x)
+      → IsDeservedWith options layers x → MayRefuseWithin bound options layers x
+  refused_within (error.Processor pos e) agrees deserved = stopped_at pos.0 e agrees
+  refused_within error.OutOfMemory agrees deserved = tt
+  refused_within error.TooManyFiles agrees deserved = (agrees.fault, deserved)
+  refused_within (error.BaseCount i) agrees deserved = (agrees.fault, deserved)
+  refused_within (error.BaseId i j) agrees deserved = (agrees.fault, deserved)
+  refused_within (error.Layer i fault) agrees deserved = (agrees.fault, deserved)
+  refused_within (error.Commit pos fault) agrees deserved = (agrees.fault, deserved)
+  refused_within (error.Parent pos fault) agrees deserved = (agrees.fault, deserved)
+  refused_within (error.ParentOutOfRange pos parent) agrees deserved = (agrees.fault, deserved)
+  refused_within (error.Generation pos expected) agrees deserved = (agrees.fault, deserved)
+  refused_within (error.DuplicateId pos earlier) agrees deserved = (agrees.fault, deserved)

@@ -1,0 +1,52 @@
+-- When a search or a check is stopped before its end.
+use Rattle.std.specs.Prelude.{◌≡◌, ◌⊎◌, ◌<◌, ◌≤◌, ℕ, List, Bool, Some, is_some, IsTrue, ⊤}
+use Rattle.graph_format.specs.Layer.{Layer}
+use Rattle.graph_format.specs.Points.{first_fault}
+use Rattle.gix_commitgraph.specs.Distinct.{IsSoundWith}
+use Rattle.gix_commitgraph.specs.Graph.{total}
+use Rattle.gix_commitgraph.specs.Verify.{points_with}
+use Rattle.gix_commitgraph.specs.declared.verify.VerifyError.{VerifyError}
+use Rattle.gix_commitgraph.specs.declared.verify.VerifyError.TheVariants as error
+use Rattle.gix_commitgraph.specs.declared.verify.VerifyOptions.{VerifyOptions}
+use Rattle.graph_history.specs.declared.limit.Limit.{Limit}
+use Rattle.graph_history.specs.declared.limit.LimitError.{LimitError}
+use Rattle.graph_history.specs.declared.limit.LimitError.TheVariants as limited
+use Rattle.graph_history.specs.declared.limit.Stopped.{Stopped}
+
+-- What stops a search or a check: how many commits may be visited, and whether there is a flag, which may be raised.
+pub record Bound : Type 0 where
+  pub visits : ℕ
+  pub flagged : Bool
+
+abbrev pub bound_of : Limit → Bound
+bound_of limit = record { visits = limit.visits; flagged = is_some limit.flag }
+
+-- what has visited so many commits may be stopped
+abbrev pub StopsAfter : Bound → ℕ → Type 0
+StopsAfter bound visits = (bound.visits ≤ visits) ⊎ IsTrue bound.flagged
+
+-- what visits at most so many commits may be stopped
+abbrev pub MayBeStopped : Bound → ℕ → Type 0
+MayBeStopped bound most = (bound.visits < most) ⊎ IsTrue bound.flagged
+
+-- a search that visits at most so many commits has no answer: it may be stopped; or an allocation failed, and P holds
+abbrev pub EndsEarly : {E : Type 0} → Bound → ℕ → Type 0 → LimitError E → Type 0
+EndsEarly bound most P limited.Stopped = MayBeStopped bound most
+EndsEarly bound most P (limited.Source e) = P
+
+-- the error of a source has a property, or there is none of it
+abbrev pub IfSource : {E : Type 0} → (E → Type 0) → LimitError E → Type 0
+IfSource P limited.Stopped = ⊤
+IfSource P (limited.Source e) = P e
+
+-- there is an error of a source, and it has a property
+abbrev pub IsSource : {E : Type 0} → (E → Type 0) → LimitError E → Type 0
+IsSource P limited.Stopped = ⊥
+IsSource P (limited.Source e) = P e
+
+-- the errors of a check with these options that may be stopped: at a commit before which as many were visited as may be, or where
+-- there is a flag; else the first fault, and then the graph does not keep what the options ask for; or that an allocation failed
+abbrev pub MayRefuseWithin : Bound → VerifyOptions → List Layer → VerifyError Stopped → Type 0
+MayRefuseWithin bound options layers (error.Processor pos stop) = (pos.0 < total layers) × StopsAfter bound pos.0
+MayRefuseWithin bound options layers error.OutOfMemory = ⊤
+MayRefuseWithin bound options layers x = (first_fault (points_with options layers) ≡ Some x) × (¬ IsSoundWith options layers)

@@ -1,0 +1,215 @@
+//! Searches and checks within a limit.
+
+ghost use Rattle.std.specs.Prelude.{◌≡◌, ◌≢◌, ◌⊎◌, ◌↔◌, ◌*◌, ◌<◌, ◌≤◌, All, IfErr, IfOk, IsTrue, ⊤};
+ghost use Rattle.graph_walks.specs.Walks.{Reaches};
+ghost use Rattle.graph_format.specs.StoredHistory.{history_of};
+ghost use Rattle.gix_commitgraph.specs.Distinct.{IsSoundWith};
+ghost use Rattle.gix_commitgraph.specs.Graph.{total};
+ghost use Rattle.graph_ancestors.specs.WalkAnswer.{IsAnswer, MayLead, numbers_of};
+ghost use Rattle.graph_history.specs.Comparison.{IsComparisonOf};
+ghost use Rattle.graph_history.specs.Limits.{EndsEarly, IsSource, MayRefuseWithin, bound_of};
+
+use crate::any::AnyComparer;
+use crate::bases::Comparison;
+use crate::checked::Checked;
+use crate::limit::{Limit, LimitError, Stopped};
+use crate::limited::Limited;
+use crate::owned::CheckedGraph;
+use gix_commitgraph::file::Commit;
+use gix_commitgraph::law::check::a_check_of_a_graph_calls_on_each_position_once;
+use gix_commitgraph::verify::{VerifyError, VerifyOptions};
+use gix_commitgraph::{Graph, Position};
+use graph_ancestors::{AnySearcher, InMemory, Reached};
+use std::alloc::{AllocError, Global};
+
+/// How many commits a search breadth first has read at most past the one that it visits.
+const AHEAD: u64 = 63;
+
+impl<'g> Checked<'g> {
+    /// What [`Checked::ancestor_walk`] answers, where no more commits are visited for it than the
+    /// limit allows.
+    ///
+    /// # Errors
+    ///
+    /// `Stopped`, where more would have to be visited, or the flag was raised; never where the
+    /// limit allows all commits of the graph and has no flag. `Source`, where an allocation failed,
+    /// as in [`Checked::ancestor_walk`].
+    pub fn ancestor_walk_within(
+        &self,
+        alloc: Global,
+        from: Position,
+        to: Position,
+        limit: Limit<'_>,
+    ) -> Result<Reached, LimitError<AllocError>>
+        requires from { from.0 < total self.now.layers }
+        requires to { to.0 < total self.now.layers }
+        ensures answer { IfOk result (IsAnswer (history_of self.now.layers) from.0 to.0) }
+        ensures within { IfOk result (λ reached. reached.visits ≤ limit.entry.visits) }
+        ensures refused { IfErr result (EndsEarly (bound_of limit.entry) (total self.now.layers)
+            ((from.0 ≡ to.0) ⊎ MayLead (history_of self.now.layers) from.0 to.0)) }
+    {
+        if limit.allows(self.graph.num_commits() as u64) {
+            return self.whole_walk(alloc, from, to);
+        }
+        let mut commits = Limited::new(InMemory::new(self.graph), limit.with_more(AHEAD));
+        match AnySearcher::new(alloc).ancestor_walk(&mut commits, from, to) {
+            Ok(reached) if reached.visits as u64 <= limit.visits => Ok(reached),
+            Ok(_) => Err(LimitError::Stopped),
+            Err(error) => Err(error),
+        }
+    }
+
+    /// What [`Checked::ancestor_walk`] answers. No more commits are visited than there are.
+    fn whole_walk(
+        &self,
+        alloc: Global,
+        from: Position,
+        to: Position,
+    ) -> Result<Reached, LimitError<AllocError>>
+        requires from { from.0 < total self.now.layers }
+        requires to { to.0 < total self.now.layers }
+        ensures answer { IfOk result (IsAnswer (history_of self.now.layers) from.0 to.0) }
+        ensures visits { IfOk result (λ reached. reached.visits ≤ total self.now.layers) }
+        ensures refused { IfErr result (IsSource (λ _. (from.0 ≡ to.0)
+            ⊎ MayLead (history_of self.now.layers) from.0 to.0)) }
+    {
+        let mut whole = InMemory::new(self.graph);
+        match AnySearcher::new(alloc).ancestor_walk(&mut whole, from, to) {
+            Ok(reached) => Ok(reached),
+            Err(error) => Err(LimitError::Source(error)),
+        }
+    }
+
+    /// What [`Checked::is_ancestor`] answers, where the parents of no more commits are read for it
+    /// than the limit allows.
+    ///
+    /// # Errors
+    ///
+    /// `Stopped`, where those of more would have to be read, or the flag was raised; never where
+    /// the limit allows all commits of the graph and has no flag. `Source`, where an allocation
+    /// failed, as in [`Checked::is_ancestor`].
+    pub fn is_ancestor_within(
+        &self,
+        alloc: Global,
+        ancestor: Position,
+        descendant: Position,
+        limit: Limit<'_>,
+    ) -> Result<bool, LimitError<AllocError>>
+        requires ancestor { ancestor.0 < total self.now.layers }
+        requires descendant { descendant.0 < total self.now.layers }
+        ensures found { IfOk result (λ found.
+            IsTrue found ↔ Reaches (history_of self.now.layers) descendant.0 ancestor.0) }
+        ensures refused { IfErr result (EndsEarly (bound_of limit.entry) (total self.now.layers)
+            ((descendant.0 ≢ ancestor.0)
+            × MayLead (history_of self.now.layers) descendant.0 ancestor.0)) }
+    {
+        if limit.allows(self.graph.num_commits() as u64) {
+            return match self.is_ancestor(alloc, ancestor, descendant) {
+                Ok(found) => Ok(found),
+                Err(error) => Err(LimitError::Source(error)),
+            };
+        }
+        let mut commits = Limited::new(InMemory::new(self.graph), limit);
+        AnySearcher::new(alloc).is_ancestor(&mut commits, ancestor, descendant)
+    }
+
+    /// What [`Checked::compare`] answers, where no more commits are visited for it than the limit
+    /// allows.
+    ///
+    /// # Errors
+    ///
+    /// `Stopped`, where more would have to be visited, or the flag was raised; never where the
+    /// limit allows three times as many as the graph has, and has no flag. `Source`, where an
+    /// allocation failed.
+    pub fn compare_within(
+        &self,
+        alloc: Global,
+        first: Position,
+        others: &[Position],
+        limit: Limit<'_>,
+    ) -> Result<Comparison, LimitError<AllocError>>
+        requires first { first.0 < total self.now.layers }
+        requires others { All (λ other. other.0 < total self.now.layers) others.now }
+        ensures exact { IfOk result (IsComparisonOf self.now.layers first.0
+            (numbers_of others.now)) }
+        ensures within { IfOk result (λ c. c.bases.visits ≤ limit.entry.visits) }
+        ensures refused { IfErr result
+            (EndsEarly (bound_of limit.entry) (3 * total self.now.layers) ⊤) }
+    {
+        if limit.allows(3 * self.graph.num_commits() as u64) {
+            return self.whole_comparison(alloc, first, others);
+        }
+        let mut commits = Limited::new(InMemory::new(self.graph), limit);
+        match AnyComparer::new(alloc).compare(&mut commits, first, others) {
+            Ok(comparison) if comparison.bases.visits <= limit.visits => Ok(comparison),
+            Ok(_) => Err(LimitError::Stopped),
+            Err(error) => Err(error),
+        }
+    }
+
+    /// What [`Checked::compare`] answers. No commit is visited more than three times.
+    fn whole_comparison(
+        &self,
+        alloc: Global,
+        first: Position,
+        others: &[Position],
+    ) -> Result<Comparison, LimitError<AllocError>>
+        requires first { first.0 < total self.now.layers }
+        requires others { All (λ other. other.0 < total self.now.layers) others.now }
+        ensures exact { IfOk result (IsComparisonOf self.now.layers first.0
+            (numbers_of others.now)) }
+        ensures visits { IfOk result (λ c. c.bases.visits ≤ 3 * total self.now.layers) }
+        ensures refused { IfErr result (IsSource (λ _. ⊤)) }
+    {
+        let mut whole = InMemory::new(self.graph);
+        match AnyComparer::new(alloc).compare(&mut whole, first, others) {
+            Ok(comparison) => Ok(comparison),
+            Err(error) => Err(LimitError::Source(error)),
+        }
+    }
+}
+
+impl CheckedGraph {
+    /// Checks a graph as [`CheckedGraph::new_with`] does, and keeps it, unless the limit stops the
+    /// check. The commits that it visits are those on which the processor of
+    /// [`Graph::verify_integrity_with`] is called: a digest of a file is not stopped.
+    ///
+    /// # Errors
+    ///
+    /// Those of [`CheckedGraph::new_with`], and `Processor` at the first commit that is not to be
+    /// visited. The graph is dropped then.
+    pub fn new_within(
+        alloc: Global,
+        options: VerifyOptions,
+        graph: Graph,
+        limit: Limit<'_>,
+    ) -> Result<CheckedGraph, VerifyError<Stopped>>
+        ensures graph { IfOk result (λ checked. checked.layers ≡ graph) }
+        ensures options { IfOk result (λ checked. checked.options ≡ options) }
+        ensures sound { IfOk result (λ _. IsSoundWith options graph) }
+        ensures refusal { IfErr result (MayRefuseWithin (bound_of limit.entry) options graph) }
+    {
+        a_check_of_a_graph_calls_on_each_position_once::<Stopped>();
+        let mut visits = 0u32;
+        let found = graph.verify_integrity_with(
+            alloc,
+            options,
+            &mut |_: &Commit<'_>| {
+                if limit.stops_after(visits as u64) {
+                    Err(Stopped)
+                } else {
+                    visits = visits.saturating_add(1);
+                    Ok(())
+                }
+            },
+        );
+        match found {
+            Ok(outcome) => Ok(CheckedGraph {
+                graph,
+                options,
+                outcome,
+            }),
+            Err(error) => Err(error),
+        }
+    }
+}
