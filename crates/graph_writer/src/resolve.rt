@@ -1,8 +1,8 @@
 //! The positions of parents: those of the commits that are handed in follow those of the graph
 //! below, in the order of their ids.
 
-ghost use Rattle.std.specs.Prelude.{◌≡◌, ◌⊎◌, ◌<◌, ◌+◌, ◌++◌, ℕ, List, All, IfOk, IfErr};
-ghost use Rattle.std.specs.Prelude.{IfSome, IfNone, is_none, Some, None, length, position};
+ghost use Rattle.std.specs.Prelude.{◌≡◌, ◌↔◌, ◌⊎◌, ◌<◌, ◌+◌, ◌++◌, ℕ, List, All, IfOk, IfErr};
+ghost use Rattle.std.specs.Prelude.{IsTrue, IfSome, IfNone, is_none, Some, None, length, position};
 ghost use Rattle.std.specs.Prelude.{slice_get};
 ghost use Rattle.gix_chunk_core.specs.FirstFault.{first_below};
 ghost use Rattle.graph_levels.specs.ParentLists.{commit_count, parent_list};
@@ -18,6 +18,18 @@ use graph_history::Checked;
 use graph_levels::ParentLists;
 use std::alloc::{AllocError, Global};
 use std::cmp::Ordering;
+
+/// Whether two ids are one. Those of SHA-1 are compared as arrays, whose length the compiler knows.
+fn are_one(id: &ObjectId, other: &ObjectId) -> bool
+    ensures { IsTrue result ↔ id.now ≡ other.now }
+{
+    let id = id.as_oid().as_bytes();
+    let other = other.as_oid().as_bytes();
+    match (<&[u8; 20]>::try_from(id), <&[u8; 20]>::try_from(other)) {
+        (Ok(id), Ok(other)) => *id == *other,
+        _ => id == other,
+    }
+}
 
 /// Where each commit stands whose id a parent may have.
 #[derive(Clone, Copy, Drop)]
@@ -65,7 +77,7 @@ impl Known<'_> {
         ensures none { is_none result ≡ is_none (scan (new_ids self.now.commits.now) id.now) }
     {
         let place = guess as usize;
-        if place < self.order.len() && self.commits[self.order[place]].id == *id {
+        if place < self.order.len() && are_one(&self.commits[self.order[place]].id, id) {
             Some(place)
         } else {
             self.search(id)
