@@ -6,7 +6,6 @@ use Rattle.graph_levels.specs.ParentLists.{commit_count, parent_list}
 use Rattle.graph_writer.specs.Known.{ids_below, all_ids, is_unknown_to}
 use Rattle.graph_writer.specs.NewCommits.{HoldIds, new_times}
 use Rattle.graph_writer.specs.NewLayers.{times_in_order}
-use Rattle.graph_writer.specs.WriteRefusal.{parent_at}
 use Rattle.graph_writer.specs.declared.commit.NewCommit.{NewCommit}
 use Rattle.graph_writer.proofs.KnownSteps.{parent-from, if-none, lists-more, found-more, all-found, AreFoundTo}
 use Rattle.graph_writer.proofs.LoopSteps.{mapped-more}
