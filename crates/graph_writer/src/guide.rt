@@ -92,7 +92,6 @@ pub(crate) struct Guesses<'a> {
     commits: &'a [NewCommit],
     order: &'a [usize],
     wanted: Vec<u64>,
-    starts: Vec<u32>,
     guessed: Vec<u32>,
     places: Vec<u32>,
     next: usize,
@@ -111,7 +110,6 @@ impl<'a> Guesses<'a> {
             commits,
             order,
             wanted: Vec::new(alloc),
-            starts: Vec::new(alloc),
             guessed: Vec::new(alloc),
             places: Vec::new(alloc),
             next: 0,
@@ -129,7 +127,6 @@ impl<'a> Guesses<'a> {
     /// Makes the guesses of the block that begins at this place.
     fn guess_block(&mut self, place: usize) -> Result<(), AllocError> {
         self.wanted.clear();
-        self.starts.clear();
         self.guessed.clear();
         self.places.clear();
         self.next = 0;
@@ -142,10 +139,10 @@ impl<'a> Guesses<'a> {
         }
         let guide = self.guide;
         for front in &self.wanted {
-            self.starts.push(guide.start_of(*front))?;
+            self.guessed.push(guide.start_of(*front))?;
         }
-        for (front, start) in self.wanted.iter().zip(self.starts.iter()) {
-            self.guessed.push(guide.guess(*front, *start))?;
+        for (front, place) in self.wanted.iter().zip(self.guessed.iter_mut()) {
+            *place = guide.guess(*front, *place);
         }
         for (place, front) in self.guessed.iter().zip(self.wanted.iter()) {
             let found = front_at(commits, order, *place) == *front;
