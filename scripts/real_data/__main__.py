@@ -30,8 +30,8 @@ NAME is a file of the folder `checks`, such as show_checks; without one, all are
   Git's verdict; streams that are cut or changed at each byte; and commits that Git's own commands do not make.
 - `show`: graphs that Git writes, with dates and filters or without, and damaged ones, by a plain reading; and what
   `git cgraph show` says that they cover, beside Git's own lists, in repositories of every kind.
-- `write`: files and layers of the commits that Git lists, in any order: they are those that Git writes, bit by bit; and each
-  refusal, of streams that are cut or changed, and on top of wrong graphs.
+- `write`: files and layers of the commits that Git lists, in any order: they are those that Git writes, bit by bit, also of
+  100,000 commits; and each refusal, of streams that are cut or changed, and on top of wrong graphs.
 - `merge`: files and chains of every kind, of one layer up to 256: the file is the one that Git writes of the same commits,
   bit by bit, and thousands at random beside a plain writing; commits that stand twice, cycles and wrong graphs are refused.
 - `distinct`: the words of `verify`, and an id that was put into two layers or more, next to one another

@@ -1,16 +1,21 @@
 -- What a new layer is to say of its commits: their order and the positions of their parents ("OID Lookup", "Commit Data").
-use Rattle.std.specs.Prelude.{◌≡◌, ◌++◌, ℕ, ◌+◌, ◌<◌, List, [], Some, All, Contains, length, map, slice_get, slice_index_or}
+use Rattle.std.specs.Prelude.{◌≡◌, ◌++◌, ℕ, ◌+◌, ◌<◌, List, [], Some, All, Contains, length, map, slice_get, slice_index}
+use Rattle.std.specs.Prelude.{slice_index_or}
 use Rattle.gix_commitgraph.specs.Graph.{graph_ids, total}
 use Rattle.graph_format.specs.Layer.{Layer}
 use Rattle.graph_format.specs.Order.{AreAscending}
 use Rattle.graph_levels.specs.ParentLists.{commit_count, parent_list}
-use Rattle.graph_writer.specs.NewCommits.{new_ids, HoldIds}
+use Rattle.graph_writer.specs.NewCommits.{new_ids, new_times, HoldIds}
 use Rattle.graph_writer.specs.declared.commit.NewCommit.{NewCommit}
 use Rattle.graph_writer.specs.declared.new_layer.NewLayer.{NewLayer}
 
 -- the ids of the commits in the order that lists their numbers
 abbrev pub ids_in_order : List NewCommit → List ℕ → List (List ℕ)
 ids_in_order commits order = map (λ i. slice_index_or (new_ids commits) i []) order
+
+-- their times in that order
+abbrev pub times_in_order : List NewCommit → List ℕ → List ℕ
+times_in_order commits order = map (λ i. slice_index (new_times commits) i) order
 
 -- The commits stand in the order of their ids, each once, and the positions of their parents, those below first, are those of
 -- the ids that the commits name.

@@ -53,15 +53,18 @@ impl Guide {
         Ok(Guide { fronts, starts })
     }
 
-    /// Where the commit stands whose id has this front if there is one, unless many ids have fronts
-    /// that are near to each other. It is found by counting, without a choice for which the
-    /// processor would have to wait.
-    fn guess(&self, wanted: u64) -> u32 {
-        let bucket = bucket_of(wanted, self.starts.len());
-        let start = match self.starts.get(bucket) {
+    /// Where to begin to look for a front.
+    fn start_of(&self, wanted: u64) -> u32 {
+        match self.starts.get(bucket_of(wanted, self.starts.len())) {
             Some(start) => *start,
             None => 0,
-        };
+        }
+    }
+
+    /// Where the commit stands whose id has this front if there is one, unless many ids have fronts
+    /// that are near to each other. It is found by counting from the start on, without a choice for
+    /// which the processor would have to wait.
+    fn guess(&self, wanted: u64, start: u32) -> u32 {
         let from = (start as usize).min(self.fronts.len());
         let to = (from + MOST_EACH).min(self.fronts.len());
         let mut place = start;
@@ -136,7 +139,10 @@ impl<'a> Guesses<'a> {
         }
         let guide = self.guide;
         for front in &self.wanted {
-            self.guessed.push(guide.guess(*front))?;
+            self.guessed.push(guide.start_of(*front))?;
+        }
+        for (front, place) in self.wanted.iter().zip(self.guessed.iter_mut()) {
+            *place = guide.guess(*front, *place);
         }
         for (place, front) in self.guessed.iter().zip(self.wanted.iter()) {
             let found = front_at(commits, order, *place) == *front;

@@ -31,7 +31,7 @@ pub struct NewLayer {
 }
 
 impl NewLayer {
-    ghost use Rattle.graph_writer.specs.NewLayers.{IsNewLayer};
+    ghost use Rattle.graph_writer.specs.NewLayers.{IsNewLayer, times_in_order};
 
     /// The layer of these commits on top of a graph, or on none.
     ///
@@ -45,6 +45,25 @@ impl NewLayer {
         commits: &[NewCommit],
     ) -> Result<NewLayer, WriteError>
         ensures layer { IfOk result (IsNewLayer (layers_of_below below.entry) commits.now) }
+        ensures accepted { IfOk result (λ _.
+            new_layer_refusal (layers_of_below below.entry) commits.now ≡ None) }
+        ensures refusal { IfErr result
+            (MayRefuseNewLayer (layers_of_below below.entry) commits.now) }
+    {
+        let (new, _) = NewLayer::with_times(alloc, below, commits)?;
+        Ok(new)
+    }
+
+    /// The same, and the times of the commits in their order.
+    pub(crate) fn with_times(
+        alloc: Global,
+        below: Option<&Checked<'_>>,
+        commits: &[NewCommit],
+    ) -> Result<(NewLayer, Vec<u64>), WriteError>
+        ensures layer { IfOk result (λ found.
+            IsNewLayer (layers_of_below below.entry) commits.now found.0) }
+        ensures times { IfOk result (λ found. found.1.items
+            ≡ times_in_order commits.now found.0.order.items) }
         ensures accepted { IfOk result (λ _.
             new_layer_refusal (layers_of_below below.entry) commits.now ≡ None) }
         ensures refusal { IfErr result
@@ -65,8 +84,8 @@ impl NewLayer {
             order: &order,
         };
         let guide = Guide::of(alloc, &places)?;
-        let parents = known.resolve(alloc, &guide)?;
-        Ok(NewLayer { order, parents })
+        let (parents, times) = known.resolve(alloc, &guide)?;
+        Ok((NewLayer { order, parents }, times))
     }
 }
 

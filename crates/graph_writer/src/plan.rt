@@ -1,9 +1,9 @@
 //! What the file of a new layer is to hold.
 
-ghost use Rattle.std.specs.Prelude.{◌≡◌, ◌+◌, ◌<◌, ◌≤◌, ◌^◌, ℕ, true, All, IfOk, IfSome};
-ghost use Rattle.std.specs.Prelude.{IfNone, false, length, map, slice_index};
+ghost use Rattle.std.specs.Prelude.{◌≡◌, ◌+◌, ◌<◌, ◌≤◌, ◌^◌, ℕ, true, false, IfOk, IfSome};
+ghost use Rattle.std.specs.Prelude.{IfNone, length, map, slice_index};
 ghost use Rattle.graph_levels.specs.OnTop.{level_at};
-ghost use Rattle.graph_writer.specs.NewCommits.{layers_of_below, new_times};
+ghost use Rattle.graph_writer.specs.NewCommits.{layers_of_below};
 ghost use Rattle.graph_writer.specs.PlannedCommits.{AreOffsetsOf};
 
 use crate::commit::NewCommit;
@@ -12,23 +12,6 @@ use gix_hash_core::ObjectId;
 use graph_history::Checked;
 use graph_levels::Level;
 use std::alloc::{AllocError, Global};
-
-/// The times of the commits of these numbers.
-pub(crate) fn times_in_order(
-    alloc: Global,
-    commits: &[NewCommit],
-    order: &[usize],
-) -> Result<Vec<u64>, AllocError>
-    requires { All (λ i. i < length commits.now) order.now }
-    ensures { IfOk result (λ times.
-        times.items ≡ map (λ i. slice_index (new_times commits.now) i) order.now) }
-{
-    let mut times = Vec::with_capacity(alloc, order.len())?;
-    for number in order {
-        times.push(commits[*number].time)?;
-    }
-    Ok(times)
-}
 
 /// The checksums of the layers below, the lowest first.
 pub(crate) fn checksums_below(

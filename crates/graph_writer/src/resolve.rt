@@ -1,13 +1,14 @@
 //! The positions of parents: those of the commits that are handed in follow those of the graph
 //! below, in the order of their ids.
 
-ghost use Rattle.std.specs.Prelude.{◌≡◌, ◌⊎◌, ◌<◌, ◌+◌, ◌++◌, ℕ, List, All, IfOk, IfErr};
-ghost use Rattle.std.specs.Prelude.{IfSome, IfNone, is_none, Some, None, length, position};
+ghost use Rattle.std.specs.Prelude.{◌≡◌, ◌↔◌, ◌⊎◌, ◌<◌, ◌+◌, ◌++◌, ℕ, List, All, IfOk, IfErr};
+ghost use Rattle.std.specs.Prelude.{IsTrue, IfSome, IfNone, is_none, Some, None, length, position};
 ghost use Rattle.std.specs.Prelude.{slice_get};
 ghost use Rattle.gix_chunk_core.specs.FirstFault.{first_below};
 ghost use Rattle.graph_levels.specs.ParentLists.{commit_count, parent_list};
 ghost use Rattle.graph_format.specs.Lookup.{scan};
 ghost use Rattle.graph_writer.specs.NewCommits.{new_ids, HoldIds};
+ghost use Rattle.graph_writer.specs.NewLayers.{times_in_order};
 ghost use Rattle.graph_writer.specs.WriteRefusal.{parent_at};
 ghost use Rattle.graph_writer.specs.declared.commit.NewCommit.{NewCommit};
 
@@ -18,6 +19,18 @@ use graph_history::Checked;
 use graph_levels::ParentLists;
 use std::alloc::{AllocError, Global};
 use std::cmp::Ordering;
+
+/// Whether two ids are one. Those of SHA-1 are compared as arrays, whose length the compiler knows.
+fn are_one(id: &ObjectId, other: &ObjectId) -> bool
+    ensures { IsTrue result ↔ id.now ≡ other.now }
+{
+    let id = id.as_oid().as_bytes();
+    let other = other.as_oid().as_bytes();
+    match (<&[u8; 20]>::try_from(id), <&[u8; 20]>::try_from(other)) {
+        (Ok(id), Ok(other)) => *id == *other,
+        _ => id == other,
+    }
+}
 
 /// Where each commit stands whose id a parent may have.
 #[derive(Clone, Copy, Drop)]
@@ -65,7 +78,7 @@ impl Known<'_> {
         ensures none { is_none result ≡ is_none (scan (new_ids self.now.commits.now) id.now) }
     {
         let place = guess as usize;
-        if place < self.order.len() && self.commits[self.order[place]].id == *id {
+        if place < self.order.len() && are_one(&self.commits[self.order[place]].id, id) {
             Some(place)
         } else {
             self.search(id)
@@ -156,17 +169,24 @@ impl Known<'_> {
         WriteError::Parent(number, parent)
     }
 
-    /// The positions of the parents of each commit, in the order of ids.
-    pub(crate) fn resolve(&self, alloc: Global, guide: &Guide) -> Result<ParentLists, WriteError>
+    /// The positions of the parents of each commit, in the order of ids, and the times of the
+    /// commits: they lie beside the parents in memory.
+    pub(crate) fn resolve(
+        &self,
+        alloc: Global,
+        guide: &Guide,
+    ) -> Result<(ParentLists, Vec<u64>), WriteError>
         requires { IsKnown self.now }
-        ensures count { IfOk result (λ lists.
-            commit_count lists ≡ length self.now.order.now) }
-        ensures within { IfOk result (λ lists. (p : ℕ) → p < commit_count lists
-            → All (λ q. q < self.now.start + length self.now.commits.now) (parent_list lists p)) }
-        ensures ids { IfOk result (λ lists. (p i : ℕ) (commit : NewCommit)
+        ensures count { IfOk result (λ found.
+            commit_count found.0 ≡ length self.now.order.now) }
+        ensures within { IfOk result (λ found. (p : ℕ) → p < commit_count found.0
+            → All (λ q. q < self.now.start + length self.now.commits.now) (parent_list found.0 p)) }
+        ensures ids { IfOk result (λ found. (p i : ℕ) (commit : NewCommit)
             → slice_get self.now.order.now p ≡ Some i
             → slice_get self.now.commits.now i ≡ Some commit
-            → HoldIds (all_ids self.now) (parent_list lists p) commit.parents.items) }
+            → HoldIds (all_ids self.now) (parent_list found.0 p) commit.parents.items) }
+        ensures times { IfOk result (λ found. found.1.items
+            ≡ times_in_order self.now.commits.now self.now.order.now) }
         ensures found { IfOk result (λ _.
             first_below (parent_at (ids_below self.now) self.now.commits.now)
             (length self.now.commits.now) ≡ None) }
@@ -176,15 +196,18 @@ impl Known<'_> {
     {
         let mut guesses = Guesses::of(alloc, guide, self.commits, self.order);
         let mut lists = ParentLists::new(alloc);
+        let mut times = Vec::with_capacity(alloc, self.order.len())?;
         let mut positions = Vec::new(alloc);
         for place in 0..self.order.len() {
             guesses.go_on(place)?;
             let number = self.order[place];
-            match self.put_parents(&self.commits[number], &mut guesses, &mut positions)? {
+            let commit = &self.commits[number];
+            match self.put_parents(commit, &mut guesses, &mut positions)? {
                 Some(parent) => return Err(self.first_unknown(number, parent)),
                 None => lists.push(&positions)?,
             }
+            times.push_reserved(commit.time);
         }
-        Ok(lists)
+        Ok((lists, times))
     }
 }

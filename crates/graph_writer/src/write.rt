@@ -17,7 +17,7 @@ use crate::commit::{NewCommit, WriteError};
 use crate::levels_below::LevelsBelow;
 use crate::new_layer::{NewLayer, kind_to_write};
 use crate::new_plan::NewPlan;
-use crate::plan::{checksums_below, offsets_of, times_in_order};
+use crate::plan::{checksums_below, offsets_of};
 use graph_encoder::{build_view, has_few_extra_words};
 use graph_history::Checked;
 use graph_levels::{Level, LevelsError, levels};
@@ -47,9 +47,8 @@ pub fn write_layer(
         AreAccepted (layers_of_below below.entry) commits.now) }
     ensures refusal { IfErr result (MayRefuseWriting (layers_of_below below.entry) commits.now) }
 {
-    let new = NewLayer::of(alloc, below, commits)?;
+    let (new, times) = NewLayer::with_times(alloc, below, commits)?;
     let known = LevelsBelow::of(alloc, below)?;
-    let times = times_in_order(alloc, commits, &new.order)?;
     let own = own_levels(alloc, &known.levels, &new, &times)?;
     let plan = NewPlan {
         kind: kind_to_write(below, commits),

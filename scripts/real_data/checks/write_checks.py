@@ -25,6 +25,15 @@ LATE = "times of every size"
 
 NULL = {kind: b"0" * digits for kind, digits in DIGITS.items()}
 
+STEPS = ((60_000, 2), (90_000, 2), (100_000, 2))
+"""So many commits of a long history the layers of its chain have, with those below, and the version of their dates."""
+
+DISORDER = 0.05
+"""Of so many of its commits in one the time lies in the past."""
+
+EVERY = 20
+"""One in so many of its commits writes a file."""
+
 CRISS_CROSS = shapes.ticking([[], [0], [0], [1, 2], [2, 1], [3, 4], [4, 3], [5, 6]])
 
 
@@ -39,18 +48,48 @@ def check_kind(histories, results, new):
         print("left out, since the program has no such command: write")
         return
     for name, history in {**shapes.ALL, "criss-cross": CRISS_CROSS}.items():
-        check_history(histories, results, new("written, " + name), name, history)
+        repository = new("written, " + name)
+        repository.add(history)
+        check_history(histories, results, repository, name)
     for version in (2, 1):
-        check_chain(histories, results, new("written, a chain with dates of %d" % version), version)
+        repository = new("written, a chain with dates of %d" % version)
+        ids = repository.add(shapes.tangled(60, seed=3))
+        check_chain(histories, results, repository, "a chain", ids, ((20, version), (21, 2), (50, 2), (60, 2)))
     check_odd(histories, results, new("written, odd commits"))
     check_refused(histories, results, new("written, refused"))
     check_below(histories, results, new("written, refused below"))
     check_cut(histories, results, new("written, cut"))
 
 
-def check_history(histories, results, repository, name, history):
+def check_all(histories, results, new):
+    """A long history of either kind of hash, in a file and in a chain."""
+    if not knows_write(histories):
+        return
+    for kind in ID_LENGTH:
+        repository = new(kind, "written, a long history")
+        ids = repository.add(long_history(kind), every=EVERY)
+        check_history(histories, results, repository, "a long history")
+        layer = read_bytes(repository.graph_path())
+        lists = {"GDA2", "GDO2", "EDGE"}.difference(Outline(layer, kind).chunks)
+        results.check("%s, a long history, offsets past 31 bits and extra edges" % kind, "no %s" % lists if lists else None)
+        os.remove(repository.graph_path())
+        check_chain(histories, results, repository, "a chain of a long history", ids, STEPS)
+
+
+def long_history(seed):
+    """Topics that the main line merges, one or several at once, lines that merge each other, and roots apart. Some times lie in the
+    past, some are 0, and one is the latest of which there is a record, so that the dates of all after it lie far past their times.
+    """
+    history = shapes.topics(STEPS[-1][0], seed, DISORDER)
+    for place in range(999, len(history), 1000):
+        history[place] = history[place]._replace(time=0)
+    late = next(place for place in range(STEPS[0][0], len(history)) if len(history[place].parents) > 2)
+    history[late] = history[late]._replace(time=2**34 - 1)
+    return history
+
+
+def check_history(histories, results, repository, name):
     """A file of all commits, in the orders of Git, of ids and of chance: it is Git's, and both find it right."""
-    repository.add(history)
     title = "%s, %s, written" % (repository.object_format, name)
     newest = repository.git("rev-list", "--all").decode().split()
     if name == LATE:
@@ -84,26 +123,25 @@ def found_right(histories, repository, path):
     return "%r, and Git says %s" % (answer, verdict)
 
 
-def check_chain(histories, results, repository, version):
-    """Each layer of a chain, on top of those below: it is the one that Git writes, also where the lowest has no dates."""
-    history, layers = shapes.tangled(60, seed=3), []
-    for count, generations in ((20, version), (21, 2), (50, 2), (60, 2)):
-        repository.add(history[:count], len(Graph(layers).ids))
-        repository.write_graph("--split=no-merge", generation_version=generations)
-        layers = [content for _, content in repository.chain()]
-    for number, layer in enumerate(layers):
-        title = "%s, layer %d of a chain, dates of %d, written" % (repository.object_format, number, version)
-        below, above = Graph(layers[:number]).ids, Graph(layers[: number + 1]).ids
+def check_chain(histories, results, repository, name, ids, steps):
+    """Each layer of a chain, on top of those below: it is the one that Git writes, also where the lowest has no dates. A step says
+    how many of the commits there are then, and which version of dates the layer has that is written then.
+    """
+    for count, version in steps:
+        repository.write_graph("--split=no-merge", generation_version=version, tips=ids[:count])
+    layers, start = [content for _, content in repository.chain()], 0
+    title = "%s, %s, dates of %d" % (repository.object_format, name, steps[0][1])
+    for number, (layer, (count, version)) in enumerate(zip(layers, steps)):
         path = []
         if number:
             lay_chain(repository, layers[:number])
             path = [repository.info_path()]
-        stream = batch(repository, above[len(below) :])
-        if number or version == 2:
-            results.check(title, is_file(layer, histories.write(stream, *path)))
+        stream, start = batch(repository, ids[start:count]), count
+        if version == 2:
+            results.check("%s, layer %d, written" % (title, number), is_file(layer, histories.write(stream, *path)))
     lay_chain(repository, layers)
-    title = "%s, a chain, dates of %d, written and found right" % (repository.object_format, version)
-    results.check(title, found_right(histories, repository, repository.info_path()))
+    other = None if len(layers) == len(steps) else "Git made %d layers" % len(layers)
+    results.check(title + ", written and found right", other or found_right(histories, repository, repository.info_path()))
 
 
 def check_odd(histories, results, repository):

@@ -50,14 +50,14 @@ class Repository:
             raise RuntimeError("git %s: %s" % (" ".join(words), run.stderr.decode()))
         return run.stdout
 
-    def add(self, history, start=0):
+    def add(self, history, start=0, every=1):
         """Makes the commits of a history, with a branch at each that has no child; answers their ids.
 
-        Those before a start were made by an earlier call.
+        Those before a start were made by an earlier call. One in so many writes a file, which takes most of the time.
         """
         marks = os.path.join(self.folder, "marks")
         files = ("--import-marks-if-exists=" + marks, "--export-marks=" + marks)
-        self.git("fast-import", "--quiet", "--force", *files, stdin=import_stream(history, start))
+        self.git("fast-import", "--quiet", "--force", *files, stdin=import_stream(history, start, every))
         with open(marks, encoding="ascii") as lines:
             named = dict(line.split() for line in lines)
         return [named[":%d" % (place + 1)] for place in range(len(history))]
@@ -161,27 +161,28 @@ def write_bytes(path, content):
         file.write(content)
 
 
-def import_stream(history, start):
-    """The history from a start on as git fast-import reads it."""
+def import_stream(history, start, every):
+    """The history from a start on as git fast-import reads it, where one commit in so many writes a file."""
     childless = set(range(len(history))) - {parent for commit in history for parent in commit.parents}
-    stream = [commit_command(place, commit) for place, commit in list(enumerate(history))[start:]]
+    stream = [commit_command(place, commit, place % every == 0) for place, commit in list(enumerate(history))[start:]]
     stream += ["reset refs/heads/tip-%d\nfrom :%d\n\n" % (place, place + 1) for place in sorted(childless)]
     return "".join(stream).encode()
 
 
-def commit_command(place, commit):
-    """One commit for git fast-import: it writes one of a few files, so that trees recur and differ."""
+def commit_command(place, commit, writes):
+    """One commit for git fast-import. If it writes, it does so to one of a few files, so that trees recur and differ."""
     joins = ["%s :%d\n" % ("merge" if which else "from", parent + 1) for which, parent in enumerate(commit.parents)]
     message = "commit %d\n" % place
     content = "%d\n" % (place // 3)
+    written = "M 100644 inline folder-%d/file\ndata %d\n%s\n" % (place % 4, len(content), content)
     return "".join(
         [
-            "reset refs/heads/work\n\n",
+            "" if joins else "reset refs/heads/work\n\n",
             "commit refs/heads/work\nmark :%d\n" % (place + 1),
             "committer %s %d +0000\n" % (PERSON, commit.time),
             "data %d\n%s" % (len(message), message),
             *joins,
-            "M 100644 inline folder-%d/file\ndata %d\n%s\n" % (place % 4, len(content), content),
+            written if writes else "\n",
         ]
     )
 

@@ -67,17 +67,17 @@ returns-in_err-known-clause-refusal c =
 
 pub own_levels-requires-clause-fits : goal.own_levels-requires-clause-fits
 own_levels-requires-clause-fits c =
-    subst (λ (ls : List Level). FitTogether ls c.in_ok-new.new.parents c.deref-3.result.now) (sym c.deref-2.ensures.value)
+    subst (λ (ls : List Level). FitTogether ls c.in_ok-new.new.parents c.deref-2.result.now) (sym c.deref.ensures.value)
     (subst (λ (ts : List ℕ). FitTogether c.in_ok-known.known.levels.items c.in_ok-new.new.parents ts)
-    (sym c.deref-3.ensures.value)
+    (sym c.deref-2.ensures.value)
     (fit-together (layers_of_below c.args.below) c.args.commits.now c.in_ok-new.new c.in_ok-new.ensures.layer
-    c.in_ok-new.ensures.accepted c.in_ok-known.known c.in_ok-known.ensures.levels c.in_ok-times.times.items
-    (c.in_ok-times.ensures ∙ ap (map (λ (i : ℕ). get_or (new_times c.args.commits.now) i 0)) c.deref.ensures.value)))
+    c.in_ok-new.ensures.accepted c.in_ok-known.known c.in_ok-known.ensures.levels c.in_ok-new.times.items
+    c.in_ok-new.ensures.times))
 
 pub returns-in_err-own-clause-refusal : goal.returns-in_err-own-clause-refusal
 returns-in_err-own-clause-refusal c =
     let handed = err_from_is_err_and c.from_residual-in_err-own.result c.from_residual-in_err-own.ensures.1 in
-    let base = ap length c.deref-2.ensures.value ∙ c.in_ok-known.ensures.levels.as_many in
+    let base = ap length c.deref.ensures.value ∙ c.in_ok-known.ensures.levels.as_many in
     rw (handed.1, handed.2)
     (refused-levels (layers_of_below c.args.below) c.args.commits.now c.in_ok-new.ensures.accepted
     c.in_ok-known.ensures.levels.accepted c.in_ok-new.new c.in_ok-new.ensures.layer _
@@ -88,7 +88,7 @@ returns-then-len-gt-MOST_BELOW-clause-refusal c =
     let layers : List Layer = layers_of_below c.args.below in
     refused-layers layers c.args.commits.now c.in_ok-new.ensures.accepted c.in_ok-known.ensures.levels.accepted
     (no-cycle-left layers c.args.commits.now c.in_ok-new.new c.in_ok-new.ensures.layer c.in_ok-new.ensures.accepted
-    c.in_ok-known.known c.in_ok-known.ensures.levels c.deref-2.result.now c.deref-2.ensures.value c.in_ok-own.ensures.acyclic)
+    c.in_ok-known.known c.in_ok-known.ensures.levels c.deref.result.now c.deref.ensures.value c.in_ok-own.ensures.acyclic)
     (omega (
       arith,
       c.if-len-gt-MOST_BELOW.true,
@@ -112,10 +112,10 @@ returns-then-not-has_few_extra_words-clause-refusal c =
     (c.len.ensures ∙ c.in_ok-checksums_below.field-0.ok.0) c.if-len-gt-MOST_BELOW.false in
     refused-edges layers commits c.in_ok-new.ensures.accepted c.in_ok-known.ensures.levels.accepted
     (no-cycle-left layers commits c.in_ok-new.new c.in_ok-new.ensures.layer c.in_ok-new.ensures.accepted
-    c.in_ok-known.known c.in_ok-known.ensures.levels c.deref-2.result.now c.deref-2.ensures.value c.in_ok-own.ensures.acyclic)
+    c.in_ok-known.known c.in_ok-known.ensures.levels c.deref.result.now c.deref.ensures.value c.in_ok-own.ensures.acyclic)
     few
     (many-words _ c.has_few_extra_words.result layers c.in_ok-own.own.items c.has_few_extra_words.ensures
-    c.if-not-has_few_extra_words.true c.deref-4.ensures.value c.in_ok-new.ensures.layer)
+    c.if-not-has_few_extra_words.true c.deref-3.ensures.value c.in_ok-new.ensures.layer)
 
 pub build_view-requires : goal.build_view-requires
 build_view-requires c =
@@ -123,20 +123,20 @@ build_view-requires c =
     let own : List Level = c.in_ok-own.own.items in
     let match_offsets =
     match-items (λ v. v.items) c.in_ok-offsets_of.field-0 (c.in_ok-known.known.have_dates ≡ false)
-    (λ offsets. (c.in_ok-known.known.have_dates ≡ true) × AreOffsetsOf c.deref-5.result.now c.deref-6.result.now offsets)
+    (λ offsets. (c.in_ok-known.known.have_dates ≡ true) × AreOffsetsOf c.deref-4.result.now c.deref-5.result.now offsets)
     c.in_ok-offsets_of.ensures.some c.in_ok-offsets_of.ensures.none in
-    let size : length c.in_ok-new.new.order.items ≡ length c.deref-6.result.now =
+    let size : length c.in_ok-new.new.order.items ≡ length c.deref-5.result.now =
     c.in_ok-new.ensures.layer.as_many
     ∙ sym c.in_ok-new.ensures.layer.listed
     ∙ sym c.in_ok-own.ensures.len
-    ∙ sym (ap length c.deref-6.ensures.value) in
-    view-fits _ layers own (c.has_few_extra_words.ensures.0 c.if-not-has_few_extra_words.false) c.deref-4.ensures.value
+    ∙ sym (ap length c.deref-5.ensures.value) in
+    view-fits _ layers own (c.has_few_extra_words.ensures.0 c.if-not-has_few_extra_words.false) c.deref-3.ensures.value
     c.in_ok-new.ensures.layer c.in_ok-new.ensures.accepted c.in_ok-known.known c.in_ok-known.ensures.levels
     c.kind_to_write.ensures c.in_ok-checksums_below.ensures
     (few-below layers c.in_ok-checksums_below.field-0.items c.len.result c.in_ok-checksums_below.ensures
     (c.len.ensures ∙ c.in_ok-checksums_below.field-0.ok.0) c.if-len-gt-MOST_BELOW.false)
     c.in_ok-own.ensures.len (λ p lt. (c.in_ok-own.ensures.bounds p lt).0)
-    (offsets-fit (option_map (λ v. v.items) c.in_ok-offsets_of.field-0) _ _ c.deref-5.result.now c.deref-6.result.now
+    (offsets-fit (option_map (λ v. v.items) c.in_ok-offsets_of.field-0) _ _ c.deref-4.result.now c.deref-5.result.now
     (length c.in_ok-new.new.order.items) size match_offsets)
 
 pub returns-clause-written : goal.returns-clause-written
@@ -146,32 +146,32 @@ returns-clause-written c path =
     let new = c.in_ok-new.new in
     let known = c.in_ok-known.known in
     let own : List Level = c.in_ok-own.own.items in
-    let times : List ℕ = c.in_ok-times.times.items in
+    let times : List ℕ = c.in_ok-new.times.items in
     let match_offsets =
     match-items (λ v. v.items) c.in_ok-offsets_of.field-0 (known.have_dates ≡ false)
-    (λ offsets. (known.have_dates ≡ true) × AreOffsetsOf c.deref-5.result.now c.deref-6.result.now offsets)
+    (λ offsets. (known.have_dates ≡ true) × AreOffsetsOf c.deref-4.result.now c.deref-5.result.now offsets)
     c.in_ok-offsets_of.ensures.some c.in_ok-offsets_of.ensures.none in
     let Has : List ℕ → List Level → Type 0 =
     λ ts ls. MatchOption (option_map (λ v. v.items) c.in_ok-offsets_of.field-0) (known.have_dates ≡ false)
     (λ offsets. (known.have_dates ≡ true) × AreOffsetsOf ts ls offsets) in
     let has : Has times own =
-    subst (λ (ts : List ℕ). Has ts own) c.deref-5.ensures.value
-    (subst (λ (ls : List Level). Has c.deref-5.result.now ls) c.deref-6.ensures.value match_offsets) in
+    subst (λ (ts : List ℕ). Has ts own) c.deref-4.ensures.value
+    (subst (λ (ls : List Level). Has c.deref-4.result.now ls) c.deref-5.ensures.value match_offsets) in
     let local =
     subst (λ (ls : List Level). (history : List Node) → HasOnTop history (length ls) new.parents
-    → HasLevelGenerations history ls own → AreLocal history) c.deref-2.ensures.value c.in_ok-own.ensures.generations in
+    → HasLevelGenerations history ls own → AreLocal history) c.deref.ensures.value c.in_ok-own.ensures.generations in
     let right =
     subst (λ (ls : List Level). (history : List Node) (ts ds : List ℕ) → HasOnTop history (length ls) new.parents
-    → HasLevelDates history ts ds ls own times → AreRight history ts ds) c.deref-2.ensures.value
+    → HasLevelDates history ts ds ls own times → AreRight history ts ds) c.deref.ensures.value
     (subst (λ (all : List ℕ). (history : List Node) (ts ds : List ℕ)
-    → HasOnTop history (length c.deref-2.result.now) new.parents
-    → HasLevelDates history ts ds c.deref-2.result.now own all → AreRight history ts ds) c.deref-3.ensures.value
+    → HasOnTop history (length c.deref.result.now) new.parents
+    → HasLevelDates history ts ds c.deref.result.now own all → AreRight history ts ds) c.deref-2.ensures.value
     c.in_ok-own.ensures.dates) in
     view-written _ c.in_ok-build_view.field-0.items path (c.in_ok-build_view.ensures.layer path) layers
     c.in_ok-new.ensures.layer c.in_ok-new.ensures.accepted known
     c.in_ok-known.ensures.levels times
-    (c.in_ok-times.ensures ∙ ap (map (λ (i : ℕ). get_or (new_times commits) i 0)) c.deref.ensures.value)
-    own c.deref-4.ensures.value c.in_ok-own.ensures.len local right c.kind_to_write.ensures c.in_ok-checksums_below.ensures
+    c.in_ok-new.ensures.times
+    own c.deref-3.ensures.value c.in_ok-own.ensures.len local right c.kind_to_write.ensures c.in_ok-checksums_below.ensures
     (few-below layers c.in_ok-checksums_below.field-0.items c.len.result c.in_ok-checksums_below.ensures
     (c.len.ensures ∙ c.in_ok-checksums_below.field-0.ok.0) c.if-len-gt-MOST_BELOW.false)
     has
@@ -185,12 +185,12 @@ returns-clause-accepted c =
       dates = c.in_ok-known.ensures.levels.accepted;
       acyclic =
           no-cycle-left layers commits c.in_ok-new.new c.in_ok-new.ensures.layer c.in_ok-new.ensures.accepted
-          c.in_ok-known.known c.in_ok-known.ensures.levels c.deref-2.result.now c.deref-2.ensures.value
+          c.in_ok-known.known c.in_ok-known.ensures.levels c.deref.result.now c.deref.ensures.value
           c.in_ok-own.ensures.acyclic;
       layers_below =
           few-below layers c.in_ok-checksums_below.field-0.items c.len.result c.in_ok-checksums_below.ensures
           (c.len.ensures ∙ c.in_ok-checksums_below.field-0.ok.0) c.if-len-gt-MOST_BELOW.false;
       edges =
           few-words _ layers c.in_ok-own.own.items (c.has_few_extra_words.ensures.0 c.if-not-has_few_extra_words.false)
-          c.deref-4.ensures.value c.in_ok-new.ensures.layer;
+          c.deref-3.ensures.value c.in_ok-new.ensures.layer;
     }

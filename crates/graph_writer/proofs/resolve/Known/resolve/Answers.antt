@@ -1,12 +1,14 @@
-use Rattle.std.proofs.Common.{◌≡◌, ◌+◌, ◌<◌, ℕ, List, Some, None, All, length, position, slice_get, get_or, sym, ap, ◌∙◌, subst}
-use Rattle.std.proofs.Common.{arith}
+use Rattle.std.proofs.Common.{◌≡◌, ◌+◌, ◌++◌, ◌∷◌, ◌<◌, ℕ, List, [], Some, None, All, length, position, slice_get, get_or}
+use Rattle.std.proofs.Common.{sym, ap, ◌∙◌, subst, arith}
+use Rattle.std.proofs.lemmas.List.{get_or-map, get_or_default, take_all}
 use Rattle.std.proofs.lemmas.Option.{slice_get_within, slice_get-get_or, same_Some}
 use Rattle.graph_levels.specs.ParentLists.{commit_count, parent_list}
 use Rattle.graph_writer.specs.Known.{ids_below, all_ids, is_unknown_to}
-use Rattle.graph_writer.specs.NewCommits.{HoldIds}
-use Rattle.graph_writer.specs.WriteRefusal.{parent_at}
+use Rattle.graph_writer.specs.NewCommits.{HoldIds, new_times}
+use Rattle.graph_writer.specs.NewLayers.{times_in_order}
 use Rattle.graph_writer.specs.declared.commit.NewCommit.{NewCommit}
 use Rattle.graph_writer.proofs.KnownSteps.{parent-from, if-none, lists-more, found-more, all-found, AreFoundTo}
+use Rattle.graph_writer.proofs.LoopSteps.{mapped-more}
 use Rattle.graph_writer.proofs.NewIdSteps.{commit-at}
 use Rattle.graph_writer.proofs.resolve.Known.resolve.Goals as goal
 
@@ -16,6 +18,9 @@ loop-place-init c = record {
   within = λ p lt. absurd (omega arith);
   ids = λ p lt. absurd (omega arith);
   found = λ p lt. absurd (omega arith);
+  times = c.in_ok-times.ensures.items;
+  timed = c.in_ok-times.ensures.len;
+  room = c.in_ok-times.ensures.capacity;
 }
 
 pub first_unknown-requires-clause-unknown : goal.first_unknown-requires-clause-unknown
@@ -69,6 +74,14 @@ loop-place-preserved c =
           ∙ sym c.in_ok-parent.ensures.unknown
           ∙ none))
           inv.found;
+      times =
+          c.push_reserved.ensures.items
+          ∙ ap (λ (t : ℕ). c.loop-place.times.items ++ t ∷ [])
+          (sym (get_or-map (λ (x : NewCommit). x.time) k.commits.now i commit 0 within))
+          ∙ mapped-more (λ (n : ℕ). get_or (new_times k.commits.now) n 0) order c.loop-place.times.items i p (omega arith)
+          (get_or_default order p 0 i (omega arith)) inv.times;
+      timed = c.push_reserved.ensures.len ∙ ap (λ (n : ℕ). n + 1) inv.timed;
+      room = omega (arith, inv.room, c.push_reserved.ensures.capacity);
     }
 
 pub returns-clause-ids : goal.returns-clause-ids
@@ -80,3 +93,9 @@ returns-clause-found c =
     let k = c.args.self.now in
     let end : c.loop-place.place ≡ length k.order.now = omega arith in
     all-found k c.requires.order (subst (AreFoundTo k) end c.loop-place.invariant.found)
+
+pub returns-clause-times : goal.returns-clause-times
+returns-clause-times c =
+    let k = c.args.self.now in
+    c.loop-place.invariant.times
+    ∙ ap (times_in_order k.commits.now) (take_all c.loop-place.place k.order.now (omega arith))

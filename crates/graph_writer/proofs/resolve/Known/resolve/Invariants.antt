@@ -1,7 +1,9 @@
-use Rattle.std.proofs.Common.{◌≡◌, ◌+◌, ◌<◌, ℕ, Some, All, length, slice_get}
+use Rattle.std.proofs.Common.{◌≡◌, ◌+◌, ◌<◌, ◌≤◌, ℕ, Some, All, length, slice_get, take}
+use Rattle.std.specs.Prelude.{vec_len, vec_capacity}
 use Rattle.graph_levels.specs.ParentLists.{commit_count, parent_list}
 use Rattle.graph_writer.specs.Known.{all_ids}
 use Rattle.graph_writer.specs.NewCommits.{HoldIds}
+use Rattle.graph_writer.specs.NewLayers.{times_in_order}
 use Rattle.graph_writer.specs.declared.commit.NewCommit.{NewCommit}
 use Rattle.graph_writer.proofs.KnownSteps.{AreFoundTo}
 use Rattle.graph_writer.proofs.resolve.Known.resolve.Given as goal
@@ -13,4 +15,7 @@ invariant-loop-place l = record {
   ids : (p : ℕ) → p < l.place → (i : ℕ) (commit : NewCommit) → slice_get l.self.order.now p ≡ Some i
       → slice_get l.self.commits.now i ≡ Some commit → HoldIds (all_ids l.self) (parent_list l.lists p) commit.parents.items;
   found : AreFoundTo l.self l.place;
+  times : l.times.items ≡ times_in_order l.self.commits.now (take l.place l.self.order.now);
+  timed : vec_len l.times ≡ l.place;
+  room : length l.self.order.now ≤ vec_capacity l.times;
 }

@@ -7,14 +7,14 @@ use Rattle.graph_format.specs.Layer.{Layer}
 use Rattle.graph_format.specs.declared.TheConstants.{MAX_COMMITS}
 use Rattle.graph_levels.specs.ParentLists.{commit_count, parent_list}
 use Rattle.graph_writer.specs.NewCommits.{layers_of_below, HoldIds}
-use Rattle.graph_writer.specs.NewLayers.{ids_in_order}
+use Rattle.graph_writer.specs.NewLayers.{ids_in_order, times_in_order}
 use Rattle.graph_writer.specs.SortedPlaces.{IsOrder}
 use Rattle.graph_writer.specs.declared.commit.NewCommit.{NewCommit}
 use Rattle.graph_writer.specs.declared.new_layer.NewLayer.{NewLayer}
 use Rattle.graph_writer.proofs.NewLayerSteps.{new-layer}
 use Rattle.graph_writer.proofs.RefusalSteps.{own_fault, refused-plain, refused-twice, refused-below, refused-many, refused-later}
 use Rattle.graph_writer.proofs.RefusalSteps.{refused-parent, refused-nothing, plain-own, plain-some}
-use Rattle.graph_writer.proofs.new_layer.NewLayer.of.Goals as goal
+use Rattle.graph_writer.proofs.new_layer.NewLayer.with_times.Goals as goal
 
 pub returns-in_err-check_alone-clause-refusal : goal.returns-in_err-check_alone-clause-refusal
 returns-in_err-check_alone-clause-refusal c =
@@ -108,3 +108,7 @@ returns-clause-accepted c =
     refused-later layers commits None own c.in_ok-order.ensures.once c.in_ok-check_all_new.ensures
     (le-ltb MAX_COMMITS (total layers + length commits) few)
     (refused-nothing layers commits false None c.in_ok-parents.ensures.found some refl)
+
+pub returns-clause-times : goal.returns-clause-times
+returns-clause-times c =
+    c.in_ok-parents.ensures.times ∙ ap (times_in_order c.args.commits.now) c.deref-2.ensures.value
