@@ -43,7 +43,9 @@ const MIXED: &str = "ABABababABABababABABababABABababABABabab";
 
 /// The words after the program's own name, with the status and what is written to the output. Only
 /// where that is nothing, the usage is told to standard error.
-const ANSWERS: &[(&[&str], u8, &str)] = &[
+type Answered = (&'static [&'static str], u8, &'static str);
+
+const ANSWERS: &[Answered] = &[
     (&["list"], 1, "refused file 1\n"),
     // What `verify` counts, and what it refuses.
     (&["verify", "diamond"], 0, OF_DIAMOND),
@@ -168,13 +170,17 @@ const ANSWERS: &[(&[&str], u8, &str)] = &[
     (&["check", "diamond"], 2, ""),
 ];
 
+/// Asserts what is answered to words.
+fn compare_answers(rt: &impl Abort, alloc: Global, rows: &[Answered]) {
+    let mut folder = graphs(rt, alloc);
+    for (words, status, written) in rows {
+        expect(rt, alloc, &mut folder, words, (*status, written));
+    }
+}
+
 #[test]
 fn answers_what_the_words_ask_for(rt: HostRuntime) {
-    let alloc = rt.alloc();
-    let mut folder = graphs(&rt, alloc);
-    for (words, status, written) in ANSWERS {
-        expect(&rt, alloc, &mut folder, words, (*status, written));
-    }
+    compare_answers(&rt, rt.alloc(), ANSWERS);
 }
 
 /// Asserts that a failed write is told to standard error, whichever write of an answer it is, and
@@ -206,24 +212,31 @@ fn compare_writes(
     }
 }
 
-#[test]
-fn tells_of_each_failed_write_once(rt: HostRuntime) {
-    let alloc = rt.alloc();
-    let mut folder = graphs(&rt, alloc);
-    for (words, _, written) in ANSWERS {
-        compare_writes(&rt, alloc, &mut folder, (words, written), 5);
-        compare_writes(&rt, alloc, &mut folder, (words, written), usize::MAX);
+/// Asserts the same of some words, with short writes and with whole ones.
+fn compare_all_writes(rt: &impl Abort, alloc: Global, rows: &[Answered]) {
+    let mut folder = graphs(rt, alloc);
+    for (words, _, written) in rows {
+        compare_writes(rt, alloc, &mut folder, (words, written), 5);
+        compare_writes(rt, alloc, &mut folder, (words, written), usize::MAX);
     }
 }
 
 #[test]
+fn tells_of_each_failed_write_once(rt: HostRuntime) {
+    compare_all_writes(&rt, rt.alloc(), ANSWERS);
+}
+
+/// Asserts that the first write of an answer is told where that to standard error fails too.
+fn compare_failed(rt: &impl Abort, alloc: Global, folder: &mut Memory, words: &[&str]) {
+    let mut output = Sink::new(alloc, usize::MAX, Some(0));
+    let mut errors = Sink::new(alloc, usize::MAX, Some(0));
+    let answered = answer(rt, alloc, folder, words, &mut output, &mut errors);
+    assert!(rt; answered == Err(WriteFailed) && output.text().is_empty());
+}
+
+#[test]
 fn a_failed_write_to_standard_error_is_reported(rt: HostRuntime) {
-    let alloc = rt.alloc();
-    let mut folder = graphs(&rt, alloc);
-    for words in [&[] as &[&str], &["verify", "diamond"]] {
-        let mut output = Sink::new(alloc, usize::MAX, Some(0));
-        let mut errors = Sink::new(alloc, usize::MAX, Some(0));
-        let answered = answer(&rt, alloc, &mut folder, words, &mut output, &mut errors);
-        assert!(rt; answered == Err(WriteFailed) && output.text().is_empty());
-    }
+    let mut folder = graphs(&rt, rt.alloc());
+    compare_failed(&rt, rt.alloc(), &mut folder, &[]);
+    compare_failed(&rt, rt.alloc(), &mut folder, &["verify", "diamond"]);
 }

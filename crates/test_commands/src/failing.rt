@@ -1,7 +1,7 @@
 //! Reads that fail, and calls of a folder that find no memory.
 
 use crate::fixtures::{FOURS, ONES, THREES, TWOS, answer, expect, graphs};
-use crate::watched::watched_graphs;
+use crate::watched::{Watched, watched_graphs};
 use graph_folder::folder::{Folder, Memory};
 use graph_vectors::Sink;
 use std::alloc::Global;
@@ -10,7 +10,9 @@ use std::process::Abort;
 /// The words of a command that is answered, and of its reads the numbers of the first that decides,
 /// and of the first that is not made. The read of an info folder's own file decides nothing where
 /// it is not there, and nothing is read for a text that is no id.
-const READS: &[(&[&str], u32, u32)] = &[
+type Reads = (&'static [&'static str], u32, u32);
+
+const READS: &[Reads] = &[
     (&["verify", "diamond"], 0, 1),
     (&["distinct", "diamond"], 0, 1),
     (&["ancestor", "diamond", THREES, ONES], 0, 1),
@@ -55,13 +57,17 @@ fn compare_reads(
     }
 }
 
+/// The same of some commands.
+fn compare_all_reads(rt: &impl Abort, alloc: Global, rows: &[Reads]) {
+    let mut folder = graphs(rt, alloc);
+    for (words, first, end) in rows {
+        compare_reads(rt, alloc, &mut folder, (words, *first, *end));
+    }
+}
+
 #[test]
 fn each_read_may_fail(rt: HostRuntime) {
-    let alloc = rt.alloc();
-    let mut folder = graphs(&rt, alloc);
-    for (words, first, end) in READS {
-        compare_reads(&rt, alloc, &mut folder, (words, *first, *end));
-    }
+    compare_all_reads(&rt, rt.alloc(), READS);
 }
 
 /// Commands that are answered.
@@ -77,22 +83,31 @@ const COMMANDS: &[&[&str]] = &[
     &["find", "damaged", TWOS],
 ];
 
+/// Asserts what is answered where each call of a folder finds no memory in turn.
+fn compare_calls(rt: &impl Abort, alloc: Global, folder: &mut Watched, words: &[&str]) {
+    folder.calls = 0;
+    folder.refused = u32::MAX;
+    let mut errors = Sink::new(alloc, usize::MAX, None);
+    let mut output = Sink::new(alloc, usize::MAX, None);
+    let answered = answer(rt, alloc, folder, words, &mut output, &mut errors);
+    assert!(rt; answered == Ok(0) && folder.calls > 0);
+    for call in 0..folder.calls {
+        folder.calls = 0;
+        folder.refused = call;
+        expect(rt, alloc, folder, words, (1, "refused open 7\n"));
+        assert!(rt; folder.calls == call.saturating_add(1));
+    }
+}
+
+/// The same of some commands.
+fn compare_all_calls(rt: &impl Abort, alloc: Global, rows: &[&[&str]]) {
+    let mut folder = watched_graphs(rt, alloc);
+    for words in rows {
+        compare_calls(rt, alloc, &mut folder, words);
+    }
+}
+
 #[test]
 fn each_call_of_a_folder_may_find_no_memory(rt: HostRuntime) {
-    let alloc = rt.alloc();
-    let mut folder = watched_graphs(&rt, alloc);
-    for words in COMMANDS {
-        folder.calls = 0;
-        folder.refused = u32::MAX;
-        let mut errors = Sink::new(alloc, usize::MAX, None);
-        let mut output = Sink::new(alloc, usize::MAX, None);
-        let answered = answer(&rt, alloc, &mut folder, words, &mut output, &mut errors);
-        assert!(rt; answered == Ok(0) && folder.calls > 0);
-        for call in 0..folder.calls {
-            folder.calls = 0;
-            folder.refused = call;
-            expect(&rt, alloc, &mut folder, words, (1, "refused open 7\n"));
-            assert!(rt; folder.calls == call.saturating_add(1));
-        }
-    }
+    compare_all_calls(&rt, rt.alloc(), COMMANDS);
 }

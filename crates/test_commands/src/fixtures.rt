@@ -115,6 +115,32 @@ pub fn built(rt: &impl Abort, alloc: Global, bases: &[ObjectId], rows: &[Row<'_>
     file_of_rows(alloc, bases, rows).expect(rt, "a file")
 }
 
+/// The texts, one after another.
+fn joined(rt: &impl Abort, alloc: Global, parts: &[&str]) -> String {
+    let mut text = String::new(alloc);
+    for part in parts {
+        text.push_str(part).expect(rt, "memory");
+    }
+    text
+}
+
+/// Puts a layer into the folder of a chain, as the file that is named after its checksum, and adds
+/// its line.
+fn put_layer(
+    rt: &impl Abort,
+    alloc: Global,
+    memory: &mut Memory,
+    folder: &str,
+    (checksum, bytes): (ObjectId, Vec<u8>),
+    lines: &mut String,
+) {
+    let checksum = checksum.to_string(alloc).expect(rt, "memory");
+    let path = joined(rt, alloc, &[folder, "/graph-", &checksum, ".graph"]);
+    put(rt, alloc, memory, &path, bytes);
+    let line = joined(rt, alloc, &[&checksum, "\n"]);
+    lines.push_str(&line).expect(rt, "memory");
+}
+
 /// Puts a folder with a chain: each layer as the file that is named after its checksum, and the
 /// chain file with the lines of these layers.
 fn put_chain(
@@ -129,12 +155,9 @@ fn put_chain(
         let bytes = built(rt, alloc, &bases, rows);
         let checksum = digest(Kind::Sha1, &bytes[..bytes.len().saturating_sub(20)]);
         bases.push(checksum).expect(rt, "memory");
-        let path = format!(in alloc; "{folder}/graph-{checksum}.graph").expect(rt, "memory");
-        put(rt, alloc, memory, &path, bytes);
-        let line = format!(in alloc; "{checksum}\n").expect(rt, "memory");
-        lines.push_str(&line).expect(rt, "memory");
+        put_layer(rt, alloc, memory, folder, (checksum, bytes), &mut lines);
     }
-    let path = format!(in alloc; "{folder}/commit-graph-chain").expect(rt, "memory");
+    let path = joined(rt, alloc, &[folder, "/commit-graph-chain"]);
     put(rt, alloc, memory, &path, lines.into_bytes());
     memory
         .put_dir(owned(rt, alloc, folder))

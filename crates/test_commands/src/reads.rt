@@ -83,20 +83,24 @@ const SEARCHES: &[Search] = &[
     ("repeated", LONG, 1, "none\n", 1, 3, 3 * HEAD),
 ];
 
-#[test]
-fn a_search_reads_heads_buckets_and_one_record(rt: HostRuntime) {
-    let alloc = rt.alloc();
-    for (path, id, status, written, whole, parts, bytes) in SEARCHES {
-        let mut folder = watched_graphs(&rt, alloc);
+/// Compares what searches answer, and how little they read.
+fn compare_searches(rt: &impl Abort, alloc: Global, rows: &[Search]) {
+    for (path, id, status, written, whole, parts, bytes) in rows {
+        let mut folder = watched_graphs(rt, alloc);
         let words = ["find", *path, *id];
-        expect(&rt, alloc, &mut folder, &words, (*status, written));
+        expect(rt, alloc, &mut folder, &words, (*status, written));
         ensure(
-            &rt,
+            rt,
             written,
             folder.whole == *whole && folder.parts == *parts,
         );
-        ensure(&rt, written, folder.bytes == *bytes);
+        ensure(rt, written, folder.bytes == *bytes);
     }
+}
+
+#[test]
+fn a_search_reads_heads_buckets_and_one_record(rt: HostRuntime) {
+    compare_searches(&rt, rt.alloc(), SEARCHES);
 }
 
 /// The first bytes of a SHA-1 file of 1,879,048,191 commits, the most that a graph has. Its ids
@@ -230,14 +234,18 @@ fn expect_found(
     expect(rt, alloc, &mut folder, &["find", "g", id], want);
 }
 
-#[test]
-fn a_file_that_changes_its_length_is_read_anew(rt: HostRuntime) {
-    let alloc = rt.alloc();
-    for (old, new, id, answers) in CHANGES {
+/// Asserts what searches answer.
+fn compare_changes(rt: &impl Abort, alloc: Global, rows: &[Change]) {
+    for (old, new, id, answers) in rows {
         let mut reads = 0;
         for want in *answers {
-            expect_found(&rt, alloc, (old, new, id), reads, *want);
+            expect_found(rt, alloc, (old, new, id), reads, *want);
             reads = reads.saturating_add(1);
         }
     }
+}
+
+#[test]
+fn a_file_that_changes_its_length_is_read_anew(rt: HostRuntime) {
+    compare_changes(&rt, rt.alloc(), CHANGES);
 }

@@ -1,8 +1,10 @@
 //! Graphs of commits that Git made. Where an allocation fails, the process aborts.
 
 use gix_hash_core::{Kind, ObjectId, digest};
+use graph_commands::line::WriteFailed;
 use graph_folder::folder::Memory;
-use graph_vectors::{LayerPlan, PlanCommit, file_of_plan};
+use graph_vectors::{LayerPlan, PlanCommit, Sink, Source, file_of_plan};
+use object_commands::{PositionRange, run_ids, run_objects};
 use std::alloc::Global;
 use std::process::Abort;
 
@@ -145,6 +147,31 @@ fn put(rt: &impl Abort, alloc: Global, memory: &mut Memory, path: &str, bytes: V
     memory.put_file(path, bytes).expect(rt, "memory");
 }
 
+/// The texts, one after another.
+pub(crate) fn joined(rt: &impl Abort, alloc: Global, parts: &[&str]) -> String {
+    let mut text = String::new(alloc);
+    for part in parts {
+        text.push_str(part).expect(rt, "memory");
+    }
+    text
+}
+
+/// Puts a layer into the folder `chain`, as the file that is named after its checksum, and adds its
+/// line.
+fn put_layer(
+    rt: &impl Abort,
+    alloc: Global,
+    memory: &mut Memory,
+    (checksum, bytes): (ObjectId, Vec<u8>),
+    lines: &mut String,
+) {
+    let checksum = checksum.to_string(alloc).expect(rt, "memory");
+    let path = joined(rt, alloc, &["chain/graph-", &checksum, ".graph"]);
+    put(rt, alloc, memory, &path, bytes);
+    let line = joined(rt, alloc, &[&checksum, "\n"]);
+    lines.push_str(&line).expect(rt, "memory");
+}
+
 /// Puts the folder `chain`.
 fn put_chain(rt: &impl Abort, alloc: Global, memory: &mut Memory) {
     let lower = built(rt, alloc, (Kind::Sha1, EMPTY_TREE), &[], LOWER);
@@ -153,11 +180,9 @@ fn put_chain(rt: &impl Abort, alloc: Global, memory: &mut Memory) {
     let top = checksum_of(&upper);
     let folder = String::from_str(alloc, "chain").expect(rt, "memory");
     memory.put_dir(folder).expect(rt, "memory");
-    for (checksum, bytes) in [(base, lower), (top, upper)] {
-        let path = format!(in alloc; "chain/graph-{checksum}.graph").expect(rt, "memory");
-        memory.put_file(path, bytes).expect(rt, "memory");
-    }
-    let lines = format!(in alloc; "{base}\n{top}\n").expect(rt, "memory");
+    let mut lines = String::new(alloc);
+    put_layer(rt, alloc, memory, (base, lower), &mut lines);
+    put_layer(rt, alloc, memory, (top, upper), &mut lines);
     put(
         rt,
         alloc,
@@ -200,4 +225,44 @@ pub(crate) fn line(rt: &impl Abort, alloc: Global, count: u32) -> Memory {
     let file = file_of_plan(alloc, &plan).expect(rt, "a file");
     put(rt, alloc, &mut memory, "line", file);
     memory
+}
+
+/// The positions of a range, or none.
+pub(crate) type Positions = Option<(u32, u32)>;
+
+/// The range of these positions.
+pub(crate) fn range_of(positions: Positions) -> Option<PositionRange> {
+    match positions {
+        Some((from, to)) => Some(PositionRange { from, to }),
+        None => None,
+    }
+}
+
+/// What `ids` answers. The contracts of the commands are long, and here they end: the proof of a
+/// test does not go over them once more.
+pub(crate) fn ids(
+    alloc: Global,
+    folder: &mut Memory,
+    (path, positions): (&str, Positions),
+    out: &mut Sink,
+) -> Result<u8, WriteFailed> {
+    run_ids(alloc, folder, path, range_of(positions), out)
+}
+
+/// What `objects` answers.
+pub(crate) fn objects(
+    alloc: Global,
+    stream: &mut Source<'_>,
+    folder: &mut Memory,
+    (path, positions): (&str, Positions),
+    out: &mut Sink,
+) -> Result<u8, WriteFailed> {
+    let range = range_of(positions);
+    run_objects(alloc, stream, folder, path, range, out)
+}
+
+/// Asserts that something holds of what is answered at this path. A proof has little to go over
+/// where the message stands in a function alone.
+pub(crate) fn ensure(rt: &impl Abort, path: &str, holds: bool) {
+    assert!(rt; holds, "{path}");
 }

@@ -26,7 +26,14 @@ const SIGNATURE: &str = "gpgsig -----BEGIN PGP SIGNATURE-----\n \n iQ==\n =x\n \
 /// Ids are those that `git hash-object -t commit -w --stdin --literally` of Git 2.39.5 prints, in a
 /// repository of either kind. Trees and parents are those that `git log --no-walk --format='%T %P'`
 /// prints then.
-const READABLE: &[(&[Part], &[&str], &str, &str)] = &[
+type Readable = (
+    &'static [Part],
+    &'static [&'static str],
+    &'static str,
+    &'static str,
+);
+
+const READABLE: &[Readable] = &[
     // a root
     (
         &[Text(PEOPLE), Text("\nm\n")],
@@ -240,27 +247,41 @@ fn expect_parents(rt: &impl Abort, alloc: Global, kind: Kind, contents: &[u8], w
     assert!(rt; parents.next().is_none());
 }
 
+/// A commit of the empty tree, and then of these parts.
+fn commit_of_parts(rt: &impl Abort, alloc: Global, kind: Kind, parts: &[Part]) -> Vec<u8> {
+    let text = text_of(rt, alloc, kind, parts);
+    commit_of(rt, alloc, kind, text.as_str())
+}
+
+/// Asserts the ids and the parents of commits.
+fn expect_readable(rt: &impl Abort, alloc: Global, rows: &[Readable]) {
+    for (parts, parents, sha1, sha256) in rows {
+        for (kind, id) in [(Kind::Sha1, *sha1), (Kind::Sha256, *sha256)] {
+            let contents = commit_of_parts(rt, alloc, kind, parts);
+            expect_id(rt, kind, &contents, id);
+            expect_parents(rt, alloc, kind, &contents, parents);
+        }
+    }
+}
+
 #[test]
 fn parents_and_ids_are_those_that_git_reads(rt: HostRuntime) {
-    for (parts, parents, sha1, sha256) in READABLE {
-        for (kind, id) in [(Kind::Sha1, *sha1), (Kind::Sha256, *sha256)] {
-            let text = text_of(&rt, rt.alloc(), kind, parts);
-            let contents = commit_of(&rt, rt.alloc(), kind, text.as_str());
-            expect_id(&rt, kind, &contents, id);
-            expect_parents(&rt, rt.alloc(), kind, &contents, parents);
+    expect_readable(&rt, rt.alloc(), READABLE);
+}
+
+/// Asserts that commits are unreadable.
+fn expect_unreadable(rt: &impl Abort, alloc: Global, rows: &[&[Part]]) {
+    for parts in rows {
+        for kind in [Kind::Sha1, Kind::Sha256] {
+            let contents = commit_of_parts(rt, alloc, kind, parts);
+            assert!(rt; CommitObject::parse(kind, &contents).err() == Some(Unreadable));
         }
     }
 }
 
 #[test]
 fn broken_lines_are_unreadable(rt: HostRuntime) {
-    for parts in UNREADABLE {
-        for kind in [Kind::Sha1, Kind::Sha256] {
-            let text = text_of(&rt, rt.alloc(), kind, parts);
-            let contents = commit_of(&rt, rt.alloc(), kind, text.as_str());
-            assert!(rt; CommitObject::parse(kind, &contents).err() == Some(Unreadable));
-        }
-    }
+    expect_unreadable(&rt, rt.alloc(), UNREADABLE);
 }
 
 /// Texts that begin with no line of a tree.
@@ -273,11 +294,16 @@ const TREELESS: &[&[u8]] = &[
     b"\ntree 4b825dc642cb6eb9a060e54bf8d69288fbee4904\nauthor A <a@x> 1 +0000\n",
 ];
 
-#[test]
-fn a_commit_begins_with_its_tree(rt: HostRuntime) {
-    for contents in TREELESS {
+/// Asserts that texts are no commits.
+fn expect_treeless(rt: &impl Abort, rows: &[&[u8]]) {
+    for contents in rows {
         assert!(rt; CommitObject::parse(Kind::Sha1, contents).is_err());
     }
+}
+
+#[test]
+fn a_commit_begins_with_its_tree(rt: HostRuntime) {
+    expect_treeless(&rt, TREELESS);
     // by `git hash-object`, as above
     let (sha1, sha256) = (
         "dcf5b16e76cce7425d0beaef62d79a7d10fce1f5",
@@ -287,13 +313,17 @@ fn a_commit_begins_with_its_tree(rt: HostRuntime) {
     expect_id(&rt, Kind::Sha256, b"", sha256);
 }
 
+/// Asserts that a commit with an id of this kind is read as one, and not as one of the other kind.
+fn expect_kind(rt: &impl Abort, alloc: Global, kind: Kind, other: Kind) {
+    let contents = commit_of(rt, alloc, kind, PEOPLE);
+    assert!(rt; CommitObject::parse(kind, &contents).is_ok());
+    assert!(rt; CommitObject::parse(other, &contents).is_err());
+}
+
 #[test]
 fn ids_of_the_other_kind_are_unreadable(rt: HostRuntime) {
-    for (kind, other) in [(Kind::Sha1, Kind::Sha256), (Kind::Sha256, Kind::Sha1)] {
-        let contents = commit_of(&rt, rt.alloc(), kind, PEOPLE);
-        assert!(rt; CommitObject::parse(kind, &contents).is_ok());
-        assert!(rt; CommitObject::parse(other, &contents).is_err());
-    }
+    expect_kind(&rt, rt.alloc(), Kind::Sha1, Kind::Sha256);
+    expect_kind(&rt, rt.alloc(), Kind::Sha256, Kind::Sha1);
 }
 
 /// A commit with one parent.
@@ -308,12 +338,10 @@ m
 /// Git 2.39.5 refuses a beginning of up to 46 bytes, and the one of 94. It reads the others, those
 /// between without a parent. Here those that end within the line of the parent, behind its word,
 /// are unreadable.
-#[test]
-fn beginnings_of_a_commit_are_readable_outside_its_lines_of_ids(rt: HostRuntime) {
-    assert!(rt; SMALL.len() == 146);
+fn expect_beginnings(rt: &impl Abort, small: &[u8]) {
+    assert!(rt; small.len() == 146);
     for length in 0..147 {
-        let read = CommitObject::parse(Kind::Sha1, &SMALL[..length]);
-        match read {
+        match CommitObject::parse(Kind::Sha1, small.get(..length).unwrap_or(b"")) {
             Ok(commit) => {
                 assert!(rt; (47..53).contains(&length) || length > 94);
                 assert!(rt; commit.parents().next().is_some() == (length > 94));
@@ -324,9 +352,13 @@ fn beginnings_of_a_commit_are_readable_outside_its_lines_of_ids(rt: HostRuntime)
 }
 
 #[test]
+fn beginnings_of_a_commit_are_readable_outside_its_lines_of_ids(rt: HostRuntime) {
+    expect_beginnings(&rt, SMALL);
+}
+
+#[test]
 fn unreadable_is_told_by_its_name(rt: HostRuntime) {
-    let text = Unreadable
-        .to_string(rt.alloc())
-        .expect(&rt, "memory for a text");
+    let text = Unreadable.to_string(rt.alloc());
+    let text = text.expect(&rt, "memory for a text");
     assert!(rt; text.as_str() == "Unreadable");
 }

@@ -3,6 +3,8 @@
 use crate::fixtures::{commit_of, expect_id};
 use commit_objects::{CommitObject, leading_number};
 use gix_hash_core::Kind;
+use std::alloc::Global;
+use std::process::Abort;
 
 /// What follows the line of the tree; the id of the commit, by SHA-1 and by SHA-256; its time as
 /// Git from 2.41 on reads it, and as Git before.
@@ -13,7 +15,9 @@ use gix_hash_core::Kind;
 /// then. The time before it is meant for Git from 2.41 on, which was not run. libgit2 1.5.1 answers
 /// it too (`git_commit_time`) where it reads the committer's line, but 234 in the third row, and 66
 /// for `+66`.
-const TIMES: &[(&str, &str, &str, u64, u64)] = &[
+type Timed = (&'static str, &'static str, &'static str, u64, u64);
+
+const TIMES: &[Timed] = &[
     (
         "author A <a@x> 1 +0000\ncommitter C <c@x> 1234567890 +0000\n\nm\n",
         "c91303945b734cbec9a3f5d791ff1bda861ad89e",
@@ -240,17 +244,27 @@ const TIMES: &[(&str, &str, &str, u64, u64)] = &[
     ),
 ];
 
-#[test]
-fn times_are_those_that_git_reads(rt: HostRuntime) {
-    for (text, sha1, sha256, newer, older) in TIMES {
+/// Asserts the time of a commit, in both readings.
+pub(crate) fn expect_times(rt: &impl Abort, kind: Kind, contents: &[u8], newer: u64, older: u64) {
+    let commit = CommitObject::parse(kind, contents).expect(rt, "a commit");
+    assert!(rt; commit.newer_time() == newer);
+    assert!(rt; commit.older_time() == older);
+}
+
+/// Asserts the ids and the times of commits.
+fn expect_timed(rt: &impl Abort, alloc: Global, rows: &[Timed]) {
+    for (text, sha1, sha256, newer, older) in rows {
         for (kind, id) in [(Kind::Sha1, *sha1), (Kind::Sha256, *sha256)] {
-            let contents = commit_of(&rt, rt.alloc(), kind, text);
-            expect_id(&rt, kind, &contents, id);
-            let commit = CommitObject::parse(kind, &contents).expect(&rt, "a commit");
-            assert!(rt; commit.newer_time() == *newer);
-            assert!(rt; commit.older_time() == *older);
+            let contents = commit_of(rt, alloc, kind, text);
+            expect_id(rt, kind, &contents, id);
+            expect_times(rt, kind, &contents, *newer, *older);
         }
     }
+}
+
+#[test]
+fn times_are_those_that_git_reads(rt: HostRuntime) {
+    expect_timed(&rt, rt.alloc(), TIMES);
 }
 
 /// Times that no record holds, in both readings. Of the first Git 2.39.5 stores the low 34 bits, 1,
@@ -263,26 +277,46 @@ const LARGE: &[(&str, u64)] = &[
     ("-5", 0),
 ];
 
+/// Asserts that commits with these numbers have these times.
+fn expect_large(rt: &impl Abort, alloc: Global, rows: &[(&str, u64)]) {
+    for (number, want) in rows {
+        let mut text = String::new(alloc);
+        for part in [
+            "author A <a@x> 1 +0000\ncommitter C <c> ",
+            *number,
+            " +0000\n\nm\n",
+        ] {
+            text.push_str(part).expect(rt, "memory for a commit");
+        }
+        let contents = commit_of(rt, alloc, Kind::Sha1, text.as_str());
+        expect_times(rt, Kind::Sha1, &contents, *want, *want);
+    }
+}
+
 #[test]
 fn large_times_are_kept_and_greater_ones_are_the_greatest(rt: HostRuntime) {
-    for (number, want) in LARGE {
-        let text = format!(in rt.alloc();
-            "author A <a@x> 1 +0000\ncommitter C <c> {number} +0000\n\nm\n"
-        ).expect(&rt, "memory for a commit");
-        let contents = commit_of(&rt, rt.alloc(), Kind::Sha1, text.as_str());
-        let commit = CommitObject::parse(Kind::Sha1, &contents).expect(&rt, "a commit");
-        assert!(rt; commit.newer_time() == *want);
-        assert!(rt; commit.older_time() == *want);
+    expect_large(&rt, rt.alloc(), LARGE);
+}
+
+/// Bytes, and the number that they begin with.
+const NUMBERS: &[(&[u8], u64)] = &[
+    (b"", 0),
+    (b"x1", 0),
+    (b" 1", 0),
+    (b"007/8", 7),
+    (b"9:8", 9),
+    (b"18446744073709551614", 18446744073709551614),
+    (b"18446744073709551619", 18446744073709551615),
+];
+
+/// Asserts which numbers bytes begin with.
+fn expect_numbers(rt: &impl Abort, rows: &[(&[u8], u64)]) {
+    for (bytes, want) in rows {
+        assert!(rt; leading_number(bytes) == *want);
     }
 }
 
 #[test]
 fn numbers_end_before_other_bytes(rt: HostRuntime) {
-    assert!(rt; leading_number(b"") == 0);
-    assert!(rt; leading_number(b"x1") == 0);
-    assert!(rt; leading_number(b" 1") == 0);
-    assert!(rt; leading_number(b"007/8") == 7);
-    assert!(rt; leading_number(b"9:8") == 9);
-    assert!(rt; leading_number(b"18446744073709551614") == 18446744073709551614);
-    assert!(rt; leading_number(b"18446744073709551619") == 18446744073709551615);
+    expect_numbers(&rt, NUMBERS);
 }

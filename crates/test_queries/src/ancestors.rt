@@ -1,6 +1,6 @@
-use crate::fixtures::right_graph;
+use crate::fixtures::{leads_by, right_graph, walk_by, walk_of};
 use gix_commitgraph::{GENERATION_NUMBER_MAX, Position};
-use graph_history::Checked;
+use graph_history::{Reached, Searcher};
 use graph_vectors::{DIAMOND, OCTOPUS, Row, TEN};
 use std::alloc::Global;
 use std::process::Abort;
@@ -99,32 +99,38 @@ const QUERIES: &[Query] = &[
     (APART, 3, 0, &[], 2, 3),
 ];
 
-/// Compares the answers to a query: that of a checked graph, and those of a searcher that is asked
-/// three times.
-fn compare_row(rt: &impl Abort, alloc: Global, checked: &Checked<'_>, row: &Query) {
-    let (_, from, to, walks, least, most) = row;
-    let from = checked.position(*from).expect(rt, "a commit");
-    let to = checked.position(*to).expect(rt, "a commit");
-    let answer = checked.ancestor_walk(alloc, from, to).expect(rt, "memory");
+/// Compares what a searcher answers that is asked three times with what was answered before.
+fn compare_searches(rt: &impl Abort, searcher: &mut Searcher<'_>, row: &Query, answer: &Reached) {
+    let (_, from, to, walks, ..) = row;
+    for _ in 0..2 {
+        let again = walk_by(rt, searcher, *from, *to);
+        assert!(rt; again.walk == answer.walk && again.visits == answer.visits);
+        assert!(rt; leads_by(rt, searcher, *from, *to) == !walks.is_empty());
+    }
+}
+
+/// Compares the answer to a query.
+fn compare_answer(rt: &impl Abort, row: &Query, answer: &Reached) {
+    let (_, _, _, walks, least, most) = row;
     assert!(rt; *least <= answer.visits && answer.visits <= *most);
     match &answer.walk {
         Some(walk) => assert!(rt; walks.iter().any(|one| *one == walk.as_slice())),
         None => assert!(rt; walks.is_empty()),
     }
-    let mut searcher = checked.searcher(alloc);
-    let first = searcher.ancestor_walk(from, to).expect(rt, "memory");
-    let found = searcher.is_ancestor(to, from).expect(rt, "memory");
-    let again = searcher.ancestor_walk(from, to).expect(rt, "memory");
-    assert!(rt; first.walk == answer.walk && again.walk == answer.walk);
-    assert!(rt; first.visits == answer.visits && again.visits == answer.visits);
-    assert!(rt; found == !walks.is_empty());
+}
+
+/// Compares the answers to queries, each time one of a checked graph, and those of a searcher.
+fn compare_queries(rt: &impl Abort, alloc: Global, rows: &[Query]) {
+    for row in rows {
+        let graph = right_graph(rt, alloc, row.0);
+        let checked = graph.as_checked();
+        let answer = walk_of(rt, alloc, &checked, row.1, row.2);
+        compare_answer(rt, row, &answer);
+        compare_searches(rt, &mut checked.searcher(alloc), row, &answer);
+    }
 }
 
 #[test]
 fn a_shortest_walk_is_answered_each_time(rt: HostRuntime) {
-    let alloc = rt.alloc();
-    for row in QUERIES {
-        let graph = right_graph(&rt, alloc, row.0);
-        compare_row(&rt, alloc, &graph.as_checked(), row);
-    }
+    compare_queries(&rt, rt.alloc(), QUERIES);
 }

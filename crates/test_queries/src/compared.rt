@@ -186,19 +186,25 @@ fn compare_answer(
     assert!(rt; answer.divergence.ahead == ahead && answer.divergence.behind == behind);
 }
 
+/// Compares the answers to queries.
+fn compare_queries(rt: &impl Abort, alloc: Global, rows: &[Query]) {
+    for (layers, first, others, bases, ahead, behind) in rows {
+        let graph = right_graph(rt, alloc, layers);
+        let answer = answer_of(rt, alloc, &graph.as_checked(), *first, others);
+        compare_answer(rt, alloc, &answer, (bases, *ahead, *behind));
+    }
+}
+
 #[test]
 fn bases_and_counts_are_those_of_git(rt: HostRuntime) {
-    let alloc = rt.alloc();
-    for (layers, first, others, bases, ahead, behind) in QUERIES {
-        let graph = right_graph(&rt, alloc, layers);
-        let answer = answer_of(&rt, alloc, &graph.as_checked(), *first, others);
-        compare_answer(&rt, alloc, &answer, (bases, *ahead, *behind));
-    }
+    compare_queries(&rt, rt.alloc(), QUERIES);
 }
 
 /// A graph, two commits, and how many commits a search visits, those with the highest generation
 /// numbers first, until none is left but ancestors of common ancestors.
-const VISITS: &[(Layers, u32, u32, u64)] = &[
+type Visited = (Layers, u32, u32, u64);
+
+const VISITS: &[Visited] = &[
     // The two, their base, and the line below it down to the child of the root. Before that is
     // visited, the root is known as an ancestor of one of the two alone.
     (ABOVE_A_LINE, 4, 5, 5),
@@ -208,17 +214,25 @@ const VISITS: &[(Layers, u32, u32, u64)] = &[
     (CRISS_CROSS, 3, 3, 1),
 ];
 
-#[test]
-fn visits_are_those_of_the_search(rt: HostRuntime) {
-    for (layers, first, other, visits) in VISITS {
-        let graph = right_graph(&rt, rt.alloc(), layers);
-        let answer = answer_of(&rt, rt.alloc(), &graph.as_checked(), *first, &[*other]);
-        assert!(&rt; answer.bases.visits == *visits);
+/// Compares how many commits searches visit.
+fn compare_visits(rt: &impl Abort, alloc: Global, rows: &[Visited]) {
+    for (layers, first, other, visits) in rows {
+        let graph = right_graph(rt, alloc, layers);
+        let answer = answer_of(rt, alloc, &graph.as_checked(), *first, &[*other]);
+        assert!(rt; answer.bases.visits == *visits);
     }
 }
 
-/// Two commits of `CRISS_CROSS`, their merge bases, and how many commits are ahead and behind.
-const PAIRS: &[(u32, u32, &[u32], u32, u32)] = &[
+#[test]
+fn visits_are_those_of_the_search(rt: HostRuntime) {
+    compare_visits(&rt, rt.alloc(), VISITS);
+}
+
+/// Two commits, their merge bases, and how many commits are ahead and behind.
+type Pair = (u32, u32, &'static [u32], u32, u32);
+
+/// Pairs of commits of `CRISS_CROSS`.
+const PAIRS: &[Pair] = &[
     (5, 6, &[1, 2], 2, 2),
     (5, 0, &[0], 4, 0),
     (3, 4, &[1, 2], 1, 1),
@@ -228,17 +242,20 @@ const PAIRS: &[(u32, u32, &[u32], u32, u32)] = &[
     (3, 3, &[3], 0, 0),
 ];
 
+/// Compares what one comparer answers of pairs of commits.
+fn compare_pairs(rt: &impl Abort, alloc: Global, checked: &Checked<'_>, rows: &[Pair]) {
+    let mut comparer = Comparer::new(alloc, checked);
+    for (first, other, bases, ahead, behind) in rows {
+        let kept = compared(rt, &mut comparer, *first, *other);
+        compare_answer(rt, alloc, &kept, (bases, *ahead, *behind));
+        let fresh = answer_of(rt, alloc, checked, *first, &[*other]);
+        assert!(rt; kept.bases.visits == fresh.bases.visits);
+    }
+}
+
 /// What a search marks in the memory that is kept is gone before the next one.
 #[test]
 fn a_comparer_keeps_nothing_of_a_question_for_the_next(rt: HostRuntime) {
-    let alloc = rt.alloc();
-    let graph = right_graph(&rt, alloc, CRISS_CROSS);
-    let checked = graph.as_checked();
-    let mut comparer = Comparer::new(alloc, &checked);
-    for (first, other, bases, ahead, behind) in PAIRS {
-        let kept = compared(&rt, &mut comparer, *first, *other);
-        compare_answer(&rt, alloc, &kept, (bases, *ahead, *behind));
-        let fresh = answer_of(&rt, alloc, &checked, *first, &[*other]);
-        assert!(rt; kept.bases.visits == fresh.bases.visits);
-    }
+    let graph = right_graph(&rt, rt.alloc(), CRISS_CROSS);
+    compare_pairs(&rt, rt.alloc(), &graph.as_checked(), PAIRS);
 }

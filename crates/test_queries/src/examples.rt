@@ -1,6 +1,6 @@
 //! The examples of calls of `graph_uses`, on the diamond.
 
-use crate::fixtures::built;
+use crate::fixtures::{built, checked_with};
 use gix_commitgraph::opening::OpenError;
 use gix_commitgraph::verify::VerifyOptions;
 use gix_commitgraph::{FileError, Position};
@@ -45,9 +45,10 @@ fn file_of(rt: &impl Abort, alloc: Global, rows: &[Row<'_>]) -> Vec<u8> {
 
 /// The checked graph of the diamond, whose ids are asked to be distinct or not.
 fn diamond(rt: &impl Abort, alloc: Global, distinct_ids: bool) -> CheckedGraph {
-    let graph = open_bytes(alloc, file_of(rt, alloc, DIAMOND)).expect(rt, "a graph");
+    let graph = open_bytes(alloc, file_of(rt, alloc, DIAMOND));
+    let graph = graph.ok().expect(rt, "a graph");
     let options = VerifyOptions { distinct_ids };
-    CheckedGraph::new_with(alloc, options, graph).expect(rt, "a right graph")
+    checked_with(rt, alloc, options, graph)
 }
 
 /// The id that repeats this byte.
@@ -114,27 +115,29 @@ fn compare_ancestors(rt: &impl Abort, alloc: Global, checked: &Checked<'_>) {
     assert!(rt; bases.expect(rt, "an answer").as_slice() == [id(0x11)].as_slice());
 }
 
+/// Asserts where the only commits with some ids stand, the first of which is told where ids were
+/// asked to be distinct.
+fn compare_only(rt: &impl Abort, checked: &Checked<'_>, want: Option<Position>) {
+    assert!(rt; only_position(checked, id(0x33).as_oid()) == want);
+    assert!(rt; only_position(checked, id(0x55).as_oid()).is_none());
+}
+
+/// Asserts what is answered of the diamond, whose ids are asked to be distinct or not.
+fn compare_diamond(rt: &impl Abort, alloc: Global, distinct_ids: bool, only: Option<Position>) {
+    let graph = diamond(rt, alloc, distinct_ids);
+    let checked = graph.as_checked();
+    assert!(rt; checked.outcome().parent_counts.get(&1) == Some(&2));
+    compare_found(rt, &checked);
+    compare_parents(rt, alloc, &checked);
+    compare_leads(rt, alloc, &checked);
+    compare_ancestors(rt, alloc, &checked);
+    compare_only(rt, &checked, only);
+}
+
 #[test]
 fn asks_a_graph_in_memory(rt: HostRuntime) {
-    let alloc = rt.alloc();
-    for distinct_ids in [false, true] {
-        let graph = diamond(&rt, alloc, distinct_ids);
-        let checked = graph.as_checked();
-        assert!(rt; checked.outcome().parent_counts.get(&1) == Some(&2));
-        compare_found(&rt, &checked);
-        compare_parents(&rt, alloc, &checked);
-        compare_leads(&rt, alloc, &checked);
-        compare_ancestors(&rt, alloc, &checked);
-        let only = only_position(&checked, id(0x33).as_oid());
-        assert!(rt;
-            only == if distinct_ids {
-                Some(Position(2))
-            } else {
-                None
-            }
-        );
-        assert!(rt; only_position(&checked, id(0x55).as_oid()).is_none());
-    }
+    compare_diamond(&rt, rt.alloc(), false, None);
+    compare_diamond(&rt, rt.alloc(), true, Some(Position(2)));
 }
 
 const RIGHT: &str = "graph_uses_test_right";
@@ -144,7 +147,13 @@ const WRONG: &str = "graph_uses_test_wrong";
 const MISSING: &str = "graph_uses_test_missing";
 
 /// Paths and texts of ids, with the parents of the commit, or why there is no answer.
-const AT_PATHS: &[(&str, &str, Result<&[u8], &str>)] = &[
+type AtPath = (
+    &'static str,
+    &'static str,
+    Result<&'static [u8], &'static str>,
+);
+
+const AT_PATHS: &[AtPath] = &[
     (RIGHT, FOURS, Ok(&[0x22, 0x33])),
     (RIGHT, FIVES, Ok(&[])),
     (
@@ -177,19 +186,32 @@ fn compare_at_path<R: Files + Abort>(
     }
 }
 
+/// Writes a file of these commits.
+fn put<R: Files + Abort>(rt: &R, alloc: Global, path: &str, rows: &[Row<'_>]) {
+    let bytes = file_of(rt, alloc, rows);
+    fs::write(rt, path, bytes.as_slice()).expect(rt, "a file");
+}
+
+/// The checked graph at a path.
+fn checked_at<R: Files + Abort>(rt: &R, alloc: Global, path: &str) -> CheckedGraph {
+    let graph = open_checked(rt, alloc, path);
+    graph.ok().expect(rt, "a right graph")
+}
+
+/// Asserts what is answered at paths.
+fn compare_at_paths<R: Files + Abort>(rt: &R, alloc: Global, rows: &[AtPath]) {
+    for (path, text, want) in rows {
+        compare_at_path(rt, alloc, (path, text), *want);
+    }
+}
+
 #[test]
 fn asks_a_graph_on_disk(rt: HostRuntime) {
-    let alloc = rt.alloc();
-    for (path, rows) in [(RIGHT, DIAMOND), (WRONG, TWICE)] {
-        let bytes = file_of(&rt, alloc, rows);
-        fs::write(&rt, path, bytes.as_slice()).expect(&rt, "a file");
-    }
-    let graph = open_checked(&rt, alloc, RIGHT).expect(&rt, "a right graph");
+    put(&rt, rt.alloc(), RIGHT, DIAMOND);
+    put(&rt, rt.alloc(), WRONG, TWICE);
+    let graph = checked_at(&rt, rt.alloc(), RIGHT);
     compare_found(&rt, &graph.as_checked());
-    for (path, text, want) in AT_PATHS {
-        compare_at_path(&rt, alloc, (path, text), *want);
-    }
-    for path in [RIGHT, WRONG] {
-        fs::remove_file(&rt, path).expect(&rt, "no file");
-    }
+    compare_at_paths(&rt, rt.alloc(), AT_PATHS);
+    fs::remove_file(&rt, RIGHT).expect(&rt, "no file");
+    fs::remove_file(&rt, WRONG).expect(&rt, "no file");
 }

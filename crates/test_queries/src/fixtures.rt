@@ -1,35 +1,57 @@
-//! What the tests share: layers and graphs built from rows. Where an allocation fails or a layer is
-//! refused, the process aborts.
+//! What the tests share: layers and graphs built from rows, and questions. Where an allocation
+//! fails or a layer is refused, the process aborts.
+//!
+//! The contracts of checks and of questions are long, and here they end: these functions have none,
+//! so the proof of a test does not go over them once more.
 
-use gix_commitgraph::{File, Graph};
+use gix_commitgraph::verify::{VerifyError, VerifyOptions};
+use gix_commitgraph::{File, Graph, Position};
 use gix_hash_core::{Kind, ObjectId};
-use graph_history::{Checked, CheckedGraph, Comparer, Comparison};
-use graph_vectors::{LayerPlan, Row, build, plan_of_rows};
+use graph_history::{
+    Checked, CheckedGraph, Comparer, Comparison, NoFault, PushError, Reached, Searcher,
+};
+use graph_vectors::{LayerPlan, Row, file_of_plan, file_of_rows};
 use std::alloc::Global;
 use std::process::Abort;
 
 /// The file of a plan. Where the plan is not buildable, the process aborts.
 pub fn built(rt: &impl Abort, alloc: Global, plan: &LayerPlan) -> Vec<u8> {
-    assert!(rt; plan.is_buildable());
-    build(alloc, plan).expect(rt, "memory")
+    file_of_plan(alloc, plan).expect(rt, "a file")
 }
 
 /// The layer of these bytes, whose file has this path.
 pub fn opened(rt: &impl Abort, alloc: Global, bytes: Vec<u8>, path: &str) -> File {
     let path = String::from_str(alloc, path).expect(rt, "memory");
-    File::new(alloc, bytes, path).expect(rt, "a layer")
+    File::new(alloc, bytes, path).ok().expect(rt, "a layer")
 }
 
 /// The SHA-1 layer of these commits on these bases, under a name that no chain gives.
 pub fn layer(rt: &impl Abort, alloc: Global, bases: &[ObjectId], rows: &[Row<'_>]) -> File {
-    let plan = plan_of_rows(alloc, bases, rows).expect(rt, "memory");
-    opened(rt, alloc, built(rt, alloc, &plan), "commit-graph")
+    let bytes = file_of_rows(alloc, bases, rows).expect(rt, "a file");
+    opened(rt, alloc, bytes, "commit-graph")
 }
 
 /// The layer of this kind without bases and commits.
 pub fn empty_layer(rt: &impl Abort, alloc: Global, kind: Kind) -> File {
     let plan = LayerPlan::new(alloc, kind, &[]).expect(rt, "memory");
     opened(rt, alloc, built(rt, alloc, &plan), "commit-graph")
+}
+
+/// The graph of these layers.
+pub fn graph_of(rt: &impl Abort, alloc: Global, files: Vec<File>) -> Graph {
+    Graph::new(alloc, files).ok().expect(rt, "a graph")
+}
+
+/// The graph of one layer.
+pub fn graph_of_one(rt: &impl Abort, alloc: Global, file: File) -> Graph {
+    let files = vec![in alloc; file];
+    graph_of(rt, alloc, files.expect(rt, "memory"))
+}
+
+/// The graph of two layers.
+pub fn graph_of_two(rt: &impl Abort, alloc: Global, lower: File, upper: File) -> Graph {
+    let files = vec![in alloc; lower, upper];
+    graph_of(rt, alloc, files.expect(rt, "memory"))
 }
 
 /// The graph of one SHA-1 layer for each of these lists of commits, with the right bases.
@@ -43,23 +65,88 @@ pub fn graph(rt: &impl Abort, alloc: Global, layers: &[&[Row<'_>]]) -> Graph {
             .expect(rt, "memory");
         files.push(file).expect(rt, "memory");
     }
-    Graph::new(alloc, files).expect(rt, "a graph")
+    graph_of(rt, alloc, files)
 }
 
-/// The checked graph of the same, which is right.
+/// Why a graph is refused, or that it is not.
+pub type Checking = Result<CheckedGraph, VerifyError<NoFault>>;
+
+/// The graph, checked with these options.
+pub fn check_with(alloc: Global, options: VerifyOptions, graph: Graph) -> Checking {
+    CheckedGraph::new_with(alloc, options, graph)
+}
+
+/// The graph, checked as it is where nothing is said of it.
+pub fn check(alloc: Global, graph: Graph) -> Checking {
+    CheckedGraph::new(alloc, graph)
+}
+
+/// The graph, which is right, checked with these options.
+pub fn checked_with(
+    rt: &impl Abort,
+    alloc: Global,
+    options: VerifyOptions,
+    graph: Graph,
+) -> CheckedGraph {
+    check_with(alloc, options, graph)
+        .ok()
+        .expect(rt, "a right graph")
+}
+
+/// The graph, which is right, checked.
+pub fn checked(rt: &impl Abort, alloc: Global, graph: Graph) -> CheckedGraph {
+    check(alloc, graph).ok().expect(rt, "a right graph")
+}
+
+/// The checked graph of these layers, which is right.
 pub fn right_graph(rt: &impl Abort, alloc: Global, layers: &[&[Row<'_>]]) -> CheckedGraph {
-    CheckedGraph::new(alloc, graph(rt, alloc, layers)).expect(rt, "a right graph")
+    checked(rt, alloc, graph(rt, alloc, layers))
 }
 
-/// The graph of these layers.
-pub fn graph_of<const N: usize>(rt: &impl Abort, alloc: Global, files: [File; N]) -> Graph {
-    let files = Vec::from_array(alloc, files).expect(rt, "memory");
-    Graph::new(alloc, files).expect(rt, "a graph")
-}
-
-/// A graph that is right, checked.
+/// A graph that is lent and right, checked.
 pub fn right<'g>(rt: &impl Abort, alloc: Global, graph: &'g Graph) -> Checked<'g> {
-    Checked::new(alloc, graph).expect(rt, "a right graph")
+    Checked::new(alloc, graph).ok().expect(rt, "a right graph")
+}
+
+/// Puts a layer on top.
+pub fn push(alloc: Global, lower: &mut CheckedGraph, file: File) -> Result<(), PushError> {
+    lower.push(alloc, file)
+}
+
+/// What is answered of a walk between the commits of these numbers.
+pub fn walk_of(
+    rt: &impl Abort,
+    alloc: Global,
+    checked: &Checked<'_>,
+    from: u32,
+    to: u32,
+) -> Reached {
+    let from = checked.position(from).expect(rt, "a commit");
+    let to = checked.position(to).expect(rt, "a commit");
+    checked.ancestor_walk(alloc, from, to).expect(rt, "memory")
+}
+
+/// What a searcher answers of such a walk.
+pub fn walk_by(rt: &impl Abort, searcher: &mut Searcher<'_>, from: u32, to: u32) -> Reached {
+    let commits = searcher.graph().num_commits();
+    assert!(rt; from < commits && to < commits);
+    let answer = searcher.ancestor_walk(Position(from), Position(to));
+    answer.expect(rt, "memory")
+}
+
+/// Whether a searcher finds the second of these commits to be an ancestor of the first.
+pub fn leads_by(rt: &impl Abort, searcher: &mut Searcher<'_>, from: u32, to: u32) -> bool {
+    let commits = searcher.graph().num_commits();
+    assert!(rt; from < commits && to < commits);
+    let answer = searcher.is_ancestor(Position(to), Position(from));
+    answer.expect(rt, "memory")
+}
+
+/// Whether the second of these commits is an ancestor of the first.
+pub fn leads(rt: &impl Abort, alloc: Global, checked: &Checked<'_>, from: u32, to: u32) -> bool {
+    let from = checked.position(from).expect(rt, "a commit");
+    let to = checked.position(to).expect(rt, "a commit");
+    checked.is_ancestor(alloc, to, from).expect(rt, "memory")
 }
 
 /// What a comparer answers of two commits.
@@ -72,9 +159,4 @@ pub fn compared(
     let first = comparer.graph().position(first).expect(rt, "a commit");
     let other = comparer.graph().position(other).expect(rt, "a commit");
     comparer.compare(first, &[other]).expect(rt, "memory")
-}
-
-/// The graph of the one layer of these bytes.
-pub fn graph_of_one(rt: &impl Abort, alloc: Global, bytes: Vec<u8>) -> Graph {
-    graph_of(rt, alloc, [opened(rt, alloc, bytes, "commit-graph")])
 }

@@ -1,11 +1,14 @@
 //! Two lines of commits that share one long extra edge list. A check or a question that goes over
 //! the list once for each of them takes longer than a test may.
 
-use crate::fixtures::{compared, graph_of, layer as layer_of_rows, opened};
+use crate::fixtures::{
+    checked, compared, graph_of_one, graph_of_two, layer as layer_of_rows, leads, opened, walk_of,
+};
+use crate::reloading::reload;
 use gix_commitgraph::file::Commit;
 use gix_commitgraph::{File, Graph, Position};
 use gix_hash_core::Kind;
-use graph_history::{Checked, CheckedGraph, Comparer, Comparison};
+use graph_history::{Checked, CheckedGraph, Comparer, Comparison, Reloaded};
 use graph_vectors::{END, file_of_parts, reseal, words};
 use std::alloc::Global;
 use std::convert::Infallible;
@@ -108,7 +111,7 @@ fn layer(rt: &impl Abort, alloc: Global) -> File {
 /// which the list has all but the first, and each of the lines has another number of them.
 fn compare_traversed(rt: &impl Abort, alloc: Global, file: &File) {
     let outcome = file.traverse(alloc, &mut |_: &Commit<'_>| Ok::<(), Infallible>(()));
-    let outcome = outcome.expect(rt, "a right layer");
+    let outcome = outcome.ok().expect(rt, "a right layer");
     assert!(rt; outcome.num_commits == COMMITS && outcome.max_generation == LINE + 1);
     assert!(rt; outcome.max_parents == WORDS - ROOTS + 1);
     assert!(rt; outcome.parent_counts.len() == 2 * LINE as usize + 1);
@@ -116,17 +119,11 @@ fn compare_traversed(rt: &impl Abort, alloc: Global, file: &File) {
 
 /// Compares the walk from the last commit to the first of its line, which goes through all of them.
 fn compare_walk(rt: &impl Abort, alloc: Global, checked: &Checked<'_>) {
-    let last = checked.position(COMMITS - 1).expect(rt, "the last commit");
-    let first = checked
-        .position(ROOTS + 1)
-        .expect(rt, "the first of its line");
-    let reached = checked.ancestor_walk(alloc, last, first);
-    let reached = reached.expect(rt, "memory");
+    let reached = walk_of(rt, alloc, checked, COMMITS - 1, ROOTS + 1);
     assert!(rt; reached.visits == LINE);
     let walk = reached.walk.expect(rt, "a walk");
     assert!(rt; walk.len() == LINE as usize);
-    let found = checked.is_ancestor(alloc, first, last);
-    assert!(rt; found.expect(rt, "memory"));
+    assert!(rt; leads(rt, alloc, checked, COMMITS - 1, ROOTS + 1));
 }
 
 /// Compares what is answered of the last commits of the two lines. They lead to all commits, and
@@ -152,29 +149,36 @@ fn compare_bases(rt: &impl Abort, alloc: Global, checked: &Checked<'_>) {
     compare_apart(rt, &compared(rt, &mut comparer, second, first));
 }
 
-#[test]
-fn a_shared_list_is_gone_over_once(rt: HostRuntime) {
-    let alloc = rt.alloc();
-    let file = layer(&rt, alloc);
-    compare_traversed(&rt, alloc, &file);
-    let graph = CheckedGraph::new(alloc, graph_of(&rt, alloc, [file]));
-    let graph = graph.expect(&rt, "a right graph");
-    let checked = graph.as_checked();
+/// Compares what is counted of the graph of the layer.
+fn compare_counts(rt: &impl Abort, checked: &Checked<'_>) {
     assert!(rt; checked.outcome().longest_path_length == Some(LINE));
     assert!(rt; checked.outcome().parent_counts.len() == 2 * LINE as usize + 1);
-    compare_walk(&rt, alloc, &checked);
-    compare_bases(&rt, alloc, &checked);
+}
+
+#[test]
+fn a_shared_list_is_gone_over_once(rt: HostRuntime) {
+    let file = layer(&rt, rt.alloc());
+    compare_traversed(&rt, rt.alloc(), &file);
+    let graph = graph_of_one(&rt, rt.alloc(), file);
+    let graph = checked(&rt, rt.alloc(), graph);
+    let checked = graph.as_checked();
+    compare_counts(&rt, &checked);
+    compare_walk(&rt, rt.alloc(), &checked);
+    compare_bases(&rt, rt.alloc(), &checked);
 }
 
 /// The graph of the layer and of one above it, with one commit, whose id repeats this byte.
 fn with_one_above(rt: &impl Abort, alloc: Global, byte: u8) -> Graph {
     let lower = layer(rt, alloc);
     let bases = [lower.checksum().to_owned()];
-    graph_of(
-        rt,
-        alloc,
-        [lower, layer_of_rows(rt, alloc, &bases, &[(byte, &[], 1)])],
-    )
+    let upper = layer_of_rows(rt, alloc, &bases, &[(byte, &[], 1)]);
+    graph_of_two(rt, alloc, lower, upper)
+}
+
+/// Asserts that one commit was checked, and that the graph counts the same as the one of before.
+fn assert_same(rt: &impl Abort, answer: &Reloaded, old: &CheckedGraph) {
+    assert!(rt; answer.checked == 1);
+    assert!(rt; answer.graph.as_checked().outcome() == old.as_checked().outcome());
 }
 
 // The commits of the layer below are compared and counted, and not checked. A check takes ten times
@@ -184,15 +188,12 @@ fn a_shared_list_is_reloaded_in_less_time_than_a_check_takes(rt: HostRuntime) {
     let alloc = rt.alloc();
     let graph = with_one_above(&rt, alloc, 0x33);
     let start = Instant::now(&rt).expect(&rt, "a clock");
-    let old = CheckedGraph::new(alloc, graph);
+    let old = checked(&rt, alloc, graph);
     let check = start.elapsed(&rt).expect(&rt, "a clock").as_micros();
-    let old = old.expect(&rt, "a right graph");
     let next = with_one_above(&rt, alloc, 0x44);
     let start = Instant::now(&rt).expect(&rt, "a clock");
-    let answer = old.as_checked().reload(alloc, next);
-    let reload = start.elapsed(&rt).expect(&rt, "a clock").as_micros();
-    let answer = answer.expect(&rt, "a right graph");
-    assert!(&rt; answer.checked == 1);
-    assert!(&rt; answer.graph.as_checked().outcome() == old.as_checked().outcome());
-    assert!(&rt; reload < check);
+    let answer = reload(alloc, &old, next);
+    let reloading = start.elapsed(&rt).expect(&rt, "a clock").as_micros();
+    assert_same(&rt, &answer.ok().expect(&rt, "a right graph"), &old);
+    assert!(&rt; reloading < check);
 }

@@ -1,7 +1,7 @@
 //! A commit with so many parents that a search has to keep many of them.
 
-use crate::fixtures::{graph_of, layer, right};
-use gix_commitgraph::{Graph, Position};
+use crate::fixtures::{graph_of_one, layer, leads_by, right, walk_by};
+use gix_commitgraph::Graph;
 use graph_history::Searcher;
 use graph_vectors::Row;
 use std::alloc::Global;
@@ -43,22 +43,18 @@ fn rows(rt: &impl Abort, alloc: Global) -> Vec<Row<'static>> {
 /// The graph of these commits.
 fn wide(rt: &impl Abort, alloc: Global) -> Graph {
     let rows = rows(rt, alloc);
-    graph_of(rt, alloc, [layer(rt, alloc, &[], &rows)])
+    graph_of_one(rt, alloc, layer(rt, alloc, &[], &rows))
 }
 
 /// Looks for a walk from the last commit to the second root, to which none leads.
 fn walk(rt: &impl Abort, searcher: &mut Searcher<'_>) {
-    assert!(rt; LAST < searcher.graph().num_commits());
-    let answer = searcher.ancestor_walk(Position(LAST), Position(1));
-    let answer = answer.expect(rt, "memory");
+    let answer = walk_by(rt, searcher, LAST, 1);
     assert!(rt; answer.walk.is_none() && answer.visits == LAST);
 }
 
 /// Asks whether there is one.
 fn search(rt: &impl Abort, searcher: &mut Searcher<'_>) {
-    assert!(rt; LAST < searcher.graph().num_commits());
-    let found = searcher.is_ancestor(Position(1), Position(LAST));
-    assert!(rt; !found.expect(rt, "memory"));
+    assert!(rt; !leads_by(rt, searcher, LAST, 1));
 }
 
 // A walk that reads 64 commits ahead at each, and uses one, takes forty times as long.

@@ -18,7 +18,9 @@ pub enum Call {
     Run(Command),
     /// The command of `historytool` that the words of the stage ask for.
     Historytool,
-    Open(Opener),
+    /// An opener, and the path in memory.
+    Open(Opener, &'static str),
+    OpenAt(HostOpener),
     OpenLayer,
 }
 
@@ -36,24 +38,24 @@ pub enum Query {
 #[derive(Clone, Copy)]
 pub enum Command {
     List,
-    Verify,
-    VerifyInfo,
+    Verify { path: &'static str },
     Distinct,
     Find,
     Ancestor,
 }
 
-/// A way to open a graph, in memory or on disk.
+/// A way to open a graph in memory.
 #[derive(Clone, Copy)]
 pub enum Opener {
-    FileIn,
-    ChainDirIn,
-    InfoDirIn,
-    InfoDirInDamaged,
-    InFile,
-    InChain,
-    InInfo,
-    InDamaged,
+    File,
+    ChainDir,
+    InfoDir,
+    Any,
+}
+
+/// A way to open a graph on disk.
+#[derive(Clone, Copy)]
+pub enum HostOpener {
     FromFile,
     FromInfoDir,
     FromCommitGraphsDir,
@@ -81,30 +83,36 @@ const CALLS: &[(&str, Call)] = &[
     ("GraphFilters::of_graph", Call::Filters),
     ("check_objects", Call::CheckObjects),
     ("run_list", Call::Run(Command::List)),
-    ("run_verify", Call::Run(Command::Verify)),
-    ("run_verify_info", Call::Run(Command::VerifyInfo)),
+    ("run_verify", Call::Run(Command::Verify { path: "chain" })),
+    (
+        "run_verify_info",
+        Call::Run(Command::Verify { path: "info" }),
+    ),
     ("run_distinct", Call::Run(Command::Distinct)),
     ("run_find", Call::Run(Command::Find)),
     ("run_ancestor", Call::Run(Command::Ancestor)),
-    ("open_file_in", Call::Open(Opener::FileIn)),
-    ("open_chain_dir_in", Call::Open(Opener::ChainDirIn)),
-    ("open_info_dir_in", Call::Open(Opener::InfoDirIn)),
+    ("open_file_in", Call::Open(Opener::File, "f")),
+    ("open_chain_dir_in", Call::Open(Opener::ChainDir, "chain")),
+    ("open_info_dir_in", Call::Open(Opener::InfoDir, "info")),
     (
         "open_info_dir_in damaged",
-        Call::Open(Opener::InfoDirInDamaged),
+        Call::Open(Opener::InfoDir, "damaged"),
     ),
-    ("open_in file", Call::Open(Opener::InFile)),
-    ("open_in chain", Call::Open(Opener::InChain)),
-    ("open_in info", Call::Open(Opener::InInfo)),
-    ("open_in damaged", Call::Open(Opener::InDamaged)),
-    ("Graph::from_file", Call::Open(Opener::FromFile)),
-    ("Graph::from_info_dir", Call::Open(Opener::FromInfoDir)),
+    ("open_in file", Call::Open(Opener::Any, "f")),
+    ("open_in chain", Call::Open(Opener::Any, "chain")),
+    ("open_in info", Call::Open(Opener::Any, "info")),
+    ("open_in damaged", Call::Open(Opener::Any, "damaged")),
+    ("Graph::from_file", Call::OpenAt(HostOpener::FromFile)),
+    (
+        "Graph::from_info_dir",
+        Call::OpenAt(HostOpener::FromInfoDir),
+    ),
     (
         "Graph::from_commit_graphs_dir",
-        Call::Open(Opener::FromCommitGraphsDir),
+        Call::OpenAt(HostOpener::FromCommitGraphsDir),
     ),
-    ("Graph::at", Call::Open(Opener::GraphAt)),
-    ("at", Call::Open(Opener::At)),
+    ("Graph::at", Call::OpenAt(HostOpener::GraphAt)),
+    ("at", Call::OpenAt(HostOpener::At)),
     ("File::at", Call::OpenLayer),
 ];
 

@@ -13,6 +13,7 @@ mod further;
 mod long;
 mod stage;
 
+use answers::say;
 use calls::Call;
 use stage::Stage;
 use std::alloc::{AllocError, Global};
@@ -26,11 +27,11 @@ fn main(rt: HostRuntime) -> std::io::Result<()> {
     let len = rt.reader().read(&mut input)?;
     let (name, rest) = first_line(&input[..len]);
     let Some(call) = Call::named(name) else {
-        return println!(rt; "no such call");
+        return say(&rt, "no such call");
     };
     match Stage::new(&rt, rt.alloc(), name) {
         Ok(mut stage) => make_after(&rt, call, rest.len(), &mut stage),
-        Err(_) => println!(rt; "refused before the call"),
+        Err(_) => say(&rt, "refused before the call"),
     }
 }
 

@@ -1,6 +1,6 @@
 //! What the calls need: plans, bytes, layers and graphs, and folders in memory and on disk.
 
-use crate::further::with_chunks;
+use crate::further::{Chunk, with_chunks};
 use crate::long::Long;
 use anyhow::{Result, ensure};
 use gix_commitgraph::{File, Graph};
@@ -106,8 +106,8 @@ impl Graphs {
     fn new(alloc: Global) -> Result<Graphs> {
         Ok(Graphs {
             chain: Chain::new(alloc)?,
-            line: line(alloc)?,
-            branches: branches(alloc)?,
+            line: graph_of_rows(alloc, LINE)?,
+            branches: graph_of_rows(alloc, BRANCHES)?,
             dated: dated(alloc)?,
         })
     }
@@ -134,9 +134,11 @@ impl Folders {
     }
 }
 
+/// Four commits. A proof has much to go over where a list of rows is no constant.
+const FOUR: &[Row<'static>] = &[(1, &[], 1), (2, &[0], 2), (3, &[1], 3), (4, &[0, 0, 2], 4)];
+
 fn plan(alloc: Global) -> Result<LayerPlan> {
-    let rows: [Row<'_>; 4] = [(1, &[], 1), (2, &[0], 2), (3, &[1], 3), (4, &[0, 0, 2], 4)];
-    Ok(plan_of_rows(alloc, &[], &rows)?)
+    Ok(plan_of_rows(alloc, &[], FOUR)?)
 }
 
 fn file(alloc: Global, plan: &LayerPlan) -> Result<Vec<u8>> {
@@ -149,13 +151,18 @@ fn opened(alloc: Global, bytes: &[u8]) -> Result<File> {
     Ok(File::new(alloc, Vec::from_slice(alloc, bytes)?, path)?)
 }
 
+/// Two commits in a line.
+const TWO: &[Row<'static>] = &[(1, &[], 1), (2, &[0], 2)];
+
 /// The files of a chain of two layers of one commit, the second on the first.
 fn chain_files(alloc: Global) -> Result<Vec<Vec<u8>>> {
     let mut files = Vec::new(alloc);
     let mut checksums = Vec::new(alloc);
-    let rows: [Row<'_>; 2] = [(1, &[], 1), (2, &[0], 2)];
-    for row in rows {
-        let bytes = file(alloc, &plan_of_rows(alloc, &checksums, &[row])?)?;
+    for row in TWO {
+        let bytes = file(
+            alloc,
+            &plan_of_rows(alloc, &checksums, slice::from_ref(row))?,
+        )?;
         checksums.push(opened(alloc, &bytes)?.checksum().to_owned())?;
         files.push(bytes)?;
     }
@@ -176,68 +183,58 @@ fn lower(alloc: Global, chain: &[Vec<u8>]) -> Result<CheckedGraph> {
     Ok(CheckedGraph::new(alloc, graph)?)
 }
 
-/// The graph of a layer of ten commits in a line, the last of which has its parent three times.
-fn line(alloc: Global) -> Result<Graph> {
-    let rows: [Row<'_>; 10] = [
-        (1, &[], 1),
-        (2, &[0], 2),
-        (3, &[1], 3),
-        (4, &[2], 4),
-        (5, &[3], 5),
-        (6, &[4], 6),
-        (7, &[5], 7),
-        (8, &[6], 8),
-        (9, &[7], 9),
-        (10, &[8, 8, 8], 10),
-    ];
-    graph_of_rows(alloc, &rows)
-}
+/// Ten commits in a line, the last of which has its parent three times.
+const LINE: &[Row<'static>] = &[
+    (1, &[], 1),
+    (2, &[0], 2),
+    (3, &[1], 3),
+    (4, &[2], 4),
+    (5, &[3], 5),
+    (6, &[4], 6),
+    (7, &[5], 7),
+    (8, &[6], 8),
+    (9, &[7], 9),
+    (10, &[8, 8, 8], 10),
+];
 
-/// The graph of a layer whose last commit has two parents. The first one's ancestors are a line of
-/// two, down to the first commit, and those of the second are twelve other roots.
-fn branches(alloc: Global) -> Result<Graph> {
-    let rows: [Row<'_>; 17] = [
-        (1, &[], 1),
-        (2, &[], 1),
-        (3, &[], 1),
-        (4, &[], 1),
-        (5, &[], 1),
-        (6, &[], 1),
-        (7, &[], 1),
-        (8, &[], 1),
-        (9, &[], 1),
-        (10, &[], 1),
-        (11, &[], 1),
-        (12, &[], 1),
-        (13, &[], 1),
-        (14, &[0], 2),
-        (15, &[13], 3),
-        (16, &[1, 2, 3, 4, 5, 6, 7, 8, 9, 10, 11, 12], 2),
-        (17, &[14, 15], 4),
-    ];
-    graph_of_rows(alloc, &rows)
-}
+/// The last commit has two parents. The first one's ancestors are a line of two, down to the first
+/// commit, and those of the second are twelve other roots.
+const BRANCHES: &[Row<'static>] = &[
+    (1, &[], 1),
+    (2, &[], 1),
+    (3, &[], 1),
+    (4, &[], 1),
+    (5, &[], 1),
+    (6, &[], 1),
+    (7, &[], 1),
+    (8, &[], 1),
+    (9, &[], 1),
+    (10, &[], 1),
+    (11, &[], 1),
+    (12, &[], 1),
+    (13, &[], 1),
+    (14, &[0], 2),
+    (15, &[13], 3),
+    (16, &[1, 2, 3, 4, 5, 6, 7, 8, 9, 10, 11, 12], 2),
+    (17, &[14, 15], 4),
+];
 
 fn graph_of_rows(alloc: Global, rows: &[Row<'_>]) -> Result<Graph> {
     let bytes = file(alloc, &plan_of_rows(alloc, &[], rows)?)?;
     Ok(Graph::new(alloc, layers(alloc, slice::from_ref(&bytes))?)?)
 }
 
+/// Corrected dates, and a filter of the first commit.
+const CHUNKS: &[Chunk<'static>] = &[
+    (b"GDA2", b"\0\0\0\0\0\0\0\x01"),
+    (b"BIDX", b"\0\0\0\x01\0\0\0\x01"),
+    (b"BDAT", b"\0\0\0\x01\0\0\0\x07\0\0\0\x0a\xff"),
+];
+
 /// A file of two commits in a line, with corrected dates, and a filter of the first commit.
 fn dated_file(alloc: Global) -> Result<Vec<u8>> {
-    let plain = file(
-        alloc,
-        &plan_of_rows(alloc, &[], &[(1, &[], 1), (2, &[0], 2)])?,
-    )?;
-    with_chunks(
-        alloc,
-        &plain,
-        &[
-            (b"GDA2", b"\0\0\0\0\0\0\0\x01"),
-            (b"BIDX", b"\0\0\0\x01\0\0\0\x01"),
-            (b"BDAT", b"\0\0\0\x01\0\0\0\x07\0\0\0\x0a\xff"),
-        ],
-    )
+    let plain = file(alloc, &plan_of_rows(alloc, &[], TWO)?)?;
+    with_chunks(alloc, &plain, CHUNKS)
 }
 
 /// The graph of that file.

@@ -3,6 +3,7 @@
 
 use crate::files::graphs;
 use graph_commands::line::WriteFailed;
+use graph_folder::folder::Memory;
 use graph_vectors::Sink;
 use show_commands::run::run_show;
 use std::alloc::Global;
@@ -97,14 +98,24 @@ const REFUSED: &[ShownRow] = &[
     ("nowhere", 1, "refused open 1\n"),
 ];
 
+/// What `show` answers. Its contract is long, and here it ends: the proof of a test does not go
+/// over it once more.
+fn shown(
+    alloc: Global,
+    folder: &mut Memory,
+    path: &str,
+    out: &mut Sink,
+) -> Result<u8, WriteFailed> {
+    run_show(alloc, folder, path, out)
+}
+
 /// Asserts the status and the lines of each row.
 fn expect(rt: &impl Abort, alloc: Global, rows: &[ShownRow]) {
     let mut folder = graphs(rt, alloc);
     for (path, status, text) in rows {
         let mut out = Sink::new(alloc, usize::MAX, None);
-        let answer = run_show(alloc, &mut folder, path, &mut out);
-        assert_eq!(rt; answer, Ok(*status));
-        assert_eq!(rt; out.text(), *text);
+        let answer = shown(alloc, &mut folder, path, &mut out);
+        assert!(rt; answer == Ok(*status) && out.text() == *text);
     }
 }
 
@@ -123,18 +134,27 @@ fn shows_what_is_refused(rt: HostRuntime) {
     expect(&rt, rt.alloc(), REFUSED);
 }
 
+/// Asserts that each write of an answer is reported where it fails.
+fn expect_writes(rt: &impl Abort, alloc: Global, folder: &mut Memory, path: &str) {
+    let mut whole = Sink::new(alloc, 20, None);
+    assert!(rt; shown(alloc, folder, path, &mut whole).is_ok());
+    for write in 0..whole.writes {
+        let mut out = Sink::new(alloc, 20, Some(write));
+        let answer = shown(alloc, folder, path, &mut out);
+        assert!(rt; answer == Err(WriteFailed));
+    }
+}
+
+/// The same of some graphs.
+fn expect_all_writes(rt: &impl Abort, alloc: Global, paths: &[&str]) {
+    let mut folder = graphs(rt, alloc);
+    for path in paths {
+        expect_writes(rt, alloc, &mut folder, path);
+    }
+}
+
 #[test]
 fn reports_each_write_of_what_is_shown_that_fails(rt: HostRuntime) {
-    let alloc = rt.alloc();
-    let mut folder = graphs(&rt, alloc);
-    for path in ["chain", "filter", "wrong", "nowhere"] {
-        let mut whole = Sink::new(alloc, 20, None);
-        let answer = run_show(alloc, &mut folder, path, &mut whole);
-        assert!(rt; answer.is_ok());
-        for write in 0..whole.writes {
-            let mut out = Sink::new(alloc, 20, Some(write));
-            let answer = run_show(alloc, &mut folder, path, &mut out);
-            assert!(rt; answer == Err(WriteFailed));
-        }
-    }
+    let paths = ["chain", "filter", "wrong", "nowhere"];
+    expect_all_writes(&rt, rt.alloc(), &paths);
 }

@@ -24,20 +24,30 @@ const VERSION_3: &[u8] = b"\0\0\0\x03\0\0\0\x08\0\0\0\x0a\xff";
 
 const SHORT: &[u8] = b"\0\0\0\x01\0\0\0\x07\xff\xff\xff";
 
+/// Paths, and the commits of the files there.
+const PLAIN: &[(&str, &[Row<'static>])] = &[
+    ("diamond", DIAMOND),
+    ("octopus", OCTOPUS),
+    ("wrong", WRONG),
+];
+
+/// Paths, and whether the files there have a corrected date, and their `BDAT`.
+const FILTERED: &[(&str, bool, &[u8])] = &[
+    ("filter", true, FILTER),
+    ("version 3", false, VERSION_3),
+    ("short", false, SHORT),
+];
+
 /// A folder with the files `diamond`, `octopus`, `wrong`, `sha256`, `filter`, `version 3` and
 /// `short`, and `bytes` that are no layer, and with the folder `chain`.
 pub(super) fn graphs(rt: &impl Abort, alloc: Global) -> Memory {
     let mut memory = Memory::new(alloc);
-    for (path, rows) in [("diamond", DIAMOND), ("octopus", OCTOPUS), ("wrong", WRONG)] {
+    for (path, rows) in PLAIN {
         let file = file_of_rows(alloc, &[], rows).expect(rt, "a file");
         put(rt, alloc, &mut memory, path, file);
     }
-    for (path, dates, filters) in [
-        ("filter", true, FILTER),
-        ("version 3", false, VERSION_3),
-        ("short", false, SHORT),
-    ] {
-        let file = with_filter(rt, alloc, dates, filters);
+    for (path, dates, filters) in FILTERED {
+        let file = with_filter(rt, alloc, *dates, filters);
         put(rt, alloc, &mut memory, path, file);
     }
     let file = sha256(rt, alloc);
@@ -48,16 +58,18 @@ pub(super) fn graphs(rt: &impl Abort, alloc: Global) -> Memory {
     memory
 }
 
+/// Two commits in a line.
+const TWO: &[Row<'static>] = &[(0x11, &[], 1), (0xcc, &[0], 2)];
+
 /// A file of two commits with SHA-256 ids.
 fn sha256(rt: &impl Abort, alloc: Global) -> Vec<u8> {
     let mut commits = Vec::new(alloc);
-    let rows: [(u8, &[u32], u32); 2] = [(0x11, &[], 1), (0xcc, &[0], 2)];
-    for (byte, parents, generation) in rows {
+    for (byte, parents, generation) in TWO {
         let commit = PlanCommit {
-            id: ObjectId::from([byte; 32]),
+            id: ObjectId::from([*byte; 32]),
             tree: ObjectId::from([0x99; 32]),
             parents: Vec::from_slice(alloc, parents).expect(rt, "memory"),
-            generation,
+            generation: *generation,
             time: 7,
         };
         commits.push(commit).expect(rt, "memory");
@@ -125,6 +137,31 @@ fn put(rt: &impl Abort, alloc: Global, memory: &mut Memory, path: &str, bytes: V
     memory.put_file(path, bytes).expect(rt, "memory");
 }
 
+/// The texts, one after another.
+fn joined(rt: &impl Abort, alloc: Global, parts: &[&str]) -> String {
+    let mut text = String::new(alloc);
+    for part in parts {
+        text.push_str(part).expect(rt, "memory");
+    }
+    text
+}
+
+/// Puts a layer into the folder `chain`, as the file that is named after its checksum, and adds its
+/// line.
+fn put_layer(
+    rt: &impl Abort,
+    alloc: Global,
+    memory: &mut Memory,
+    (checksum, bytes): (ObjectId, Vec<u8>),
+    lines: &mut String,
+) {
+    let checksum = checksum.to_string(alloc).expect(rt, "memory");
+    let path = joined(rt, alloc, &["chain/graph-", &checksum, ".graph"]);
+    put(rt, alloc, memory, &path, bytes);
+    let line = joined(rt, alloc, &[&checksum, "\n"]);
+    lines.push_str(&line).expect(rt, "memory");
+}
+
 /// Puts the folder `chain`.
 fn put_chain(rt: &impl Abort, alloc: Global, memory: &mut Memory) {
     let lower = file_of_rows(alloc, &[], LOWER).expect(rt, "a file");
@@ -133,11 +170,9 @@ fn put_chain(rt: &impl Abort, alloc: Global, memory: &mut Memory) {
     let top = checksum_of(&upper);
     let folder = String::from_str(alloc, "chain").expect(rt, "memory");
     memory.put_dir(folder).expect(rt, "memory");
-    for (checksum, bytes) in [(base, lower), (top, upper)] {
-        let path = format!(in alloc; "chain/graph-{checksum}.graph").expect(rt, "memory");
-        memory.put_file(path, bytes).expect(rt, "memory");
-    }
-    let lines = format!(in alloc; "{base}\n{top}\n").expect(rt, "memory");
+    let mut lines = String::new(alloc);
+    put_layer(rt, alloc, memory, (base, lower), &mut lines);
+    put_layer(rt, alloc, memory, (top, upper), &mut lines);
     let path = "chain/commit-graph-chain";
     put(rt, alloc, memory, path, lines.into_bytes());
 }

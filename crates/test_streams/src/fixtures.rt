@@ -47,33 +47,25 @@ first
 /// A record: the id, the parents, the generation number and the time of a commit.
 pub(crate) type Record<'a> = (&'a str, &'a [u32], u32, u64);
 
+/// The ids of these commits.
+pub(crate) const FIRST_ID: &str = "15d5ea96ef7f3c4ffbc1c8bce647cc0e8e0ad351";
+
+pub(crate) const SECOND_ID: &str = "364c372b211b74603e7abfddfd7724dbe8c9b503";
+
+pub(crate) const THIRD_ID: &str = "4c29ffbd6fc3693b10b673e47ca4fe1e6b4f1c5c";
+
+pub(crate) const FOURTH_ID: &str = "f5fc6ed24119b8dedc02118b526d0c04e7beb38a";
+
 /// The records of these commits.
-pub(crate) const RECORDS: [Record<'static>; 4] = [
-    (
-        "15d5ea96ef7f3c4ffbc1c8bce647cc0e8e0ad351",
-        &[3],
-        2,
-        1700000200,
-    ),
-    (
-        "364c372b211b74603e7abfddfd7724dbe8c9b503",
-        &[3],
-        2,
-        1700000100,
-    ),
-    (
-        "4c29ffbd6fc3693b10b673e47ca4fe1e6b4f1c5c",
-        &[1, 0],
-        3,
-        1700000300,
-    ),
-    (
-        "f5fc6ed24119b8dedc02118b526d0c04e7beb38a",
-        &[],
-        1,
-        1700000000,
-    ),
-];
+pub(crate) const FIRST: Record<'static> = (FIRST_ID, &[3], 2, 1700000200);
+
+pub(crate) const SECOND: Record<'static> = (SECOND_ID, &[3], 2, 1700000100);
+
+pub(crate) const THIRD: Record<'static> = (THIRD_ID, &[1, 0], 3, 1700000300);
+
+pub(crate) const FOURTH: Record<'static> = (FOURTH_ID, &[], 1, 1700000000);
+
+pub(crate) const RECORDS: &[Record<'static>] = &[FIRST, SECOND, THIRD, FOURTH];
 
 /// The tree without entries.
 pub(crate) const EMPTY_TREE: &str = "4b825dc642cb6eb9a060e54bf8d69288fbee4904";

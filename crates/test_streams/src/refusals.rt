@@ -1,6 +1,9 @@
 //! Each refusal of a stream, by one change of a stream that Git wrote or of the records.
 
-use crate::fixtures::{EMPTY_TREE, RECORDS, Record, STREAM, answer_to, graph_of};
+use crate::fixtures::{
+    EMPTY_TREE, FIRST, FIRST_ID, FOURTH, FOURTH_ID, RECORDS, Record, SECOND, STREAM, THIRD,
+    THIRD_ID, answer_to, graph_of,
+};
 use gix_commitgraph::Position;
 use graph_objects::{EntryError, Mismatch, ObjectsError};
 use graph_vectors::Source;
@@ -49,55 +52,86 @@ const CHANGES: &[(usize, &[u8], EntryError)] = &[
     (60, b"0", EntryError::Mismatch(Mismatch::OtherContents)),
 ];
 
+/// Compares what is told of changed streams.
+fn compare_changes(rt: &impl Abort, alloc: Global, rows: &[(usize, &[u8], EntryError)]) {
+    for (place, bytes, error) in rows {
+        let stream = changed(rt, alloc, *place, bytes);
+        let told = answer(rt, alloc, RECORDS, EMPTY_TREE, &stream);
+        assert!(rt; told == Err(ObjectsError::Entry(Position(0), *error)));
+    }
+}
+
 #[test]
 fn the_first_wrong_byte_is_told(rt: HostRuntime) {
-    let alloc = rt.alloc();
-    for (place, bytes, error) in CHANGES {
-        let stream = changed(&rt, alloc, *place, bytes);
-        let want = Err(ObjectsError::Entry(Position(0), *error));
-        let told = answer(&rt, alloc, &RECORDS, EMPTY_TREE, &stream);
-        assert!(rt; told == want, "{place}");
+    compare_changes(&rt, rt.alloc(), CHANGES);
+}
+
+/// How many bytes of the stream there are, and the position of the entry at which it ends.
+const STOPS: &[(usize, u32)] = &[(0, 0), (30, 0), (52, 0), (240, 0), (241, 1), (800, 3)];
+
+/// Compares what is told of streams that end early.
+fn compare_stops(rt: &impl Abort, alloc: Global, rows: &[(usize, u32)]) {
+    for (stop, position) in rows {
+        let stream = STREAM.as_bytes().get(..*stop).expect(rt, "so many bytes");
+        let told = answer(rt, alloc, RECORDS, EMPTY_TREE, stream);
+        let want = ObjectsError::Entry(Position(*position), EntryError::Ends);
+        assert!(rt; told == Err(want));
     }
 }
 
 #[test]
 fn a_stream_that_ends_early_is_told_at_its_entry(rt: HostRuntime) {
-    let alloc = rt.alloc();
-    for (stop, position) in [(0, 0), (30, 0), (52, 0), (240, 0), (241, 1), (800, 3)] {
-        let want = Err(ObjectsError::Entry(Position(position), EntryError::Ends));
-        let told = answer(&rt, alloc, &RECORDS, EMPTY_TREE, &STREAM.as_bytes()[..stop]);
-        assert!(rt; told == want, "{stop}");
-    }
+    compare_stops(&rt, rt.alloc(), STOPS);
 }
 
-#[test]
-fn bytes_that_are_left_over_are_told(rt: HostRuntime) {
-    let alloc = rt.alloc();
-    let mut stream = changed(&rt, alloc, 0, b"");
-    stream.push(b'\n').expect(&rt, "memory for a byte");
-    let told = answer(&rt, alloc, &RECORDS, EMPTY_TREE, &stream);
+/// Compares what is told of a stream with a line feed at its end.
+fn compare_left_over(rt: &impl Abort, alloc: Global) {
+    let mut stream = changed(rt, alloc, 0, b"");
+    stream.push(b'\n').expect(rt, "memory for a byte");
+    let told = answer(rt, alloc, RECORDS, EMPTY_TREE, &stream);
     assert!(rt; told == Err(ObjectsError::LeftOver));
 }
 
 #[test]
+fn bytes_that_are_left_over_are_told(rt: HostRuntime) {
+    compare_left_over(&rt, rt.alloc());
+}
+
+/// Records, the root tree of all, and of which commit they say otherwise, and how.
+type Changed = (&'static [Record<'static>], &'static str, u32, Mismatch);
+
+const CHANGED: &[Changed] = &[
+    (RECORDS, FIRST_ID, 0, Mismatch::Tree),
+    (
+        &[FIRST, SECOND, (THIRD_ID, &[0, 1], 3, 1700000300), FOURTH],
+        EMPTY_TREE,
+        2,
+        Mismatch::Parent { index: 0 },
+    ),
+    (
+        &[FIRST, SECOND, (THIRD_ID, &[1, 0, 3], 3, 1700000300), FOURTH],
+        EMPTY_TREE,
+        2,
+        Mismatch::Parent { index: 2 },
+    ),
+    (
+        &[FIRST, SECOND, THIRD, (FOURTH_ID, &[], 1, 1700000001)],
+        EMPTY_TREE,
+        3,
+        Mismatch::Time,
+    ),
+];
+
+/// Compares what is told of the stream where records say otherwise.
+fn compare_records(rt: &impl Abort, alloc: Global, rows: &[Changed]) {
+    for (records, tree, pos, mismatch) in rows {
+        let told = answer(rt, alloc, records, tree, STREAM.as_bytes());
+        let want = ObjectsError::Entry(Position(*pos), EntryError::Mismatch(*mismatch));
+        assert!(rt; told == Err(want));
+    }
+}
+
+#[test]
 fn a_record_that_says_otherwise_is_told(rt: HostRuntime) {
-    let alloc = rt.alloc();
-    let stream = STREAM.as_bytes();
-    let told = answer(&rt, alloc, &RECORDS, RECORDS[0].0, stream);
-    let tree = EntryError::Mismatch(Mismatch::Tree);
-    assert!(rt; told == Err(ObjectsError::Entry(Position(0), tree)));
-    let mut records = RECORDS;
-    records[2].1 = &[0, 1];
-    let parent = EntryError::Mismatch(Mismatch::Parent { index: 0 });
-    let told = answer(&rt, alloc, &records, EMPTY_TREE, stream);
-    assert!(rt; told == Err(ObjectsError::Entry(Position(2), parent)));
-    records[2].1 = &[1, 0, 3];
-    let parent = EntryError::Mismatch(Mismatch::Parent { index: 2 });
-    let told = answer(&rt, alloc, &records, EMPTY_TREE, stream);
-    assert!(rt; told == Err(ObjectsError::Entry(Position(2), parent)));
-    let mut records = RECORDS;
-    records[3].3 = 1700000001;
-    let time = EntryError::Mismatch(Mismatch::Time);
-    let told = answer(&rt, alloc, &records, EMPTY_TREE, stream);
-    assert!(rt; told == Err(ObjectsError::Entry(Position(3), time)));
+    compare_records(&rt, rt.alloc(), CHANGED);
 }
