@@ -1,13 +1,15 @@
 //! The commits from a position on, many in one call, and their parents.
 
 ghost use Rattle.std.specs.Prelude.{◌≡◌, drop, length, map, Some};
+ghost use Rattle.graph_layer.specs.Commit.{commit_parents};
 ghost use Rattle.gix_commitgraph.specs.Graph.{graph_commits};
-ghost use Rattle.commitgraph_c.specs.Answers.{layers_of, told_commit, written};
+ghost use Rattle.commitgraph_c.specs.Answers.{TellsParents, layers_of, told_commit, written};
 ghost use Rattle.commitgraph_c.specs.Blocks.{TellsBlock, block_of, commits_from};
 
 use crate::handle::CgGraph;
 use crate::parents::{CgParents, write_parents};
 use crate::read::{CgCommit, told};
+use gix_commitgraph::file::Commit;
 use gix_commitgraph::law::graph::the_commits_of_layers_add_up;
 use gix_commitgraph::{Graph, Position};
 use graph_format::parents::ParentEdge;
@@ -100,7 +102,7 @@ fn write_block(graph: &Graph, first: u32, answers: &mut [CgParents], out: &mut [
             continue;
         }
         let room = (out.len() - used) as u64;
-        let told = write_parents(commit, &mut out[used..]);
+        let told = write_others(commit, &mut out[used..]);
         answers[place] = told;
         if told.count > room {
             return CgBlock {
@@ -114,4 +116,13 @@ fn write_block(graph: &Graph, first: u32, answers: &mut [CgParents], out: &mut [
         commits: places as u32,
         length: used as u64,
     }
+}
+
+/// Writes the positions of the parents of a commit that has not one alone. This stays a call of its
+/// own, so that for the others no more is found out than that they have one.
+#[inline(never)]
+fn write_others(commit: Commit<'_>, out: &mut [u32]) -> CgParents
+    ensures { TellsParents (commit_parents commit.entry) result out.old out.new }
+{
+    write_parents(commit, out)
 }

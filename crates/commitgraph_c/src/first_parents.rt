@@ -89,8 +89,9 @@ fn code_after(second: ParentEdge) -> Option<u32>
     Some(if is_none { 0 } else { MORE_PARENTS })
 }
 
-/// Writes the positions of a commit's first parents, whatever there is room for.
-#[inline(always)]
+/// Writes the positions of a commit's first parents, whatever there is room for. This stays a call
+/// of its own, so that where there is room for one no register is saved for it.
+#[inline(never)]
 fn write_some(commit: Commit<'_>, out: &mut [u32]) -> CgParents
     ensures { TellsFirstParents (commit_parents commit.entry) result out.old out.new }
 {

@@ -28,14 +28,14 @@ returns-then-told-room c =
     let same : length c.loop-place.out ≡ length c.args.out.now = c.loop-place.auto.out in
     rw c.saturating_add.ensures
     (last_told (here (goal.at.returns-then-told-room c).In-Some) (omega arith) c.loop-place.invariant.0
-    c.write_parents-told.ensures (omega (arith, same)))
+    c.write_others-told.ensures (omega (arith, same)))
 
 pub loop-place-preserved : goal.loop-place-preserved
 loop-place-preserved c =
     let in_some = (goal.at.loop-place-preserved c).In-Some in
     let same : length c.loop-place.out ≡ length c.args.out.now = c.loop-place.auto.out in
     let few : length c.args.out.now < 2 ^ 64 - 1 = search rules in (
-      next_told (here in_some) (omega arith) c.loop-place.invariant.0 c.write_parents-told.ensures few (omega (arith, same)),
+      next_told (here in_some) (omega arith) c.loop-place.invariant.0 c.write_others-told.ensures few (omega (arith, same)),
       after in_some,
     )
 
