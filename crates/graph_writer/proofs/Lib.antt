@@ -21,6 +21,10 @@ pub mod SumSteps
 pub mod WordSteps
 pub mod PlanSteps
 pub mod PlanOfSteps
+pub mod FilterSteps
+pub mod FilteredSteps
+pub mod SortedFilters
+pub mod ThreeNumbers
 pub mod CycleSteps
 pub mod AcyclicSteps
 pub mod ReasonSteps

@@ -1,6 +1,6 @@
 -- The plan that is read off new commits: when a file can hold it, and what its file says.
 use Rattle.std.proofs.Common.{◌≡◌, ◌↔◌, IsTrue, Bool, true, false, ℕ, ◌^◌, ◌<◌, ◌≤◌, List, Some, None, map, length, IsSomeAnd}
-use Rattle.std.proofs.Common.{slice_get, get_or, option_map, sym, subst, ⊎_elim, arith}
+use Rattle.std.proofs.Common.{slice_get, get_or, Option, option_map, refl, sym, subst, ⊎_elim, arith}
 use Rattle.std.specs.Prelude.{IfSome, MatchOption}
 use Rattle.std.proofs.lemmas.Bool.{cases_lt}
 use Rattle.graph_walks.specs.Dates.{AreRight}
@@ -9,21 +9,25 @@ use Rattle.graph_walks.specs.History.{Node}
 use Rattle.graph_walks.specs.declared.TheConstants.{GENERATION_NUMBER_MAX}
 use Rattle.graph_format.specs.Layer.{Layer, IsLayer}
 use Rattle.graph_encoder.specs.ExtraEdges.{all_extra_words, top_bit}
-use Rattle.graph_encoder.specs.Plan.{IsPlan, AreOffsets}
+use Rattle.graph_encoder.specs.Plan.{IsPlan, AreOffsets, AreFilters}
 use Rattle.graph_encoder.specs.Said.{IsFileOf}
 use Rattle.graph_levels.specs.OnTop.{HasOnTop, HasLevelGenerations, HasLevelDates, level_at}
 use Rattle.graph_levels.specs.ParentLists.{commit_count, parent_list}
 use Rattle.graph_levels.specs.declared.level.Level.{Level}
+use Rattle.graph_writer.specs.FiltersInOrder.{MaybeInOrder}
 use Rattle.graph_writer.specs.LevelsBelow.{AreLevelsBelow}
 use Rattle.graph_writer.specs.NewCommits.{new_times}
+use Rattle.graph_writer.specs.NewFilters.{HasFiltersOf}
 use Rattle.graph_writer.specs.NewLayers.{IsNewLayer}
 use Rattle.graph_writer.specs.PlannedCommits.{IsPlanOf, AreOffsetsOf, plan_of}
 use Rattle.graph_writer.specs.WriteRefusal.{new_layer_refusal, kind_to_write}
 use Rattle.graph_writer.specs.WritingRefusal.{word_count}
 use Rattle.graph_writer.specs.WrittenLayers.{IsWrittenLayer}
 use Rattle.graph_writer.specs.declared.commit.NewCommit.{NewCommit}
+use Rattle.graph_writer.specs.declared.filters.NewFilters.{NewFilters}
 use Rattle.graph_writer.specs.declared.levels_below.LevelsBelow.{LevelsBelow}
 use Rattle.graph_writer.specs.declared.new_plan.NewPlan.{NewPlan}
+use Rattle.graph_writer.proofs.FilteredSteps.{filtered}
 use Rattle.graph_writer.proofs.PlanOfSteps.{planned-count, planned-each}
 use Rattle.graph_writer.proofs.PlanSteps.{all-words, is-plan}
 use Rattle.graph_writer.proofs.WriteSteps.{written}
@@ -72,13 +76,16 @@ pub view-fits : (plan : NewPlan) (layers : List Layer) (own : List Level)
     → (known : LevelsBelow) → AreLevelsBelow layers known → plan.kind ≡ kind_to_write layers plan.commits.now
     → plan.bases.items ≡ map (λ l. l.checksum) layers → length layers ≤ 255 → length own ≡ commit_count plan.new.now.parents
     → ((p : ℕ) → p < length own → (level_at own p).generation ≤ GENERATION_NUMBER_MAX)
-    → IfSome (option_map (λ v. v.items) plan.offsets) (AreOffsets (length plan.new.now.order.items)) → IsPlan (plan_of plan)
+    → IfSome (option_map (λ v. v.items) plan.offsets) (AreOffsets (length plan.new.now.order.items))
+    → IfSome (option_map (λ f. f.parts) plan.filters) (AreFilters (length plan.new.now.order.items)) → IsPlan (plan_of plan)
 unfolding plan_of
-view-fits plan layers own few same is_new none known below kind bases fits leveled capped offsets =
+view-fits plan layers own few same is_new none known below kind bases fits leveled capped offsets filters =
     let sized : IfSome (option_map (λ v. v.items) plan.offsets) (AreOffsets (length (plan_of plan).commits.items)) =
     subst (λ (n : ℕ). IfSome (option_map (λ v. v.items) plan.offsets) (AreOffsets n)) (sym (planned-count plan)) offsets in
+    let kept : IfSome (option_map (λ f. f.parts) plan.filters) (AreFilters (length (plan_of plan).commits.items)) =
+    subst (λ (n : ℕ). IfSome (option_map (λ f. f.parts) plan.filters) (AreFilters n)) (sym (planned-count plan)) filters in
     is-plan layers plan.commits.now plan.new.now is_new own (plan_of plan) (planned-count plan) (view-planned plan own same)
-    none known below kind bases fits leveled capped sized tt (omega (arith, few, view-words plan layers own same is_new))
+    none known below kind bases fits leveled capped sized kept (omega (arith, few, view-words plan layers own same is_new))
 
 -- its file is one of a layer with the commits
 pub view-written : (plan : NewPlan) (bytes path : List ℕ) → IsFileOf (plan_of plan) bytes path → (layers : List Layer)
@@ -94,11 +101,16 @@ pub view-written : (plan : NewPlan) (bytes path : List ℕ) → IsFileOf (plan_o
     → length layers ≤ 255
     → MatchOption (option_map (λ v. v.items) plan.offsets) (known.have_dates ≡ false)
     (λ offsets. (known.have_dates ≡ true) × AreOffsetsOf times own offsets)
+    → (filters : Option NewFilters) → MaybeInOrder plan.new.now.order.items filters plan.filters
     → (layer : Layer) × IsLayer bytes path layer × IsWrittenLayer layers plan.commits.now layer
+    × HasFiltersOf plan.commits.now filters layer
 unfolding plan_of
-view-written plan bytes path file layers is_new none known below times timed own same leveled local right kind bases few has = (
-  file.0,
-  file.1,
-  written layers plan.commits.now plan.new.now is_new none known below times timed own leveled local right (plan_of plan) kind
-      bases few (planned-count plan) (view-planned plan own same) has bytes path file.0 file.1 file.2,
-)
+view-written plan bytes path file layers is_new none known below times timed own same leveled local right kind bases few has
+    filters ordered = (
+      file.0,
+      file.1,
+      written layers plan.commits.now plan.new.now is_new none known below times timed own leveled local right (plan_of plan) kind
+          bases few (planned-count plan) (view-planned plan own same) has bytes path file.0 file.1 file.2,
+      filtered layers plan.commits.now plan.new.now is_new own (plan_of plan) (planned-count plan) (view-planned plan own same)
+          file.0 file.2 filters plan.filters ordered refl,
+    )

@@ -9,3 +9,5 @@ pub mod LevelsBelow
 pub mod OwnLevels
 pub mod PlannedCommits
 pub mod WrittenLayers
+pub mod NewFilters
+pub mod FiltersInOrder

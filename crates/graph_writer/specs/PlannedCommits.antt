@@ -1,6 +1,6 @@
 -- What the file of a new layer is to hold of its commits. For private contracts alone.
-use Rattle.std.specs.Prelude.{◌≡◌, ◌+◌, ◌<◌, ◌^◌, ℕ, List, [], All, None, length, map, slice_index, slice_index_or, slice_range}
-use Rattle.std.specs.Prelude.{refl}
+use Rattle.std.specs.Prelude.{◌≡◌, ◌+◌, ◌<◌, ◌^◌, ℕ, List, [], All, length, map, slice_index, slice_index_or, slice_range, refl}
+use Rattle.std.specs.Prelude.{option_map}
 use Rattle.std.specs.List.{range_with_len}
 use Rattle.graph_encoder.proofs.RoomSteps.{none-room, part-room, map-room}
 use Rattle.graph_encoder.specs.declared.plan.LayerPlan.{LayerPlan}
@@ -99,5 +99,5 @@ plan_of plan =
         small = order.small;
       };
       date_offsets = plan.offsets;
-      filters = None;
+      filters = option_map (λ filters. filters.parts) plan.filters;
     }

@@ -5,6 +5,7 @@
 mod below;
 mod check;
 mod commit;
+mod filters;
 mod guide;
 mod levels_below;
 mod new_layer;
@@ -16,5 +17,6 @@ mod resolve;
 mod write;
 
 pub use commit::{NewCommit, WriteError};
+pub use filters::NewFilters;
 pub use new_layer::NewLayer;
-pub use write::write_layer;
+pub use write::{write_layer, write_layer_with_filters};

@@ -5,6 +5,7 @@ ghost use Rattle.std.specs.Prelude.{◌≡◌, ◌<◌, length, All};
 ghost use Rattle.graph_levels.specs.ParentLists.{commit_count};
 
 use crate::commit::NewCommit;
+use crate::filters::NewFilters;
 use crate::new_layer::NewLayer;
 use gix_hash_core::{Kind, ObjectId};
 use graph_encoder::{PlanFilters, PlanRow, PlanView};
@@ -25,6 +26,8 @@ pub(crate) struct NewPlan<'a> {
     pub(crate) levels: &'a [Level],
     /// How many seconds their corrected dates are past their times, if the layer is to have dates.
     pub(crate) offsets: Option<Vec<u64>>,
+    /// Their changed-path filters, in that order, if the layer is to have filters.
+    pub(crate) filters: Option<NewFilters>,
     ghost each: { All (λ i. i < length commits.now) new.now.order.items },
     ghost listed: { commit_count new.now.parents ≡ length new.now.order.items },
     ghost leveled: { length levels.now ≡ length new.now.order.items },
@@ -84,6 +87,9 @@ impl PlanView for NewPlan<'_> {
     }
 
     fn filters(&self) -> Option<&PlanFilters> {
-        None
+        match &self.filters {
+            Some(filters) => Some(&filters.parts),
+            None => None,
+        }
     }
 }

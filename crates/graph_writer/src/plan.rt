@@ -3,10 +3,14 @@
 ghost use Rattle.std.specs.Prelude.{◌≡◌, ◌+◌, ◌<◌, ◌≤◌, ◌^◌, ℕ, true, false, IfOk, IfSome};
 ghost use Rattle.std.specs.Prelude.{IfNone, length, map, slice_index};
 ghost use Rattle.graph_levels.specs.OnTop.{level_at};
+ghost use Rattle.graph_writer.specs.FiltersInOrder.{MaybeInOrder};
 ghost use Rattle.graph_writer.specs.NewCommits.{layers_of_below};
+ghost use Rattle.graph_writer.specs.NewFilters.{filter_count, filters_handed};
 ghost use Rattle.graph_writer.specs.PlannedCommits.{AreOffsetsOf};
+ghost use Rattle.graph_writer.specs.SortedPlaces.{IsMixed};
 
 use crate::commit::NewCommit;
+use crate::filters::NewFilters;
 use gix_commitgraph::File;
 use gix_hash_core::ObjectId;
 use graph_history::Checked;
@@ -70,4 +74,19 @@ fn offset_of(date: u64, time: u64) -> u64
     ensures fits { result < 2 ^ 64 }
 {
     date - time
+}
+
+/// The filters in this order of their numbers, if there are any.
+pub(crate) fn filters_in_order(
+    alloc: Global,
+    filters: Option<&NewFilters>,
+    order: &[usize],
+) -> Result<Option<NewFilters>, AllocError>
+    requires { IfSome (filters_handed filters) (λ f. IsMixed (filter_count f) order.now) }
+    ensures { IfOk result (MaybeInOrder order.now (filters_handed filters.entry)) }
+{
+    match filters {
+        Some(filters) => Ok(Some(filters.in_order(alloc, order)?)),
+        None => Ok(None),
+    }
 }

@@ -1,6 +1,7 @@
 //! Writing a layer.
 
-ghost use Rattle.std.specs.Prelude.{◌≡◌, ◌<◌, ◌≤◌, ℕ, List, IfOk, IfErr, length, slice_index};
+ghost use Rattle.std.specs.Prelude.{◌≡◌, ◌<◌, ◌≤◌, ℕ, List, IfOk, IfErr, IfSome, length};
+ghost use Rattle.std.specs.Prelude.{slice_index};
 ghost use Rattle.graph_walks.specs.Dates.{AreRight};
 ghost use Rattle.graph_walks.specs.Generations.{AreLocal};
 ghost use Rattle.graph_walks.specs.History.{Node};
@@ -9,15 +10,17 @@ ghost use Rattle.graph_levels.specs.OnTop.{HasLevelGenerations, HasNoCycleOnTop,
 ghost use Rattle.graph_levels.specs.OnTop.{level_at};
 ghost use Rattle.graph_levels.specs.ParentLists.{commit_count};
 ghost use Rattle.graph_writer.specs.NewCommits.{layers_of_below};
+ghost use Rattle.graph_writer.specs.NewFilters.{filter_count, filters_handed, IsWrittenWith};
 ghost use Rattle.graph_writer.specs.OwnLevels.{MayHaveNoLevels};
 ghost use Rattle.graph_writer.specs.WritingRefusal.{AreAccepted, MayRefuseWriting};
 ghost use Rattle.graph_writer.specs.WrittenLayers.{IsWritten};
 
 use crate::commit::{NewCommit, WriteError};
+use crate::filters::NewFilters;
 use crate::levels_below::LevelsBelow;
 use crate::new_layer::{NewLayer, kind_to_write};
 use crate::new_plan::NewPlan;
-use crate::plan::{checksums_below, offsets_of};
+use crate::plan::{checksums_below, filters_in_order, offsets_of};
 use graph_encoder::{build_view, has_few_extra_words};
 use graph_history::Checked;
 use graph_levels::{Level, LevelsError, levels};
@@ -35,7 +38,6 @@ const MOST_BELOW: usize = 255;
 ///
 /// The first of [`WriteError`] that holds, in their order. `OutOfMemory` comes only where there are
 /// commits and each is right by itself: ids are compared once they stand in memory.
-#[tactic(auto, using(crate::proofs::RefusalSteps::memory_laws))]
 pub fn write_layer(
     alloc: Global,
     below: Option<&Checked<'_>>,
@@ -43,6 +45,30 @@ pub fn write_layer(
 ) -> Result<Vec<u8>, WriteError>
     ensures written { IfOk result (λ bytes.
         IsWritten (layers_of_below below.entry) commits.now bytes.items) }
+    ensures accepted { IfOk result (λ _.
+        AreAccepted (layers_of_below below.entry) commits.now) }
+    ensures refusal { IfErr result (MayRefuseWriting (layers_of_below below.entry) commits.now) }
+{
+    write_layer_with_filters(alloc, below, commits, None)
+}
+
+/// The bytes of a layer with these commits and with these changed-path filters, if there are any:
+/// the first is that of the first commit, and so on.
+///
+/// # Errors
+///
+/// Those of [`write_layer`].
+#[tactic(auto, using(crate::proofs::RefusalSteps::memory_laws))]
+pub fn write_layer_with_filters(
+    alloc: Global,
+    below: Option<&Checked<'_>>,
+    commits: &[NewCommit],
+    filters: Option<&NewFilters>,
+) -> Result<Vec<u8>, WriteError>
+    requires { IfSome (filters_handed filters)
+        (λ f. filter_count f ≡ length commits.now) }
+    ensures written { IfOk result (λ bytes. IsWrittenWith (layers_of_below below.entry)
+        commits.now (filters_handed filters.entry) bytes.items) }
     ensures accepted { IfOk result (λ _.
         AreAccepted (layers_of_below below.entry) commits.now) }
     ensures refusal { IfErr result (MayRefuseWriting (layers_of_below below.entry) commits.now) }
@@ -57,6 +83,7 @@ pub fn write_layer(
         new: &new,
         levels: &own,
         offsets: offsets_of(alloc, known.have_dates, &times, &own)?,
+        filters: filters_in_order(alloc, filters, &new.order)?,
     };
     if plan.bases.len() > MOST_BELOW {
         return Err(WriteError::TooManyLayers);

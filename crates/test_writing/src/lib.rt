@@ -2,6 +2,8 @@
 #![tactic(auto)]
 
 #[cfg(test)]
+mod filtered;
+#[cfg(test)]
 mod made;
 #[cfg(test)]
 mod new_layers;
