@@ -5,4 +5,5 @@
 
 pub mod ancestor;
 pub mod law;
+mod unread;
 pub mod walk;

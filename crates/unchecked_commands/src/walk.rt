@@ -12,8 +12,7 @@ ghost use Rattle.unchecked_commands.specs.UncheckedAnswer.{MayAnswerByParts};
 ghost use Rattle.unchecked_commands.specs.UncheckedWalk.{IsWalkThere, MayWalkUnchecked};
 ghost use Rattle.unchecked_commands.specs.UncheckedWalk.{listed_walk, listed_by_parts};
 
-use crate::ancestor::answer_of;
-use gix_commitgraph::opening::OpenError;
+use crate::ancestor::answer_by_parts;
 use gix_hash_core::ObjectId;
 use graph_commands::block::Block;
 use graph_commands::line::{WriteFailed, write_line};
@@ -21,7 +20,7 @@ use graph_commands::refusal::Refusal;
 use graph_commands::run::refuse;
 use graph_commands::status::Status;
 use graph_folder::folder::Folder;
-use graph_unchecked::question::{Unread, ancestor_walk};
+use graph_unchecked::question::ancestor_walk;
 use history_commands::Answer;
 use history_commands::run::run_walk;
 use std::alloc::Global;
@@ -79,12 +78,8 @@ fn found_by_parts<T: Folder>(
 {
     let first = ObjectId::from_hex(first.as_bytes())?;
     let second = ObjectId::from_hex(second.as_bytes())?;
-    match ancestor_walk(alloc, folder, path, first.as_oid(), second.as_oid()) {
-        Ok(found) => Ok(Some(answer_of(found))),
-        Err(Unread::Device) => Err(Refusal::Open(OpenError::Device)),
-        Err(Unread::OutOfMemory) => Err(Refusal::Walk),
-        Err(Unread::NotByParts) => Ok(None),
-    }
+    let found = ancestor_walk(alloc, folder, path, first.as_oid(), second.as_oid());
+    answer_by_parts(found)
 }
 
 /// Writes what is found, and answers the exit status.
