@@ -6,7 +6,8 @@ usage: python3 bench/unchecked.py FOLDER [COMMITS ..]
 FOLDER keeps the million commits of bench/topics.py for further runs; making them takes minutes. A line a kind of pairs, of the
 newest 1,000 commits and of all, in milliseconds a process: the elapsed and the processor time of
 `historytool is-ancestor --unchecked`, those of `git merge-base --is-ancestor`, and the ratios. The processes take turns, and all
-is read once before. Each has to answer as Git does. A row `git cgraph` is `git cgraph is-ancestor --unchecked`, which finds the
+is read once before. Each has to answer as Git does. The rows `merge-base` are `historytool merge-base-ids --unchecked` beside
+`git merge-base --all`. A row `git cgraph` is `git cgraph is-ancestor --unchecked`, which finds the
 commit-graph and the ids, and the row `rev-parse` one call of Git for that.
 
 For each number COMMITS, a layer of so many commits by bench/processes/random_layer.rs, and ours alone.
@@ -43,6 +44,8 @@ def main(folder, *sizes):
         ours = [[program, "is-ancestor", "--unchecked", info, *pair] for pair in pairs]
         theirs = [[*git, "merge-base", "--is-ancestor", *pair] for pair in pairs]
         same = report("is-ancestor, " + kind, ours, theirs) and same
+        bases = [[program, "merge-base-ids", "--unchecked", info, *pair] for pair in pairs]
+        same = report("merge-base, " + kind, bases, [[*git, "merge-base", "--all", *pair] for pair in pairs]) and same
         if kind == "newest":
             cgraph = [["git", "-C", made.folder, "cgraph", "is-ancestor", "--unchecked", *pair] for pair in pairs[:50]]
             same = report("git cgraph is-ancestor", cgraph, theirs[:50]) and same

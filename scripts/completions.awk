@@ -35,17 +35,16 @@ END {
 
 # Notes the options of an item: their names, what they take, what they do, and the commands that they are for, if they are for
 # some alone.
-function end_item(    colon, terms, number, at, text, own, end, parts, count) {
+function end_item(    colon, terms, number, at, text, own, parts, count) {
     if (item == "") return
     colon = index(item, ": ")
     text = substr(item, colon + 2)
     number = split(substr(item, 1, colon - 1), terms, "`")
     item = ""
-    if (text ~ /^With `/) {
-        end = index(text, "`, ")
-        count = split(substr(text, 1, end), parts, "`")
+    if (match(text, /^With (`[^`]*`(, | and ))*`[^`]*`, /)) {
+        count = split(substr(text, 1, RLENGTH), parts, "`")
+        text = substr(text, RLENGTH + 1)
         for (at = 2; at <= count; at += 2) own = own " " first_word(parts[at])
-        text = substr(text, end + 3)
     }
     for (at = 2; at <= number; at += 2) {
         options++

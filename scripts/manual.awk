@@ -87,7 +87,7 @@ function item(term, text) {
     } else if (mode == "help" && section == "Commands" && first_word(plain(term)) == word) {
         print ""
         wrap(plain(text), "")
-    } else if (mode == "help" && text ~ "^With (`[^`]*` and )?`" word "[ `]") {
+    } else if (mode == "help" && text ~ "^With (`[^`]*`(,| and) )*`" word "[ `]") {
         printf "%s  %s\n", options++ ? "" : "\n", plain(term)
         wrap(plain(text), "      ")
     }

@@ -17,7 +17,8 @@ NAME is a file of the folder `checks`, such as show_checks; without one, all are
   parents that Git lists; where times are in order, also as `git rev-list --left-right --count` counts them. How many
   were visited lies within the bounds that the parents and the generation numbers give.
   Also of long histories, in a file and in a chain, and of small ones with cycles, beside all walks. `merge-base-ids`
-  tells the ids of the same bases.
+  tells the ids of the same bases. All of that also with `--unchecked`, where each base of a wrong file has to be a common
+  ancestor by the parents that stand in it.
 - chains in which commits stand in several layers: the same questions beside all walks, which answers are not Git's, and
   what `git cgraph` says beside them. And a chain file with the line ends 0d 0a, which Git does not load.
 - `check`: the lines of `verify`, and those of the corrected dates and changed-path filters that Git writes; damaged

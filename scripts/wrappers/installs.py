@@ -175,7 +175,8 @@ def check_completion(results, clone, repository):
         ("merge-base", "--a"): {"--all"},
         ("is-ancestor", "--u"): {"--unchecked"},
         ("walk", "--u"): {"--unchecked"},
-        ("merge-base", "--u"): set(),
+        ("merge-base", "--u"): {"--unchecked"},
+        ("find", "--u"): set(),
         ("find", "-q", "anno"): {"annotated"},
         ("--object-dir", "su"): {"sub"},
     }.items():

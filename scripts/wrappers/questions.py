@@ -253,7 +253,7 @@ def check_repeated(results, clone, repository):
         *(("merge-base", "ab", "aa\nbb\n", twice, True), ("merge-base", "ab", "aa\nbb", twice, True)),
         ("merge-base -v", "base 3 ab", "aa\nbb\n", twice, True),
         *(("is-ancestor", "no", "aa\n", twice, False), ("is-ancestor", "no", "aa", twice, False)),
-        *((word + " --unchecked", line, "aa\nbb\n", twice, False) for word, line in (("is-ancestor", "no"), ("walk", "none"))),
+        *((word + " --unchecked", line, "aa\nbb\n", twice, False) for word, line in (("is-ancestor", "no"), ("merge-base", "none"))),
         *(("walk", "none", "aa\nbb\n", right, False), ("merge-base", "none", "aa\nbb\n", "exit 3\n", False)),
         *(("is-ancestor", "yes", "aa\nbb\n", twice, False), ("walk", "refused verify 10", "aa\nbb\n", twice, False)),
     ):

@@ -5,7 +5,6 @@ use Rattle.std.specs.List.{AllZip, flat_map}
 use Rattle.hex.specs.Hex.{encode_lower}
 use Rattle.gix_hash_core.specs.Hexadecimal.{SpellsId, SpellsNone}
 use Rattle.gix_hash_core.specs.declared.object_id.IdError.{IdError}
-use Rattle.graph_walks.specs.History.{Node}
 use Rattle.graph_format.specs.Layer.{Layer}
 use Rattle.graph_format.specs.Lookup.{scan}
 use Rattle.graph_format.specs.StoredHistory.{history_of}
@@ -13,10 +12,8 @@ use Rattle.graph_format.specs.declared.Position.{Position}
 use Rattle.graph_layer.specs.declared.opening.error.OpenError.{OpenError}
 use Rattle.gix_commitgraph.specs.Graph.{graph_ids, total}
 use Rattle.gix_commitgraph.specs.Sound.{Sound}
-use Rattle.graph_ancestors.specs.WalkAnswer.{numbers_of}
-use Rattle.graph_history.specs.Bases.{AreMergeBases, IsAhead, IsBehind, AreVisits}
+use Rattle.graph_history.specs.Comparison.{IsComparisonIn}
 use Rattle.graph_ancestors.specs.RefusedGraph.{MayRefuseGraph}
-use Rattle.graph_ancestors.specs.Cardinality.{IsNumberOf}
 use Rattle.graph_history.specs.declared.bases.Comparison.{Comparison}
 use Rattle.graph_commands.specs.Ancestor.{IsThere, visits_line}
 use Rattle.graph_commands.specs.RefusalLines.{refusal_text, refusal_status}
@@ -26,14 +23,6 @@ use Rattle.graph_commands.specs.declared.refusal.Refusal.TheVariants.{Id, Read, 
 use Rattle.history_commands.specs.Walk.{id_in, id_line}
 use Rattle.history_commands.specs.declared.bases.Compared.{Compared}
 use Rattle.history_commands.specs.declared.bases.Compared.TheVariants.{Unknown, Known}
-
--- What a commit and some others of a history have in common, and how far they have come apart: what `git merge-base --all`
--- names, and `git rev-list --left-right --count` counts for one other.
-pub record IsComparison (history : List Node) (first : ℕ) (others : List ℕ) (comparison : Comparison) : Type 0 where
-  pub bases : AreMergeBases history first others (numbers_of comparison.bases.positions.items)
-  pub ahead : IsNumberOf comparison.divergence.ahead (IsAhead history first others)
-  pub behind : IsNumberOf comparison.divergence.behind (IsBehind history first others)
-  pub visits : AreVisits history first others comparison.bases.visits
 
 -- the least position where an id is
 abbrev pub IsIdAt : List Layer → List ℕ → ℕ → Type 0
@@ -46,13 +35,14 @@ IsFirstUnknown layers ids place =
     × ((id : List ℕ) × (slice_get ids place ≡ Some id) × (scan (graph_ids layers) id ≡ None))
 
 -- what may be found of ids in a graph: the first of them that is not there, by its number, which is 1 for the first id; else
--- how the commit with the first id compares with those with the others
+-- how the commit with the first id compares with those with the others: what `git merge-base --all` names, and
+-- `git rev-list --left-right --count` counts for one other
 abbrev pub MayFindOfAll : List Layer → List (List ℕ) → Compared → Type 0
 MayFindOfAll layers ids (Unknown number) =
     (place : ℕ) × IsFirstUnknown layers ids place × (number ≡ place + 1)
 MayFindOfAll layers ids (Known comparison) =
     (first : ℕ) × (others : List ℕ) × AllZip (IsIdAt layers) ids (first ∷ others)
-    × IsComparison (history_of layers) first others comparison
+    × IsComparisonIn (history_of layers) first others comparison
 
 -- the first of the texts that is no id, and why
 abbrev pub SpellNotAll : List (List ℕ) → IdError → Type 0
@@ -86,8 +76,12 @@ MayCompare texts IsLeftAlone MayOpen (Ok (layers, compared)) =
 MayCompare texts IsLeftAlone MayOpen (Err refusal) = MayRefuseAll texts IsLeftAlone MayOpen refusal
 
 -- the line of a base: its position and its id
+abbrev pub line_of_base : Position → List ℕ → List ℕ
+line_of_base base id = codes "base " ⧺ decimal base.0 ⧺ codes " " ⧺ encode_lower id ⧺ newline
+
+-- the same, where the base is one of a graph
 abbrev pub merge_base_line : List Layer → Position → List ℕ
-merge_base_line layers base = codes "base " ⧺ decimal base.0 ⧺ codes " " ⧺ encode_lower (id_in layers base.0) ⧺ newline
+merge_base_line layers base = line_of_base base (id_in layers base.0)
 
 -- the line of the id of a base alone
 abbrev pub base_id_line : List Layer → Position → List ℕ

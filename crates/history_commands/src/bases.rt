@@ -16,7 +16,8 @@ ghost use Rattle.graph_commands.specs.OpenerAnswer.{MayOpen};
 ghost use Rattle.history_commands.specs.MergeBases.{AreBasesWithin, IsIdAt, IsFirstUnknown};
 ghost use Rattle.history_commands.specs.MergeBases.{MayBeAskedOfAll, MayCompare, MayFindOfAll};
 ghost use Rattle.history_commands.specs.MergeBases.{MayHaveBases, MayNotReadIds, MayRefuseAll};
-ghost use Rattle.history_commands.specs.MergeBases.{SpellNotAll, counts_text, merge_base_line};
+ghost use Rattle.history_commands.specs.MergeBases.{SpellNotAll, counts_text, line_of_base};
+ghost use Rattle.history_commands.specs.MergeBases.{merge_base_line};
 ghost use Rattle.history_commands.specs.MergeBases.{merge_base_text, merge_base_status};
 ghost use Rattle.history_commands.specs.MergeBases.{merge_base_ids_text, unknown_line};
 
@@ -150,7 +151,7 @@ fn ask_of_all<T: Folder>(
 
 /// The ids that the texts spell. The error is `Id` for the first text that spells none, or `Walk`,
 /// where all of them are ids and an allocation failed.
-fn read_ids(alloc: Global, texts: &[String]) -> Result<Vec<ObjectId>, Refusal>
+pub fn read_ids(alloc: Global, texts: &[String]) -> Result<Vec<ObjectId>, Refusal>
     ensures spelled { IfOk result (λ ids.
         AllZip SpellsId (map string_bytes texts.now) ids.items) }
     ensures refused { IfErr result (MayNotReadIds (map string_bytes texts.now)) }
@@ -303,8 +304,9 @@ fn tell_ids<W: Write>(
     }
 }
 
-/// Writes which id is not in the graph, and answers the exit status.
-fn tell_unknown<W: Write>(writer: &mut W, number: u64) -> Result<u8, WriteFailed>
+/// Writes which id is not in the graph, and answers the exit status. `WriteFailed` comes where the
+/// writer fails.
+pub fn tell_unknown<W: Write>(writer: &mut W, number: u64) -> Result<u8, WriteFailed>
     ensures { IfOk result (λ status. Appends (W.contents writer.old) (W.contents writer.new)
         (unknown_line number) × (status ≡ 1)) }
 {
@@ -312,8 +314,9 @@ fn tell_unknown<W: Write>(writer: &mut W, number: u64) -> Result<u8, WriteFailed
     Ok(Status::No as u8)
 }
 
-/// Writes how many commits are ahead and behind, and how many were visited.
-fn write_counts<W: Write>(writer: &mut W, comparison: &Comparison) -> Result<(), WriteFailed>
+/// Writes how many commits are ahead and behind, and how many were visited. `WriteFailed` comes
+/// where the writer fails.
+pub fn write_counts<W: Write>(writer: &mut W, comparison: &Comparison) -> Result<(), WriteFailed>
     ensures { OnOk result
         (Appends (W.contents writer.old) (W.contents writer.new) (counts_text comparison.now)) }
 {
@@ -341,7 +344,7 @@ fn write_bases<W: Write>(
     block.write_out(writer)
 }
 
-/// Adds the line of a base.
+/// Adds the line of a base of a graph that was checked. `WriteFailed` comes where the writer fails.
 pub fn push_base<W: Write>(
     block: &mut Block,
     writer: &mut W,
@@ -352,9 +355,22 @@ pub fn push_base<W: Write>(
     ensures { OnOk result (Appends (with_block (W.contents writer.old) block.old)
         (with_block (W.contents writer.new) block.new) (merge_base_line graph.now.layers base)) }
 {
+    push_line_of_base(block, writer, base, graph.id(base))
+}
+
+/// Adds the line of a base: its position and its id. `WriteFailed` comes where the writer fails.
+pub fn push_line_of_base<W: Write>(
+    block: &mut Block,
+    writer: &mut W,
+    base: Position,
+    id: oid<'_>,
+) -> Result<(), WriteFailed>
+    ensures { OnOk result (Appends (with_block (W.contents writer.old) block.old)
+        (with_block (W.contents writer.new) block.new) (line_of_base base (oid_bytes id.entry))) }
+{
     block.push_text(writer, "base ")?;
     block.push_decimal(writer, base.0 as u64)?;
     block.push_byte(writer, b' ')?;
-    block.push_id(writer, graph.id(base))?;
+    block.push_id(writer, id)?;
     block.push_byte(writer, b'\n')
 }

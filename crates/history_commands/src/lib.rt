@@ -11,7 +11,7 @@ mod is_ancestor;
 pub mod opening;
 mod question;
 pub mod run;
-mod walk;
+pub mod walk;
 
 pub use bases::Compared;
 pub use check::CheckRefusal;

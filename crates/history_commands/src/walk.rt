@@ -158,8 +158,9 @@ fn tell_reached<W: Write>(
     }
 }
 
-/// Writes a line that says that something is not there, and answers the exit status.
-pub(crate) fn tell_none<W: Write>(writer: &mut W, line: &str) -> Result<u8, WriteFailed>
+/// Writes a line that says that something is not there, and answers the exit status. `WriteFailed`
+/// comes where the writer fails.
+pub fn tell_none<W: Write>(writer: &mut W, line: &str) -> Result<u8, WriteFailed>
     ensures { IfOk result (λ status. Appends (W.contents writer.old) (W.contents writer.new)
         (line.now ⧺ newline) × (status ≡ 1)) }
 {

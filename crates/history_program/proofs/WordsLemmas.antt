@@ -1,5 +1,5 @@
 -- Which names ask for commands, by the number of words after them.
-use Rattle.std.proofs.Common.{◌≡◌, ◌⊎◌, ℕ, ◌-◌, ◌<◌, ◌≤◌, List, [], ◌∷◌, length, map, get_or, take, drop}
+use Rattle.std.proofs.Common.{◌≡◌, ◌≢◌, ◌⊎◌, ℕ, ◌-◌, ◌<◌, ◌≤◌, List, [], ◌∷◌, length, map, get_or, take, drop}
 use Rattle.std.proofs.Common.{inl, inr, refl, sym, ap, subst, string_bytes, ◌∙◌, arith}
 use Rattle.std.proofs.lemmas.List.{length-map, take_all}
 use Rattle.std.specs.Prelude.{String, Bool, true, false, Option, Some, None, IfSome, codes}
@@ -19,8 +19,10 @@ named_alone help version name (command.IsAncestor path first second) is = let e 
 named_alone help version name (command.IsAncestorUnchecked pair) is = let e = is in cc
 named_alone help version name (command.Walk path first second) is = let e = is.0 in cc
 named_alone help version name (command.WalkUnchecked pair) is = let e = is in cc
-named_alone help version name (command.MergeBase path first others) is = let e = is.0 in cc
-named_alone help version name (command.MergeBaseIds path first others) is = let e = is.0 in cc
+named_alone help version name (command.MergeBase path first others) is = let e = is.0.0 in cc
+named_alone help version name (command.MergeBaseUnchecked group) is = let e = is.0 in cc
+named_alone help version name (command.MergeBaseIds path first others) is = let e = is.0.0 in cc
+named_alone help version name (command.MergeBaseIdsUnchecked group) is = let e = is.0 in cc
 named_alone help version name (command.Check path) is = let e = is in cc
 named_alone help version name (command.Show path) is = let e = is in cc
 named_alone help version name (command.Ask path) is = let e = is in cc
@@ -42,8 +44,10 @@ named_with_path help version name path (command.IsAncestor at first second) is =
 named_with_path help version name path (command.IsAncestorUnchecked pair) is = let e = is in cc
 named_with_path help version name path (command.Walk at first second) is = let e = is.0 in cc
 named_with_path help version name path (command.WalkUnchecked pair) is = let e = is in cc
-named_with_path help version name path (command.MergeBase at first others) is = let e = is.0 in cc
-named_with_path help version name path (command.MergeBaseIds at first others) is = let e = is.0 in cc
+named_with_path help version name path (command.MergeBase at first others) is = let e = is.0.0 in cc
+named_with_path help version name path (command.MergeBaseUnchecked group) is = let e = is.0 in cc
+named_with_path help version name path (command.MergeBaseIds at first others) is = let e = is.0.0 in cc
+named_with_path help version name path (command.MergeBaseIdsUnchecked group) is = let e = is.0 in cc
 named_with_path help version name path (command.Check at) is = let e = is in inl cc
 named_with_path help version name path (command.Show at) is = let e = is in inr (inl cc)
 named_with_path help version name path (command.Ask at) is = let e = is in inr (inr (inl cc))
@@ -73,17 +77,27 @@ as_many others more same some =
 abbrev pub IsOfTwo : List ℕ → Type 0
 IsOfTwo name = (name ≡ codes "is-ancestor") ⊎ (name ≡ codes "walk")
 
--- the words of a question about two ids, or about one and some others
+-- its words
 abbrev pub AskOfTwo : List ℕ → List (List ℕ) → Type 0
 AskOfTwo name words = (unchecked : Bool) × (at one other : List ℕ) × AreQuestionWords name unchecked at (one ∷ other ∷ []) words
 
--- which name asks with a path and ids, and how many ids there are after the first
+-- the name of a question about one id and some others
+abbrev pub IsOfMany : List ℕ → Type 0
+IsOfMany name = (name ≡ codes "merge-base") ⊎ (name ≡ codes "merge-base-ids")
+
+-- its words
+abbrev pub AskOfMany : List ℕ → List (List ℕ) → Type 0
+AskOfMany name words =
+    (unchecked : Bool) × (at one : List ℕ) × (more : List (String Global))
+    × AreQuestionWords name unchecked at (one ∷ map string_bytes more) words × (more ≢ [])
+
+-- which name asks with a path and ids, and with which words
 abbrev pub NamedWithIds : List ℕ → List ℕ → List ℕ → List (String Global) → Type 0
 NamedWithIds name path first others =
     (IsOfTwo name × AskOfTwo name (name ∷ path ∷ first ∷ map string_bytes others))
     ⊎ (((name ≡ codes "ids") ⊎ (name ≡ codes "objects")) × (length others ≡ 1)
     × ((to : List ℕ) × (range : PositionRange) × (map string_bytes others ≡ to ∷ []) × SpellsRange first to range))
-    ⊎ (((name ≡ codes "merge-base") ⊎ (name ≡ codes "merge-base-ids")) × (1 ≤ length others))
+    ⊎ (IsOfMany name × AskOfMany name (name ∷ path ∷ first ∷ map string_bytes others))
 
 pub named_with_ids : (help version name path first : List ℕ) (others : List (String Global)) (asked : Command)
     → AskAfterName help version (name ∷ path ∷ first ∷ map string_bytes others) asked → NamedWithIds name path first others
@@ -100,11 +114,17 @@ named_with_ids help version name path first others (command.Walk at one other) i
 named_with_ids help version name path first others (command.WalkUnchecked pair) is =
     let same : name ≡ codes "walk" = cc in inl (inr same, (true, pair.path.now, pair.first.now, pair.second.now, cc))
 named_with_ids help version name path first others (command.MergeBase at one more) is =
-    let e = is.0 in let rest : map string_bytes others ≡ map string_bytes more.now = cc in
-    inr (inr (inl cc, as_many others more.now rest is.1))
+    let e = is.0.0 in let same : name ≡ codes "merge-base" = cc in
+    inr (inr (inl same, (false, at.now, one.now, more.now, (cc, is.0.1), is.1)))
+named_with_ids help version name path first others (command.MergeBaseUnchecked group) is =
+    let e = is.0 in let same : name ≡ codes "merge-base" = cc in
+    inr (inr (inl same, (true, group.path.now, group.first.now, group.others.now, cc, is.1)))
 named_with_ids help version name path first others (command.MergeBaseIds at one more) is =
-    let e = is.0 in let rest : map string_bytes others ≡ map string_bytes more.now = cc in
-    inr (inr (inr cc, as_many others more.now rest is.1))
+    let e = is.0.0 in let same : name ≡ codes "merge-base-ids" = cc in
+    inr (inr (inr same, (false, at.now, one.now, more.now, (cc, is.0.1), is.1)))
+named_with_ids help version name path first others (command.MergeBaseIdsUnchecked group) is =
+    let e = is.0 in let same : name ≡ codes "merge-base-ids" = cc in
+    inr (inr (inr same, (true, group.path.now, group.first.now, group.others.now, cc, is.1)))
 named_with_ids help version name path first others (command.Check at) is = let e = is in cc
 named_with_ids help version name path first others (command.Show at) is = let e = is in cc
 named_with_ids help version name path first others (command.Ask at) is = let e = is in cc
@@ -152,6 +172,23 @@ of_two name path first others (inr (inr (inl base, some))) is =
 of_two name path first others (inr (inr (inr ids, some))) is =
     absurd (no_name name (codes "merge-base-ids") is ids (λ e. omega (arith, e)) (λ e. omega (arith, e)))
 
+-- the same of a question about one id and some others
+no_name_of_many : (name other : List ℕ) → IsOfMany name → name ≡ other → (length other ≡ 10 → ⊥) → (length other ≡ 14 → ⊥) → ⊥
+no_name_of_many name other (inl is) same ten fourteen = ten (sym (ap length same) ∙ ap length is)
+no_name_of_many name other (inr is) same ten fourteen = fourteen (sym (ap length same) ∙ ap length is)
+
+of_many : (name path first : List ℕ) (others : List (String Global)) → NamedWithIds name path first others → IsOfMany name
+    → AskOfMany name (name ∷ path ∷ first ∷ map string_bytes others)
+of_many name path first others (inl (inl ancestor, two)) is =
+    absurd (no_name_of_many name (codes "is-ancestor") is ancestor (λ e. omega (arith, e)) (λ e. omega (arith, e)))
+of_many name path first others (inl (inr walk, two)) is =
+    absurd (no_name_of_many name (codes "walk") is walk (λ e. omega (arith, e)) (λ e. omega (arith, e)))
+of_many name path first others (inr (inl (inl ids, one, to))) is =
+    absurd (no_name_of_many name (codes "ids") is ids (λ e. omega (arith, e)) (λ e. omega (arith, e)))
+of_many name path first others (inr (inl (inr objects, one, to))) is =
+    absurd (no_name_of_many name (codes "objects") is objects (λ e. omega (arith, e)) (λ e. omega (arith, e)))
+of_many name path first others (inr (inr many)) is = many.1
+
 no_two : (name path first at one other : List ℕ) (unchecked : Bool) → path ≡ codes "--unchecked"
     → AreQuestionWords name unchecked at (one ∷ other ∷ []) (name ∷ path ∷ first ∷ []) → ⊥
 no_two name path first at one other false option is = let e = is.0 in cc
@@ -167,6 +204,24 @@ two_asked help version name path first at one unchecked others those asked named
     let same = as_many_words name at two.1 unchecked two.0 (one ∷ map string_bytes those) (two.2 ∷ two.3 ∷ []) _ is two.4 in
     just_one those two.3 cc
 
+no_many : (name path first at one : List ℕ) (unchecked : Bool) (more : List (String Global)) → path ≡ codes "--unchecked"
+    → (more ≡ [] → ⊥) → AreQuestionWords name unchecked at (one ∷ map string_bytes more) (name ∷ path ∷ first ∷ []) → ⊥
+no_many name path first at one unchecked [] option some is = some refl
+no_many name path first at one false (other ∷ more) option some is = let e = is.0 in cc
+no_many name path first at one true (other ∷ more) option some is = cc
+
+-- a question about one id and some others has some
+pub many_asked : (help version name path first at one : List ℕ) (unchecked : Bool) (others those : List (String Global))
+    (asked : Command) → IsOfMany name
+    → AreQuestionWords name unchecked at (one ∷ map string_bytes those) (name ∷ path ∷ first ∷ map string_bytes others)
+    → AskAfterName help version (name ∷ path ∷ first ∷ map string_bytes others) asked → 1 ≤ length those
+many_asked help version name path first at one unchecked others those asked named is asks =
+    let many = of_many name path first others (named_with_ids help version name path first others asked asks) named in
+    let same =
+    as_many_words name at many.1 unchecked many.0 (one ∷ map string_bytes those) (many.2 ∷ map string_bytes many.3) _ is many.4 in
+    let rest : map string_bytes those ≡ map string_bytes many.3 = cc in
+    as_many those many.3 rest many.5
+
 -- where `--unchecked` and one word more follow its name, a question has too few words
 pub too_few_asked : (help version name path first : List ℕ) (others : List (String Global)) (asked : Command) → IsOfTwo name
     → path ≡ codes "--unchecked" → others ≡ []
@@ -176,6 +231,16 @@ too_few_asked help version name path first others asked named option none asks =
     no_two name path first two.1 two.2 two.3 two.0 option
     (subst (λ (w : List (String Global)).
     AreQuestionWords name two.0 two.1 (two.2 ∷ two.3 ∷ []) (name ∷ path ∷ first ∷ map string_bytes w)) none two.4)
+
+pub too_few_of_many_asked : (help version name path first : List ℕ) (others : List (String Global)) (asked : Command)
+    → IsOfMany name → path ≡ codes "--unchecked" → others ≡ []
+    → AskAfterName help version (name ∷ path ∷ first ∷ map string_bytes others) asked → ⊥
+too_few_of_many_asked help version name path first others asked named option none asks =
+    let many = of_many name path first others (named_with_ids help version name path first others asked asks) named in
+    no_many name path first many.1 many.2 many.0 many.3 option many.5
+    (subst (λ (w : List (String Global)).
+    AreQuestionWords name many.0 many.1 (many.2 ∷ map string_bytes many.3) (name ∷ path ∷ first ∷ map string_bytes w)) none
+    many.4)
 
 -- the same words, where it is known what they are
 pub known_words : (name at one : List ℕ) (unchecked taken : Bool) (those ids words : List (List ℕ)) → unchecked ≡ taken
@@ -198,8 +263,10 @@ none_asked help version (command.IsAncestor path first second) is = let e = is.0
 none_asked help version (command.IsAncestorUnchecked pair) is = let e = is in cc
 none_asked help version (command.Walk path first second) is = let e = is.0 in cc
 none_asked help version (command.WalkUnchecked pair) is = let e = is in cc
-none_asked help version (command.MergeBase path first others) is = let e = is.0 in cc
-none_asked help version (command.MergeBaseIds path first others) is = let e = is.0 in cc
+none_asked help version (command.MergeBase path first others) is = let e = is.0.0 in cc
+none_asked help version (command.MergeBaseUnchecked group) is = let e = is.0 in cc
+none_asked help version (command.MergeBaseIds path first others) is = let e = is.0.0 in cc
+none_asked help version (command.MergeBaseIdsUnchecked group) is = let e = is.0 in cc
 none_asked help version (command.Check path) is = let e = is in cc
 none_asked help version (command.Show path) is = let e = is in cc
 none_asked help version (command.Ask path) is = let e = is in cc

@@ -21,6 +21,7 @@ use Rattle.history_commands.specs.MergeBases.{MayCompare, merge_base_text, merge
 use Rattle.history_commands.specs.Question.{MayAnswer}
 use Rattle.history_commands.specs.Walk.{IsWalkOfIds, walk_text, walk_status}
 use Rattle.unchecked_commands.specs.UncheckedAncestor.{MayTellUnchecked}
+use Rattle.unchecked_commands.specs.UncheckedBases.{MayCompareUnchecked, told_bases_text, told_bases_status, told_ids_text}
 use Rattle.unchecked_commands.specs.UncheckedWalk.{MayWalkUnchecked}
 use Rattle.history_program.specs.declared.command.Command.TheVariants as command
 
@@ -40,13 +41,19 @@ AskAfterName help version words (command.IsAncestor path first second) =
 AskAfterName help version words (command.Walk path first second) =
     AreQuestionWords (codes "walk") false path.now (first.now ∷ second.now ∷ []) words
 AskAfterName help version words (command.MergeBase path first others) =
-    (words ≡ codes "merge-base" ∷ path.now ∷ first.now ∷ map string_bytes others.now) × (others.now ≢ [])
+    AreQuestionWords (codes "merge-base") false path.now (first.now ∷ map string_bytes others.now) words × (others.now ≢ [])
 AskAfterName help version words (command.MergeBaseIds path first others) =
-    (words ≡ codes "merge-base-ids" ∷ path.now ∷ first.now ∷ map string_bytes others.now) × (others.now ≢ [])
+    AreQuestionWords (codes "merge-base-ids") false path.now (first.now ∷ map string_bytes others.now) words × (others.now ≢ [])
 AskAfterName help version words (command.IsAncestorUnchecked pair) =
     AreQuestionWords (codes "is-ancestor") true pair.path.now (pair.first.now ∷ pair.second.now ∷ []) words
 AskAfterName help version words (command.WalkUnchecked pair) =
     AreQuestionWords (codes "walk") true pair.path.now (pair.first.now ∷ pair.second.now ∷ []) words
+AskAfterName help version words (command.MergeBaseUnchecked group) =
+    AreQuestionWords (codes "merge-base") true group.path.now (group.first.now ∷ map string_bytes group.others.now) words
+    × (group.others.now ≢ [])
+AskAfterName help version words (command.MergeBaseIdsUnchecked group) =
+    AreQuestionWords (codes "merge-base-ids") true group.path.now (group.first.now ∷ map string_bytes group.others.now) words
+    × (group.others.now ≢ [])
 AskAfterName help version words (command.Check path) = words ≡ codes "check" ∷ path.now ∷ []
 AskAfterName help version words (command.Show path) = words ≡ codes "show" ∷ path.now ∷ []
 AskAfterName help version words (command.Ask path) = words ≡ codes "ask" ∷ path.now ∷ []
@@ -99,6 +106,14 @@ HistorytoolMayWrite (command.WalkUnchecked pair) input unread IsLeftAlone MayOpe
     WritesAnswer walk_text walk_status
     (MayWalkUnchecked pair.first.now pair.second.now IsLeftAlone (MayOpenAt pair.path.now before after) before after)
     old new status
+HistorytoolMayWrite (command.MergeBaseUnchecked group) input unread IsLeftAlone MayOpenAt before after old new status =
+    WritesAnswer told_bases_text told_bases_status
+    (MayCompareUnchecked (group.first.now ∷ map string_bytes group.others.now) IsLeftAlone
+    (MayOpenAt group.path.now before after) before after) old new status
+HistorytoolMayWrite (command.MergeBaseIdsUnchecked group) input unread IsLeftAlone MayOpenAt before after old new status =
+    WritesAnswer told_ids_text told_bases_status
+    (MayCompareUnchecked (group.first.now ∷ map string_bytes group.others.now) IsLeftAlone
+    (MayOpenAt group.path.now before after) before after) old new status
 HistorytoolMayWrite (command.Check path) input unread IsLeftAlone MayOpenAt before after old new status =
     WritesAnswer check_text check_status (MayFindInAll (MayOpenAt path.now before after)) old new status
 HistorytoolMayWrite (command.Show path) input unread IsLeftAlone MayOpenAt before after old new status =

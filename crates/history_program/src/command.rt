@@ -9,6 +9,8 @@ ghost use Rattle.graph_commands.specs.WrittenAnswer.{WritesAnswer};
 ghost use Rattle.history_commands.specs.IsAncestor.{is_ancestor_text, is_ancestor_status};
 ghost use Rattle.history_commands.specs.Walk.{walk_text, walk_status};
 ghost use Rattle.unchecked_commands.specs.UncheckedAncestor.{MayTellUnchecked};
+ghost use Rattle.unchecked_commands.specs.UncheckedBases.{MayCompareUnchecked, told_bases_text};
+ghost use Rattle.unchecked_commands.specs.UncheckedBases.{told_bases_status, told_ids_text};
 ghost use Rattle.unchecked_commands.specs.UncheckedWalk.{MayWalkUnchecked};
 ghost use Rattle.history_program.specs.HistorytoolCommands.{TellsOfItself};
 ghost use Rattle.object_commands.specs.AskedRange.{SpellsRange};
@@ -29,6 +31,7 @@ use show_commands::run::run_show;
 use std::alloc::Global;
 use std::io::{Read, Write};
 use unchecked_commands::ancestor::run_is_ancestor_unchecked;
+use unchecked_commands::bases::{run_merge_base_ids_unchecked, run_merge_base_unchecked};
 use unchecked_commands::walk::run_walk_unchecked;
 use write_commands::run_write;
 
@@ -91,6 +94,16 @@ pub enum Command<'a> {
         /// The graph and the commits.
         pair: UncheckedPair<'a>,
     },
+    /// The same as by `MergeBase` is to be told of a graph that is trusted.
+    MergeBaseUnchecked {
+        /// The graph and the commits.
+        group: UncheckedGroup<'a>,
+    },
+    /// The same as by `MergeBaseIds` is to be told of a graph that is trusted.
+    MergeBaseIdsUnchecked {
+        /// The graph and the commits.
+        group: UncheckedGroup<'a>,
+    },
     /// The graph is to be checked, with its dates and its filters.
     Check {
         /// The path of the graph.
@@ -141,6 +154,17 @@ pub struct UncheckedPair<'a> {
     pub first: &'a str,
     /// The second id.
     pub second: &'a str,
+}
+
+/// A graph that is trusted, and two commits or more that it is asked about.
+#[derive(Clone, Copy, Debug)]
+pub struct UncheckedGroup<'a> {
+    /// The path of the graph.
+    pub path: &'a str,
+    /// The first id, in hexadecimal digits.
+    pub first: &'a str,
+    /// The other ids, of which there is one at least.
+    pub others: &'a [String],
 }
 
 /// The words of a question after its name.
@@ -352,10 +376,25 @@ impl<'a> Command<'a> {
     fn merge_base(path: &'a str, first: &'a str, others: &'a [String]) -> Option<Command<'a>>
         ensures asked { (help version : List ℕ) → IfSome result (AskAfterName help version
             (codes "merge-base" ∷ path.now ∷ first.now ∷ map string_bytes others.now)) }
-        ensures other { IsNone result → others.now ≡ [] }
+        ensures other { IsNone result → (help version : List ℕ) (command : Command)
+            → ¬ AskAfterName help version
+            (codes "merge-base" ∷ path.now ∷ first.now ∷ map string_bytes others.now) command }
     {
+        let QuestionWords {
+            unchecked,
+            path,
+            first,
+            others,
+        } = QuestionWords::of(path, first, others)?;
         match others {
             [] => None,
+            _ if unchecked => Some(Command::MergeBaseUnchecked {
+                group: UncheckedGroup {
+                    path,
+                    first,
+                    others,
+                },
+            }),
             _ => Some(Command::MergeBase {
                 path,
                 first,
@@ -368,10 +407,25 @@ impl<'a> Command<'a> {
     fn merge_base_ids(path: &'a str, first: &'a str, others: &'a [String]) -> Option<Command<'a>>
         ensures asked { (help version : List ℕ) → IfSome result (AskAfterName help version
             (codes "merge-base-ids" ∷ path.now ∷ first.now ∷ map string_bytes others.now)) }
-        ensures other { IsNone result → others.now ≡ [] }
+        ensures other { IsNone result → (help version : List ℕ) (command : Command)
+            → ¬ AskAfterName help version
+            (codes "merge-base-ids" ∷ path.now ∷ first.now ∷ map string_bytes others.now) command }
     {
+        let QuestionWords {
+            unchecked,
+            path,
+            first,
+            others,
+        } = QuestionWords::of(path, first, others)?;
         match others {
             [] => None,
+            _ if unchecked => Some(Command::MergeBaseIdsUnchecked {
+                group: UncheckedGroup {
+                    path,
+                    first,
+                    others,
+                },
+            }),
             _ => Some(Command::MergeBaseIds {
                 path,
                 first,
@@ -446,6 +500,8 @@ impl Run for Command<'_> {
             } => run_merge_base_ids(alloc, folder, path, first, others, output),
             Command::IsAncestorUnchecked { pair } => pair.is_ancestor(alloc, folder, output),
             Command::WalkUnchecked { pair } => pair.walk(alloc, folder, output),
+            Command::MergeBaseUnchecked { group } => group.bases(alloc, folder, output),
+            Command::MergeBaseIdsUnchecked { group } => group.base_ids(alloc, folder, output),
             Command::Check { path } => run_check(alloc, folder, path, output),
             Command::Show { path } => run_show(alloc, folder, path, output),
             Command::Ask { path } => Ok(run_ask(alloc, input, folder, path, output)?.status),
@@ -504,6 +560,56 @@ impl UncheckedPair<'_> {
             second,
         } = self;
         run_walk_unchecked(alloc, folder, path, first, second, output)
+    }
+}
+
+impl UncheckedGroup<'_> {
+    /// Runs `merge-base --unchecked`, and answers the exit status. `WriteFailed` comes where the
+    /// output fails.
+    fn bases<T: Folder, W: Write>(
+        self,
+        alloc: Global,
+        folder: &mut T,
+        output: &mut W,
+    ) -> Result<u8, WriteFailed>
+        ensures written { IfOk result (WritesAnswer told_bases_text told_bases_status
+            (MayCompareUnchecked (self.entry.first.now ∷ map string_bytes self.entry.others.now)
+            (folder.new ≡ folder.old)
+            (MayOpen (T.tree folder.old) self.entry.path.now (T.failure_count folder.old)
+            (T.failure_count folder.new)) (T.failure_count folder.old) (T.failure_count folder.new))
+            (W.contents output.old) (W.contents output.new)) }
+        ensures tree { T.tree folder.new ≡ T.tree folder.old }
+    {
+        let UncheckedGroup {
+            path,
+            first,
+            others,
+        } = self;
+        run_merge_base_unchecked(alloc, folder, path, first, others, output)
+    }
+
+    /// Runs `merge-base-ids --unchecked`, and answers the exit status. `WriteFailed` comes where
+    /// the output fails.
+    fn base_ids<T: Folder, W: Write>(
+        self,
+        alloc: Global,
+        folder: &mut T,
+        output: &mut W,
+    ) -> Result<u8, WriteFailed>
+        ensures written { IfOk result (WritesAnswer told_ids_text told_bases_status
+            (MayCompareUnchecked (self.entry.first.now ∷ map string_bytes self.entry.others.now)
+            (folder.new ≡ folder.old)
+            (MayOpen (T.tree folder.old) self.entry.path.now (T.failure_count folder.old)
+            (T.failure_count folder.new)) (T.failure_count folder.old) (T.failure_count folder.new))
+            (W.contents output.old) (W.contents output.new)) }
+        ensures tree { T.tree folder.new ≡ T.tree folder.old }
+    {
+        let UncheckedGroup {
+            path,
+            first,
+            others,
+        } = self;
+        run_merge_base_ids_unchecked(alloc, folder, path, first, others, output)
     }
 }
 

@@ -16,20 +16,23 @@ use std::process::ExitCode;
 use std::{env, io};
 
 const USAGE: &str = "usage: historytool is-ancestor [--unchecked] PATH HEX HEX \
-    | walk [--unchecked] PATH HEX HEX | merge-base PATH HEX HEX.. \
-    | merge-base-ids PATH HEX HEX.. | check PATH | show PATH | ask PATH | ids PATH [FROM TO] \
-    | objects PATH [FROM TO] | write [PATH] | merge PATH | --help | --version";
+    | walk [--unchecked] PATH HEX HEX | merge-base [--unchecked] PATH HEX HEX.. \
+    | merge-base-ids [--unchecked] PATH HEX HEX.. | check PATH | show PATH | ask PATH \
+    | ids PATH [FROM TO] | objects PATH [FROM TO] | write [PATH] | merge PATH \
+    | --help | --version";
 
 const HELP: &str = "usage: historytool is-ancestor [--unchecked] PATH HEX HEX \
-    | walk [--unchecked] PATH HEX HEX | merge-base PATH HEX HEX.. \
-    | merge-base-ids PATH HEX HEX.. | check PATH | show PATH | ask PATH | ids PATH [FROM TO] \
-    | objects PATH [FROM TO] | write [PATH] | merge PATH | --help | --version\n\
+    | walk [--unchecked] PATH HEX HEX | merge-base [--unchecked] PATH HEX HEX.. \
+    | merge-base-ids [--unchecked] PATH HEX HEX.. | check PATH | show PATH | ask PATH \
+    | ids PATH [FROM TO] | objects PATH [FROM TO] | write [PATH] | merge PATH \
+    | --help | --version\n\
     \n\
     PATH is a commit-graph file, a folder with a chain of them, or an info folder.\n\
     HEX is the id of a commit in hexadecimal.\n\
     With --unchecked the graph is trusted: it is read by parts, and not checked. If it\n\
-    is wrong, a yes or a walk is still so by the parents that are there; a no or none\n\
-    may be wrong, and a shorter walk may be there.\n\
+    is wrong, a yes, a walk or a merge base is still one by the parents that are there;\n\
+    a no, none or a number may be wrong, and a shorter walk or a better merge base may\n\
+    be there.\n\
     \n\
     is-ancestor     whether the first commit is an ancestor of the second: yes or no\n\
     walk            the ids on a shortest walk along parents from the first commit\n\

@@ -10,6 +10,7 @@ use history_commands::run::{
 use std::alloc::Global;
 use std::process::Abort;
 use unchecked_commands::ancestor::run_is_ancestor_unchecked;
+use unchecked_commands::bases::{run_merge_base_ids_unchecked, run_merge_base_unchecked};
 use unchecked_commands::walk::run_walk_unchecked;
 
 /// A command that asks about the commits with two ids.
@@ -46,28 +47,41 @@ impl Command {
     }
 }
 
-/// The answer of `merge-base` for a path and the texts of an id and of others.
-pub(super) fn merge_base(
-    rt: &impl Abort,
-    alloc: Global,
-    folder: &mut Memory,
-    (path, first, others): (&str, &str, &[&str]),
-    out: &mut Sink,
-) -> Result<u8, WriteFailed> {
-    let others = texts(rt, alloc, others);
-    run_merge_base(alloc, folder, path, first, &others, out)
+/// A command that asks about merge bases.
+#[derive(Clone, Copy, Debug)]
+pub(super) enum BasesCommand {
+    MergeBase,
+    /// With `--unchecked`.
+    MergeBaseUnchecked,
+    MergeBaseIds,
+    /// With `--unchecked`.
+    MergeBaseIdsUnchecked,
 }
 
-/// The answer of `merge-base-ids` for the same.
-pub(super) fn merge_base_ids(
-    rt: &impl Abort,
-    alloc: Global,
-    folder: &mut Memory,
-    (path, first, others): (&str, &str, &[&str]),
-    out: &mut Sink,
-) -> Result<u8, WriteFailed> {
-    let others = texts(rt, alloc, others);
-    run_merge_base_ids(alloc, folder, path, first, &others, out)
+impl BasesCommand {
+    /// The answer of the command for a path and the texts of an id and of others.
+    pub(super) fn run(
+        self,
+        rt: &impl Abort,
+        alloc: Global,
+        folder: &mut Memory,
+        (path, first, others): (&str, &str, &[&str]),
+        out: &mut Sink,
+    ) -> Result<u8, WriteFailed> {
+        let others = texts(rt, alloc, others);
+        match self {
+            BasesCommand::MergeBase => run_merge_base(alloc, folder, path, first, &others, out),
+            BasesCommand::MergeBaseUnchecked => {
+                run_merge_base_unchecked(alloc, folder, path, first, &others, out)
+            }
+            BasesCommand::MergeBaseIds => {
+                run_merge_base_ids(alloc, folder, path, first, &others, out)
+            }
+            BasesCommand::MergeBaseIdsUnchecked => {
+                run_merge_base_ids_unchecked(alloc, folder, path, first, &others, out)
+            }
+        }
+    }
 }
 
 /// Copies of these texts.

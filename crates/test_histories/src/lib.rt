@@ -28,5 +28,6 @@ mod merge_bases;
 mod responding;
 #[cfg(test)]
 mod unchecked;
+mod unchecked_bases;
 #[cfg(test)]
 mod writes;

@@ -1,7 +1,7 @@
 //! Merge bases, and how far commits have come apart.
 
 use crate::answers::{CS, CS_OF_SHA256, DS, LARGE_CS, NO_ANSWERS, ONES, ONES_OF_SHA256, TWOS};
-use crate::fixtures::{expect_answer, graphs, merge_base, merge_base_ids};
+use crate::fixtures::{BasesCommand, expect_answer, graphs};
 use graph_commands::run::WriteFailed;
 use graph_vectors::Sink;
 use std::alloc::{AllocError, Global};
@@ -11,7 +11,7 @@ const SIXES: &str = "6666666666666666666666666666666666666666";
 const SEVENS: &str = "7777777777777777777777777777777777777777";
 
 /// A path and the texts of an id and of others, with the status and the lines of `merge-base`.
-type Row = (
+pub(super) type BasesRow = (
     (&'static str, &'static str, &'static [&'static str]),
     u8,
     &'static str,
@@ -22,7 +22,7 @@ const TWO_BASES: &str = "base 1 2222222222222222222222222222222222222222\n\
     ahead 2 behind 2\n\
     visits 6\n";
 
-const ROWS: &[Row] = &[
+pub(super) const ROWS: &[BasesRow] = &[
     (("criss-cross", SIXES, &[SEVENS]), 0, TWO_BASES),
     (
         ("file", ONES, &[LARGE_CS]),
@@ -69,18 +69,24 @@ fn tells_merge_bases_and_how_far_commits_have_come_apart(rt: HostRuntime) {
     let mut folder = graphs(&rt, alloc);
     for (words, status, text) in ROWS {
         let mut out = Sink::new(alloc, usize::MAX, None);
-        let answer = merge_base(&rt, alloc, &mut folder, *words, &mut out);
+        let answer = BasesCommand::MergeBase.run(&rt, alloc, &mut folder, *words, &mut out);
         expect_answer(&rt, answer, &out, (*status, text));
     }
     for ((path, first, second), status, text) in NO_ANSWERS {
         let mut out = Sink::new(alloc, usize::MAX, None);
-        let answer = merge_base(&rt, alloc, &mut folder, (path, first, &[*second]), &mut out);
+        let answer = BasesCommand::MergeBase.run(
+            &rt,
+            alloc,
+            &mut folder,
+            (path, first, &[*second]),
+            &mut out,
+        );
         expect_answer(&rt, answer, &out, (*status, text));
     }
 }
 
 /// What `merge-base-ids` writes where `merge-base` writes this: of each base the id, and no counts.
-fn ids_in(alloc: Global, text: &str) -> Result<String, AllocError> {
+pub(super) fn ids_in(alloc: Global, text: &str) -> Result<String, AllocError> {
     let mut ids = String::new(alloc);
     for line in text.lines() {
         let words = match line.split_once(' ') {
@@ -100,18 +106,24 @@ fn tells_the_ids_of_the_same_merge_bases(rt: HostRuntime) {
     let mut folder = graphs(&rt, alloc);
     for (words, status, text) in ROWS {
         let mut out = Sink::new(alloc, usize::MAX, None);
-        let answer = merge_base_ids(&rt, alloc, &mut folder, *words, &mut out);
+        let answer = BasesCommand::MergeBaseIds.run(&rt, alloc, &mut folder, *words, &mut out);
         let ids = ids_in(alloc, text).expect(&rt, "memory");
         expect_answer(&rt, answer, &out, (*status, ids.as_str()));
     }
     for ((path, first, second), status, text) in NO_ANSWERS {
         let mut out = Sink::new(alloc, usize::MAX, None);
-        let answer = merge_base_ids(&rt, alloc, &mut folder, (path, first, &[*second]), &mut out);
+        let answer = BasesCommand::MergeBaseIds.run(
+            &rt,
+            alloc,
+            &mut folder,
+            (path, first, &[*second]),
+            &mut out,
+        );
         expect_answer(&rt, answer, &out, (*status, text));
     }
     let mut out = Sink::new(alloc, usize::MAX, None);
     let words: (&str, &str, &[&str]) = ("criss-cross", SIXES, &[SEVENS]);
-    let answer = merge_base_ids(&rt, alloc, &mut folder, words, &mut out);
+    let answer = BasesCommand::MergeBaseIds.run(&rt, alloc, &mut folder, words, &mut out);
     let ids = "2222222222222222222222222222222222222222\n\
         3333333333333333333333333333333333333333\n";
     expect_answer(&rt, answer, &out, (0, ids));
@@ -122,12 +134,14 @@ fn reports_each_write_of_merge_bases_that_fails(rt: HostRuntime) {
     let alloc = rt.alloc();
     let mut folder = graphs(&rt, alloc);
     let words: (&str, &str, &[&str]) = ("criss-cross", SIXES, &[SEVENS]);
-    let mut whole = Sink::new(alloc, 20, None);
-    let answer = merge_base(&rt, alloc, &mut folder, words, &mut whole);
-    expect_answer(&rt, answer, &whole, (0, TWO_BASES));
-    for write in 0..whole.writes {
-        let mut out = Sink::new(alloc, 20, Some(write));
-        let answer = merge_base(&rt, alloc, &mut folder, words, &mut out);
-        assert!(rt; answer == Err(WriteFailed));
+    for command in [BasesCommand::MergeBase, BasesCommand::MergeBaseUnchecked] {
+        let mut whole = Sink::new(alloc, 20, None);
+        let answer = command.run(&rt, alloc, &mut folder, words, &mut whole);
+        expect_answer(&rt, answer, &whole, (0, TWO_BASES));
+        for write in 0..whole.writes {
+            let mut out = Sink::new(alloc, 20, Some(write));
+            let answer = command.run(&rt, alloc, &mut folder, words, &mut out);
+            assert!(rt; answer == Err(WriteFailed));
+        }
     }
 }

@@ -51,7 +51,19 @@ const ROWS: &[(&[&str], u8, &str, &str)] = &[
         "base 0 1111111111111111111111111111111111111111\nahead 3 behind 0\nvisits 4\n",
         "",
     ),
+    (
+        &["merge-base", "--unchecked", "file", CS, ONES],
+        0,
+        "base 0 1111111111111111111111111111111111111111\nahead 3 behind 0\nvisits 4\n",
+        "",
+    ),
     (&["merge-base-ids", "file", CS, ONES], 0, ONES_LINE, ""),
+    (
+        &["merge-base-ids", "--unchecked", "file", CS, ONES],
+        0,
+        ONES_LINE,
+        "",
+    ),
     (&["check", "nowhere"], 1, "refused open 1\n", ""),
     (&["show", "nowhere"], 1, "refused open 1\n", ""),
     (&["ask", "nowhere"], 1, "refused open 1\n", ""),
@@ -85,6 +97,13 @@ const ROWS: &[(&[&str], u8, &str, &str)] = &[
     (&["walk", "--unchecked", ONES], 2, "", "usage\n"),
     (&["merge-base", "file", CS], 2, "", "usage\n"),
     (&["merge-base-ids", "file", CS], 2, "", "usage\n"),
+    (&["merge-base", "--unchecked", ONES, CS], 2, "", "usage\n"),
+    (
+        &["merge-base-ids", "--unchecked", "file", CS],
+        2,
+        "",
+        "usage\n",
+    ),
     (&["ids", "file", "0"], 2, "", "usage\n"),
     (&["objects", "file", "00", "1"], 2, "", "usage\n"),
 ];

@@ -42,7 +42,7 @@ const WRONG: &[((&str, &str, &str), (u8, &str), (u8, &str))] = &[
 ];
 
 /// The parent of the second commit is no commit of the graph.
-const OUTSIDE: &str = "refused verify 7 position 1 parent 7\n";
+pub(super) const OUTSIDE: &str = "refused verify 7 position 1 parent 7\n";
 
 #[test]
 fn a_wrong_graph_is_refused_where_that_shows(rt: HostRuntime) {

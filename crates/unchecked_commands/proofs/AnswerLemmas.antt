@@ -1,5 +1,5 @@
 -- what is answered by parts, and by the command that checks the graph
-use Rattle.std.proofs.Common.{◌≡◌, ◌⊎◌, ℕ, List, Bool, Option, Some, None, Result, Ok, Err, IfOk, inl, inr, sym, subst}
+use Rattle.std.proofs.Common.{◌≡◌, ◌⊎◌, ℕ, List, Bool, Option, Some, None, Result, Ok, Err, IfOk, inl, inr, refl, sym, subst}
 use Rattle.std.proofs.Common.{⊎_elim}
 use Rattle.std.specs.Option.{ForSome}
 use Rattle.hex.proofs.HexLemmas.{decode_of-ok}
@@ -9,6 +9,7 @@ use Rattle.gix_hash_core.specs.declared.object_id.IdError.TheVariants.{Length, D
 use Rattle.graph_folder.specs.Tree.{Tree}
 use Rattle.graph_format.specs.Layer.{Layer}
 use Rattle.graph_layer.specs.declared.opening.error.OpenError.{OpenError}
+use Rattle.graph_layer.specs.declared.opening.error.OpenError.TheVariants as open_error
 use Rattle.gix_commitgraph.proofs.sound.SoundLemmas.{sound-scanned}
 use Rattle.graph_commands.specs.OpenerAnswer.{MayOpen}
 use Rattle.graph_commands.specs.WrittenAnswer.{WritesAnswer}
@@ -18,16 +19,16 @@ use Rattle.graph_unchecked.specs.Unchecked.{IsAnswerAt, IsFoundBetween, IsToldUn
 use Rattle.graph_unchecked.specs.declared.between.Between.{Between}
 use Rattle.graph_unchecked.specs.declared.between.Between.TheVariants.{FirstMissing, SecondMissing, Known}
 use Rattle.graph_unchecked.specs.declared.unread.Unread.{Unread}
-use Rattle.graph_unchecked.specs.declared.unread.Unread.TheVariants.{Device}
+use Rattle.graph_unchecked.specs.declared.unread.Unread.TheVariants.{Device, OutOfMemory, NotByParts}
 use Rattle.history_commands.specs.IsAncestor.{IsTold}
 use Rattle.history_commands.specs.Question.{MayAnswer}
 use Rattle.history_commands.specs.declared.question.Answer.{Answer}
-use Rattle.unchecked_commands.specs.OnlyGraph.{IsOnlyGraph}
-use Rattle.unchecked_commands.specs.UncheckedAncestor.{IsYesSo, answer_of}
+use Rattle.unchecked_commands.specs.OnlyGraph.{IsOnlyGraph, answer_unread}
+use Rattle.unchecked_commands.specs.UncheckedAncestor.{IsYesSo, answer_by_parts, answer_of}
 use Rattle.unchecked_commands.specs.UncheckedAnswer.{IsFoundUnchecked, MayAnswerUnchecked}
 use Rattle.unchecked_commands.proofs.OnlyGraphLemmas.{so_of_only}
 
-none_spelled : (text id : List ℕ) (error : IdError) → SpellsNone text error → SpellsId text id → ⊥
+pub none_spelled : (text id : List ℕ) (error : IdError) → SpellsNone text error → SpellsId text id → ⊥
 none_spelled text id Length none spells = none spells.0
 none_spelled text id Digit none spells = none.1 (decode_of-ok text id spells.1).1
 
@@ -77,11 +78,32 @@ told-of_only known path old new a b found kept so layers one =
     told-found layers a b found
     (so_of_only known path old new (IsFoundBetween IsToldUnchecked a b) found kept so layers one)
 
+-- What is answered where nothing was read by parts. Only a failed read changes the count of failures.
+pub unread-answered : {A B : Type 0} (May : Result (Option B) Refusal → Type 0) (old new : ℕ) (why : Unread)
+    (result : Result A Unread) → result ≡ Err why → (result ≡ Err Device) ⊎ (new ≡ old)
+    → May (Err (Open open_error.Device)) → (new ≡ old → May (Err Walk)) → (new ≡ old → May (Ok None)) → May (answer_unread why)
+unread-answered May old new Device result is met failed wants whole = failed
+unread-answered May old new OutOfMemory result is (inl device) failed wants whole = cc
+unread-answered May old new OutOfMemory result is (inr kept) failed wants whole = wants kept
+unread-answered May old new NotByParts result is (inl device) failed wants whole = cc
+unread-answered May old new NotByParts result is (inr kept) failed wants whole = whole kept
+
 -- no other answer comes after a failed read
-pub kept-other : {A : Type 0} (result : Result A Unread) (old new : ℕ) → (result ≡ Err Device → ⊥)
+pub kept-unless : {A : Type 0} (result : Result A Unread) (old new : ℕ) → (result ≡ Err Device → ⊥)
     → (result ≡ Err Device) ⊎ (new ≡ old) → new ≡ old
-kept-other result old new other (inl device) = absurd (other device)
-kept-other result old new other (inr kept) = kept
+kept-unless result old new other (inl device) = absurd (other device)
+kept-unless result old new other (inr kept) = kept
+
+-- what is answered of two ids
+pub answered : {A : Type 0} (May : Result (Option (Answer A)) Refusal → Type 0) (old new : ℕ)
+    (result : Result (Between A) Unread) → (result ≡ Err Device) ⊎ (new ≡ old)
+    → ((found : Between A) → result ≡ Ok found → new ≡ old → May (Ok (Some (answer_of found))))
+    → May (Err (Open open_error.Device)) → (new ≡ old → May (Err Walk)) → (new ≡ old → May (Ok None))
+    → May (answer_by_parts result)
+answered May old new (Ok found) (inl device) known failed wants whole = cc
+answered May old new (Ok found) (inr kept) known failed wants whole = known found refl kept
+answered May old new (Err why) met known failed wants whole =
+    unread-answered May old new why (Err why) refl met failed wants whole
 
 -- what the command wrote that checks the graph
 pub checked : {A E : Type 0} (IsSo IsThere : List Layer → ℕ → ℕ → A → Type 0) (text_of : Result (Answer A) Refusal → List ℕ)

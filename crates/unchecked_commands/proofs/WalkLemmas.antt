@@ -26,7 +26,7 @@ use Rattle.unchecked_commands.specs.UncheckedWalk.{IsWalkThere, MayWalkUnchecked
 use Rattle.unchecked_commands.proofs.OnlyGraphLemmas.{so_of_only}
 
 -- the ids of the commits on a walk
-ids-same : (layers : List Layer) (walk : List ℕ) → ids_at layers walk ≡ map (id_in layers) walk
+pub ids-same : (layers : List Layer) (walk : List ℕ) → ids_at layers walk ≡ map (id_in layers) walk
 ids-same layers [] = refl
 ids-same layers (p ∷ walk) =
     ap (λ (id : List ℕ). id ∷ ids_at layers walk) (sym (unwrap_or-slice_get (graph_ids layers) p []))

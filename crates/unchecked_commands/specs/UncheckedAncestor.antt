@@ -1,5 +1,5 @@
 -- the answers of `is-ancestor --unchecked`
-use Rattle.std.specs.Prelude.{ℕ, List, Bool, IsTrue, Result}
+use Rattle.std.specs.Prelude.{ℕ, List, Bool, IsTrue, Option, Some, Result, Ok, Err}
 use Rattle.graph_walks.specs.Walks.{Reaches}
 use Rattle.graph_format.specs.Layer.{Layer}
 use Rattle.graph_format.specs.StoredHistory.{history_of}
@@ -7,9 +7,11 @@ use Rattle.graph_layer.specs.declared.opening.error.OpenError.{OpenError}
 use Rattle.graph_commands.specs.declared.refusal.Refusal.{Refusal}
 use Rattle.graph_unchecked.specs.declared.between.Between.{Between}
 use Rattle.graph_unchecked.specs.declared.between.Between.TheVariants as between
+use Rattle.graph_unchecked.specs.declared.unread.Unread.{Unread}
 use Rattle.history_commands.specs.IsAncestor.{IsTold}
 use Rattle.history_commands.specs.declared.question.Answer.{Answer}
 use Rattle.history_commands.specs.declared.question.Answer.TheVariants.{FirstUnknown, SecondUnknown, Known}
+use Rattle.unchecked_commands.specs.OnlyGraph.{answer_unread}
 use Rattle.unchecked_commands.specs.UncheckedAnswer.{MayAnswerUnchecked}
 
 -- a yes is so: a walk along parents leads from the second commit to the first
@@ -28,3 +30,8 @@ abbrev pub answer_of : {A : Type 0} → Between A → Answer A
 answer_of between.FirstMissing = FirstUnknown
 answer_of between.SecondMissing = SecondUnknown
 answer_of (between.Known told) = Known told
+
+-- the answer by parts, if there is one
+abbrev pub answer_by_parts : {A : Type 0} → Result (Between A) Unread → Result (Option (Answer A)) Refusal
+answer_by_parts (Ok found) = Ok (Some (answer_of found))
+answer_by_parts (Err why) = answer_unread why

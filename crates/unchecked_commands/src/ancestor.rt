@@ -5,10 +5,11 @@ ghost use Rattle.graph_commands.specs.OpenerAnswer.{MayOpen};
 ghost use Rattle.graph_commands.specs.WrittenAnswer.{WritesAnswer};
 ghost use Rattle.history_commands.specs.IsAncestor.{IsTold, is_ancestor_text, is_ancestor_status};
 ghost use Rattle.history_commands.specs.IsAncestor.{told_status};
-ghost use Rattle.unchecked_commands.specs.UncheckedAncestor.{IsYesSo, MayTellUnchecked, answer_of};
+ghost use Rattle.unchecked_commands.specs.UncheckedAncestor.{IsYesSo, MayTellUnchecked};
+ghost use Rattle.unchecked_commands.specs.UncheckedAncestor.{answer_by_parts, answer_of};
 ghost use Rattle.unchecked_commands.specs.UncheckedAnswer.{MayAnswerByParts};
 
-use gix_commitgraph::opening::OpenError;
+use crate::unread::answer_unread;
 use gix_hash_core::ObjectId;
 use graph_commands::line::{WriteFailed, write_line};
 use graph_commands::refusal::Refusal;
@@ -72,16 +73,24 @@ fn told_by_parts<T: Folder>(
 {
     let first = ObjectId::from_hex(first.as_bytes())?;
     let second = ObjectId::from_hex(second.as_bytes())?;
-    match is_ancestor(alloc, folder, path, first.as_oid(), second.as_oid()) {
+    let found = is_ancestor(alloc, folder, path, first.as_oid(), second.as_oid());
+    answer_by_parts(found)
+}
+
+/// The answer by parts, if there is one: none where the graph is to be opened whole, and checked.
+pub(crate) fn answer_by_parts<A>(
+    found: Result<Between<A>, Unread>,
+) -> Result<Option<Answer<A>>, Refusal>
+    ensures { result ≡ answer_by_parts found }
+{
+    match found {
         Ok(found) => Ok(Some(answer_of(found))),
-        Err(Unread::Device) => Err(Refusal::Open(OpenError::Device)),
-        Err(Unread::OutOfMemory) => Err(Refusal::Walk),
-        Err(Unread::NotByParts) => Ok(None),
+        Err(why) => answer_unread(why),
     }
 }
 
 /// What is found by parts, in the words of the commands.
-pub(crate) fn answer_of<A>(found: Between<A>) -> Answer<A>
+fn answer_of<A>(found: Between<A>) -> Answer<A>
     ensures { result ≡ answer_of found }
 {
     match found {

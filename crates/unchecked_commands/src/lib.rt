@@ -4,5 +4,7 @@
 #![tactic(auto)]
 
 pub mod ancestor;
+pub mod bases;
 pub mod law;
+mod unread;
 pub mod walk;

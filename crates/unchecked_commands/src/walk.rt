@@ -4,7 +4,6 @@ ghost use Rattle.std.specs.Prelude.{◌≡◌, [], IfOk, OnOk};
 ghost use Rattle.std.specs.Io.KnownBytes.{Appends};
 ghost use Rattle.std.specs.List.{flat_map};
 ghost use Rattle.graph_commands.specs.OpenerAnswer.{MayOpen};
-ghost use Rattle.graph_commands.specs.Text.{◌⧺◌, newline};
 ghost use Rattle.graph_commands.specs.WrittenAnswer.{IsToldOf, WritesAnswer};
 ghost use Rattle.history_commands.specs.Walk.{IsWalkOfIds, MayBeWalk, id_line};
 ghost use Rattle.history_commands.specs.Walk.{walk_text, walk_status};
@@ -12,18 +11,18 @@ ghost use Rattle.unchecked_commands.specs.UncheckedAnswer.{MayAnswerByParts};
 ghost use Rattle.unchecked_commands.specs.UncheckedWalk.{IsWalkThere, MayWalkUnchecked};
 ghost use Rattle.unchecked_commands.specs.UncheckedWalk.{listed_walk, listed_by_parts};
 
-use crate::ancestor::answer_of;
-use gix_commitgraph::opening::OpenError;
+use crate::ancestor::answer_by_parts;
 use gix_hash_core::ObjectId;
 use graph_commands::block::Block;
-use graph_commands::line::{WriteFailed, write_line};
+use graph_commands::line::WriteFailed;
 use graph_commands::refusal::Refusal;
 use graph_commands::run::refuse;
 use graph_commands::status::Status;
 use graph_folder::folder::Folder;
-use graph_unchecked::question::{Unread, ancestor_walk};
+use graph_unchecked::question::ancestor_walk;
 use history_commands::Answer;
 use history_commands::run::run_walk;
+use history_commands::walk::tell_none;
 use std::alloc::Global;
 use std::io::Write;
 
@@ -79,12 +78,8 @@ fn found_by_parts<T: Folder>(
 {
     let first = ObjectId::from_hex(first.as_bytes())?;
     let second = ObjectId::from_hex(second.as_bytes())?;
-    match ancestor_walk(alloc, folder, path, first.as_oid(), second.as_oid()) {
-        Ok(found) => Ok(Some(answer_of(found))),
-        Err(Unread::Device) => Err(Refusal::Open(OpenError::Device)),
-        Err(Unread::OutOfMemory) => Err(Refusal::Walk),
-        Err(Unread::NotByParts) => Ok(None),
-    }
+    let found = ancestor_walk(alloc, folder, path, first.as_oid(), second.as_oid());
+    answer_by_parts(found)
 }
 
 /// Writes what is found, and answers the exit status.
@@ -123,17 +118,8 @@ fn tell_walk<W: Write>(
     }
 }
 
-/// Writes a line that says that something is not there, and answers the exit status.
-fn tell_none<W: Write>(writer: &mut W, line: &str) -> Result<u8, WriteFailed>
-    ensures { IfOk result (λ status. Appends (W.contents writer.old) (W.contents writer.new)
-        (line.now ⧺ newline) × (status ≡ 1)) }
-{
-    write_line(writer, line)?;
-    Ok(Status::No as u8)
-}
-
 /// Writes ids, a line for each.
-fn write_ids<W: Write>(
+pub(crate) fn write_ids<W: Write>(
     block: &mut Block,
     writer: &mut W,
     ids: &[ObjectId],

@@ -42,7 +42,8 @@ def check_line(programs, results, repository):
         base, apart = min(later, earlier), abs(later - earlier)
         counts = max(later - earlier, 0), max(earlier - later, 0)
         bases = "base %d %s\nahead %d behind %d\nvisits %d\n" % (place(ids[base]), ids[base], *counts, apart + 1)
-        return judge.exactly(int(not walk), text, "", answers[0]) or judge.exactly(0, bases, "", answers[1])
+        complaints = [judge.exactly(0, bases, "", answer) for answer in answers[1:]]
+        return judge.exactly(int(not walk), text, "", answers[0]) or next(filter(None, complaints), None)
 
     pairs = itertools.product(range(LINE), repeat=2)
     runs = [(lambda pair=pair: asked(programs, path, *(ids[it] for it in pair)), partial(complaint, *pair)) for pair in pairs]
@@ -50,9 +51,10 @@ def check_line(programs, results, repository):
 
 
 def asked(programs, path, first, second):
-    """The answers to `ancestor` and `merge-base` of two commits."""
+    """The answers to `ancestor` and `merge-base` of two commits, the last one also with `--unchecked`."""
     program, histories = programs
-    return program.ancestor(path, first, second), histories.merge_base(path, first, second)
+    bases = histories.merge_base(path, first, second), histories.merge_base_unchecked(path, first, second)
+    return program.ancestor(path, first, second), *bases
 
 
 def check_file(programs, results, repository):

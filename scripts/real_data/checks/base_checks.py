@@ -1,4 +1,5 @@
-"""Checks `merge-base` and `merge-base-ids`: pairs of commits and larger sets, beside `git merge-base --all` and the parents that Git lists.
+"""Checks `merge-base` and `merge-base-ids`, also with `--unchecked`: pairs of commits and larger sets, beside
+`git merge-base --all` and the parents that Git lists.
 
 Also beside `git rev-list --left-right --count`. Where some commits are older than their parents, Git may count too many,
 since its search goes by times: some to which an excluded commit leads.
@@ -36,7 +37,10 @@ def check_bases(histories, results, repository, name, walks):
     check_sets(histories, results, repository, name, walks.words, {path: place}, sets)
     for number in (1, 2, 4):
         ids = [UNKNOWN if place + 1 == number else commits[place] for place in range(4)] + [UNKNOWN]
-        for word, run in (("merge-base", histories.merge_base), ("merge-base-ids", histories.merge_base_ids)):
+        runs = {"merge-base": histories.merge_base, "merge-base-ids": histories.merge_base_ids}
+        runs["merge-base --unchecked"] = histories.merge_base_unchecked
+        runs["merge-base-ids --unchecked"] = histories.merge_base_ids_unchecked
+        for word, run in runs.items():
             unknown = judge.exactly(1, "unknown %d\n" % number, "", run(path, *ids))
             results.check("%s, %s, id %d of %s is not there" % (repository.object_format, word, number, name), unknown)
 
@@ -75,9 +79,12 @@ def check_sets(histories, results, repository, name, words, graphs, sets):
     reached, number = all_reached(words), {commit: number for number, commit in enumerate(words)}
     parents = [[number[parent] for parent in said.parents] for said in words.values()]
     visits = Visits(parents, list(generations(words).values()), list(reached.values()))
+    asked = histories.merge_base, histories.merge_base_unchecked
+    asked_for_ids = histories.merge_base_ids, histories.merge_base_ids_unchecked
 
     def answer(ids):
-        told, alone = [histories.merge_base(path, *ids) for path in graphs], histories.merge_base_ids(path, *ids)
+        told = [(run(path, *ids), place) for path, place in graphs.items() for run in asked]
+        alone = [run(path, *ids) for run in asked_for_ids]
         bases, (first, *rest) = repository.merge_bases(*ids), (number[commit] for commit in ids)
         bounds = visits.bounds(first, rest, len(bases))
         return bases, bounds, divergence(reached, *ids), repository.divergence(*ids), told, alone
@@ -88,12 +95,12 @@ def check_sets(histories, results, repository, name, words, graphs, sets):
         if listed != counted if in_order else any(more > count for more, count in zip(listed, counted)):
             return "Git counts %s, and its own parents say %s" % (counted, listed)
         lines = "".join(base + "\n" for base in sorted(bases, key=place.get)) or "none\n"
-        complaints = [complaint_of(bases, listed, bounds, *pair) for pair in zip(told, graphs.values())]
-        complaints.append(judge.exactly(0 if bases else 1, lines, "", alone))
+        complaints = [complaint_of(bases, listed, bounds, *pair) for pair in told]
+        complaints += [judge.exactly(0 if bases else 1, lines, "", ids) for ids in alone]
         return next(filter(None, complaints), None)
 
     runs = [(lambda ids=ids: answer(ids), complaint) for ids in sets]
-    check_runs(results, "%s, merge-base, sets of commits of %s" % (repository.object_format, name), runs)
+    check_runs(results, "%s, merge-base, also unchecked, sets of commits of %s" % (repository.object_format, name), runs)
     return found
 
 

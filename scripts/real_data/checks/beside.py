@@ -43,7 +43,9 @@ def complaint_of_questions(histories, path, verified):
         answer = run(path, UNKNOWN, UNKNOWN)
         if answer != unknown:
             return "%s: status %s and %r, beside %r" % (name, answer.status, answer.out[:60], verified.out[:60])
-    for name, run in (("is-ancestor", histories.is_ancestor_unchecked), ("walk", histories.walk_unchecked)):
+    runs = {"is-ancestor": histories.is_ancestor_unchecked, "walk": histories.walk_unchecked}
+    runs["merge-base"] = histories.merge_base_unchecked
+    for name, run in runs.items():
         answer = run(path, UNKNOWN, UNKNOWN)
         if answer not in (unknown, verified._replace(status=1, out=b"unknown 1\n")):
             return "%s --unchecked: status %s and %r, beside %r" % (name, answer.status, answer.out[:60], verified.out[:60])

@@ -52,7 +52,8 @@ def right_runs(programs, plan, path):
     yield lambda: histories.walk_unchecked(path, tip, root), lambda answer: judge.exactly(0, ids, "", answer)
     first, others = asked(plan)
     hexes = [plan.hex_of(number) for number in others]
-    yield lambda: histories.merge_base(path, plan.hex_of(first), *hexes), lambda answer: bases_complaint(plan, first, answer)
+    for run in (histories.merge_base, histories.merge_base_unchecked):
+        yield lambda run=run: run(path, plan.hex_of(first), *hexes), lambda answer: bases_complaint(plan, first, answer)
 
 
 def fault_runs(programs, plan, fault, path, number):

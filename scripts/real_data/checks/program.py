@@ -101,9 +101,17 @@ class HistoryProgram(AnyProgram):
         """The answer to `merge-base` of two ids or more at a path."""
         return self.run("merge-base", path, first, *others, stdin=subprocess.DEVNULL, **streams)
 
+    def merge_base_unchecked(self, path, first, *others, **streams):
+        """The answer to `merge-base --unchecked` of two ids or more at a path."""
+        return self.run("merge-base", "--unchecked", path, first, *others, stdin=subprocess.DEVNULL, **streams)
+
     def merge_base_ids(self, path, first, *others, **streams):
         """The answer to `merge-base-ids` of two ids or more at a path."""
         return self.run("merge-base-ids", path, first, *others, stdin=subprocess.DEVNULL, **streams)
+
+    def merge_base_ids_unchecked(self, path, first, *others, **streams):
+        """The answer to `merge-base-ids --unchecked` of two ids or more at a path."""
+        return self.run("merge-base-ids", "--unchecked", path, first, *others, stdin=subprocess.DEVNULL, **streams)
 
     def check(self, path, **streams):
         """The answer to `check` of a path."""

@@ -23,6 +23,7 @@ OTHER_WORDS = [
     *(["is-ancestor"], ["is-ancestor", ".", ID], ["ancestor", ".", ID, ID], ["verify", "."], ["--walk", ".", ID, ID]),
     *(["merge-base"], ["merge-base", "."], ["merge-base", ".", ID], ["merge-base", ".", ID, b"\xff"]),
     *(["merge-base-ids"], ["merge-base-ids", ".", ID], ["merge-bases", ".", ID, ID]),
+    *(["merge-base", "--unchecked", ".", ID], ["merge-base-ids", "--unchecked", ".", ID], ["merge-base", "--unchecked", ".", ID, b"\xff"]),
     *(["check"], ["check", ".", "."], ["check", b"\xff"]),
     *(["ids"], ["ids", ".", "0"], ["ids", ".", "0", "01"], ["ids", ".", "+0", "1"], ["ids", ".", "0", "1", "2"]),
     *(["objects"], ["objects", ".", "0"], ["objects", ".", "-1", "1"], ["objects", ".", "0", "4294967296"]),
@@ -47,6 +48,8 @@ def check_all(histories, results):
     runs["is-ancestor --unchecked"] = histories.is_ancestor_unchecked
     runs["walk --unchecked"] = histories.walk_unchecked
     runs["merge-base-ids"] = histories.merge_base_ids
+    runs["merge-base --unchecked"] = histories.merge_base_unchecked
+    runs["merge-base-ids --unchecked"] = histories.merge_base_ids_unchecked
     for command, run in runs.items():
         exchanged = judge.exactly(2, "refused id 1\n", "", run(ID, ".", ID))
         results.check("%s, its path and its first id exchanged" % command, exchanged)

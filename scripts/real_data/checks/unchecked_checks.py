@@ -1,14 +1,19 @@
 """Checks questions with `--unchecked` about damaged files, beside a slow reading of the file.
 
 Of a right file the answer is the one that there is, or a shortest walk. Of any other it may be the refusal of `verify`; and
-`yes` or a walk only where a walk leads there along the parents that stand in the file, between commits with these ids.
+`yes` or a walk only where a walk leads there along the parents that stand in the file, between commits with these ids. Each
+merge base is a common ancestor along them.
 """
 
 import tempfile
 
 from checks import many
+from checks.base_checks import ANSWER
 from checks.sweep_checks import FILES, PART, SOME_MASKS
 from expected import reading
+
+UNKNOWN = {"unknown 1\n", "unknown 2\n"}
+"""The answers that an id is not there."""
 
 
 def check_all(histories, results, every_value=False):
@@ -19,7 +24,7 @@ def check_all(histories, results, every_value=False):
         parts = [(histories.path, content, masks, start) for start in range(0, len(content), PART)]
         answers = many.in_processes(try_part, parts)
         complaints, kinds = [complaint for complaint, _ in answers if complaint], set().union(*(kinds for _, kinds in answers))
-        title = "each byte of a file changed, %s, is-ancestor and walk --unchecked" % name
+        title = "each byte of a file changed, %s, is-ancestor, walk and merge-base --unchecked" % name
         results.check(title, complaints[0] if complaints else None)
         left_out = sorted({"refused", "unknown"} - kinds)
         results.check("the same, %s, each kind of answer" % name, "none is %s" % left_out if left_out else None)
@@ -61,6 +66,9 @@ def complaint_of(bench, content, asked, kinds):
         status, text = bench.run("walk", "--unchecked", bench.path, second, first)
         if not leads.may_be_found(second, first, verified, status, text.decode("latin-1")):
             return "walk, %s, %s: status %s and %r" % (second, first, status, text[:80])
+        status, text = bench.run("merge-base", "--unchecked", bench.path, second, first)
+        if not leads.may_be_bases(second, first, verified, status, text.decode("latin-1")):
+            return "merge-base, %s, %s: status %s and %r" % (second, first, status, text[:80])
     return None
 
 
@@ -84,10 +92,39 @@ class Leads:
         if status == 0:
             ids = text.splitlines()
             return text.endswith("\n") and self.is_walk(first, second, ids) and (not is_right or len(ids) == shortest)
-        none = {"unknown %d\n" % (number + 1) for number in range(2)} | {"none\n"}
+        right = self.unknown(first, second) or "none\n"
+        return status == 1 and text in ({right} if is_right else UNKNOWN | {"none\n", verified}) and not (is_right and shortest)
+
+    def may_be_bases(self, first, second, verified, status, text):
+        """Whether this may be the answer to `merge-base` of two ids: of a right file the best common ancestors; of any other some
+        common ancestors, or any other answer."""
+        match, is_right = ANSWER.fullmatch(text), verified.startswith("ok ")
+        if not match:
+            return status == 1 and text in ({self.unknown(first, second)} if is_right else UNKNOWN | {verified})
+        bases = [(int(line.split()[1]), line.split()[2]) for line in match.group(1).splitlines() if line != "none"]
+        one, other = (self.reached(self.places.get(commit, [])) for commit in (first, second))
+        told = [place for place, _ in bases]
+        there = all(place in self.places.get(commit, []) for place, commit in bases) and one & other >= set(told)
+        if not there or status != int(not bases):
+            return False
+        best = sorted(place for place in one & other if all(place not in self.reached([it]) for it in one & other - {place}))
+        counts = (str(len(one - other)), str(len(other - one)))
+        return not is_right or not self.unknown(first, second) and (told, match.group(2, 3)) == (best, counts)
+
+    def unknown(self, first, second):
+        """What is said of the first of two ids that no commit has, or None."""
         missing = [number for number, commit in enumerate((first, second)) if commit not in self.places]
-        right = "unknown %d\n" % (missing[0] + 1) if missing else "none\n"
-        return status == 1 and text in ({right} if is_right else none | {verified}) and not (is_right and shortest)
+        return "unknown %d\n" % (missing[0] + 1) if missing else None
+
+    def reached(self, places):
+        """The places to which some places lead, themselves among them."""
+        ahead, seen = list(places), set(places)
+        while ahead:
+            for parent in self.parents[ahead.pop()]:
+                if parent not in seen:
+                    seen.add(parent)
+                    ahead.append(parent)
+        return seen
 
     def is_walk(self, first, second, ids):
         """Whether some walk along parents has these ids, from one to the other."""
@@ -107,13 +144,6 @@ class Leads:
 
     def told(self, first, second):
         """What may be told of two ids: `yes`, where some commit with the second leads to one with the first, or why not."""
-        for number, commit in enumerate((first, second)):
-            if commit not in self.places:
-                return "unknown %d\n" % (number + 1)
-        ahead, seen = list(self.places[second]), set(self.places[second])
-        while ahead:
-            for parent in self.parents[ahead.pop()]:
-                if parent not in seen:
-                    seen.add(parent)
-                    ahead.append(parent)
-        return "yes\n" if seen.intersection(self.places[first]) else "no\n"
+        if self.unknown(first, second):
+            return self.unknown(first, second)
+        return "yes\n" if self.reached(self.places[second]).intersection(self.places[first]) else "no\n"

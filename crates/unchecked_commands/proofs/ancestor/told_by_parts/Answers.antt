@@ -1,7 +1,11 @@
 -- What is found by parts is an answer that may be given.
-use Rattle.std.proofs.Common.{inl, inr, refl}
+use Rattle.std.proofs.Common.{◌≡◌, inl, inr, refl}
 use Rattle.std.proofs.lemmas.Result.{err_from_is_err_and}
-use Rattle.unchecked_commands.proofs.AnswerLemmas.{kept-other, told-of_only}
+use Rattle.graph_commands.specs.OpenerAnswer.{MayOpen}
+use Rattle.history_commands.specs.IsAncestor.{IsTold}
+use Rattle.unchecked_commands.specs.UncheckedAncestor.{IsYesSo}
+use Rattle.unchecked_commands.specs.UncheckedAnswer.{MayAnswerByParts}
+use Rattle.unchecked_commands.proofs.AnswerLemmas.{answered, told-of_only}
 use Rattle.unchecked_commands.proofs.ancestor.told_by_parts.Goals as goal
 
 pub returns-in_err-second-clause-may : goal.returns-in_err-second-clause-may
@@ -11,40 +15,22 @@ returns-in_err-second-clause-may g c =
     let second = rw c.as_bytes-2.ensures.value at c.in_err-second.ensures.err in
     rw (answered.1, answered.2) (inl (inr (c.in_ok-first.first, first, second), refl))
 
-pub returns-in-Ok-clause-may : goal.returns-in-Ok-clause-may
-returns-in-Ok-clause-may g c =
+pub returns-clause-may : goal.returns-clause-may
+returns-clause-may g c =
+    let tree = g.T.Folder.tree c.args.folder.now in
+    let before = g.T.Folder.failure_count c.args.folder.now in
+    let after = g.T.Folder.failure_count c.is_ancestor-found.new.folder in
     let first = rw c.as_bytes.ensures.value at c.in_ok-first.ensures.ok in
     let second = rw c.as_bytes-2.ensures.value at c.in_ok-second.ensures.ok in
-    let kept =
-    kept-other c.is_ancestor.result _ _ (λ device. let is = c.in-Ok.is in cc) c.is_ancestor.ensures.failures in
-    let so = rw (c.as_oid.ensures, c.as_oid-2.ensures) at c.in-Ok.ensures.answer in
-    let found =
-    told-of_only (g.T.Folder.tree c.args.folder.now) c.args.path.now _ _ c.in_ok-first.first c.in_ok-second.second c.in-Ok.found
-    kept so in
-    rw c.answer_of.ensures (inr (c.in_ok-first.first, c.in_ok-second.second, first, second, (kept, found)))
-
-pub returns-in-Err-Device-clause-may : goal.returns-in-Err-Device-clause-may
-returns-in-Err-Device-clause-may g c =
-    let first = rw c.as_bytes.ensures.value at c.in_ok-first.ensures.ok in
-    let second = rw c.as_bytes-2.ensures.value at c.in_ok-second.ensures.ok in
-    inr (c.in_ok-first.first, c.in_ok-second.second, first, second, tt)
-
-pub returns-in-Err-OutOfMemory-clause-may : goal.returns-in-Err-OutOfMemory-clause-may
-returns-in-Err-OutOfMemory-clause-may g c =
-    let first = rw c.as_bytes.ensures.value at c.in_ok-first.ensures.ok in
-    let second = rw c.as_bytes-2.ensures.value at c.in_ok-second.ensures.ok in
-    let kept =
-    kept-other c.is_ancestor.result _ _
-    (λ device. let is = c.in-Err-OutOfMemory.is in let same = c.in-Err-OutOfMemory.field-0-is in cc)
-    c.is_ancestor.ensures.failures in
-    inr (c.in_ok-first.first, c.in_ok-second.second, first, second, kept)
-
-pub returns-in-Err-NotByParts-clause-may : goal.returns-in-Err-NotByParts-clause-may
-returns-in-Err-NotByParts-clause-may g c =
-    let first = rw c.as_bytes.ensures.value at c.in_ok-first.ensures.ok in
-    let second = rw c.as_bytes-2.ensures.value at c.in_ok-second.ensures.ok in
-    let kept =
-    kept-other c.is_ancestor.result _ _
-    (λ device. let is = c.in-Err-NotByParts.is in let same = c.in-Err-NotByParts.field-0-is in cc)
-    c.is_ancestor.ensures.failures in
-    (c.in_ok-first.first, c.in_ok-second.second, first, second, kept)
+    let one = c.in_ok-first.first in
+    let other = c.in_ok-second.second in
+    rw c.answer_by_parts.ensures
+    (answered (MayAnswerByParts IsTold IsYesSo c.args.first.now c.args.second.now
+    (c.is_ancestor-found.new.folder ≡ c.args.folder.now) (MayOpen tree c.args.path.now before after) before after)
+    before after c.is_ancestor-found.result c.is_ancestor-found.ensures.failures
+    (λ found is kept.
+    let so = rw (is, c.as_oid.ensures, c.as_oid-2.ensures) at c.is_ancestor-found.ensures.answer in
+    inr (one, other, first, second, (kept, told-of_only tree c.args.path.now before after one other found kept so)))
+    (inr (one, other, first, second, tt))
+    (λ kept. inr (one, other, first, second, kept))
+    (λ kept. (one, other, first, second, kept)))

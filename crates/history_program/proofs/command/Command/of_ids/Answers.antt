@@ -46,3 +46,15 @@ returns-in-text-3-clause-asked c help version =
     subst (λ (name : List ℕ). IfSome c.merge_base_ids.result (AskAfterName help version
     (name ∷ c.args.path.now ∷ c.args.first.now ∷ map string_bytes c.args.others.now)))
     (sym c.in-text-3.is) (c.merge_base_ids.ensures.asked help version)
+
+pub returns-in-text-2-clause-other : goal.returns-in-text-2-clause-other
+returns-in-text-2-clause-other c none help version asked asks =
+    c.merge_base.ensures.other none help version asked
+    (subst (λ (name : List ℕ). AskAfterName help version
+    (name ∷ c.args.path.now ∷ c.args.first.now ∷ map string_bytes c.args.others.now) asked) c.in-text-2.is asks)
+
+pub returns-in-text-3-clause-other : goal.returns-in-text-3-clause-other
+returns-in-text-3-clause-other c none help version asked asks =
+    c.merge_base_ids.ensures.other none help version asked
+    (subst (λ (name : List ℕ). AskAfterName help version
+    (name ∷ c.args.path.now ∷ c.args.first.now ∷ map string_bytes c.args.others.now) asked) c.in-text-3.is asks)

@@ -1,0 +1,18 @@
+-- One more line is added, and in the end those of all bases are.
+use Rattle.std.proofs.Common.{subst, arith}
+use Rattle.std.specs.Io.KnownBytes.{Appends}
+use Rattle.graph_commands.proofs.BlockLemmas.{appends_written}
+use Rattle.unchecked_commands.proofs.BasesLemmas.{lines-all, lines-more}
+use Rattle.unchecked_commands.proofs.bases.write_bases.Goals as goal
+
+pub loop-place-preserved : goal.loop-place-preserved
+loop-place-preserved g c =
+    lines-more c.args.bases.now c.args.ids.now c.loop-place.place (record { 0 = 0 }) c.index-ids-place.result
+    _ _ _ (omega arith) (omega arith) c.index-ids-place.is c.loop-place.invariant
+    (rw c.as_oid.ensures at c.in_ok-push_line_of_base.ensures)
+
+pub returns : goal.returns
+returns g c =
+    let all = lines-all c.args.bases.now c.args.ids.now c.loop-place.place (omega arith) in
+    appends_written c.write_out.result _ _ _ c.args.block.now _ _ c.requires.empty
+    (subst (Appends _ _) all c.loop-place.invariant) c.write_out.ensures.written
