@@ -1,6 +1,5 @@
 pub mod MarkLemmas
 pub mod QueueLemmas
-pub mod LinkLemmas
 pub mod ListLemmas
 pub mod FieldLemmas
 pub mod InMemoryLemmas

@@ -18,10 +18,9 @@ use gix_commitgraph::{GENERATION_NUMBER_MAX, Position};
 use std::alloc::{AllocError, Global};
 use std::marker::Model;
 
-/// Answers queries over the commits of any source, and keeps its memory from one to the next: eight
-/// bytes for each commit that a query reaches, and eight kilobytes by which the first thousand are
-/// found again; from the first query on that reaches more, a bit for each commit of the source.
-/// What a query marks there is cleared after it, and no more.
+/// Answers queries over the commits of any source, and keeps its memory from one to the next: a bit
+/// for each commit of the source, asked for at the first query that needs them, and eight bytes for
+/// each commit that a query reaches. What a query marks there is cleared after it, and no more.
 ///
 /// Where the generation numbers that a source says are right, the answers are exact. Where they are
 /// not, a query ends all the same, and a walk or a yes that it answers is there. A contract speaks

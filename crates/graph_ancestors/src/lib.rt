@@ -14,7 +14,6 @@ mod checking;
 pub mod commits;
 mod in_memory;
 pub mod law;
-mod links;
 mod lists;
 mod marks;
 mod search;

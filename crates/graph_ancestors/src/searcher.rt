@@ -14,10 +14,9 @@ use gix_commitgraph::{Graph, Position};
 use std::alloc::{AllocError, Global};
 use std::marker::Model;
 
-/// Answers queries over a graph that is right, and keeps its memory from one to the next: eight
-/// bytes for each commit that a query reaches, and eight kilobytes by which the first thousand are
-/// found again; from the first query on that reaches more, a bit for each commit of the graph. What
-/// a query marks there is cleared after it, and no more.
+/// Answers queries over a graph that is right, and keeps its memory from one to the next: a bit for
+/// each commit of the graph, asked for at the first query that needs them, and eight bytes for each
+/// commit that a query reaches. What a query marks there is cleared after it, and no more.
 ///
 /// A contract sees it as the list of the graph's layers.
 #[derive(Drop)]

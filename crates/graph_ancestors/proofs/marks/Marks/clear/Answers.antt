@@ -1,9 +1,19 @@
-use Rattle.std.proofs.Common.{◌<◌, length, arith}
-use Rattle.std.proofs.lemmas.Bool.Decides.{nat_tests}
+use Rattle.std.proofs.Common.{◌/◌, subst, arith}
+use Rattle.std.proofs.lemmas.List.{length-set}
+use Rattle.graph_ancestors.proofs.MarkLemmas.{AreLeft, are_left-clear, inside_left}
 use Rattle.graph_ancestors.proofs.marks.Marks.clear.Goals as goal
 
-pub clear_bits-requires-clause-within : goal.clear_bits-requires-clause-within
-clear_bits-requires-clause-within c n is =
-    let some : 0 < length c.self.inside.bits.items =
-    grind (arith, nat_tests, c.is_empty.ensures, c.if-not-is_empty.true) in
-    omega (arith, c.self.invariant.within n is, c.self.invariant.room some)
+pub index_mut-requires : goal.index_mut-requires
+index_mut-requires c =
+    let a = c.loop-marked.self-inside in
+    let left = subst (AreLeft a.bits.items) c.in-Some.ensures.items c.loop-marked.invariant.left in
+    omega (arith, inside_left a.bits.items c.pop.new.self.items c.in-Some.marked left)
+
+pub loop-marked-preserved : goal.loop-marked-preserved
+loop-marked-preserved c =
+    let a = c.loop-marked.self-inside in
+    let left = subst (AreLeft a.bits.items) c.in-Some.ensures.items c.loop-marked.invariant.left in
+    record {
+      bound = omega (arith, c.loop-marked.invariant.bound, length-set a.bits.items (c.in-Some.marked.number / 64) 0);
+      left = are_left-clear a.bits.items c.pop.new.self.items c.in-Some.marked left;
+    }

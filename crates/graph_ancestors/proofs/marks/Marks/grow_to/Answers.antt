@@ -1,31 +1,14 @@
-use Rattle.std.proofs.Common.{List, length, arith, subst}
-use Rattle.graph_ancestors.specs.Marks.{Marked, IsMarked}
-use Rattle.graph_ancestors.proofs.MarkLemmas.{room_kept}
+use Rattle.std.proofs.Common.{◌+◌, ◌/◌, rules, arith}
+use Rattle.graph_ancestors.proofs.MarkLemmas.{are_marks-grown}
 use Rattle.graph_ancestors.proofs.marks.Marks.grow_to.Goals as goal
 
 pub invariant_of-self : goal.invariant_of-self
 invariant_of-self c =
     let a = c.self.inside in
-    let made = c.make_room.ensures in
-    record {
-      within = λ n is. c.self.invariant.within n (subst (λ (ms : List Marked). IsMarked ms n) made.marked is);
-      room = room_kept a.bound (length a.bits.items) (length c.make_room.new.bits.items) c.self.invariant.room made.still_few
-          made.longer;
-      few = made.few;
-      many = made.many;
-    }
-
-pub invariant_of-self-then-bound-self : goal.invariant_of-self-then-bound-self
-invariant_of-self-then-bound-self c =
-    let made = c.make_room.ensures in
-    record {
-      within = λ n is.
-          omega (
-            arith,
-            c.if-bound-self.true,
-            c.self.invariant.within n (subst (λ (ms : List Marked). IsMarked ms n) made.marked is),
-          );
-      room = c.in_ok-make_room.ensures.room;
-      few = made.few;
-      many = made.many;
-    }
+    let by_index = c.resize.ensures.by_index in
+    are_marks-grown a.bits.items c.resize.new.self.items (c.args.bound / 64 + 1) a.marked.items
+    (omega (arith, c.if-len-words.true, c.len.ensures))
+    (omega (arith, c.in_ok-resize.ensures.len))
+    (λ k lt. by_index.0 k 0 (omega (arith, lt, c.if-len-words.true, c.len.ensures)) (omega (arith, lt)))
+    (λ k le lt. by_index.1 k 0 (search rules) (omega (arith, le)) lt)
+    c.self.invariant
