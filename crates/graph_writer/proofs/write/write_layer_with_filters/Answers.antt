@@ -79,6 +79,18 @@ own_levels-requires-clause-fits c =
     c.in_ok-new.ensures.accepted c.in_ok-known.known c.in_ok-known.ensures.levels c.in_ok-new.times.items
     c.in_ok-new.ensures.times))
 
+-- the filters in the order of the layer
+in-order : (filters sorted : Option NewFilters) (lent order : List ℕ) → lent ≡ order → MaybeInOrder lent filters sorted
+    → MaybeInOrder order filters sorted
+in-order filters sorted lent order same is = subst (λ (xs : List ℕ). MaybeInOrder xs filters sorted) same is
+
+pub filters_in_order-requires : goal.filters_in_order-requires
+filters_in_order-requires c =
+    subst (λ (order : List ℕ). IfSome (filters_handed c.args.filters) (λ f. IsMixed (filter_count f) order))
+    (sym c.deref-6.ensures.value)
+    (mixed (filters_handed c.args.filters) (layers_of_below c.args.below) c.args.commits.now c.in_ok-new.new
+    c.in_ok-new.ensures.layer c.requires)
+
 pub returns-in_err-own-clause-refusal : goal.returns-in_err-own-clause-refusal
 returns-in_err-own-clause-refusal c =
     let handed = err_from_is_err_and c.from_residual-in_err-own.result c.from_residual-in_err-own.ensures.1 in
