@@ -58,7 +58,7 @@ const HELP: &str = "usage: historytool is-ancestor [--unchecked] PATH HEX HEX \
     \x20               git cat-file --batch writes, for the top of the graph at PATH,\n\
     \x20               or else of none\n\
     merge           the file of one layer with the commits of the graph, once that\n\
-    \x20               was found right; without changed-path filters\n\
+    \x20               was found right, and their filters where all layers have them\n\
     \n\
     The exit status is 0 for yes, a walk, merge bases, ids, a graph that is right,\n\
     questions that were answered or a layer, 1 for any other answer, and 2 for wrong\n\

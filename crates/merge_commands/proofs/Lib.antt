@@ -1,3 +1,4 @@
 pub mod SameSteps
+pub mod CarriedSteps
 pub mod PlainSteps
 pub mod ReasonSteps

@@ -1,4 +1,5 @@
 pub mod GraphCommits
+pub mod CarriedFilters
 pub mod MergedCommits
 pub mod SameCommits
 pub mod MergeReasons

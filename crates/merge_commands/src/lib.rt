@@ -5,6 +5,7 @@
 #![tactic(auto)]
 
 mod commits;
+mod filters;
 pub mod law;
 mod run;
 

@@ -1,27 +1,33 @@
 //! The command `merge`.
 
-ghost use Rattle.std.specs.Prelude.{◌≡◌, IfErr, IfOk, Ok, Err};
+ghost use Rattle.std.specs.Prelude.{◌≡◌, ◌<◌, IfErr, IfOk, OnErr, Ok, Err};
+ghost use Rattle.gix_commitgraph.specs.Graph.{total};
 ghost use Rattle.gix_commitgraph.specs.Sound.{Sound};
 ghost use Rattle.graph_commands.specs.OpenerAnswer.{MayOpen};
 ghost use Rattle.graph_commands.specs.WrittenAnswer.{WritesAnswer};
 ghost use Rattle.history_commands.specs.Check.{MayRefuseToStart};
+ghost use Rattle.merge_commands.specs.CarriedFilters.{AreCarried};
+ghost use Rattle.merge_commands.specs.GraphCommits.{AreCommitsOf};
 ghost use Rattle.merge_commands.specs.MergedCommits.{AreFoundCommits, MayMerge};
 ghost use Rattle.write_commands.specs.WrittenCommits.{written_text, written_status};
 
 use crate::commits::commits_of;
+use crate::filters::filters_of;
 use gix_commitgraph::opening::open_in;
 use graph_commands::line::{WriteFailed, write_line};
 use graph_commands::refusal::Refusal;
 use graph_commands::status::Status;
 use graph_folder::folder::Folder;
-use graph_history::CheckedGraph;
-use graph_writer::{NewCommit, WriteError, write_layer};
-use std::alloc::Global;
+use graph_history::{Checked, CheckedGraph};
+use graph_writer::{NewCommit, NewFilters, WriteError, write_layer_with_filters};
+use std::alloc::{AllocError, Global};
 use std::io::Write;
 use write_commands::LayerRefusal;
 
 /// Writes the file of one layer with the commits of the graph at the path, which is checked before,
-/// as `graphtool verify` does: what Git writes of these commits without changed-path filters.
+/// as `graphtool verify` does: what Git writes of these commits. It has their changed-path filters
+/// where all layers have filters by the same settings, which nothing refuses, and where there is
+/// room for them.
 ///
 /// Or it writes one line that says why there is no right graph at the path, or else why its commits
 /// make no layer: commits are named by their positions there. The answer is the exit status.
@@ -61,29 +67,49 @@ fn merged<T: Folder>(alloc: Global, folder: &mut T, path: &str) -> Result<Vec<u8
         (T.failure_count folder.new)) (Err refusal)) }
     ensures tree { T.tree folder.new ≡ T.tree folder.old }
 {
-    let commits = find_commits(alloc, folder, path)?;
-    Ok(write_layer(alloc, None, &commits)?)
+    let found = find_commits(alloc, folder, path)?;
+    let filters = found.filters.as_ref();
+    Ok(write_layer_with_filters(alloc, None, &found.commits, filters)?)
 }
 
-/// The commits of the graph at the path, which is right. Of the graph nothing else is kept.
-fn find_commits<T: Folder>(
-    alloc: Global,
-    folder: &mut T,
-    path: &str,
-) -> Result<Vec<NewCommit>, LayerRefusal>
-    ensures found { IfOk result (λ commits. AreFoundCommits
+/// What a file with the commits of a graph is to have.
+#[derive(Drop)]
+struct Found {
+    /// The commits.
+    commits: Vec<NewCommit>,
+    /// Their changed-path filters, if it is to have filters.
+    filters: Option<NewFilters>,
+}
+
+/// The commits of the graph at the path, which is right, and their filters. Of the graph nothing
+/// else is kept.
+fn find_commits<T: Folder>(alloc: Global, folder: &mut T, path: &str) -> Result<Found, LayerRefusal>
+    ensures found { IfOk result (λ found. AreFoundCommits
         (MayOpen (T.tree folder.old) path.now (T.failure_count folder.old)
-        (T.failure_count folder.new)) commits.items) }
+        (T.failure_count folder.new)) found.commits.items found.filters) }
     ensures refused { IfErr result (λ refusal. MayMerge
         (MayOpen (T.tree folder.old) path.now (T.failure_count folder.old)
         (T.failure_count folder.new)) (Err refusal)) }
     ensures tree { T.tree folder.new ≡ T.tree folder.old }
 {
     let graph = open_checked(alloc, folder, path)?;
-    match commits_of(alloc, &graph.as_checked()) {
-        Ok(commits) => Ok(commits),
+    match gather(alloc, &graph.as_checked()) {
+        Ok(found) => Ok(found),
         Err(_) => Err(LayerRefusal::Commits(WriteError::OutOfMemory)),
     }
+}
+
+/// The commits of a right graph, and their filters.
+fn gather(alloc: Global, graph: &Checked<'_>) -> Result<Found, AllocError>
+    ensures commits { IfOk result (λ found.
+        AreCommitsOf graph.now.layers found.commits.items) }
+    ensures filters { IfOk result (λ found. AreCarried graph.now.layers found.filters) }
+    ensures some { OnErr result (0 < total graph.now.layers) }
+{
+    Ok(Found {
+        commits: commits_of(alloc, graph)?,
+        filters: filters_of(alloc, graph)?,
+    })
 }
 
 /// Opens the graph at the path, and checks it.

@@ -13,6 +13,7 @@ import tempfile
 from functools import partial
 
 from checks import many
+from checks.further_checks import add_changes, many_paths
 from checks.object_checks import lay_chain
 from checks.program import LINES
 from checks.repeated_checks import LAYERS, PARENTS, Repeated
@@ -23,7 +24,7 @@ from damage.layer import Outline, big_endian, sealed
 from expected import judge, merged
 from expected.objects import Graph
 from histories import shapes
-from histories.repository import write_bytes
+from histories.repository import ID_LENGTH, write_bytes
 
 LATE = "times of every size"
 """The history with a time past 34 bits, of which Git writes a file that it refuses."""
@@ -32,7 +33,7 @@ HISTORIES = 2000
 PART = 250
 """Histories that one process makes and tries before it takes the next."""
 
-KINDS = {"a file", "no commits", "a cycle", "a wrong graph"}
+KINDS = {"a file", "a file with filters", "no commits", "a cycle", "a wrong graph"}
 """All that has to come up at random."""
 
 
@@ -50,13 +51,16 @@ def check_kind(programs, results, new):
     for name, history in {**shapes.ALL, "criss-cross": CRISS_CROSS}.items():
         if name != LATE:
             check_history(programs, results, new("merged, " + name), name, history)
+    check_filters(histories, results, new("merged, filters"))
+    check_log(programs, results, new("merged, filters of many paths"))
     check_mended(histories, results, new("merged, times past 34 bits"))
     check_many(histories, results, new("merged, many layers"))
     check_refused(programs, results, new("merged, refused"))
 
 
 def check_history(programs, results, repository, name, history):
-    """Files and chains of a history, with dates and without, and with filters: each time it is Git's file without filters."""
+    """Files and chains of a history, with dates and without: each time it is the file that Git writes of all commits from nothing,
+    with filters where all layers have them."""
     histories, kind, count = programs[1], repository.object_format, len(history)
     ids, layers = repository.add(history), {}
     for layer_count in sorted({1, min(2, count), min(10, count)}):
@@ -66,10 +70,12 @@ def check_history(programs, results, repository, name, history):
             layers[layer_count, versions] = chain_of(repository, ids, stops, versions, flags)
     trees.lay_out(repository.info_path(), {})
     by_git = repository.new_graph()
+    filtered = repository.new_graph("--changed-paths")
     for (layer_count, versions), chain in layers.items():
         lay_chain(repository, chain)
         title = "%s, %s, %d layers, dates of %d and %d, merged" % (kind, name, layer_count, *versions)
-        results.check(title, is_file(by_git, histories.merge(repository.info_path())))
+        by_now = filtered if versions == (2, 2) else by_git
+        results.check(title, is_file(by_now, histories.merge(repository.info_path())))
     answer = histories.merge(repository.info_path())
     trees.lay_out(repository.info_path(), {trees.FILE: answer.out})
     path = repository.graph_path()
@@ -93,6 +99,67 @@ def found_right(programs, repository, path):
     if [answer.status for answer in answers] == [0, 0] and verdict == (0, False):
         return None
     return "%r, and Git says %s" % (answers, verdict)
+
+
+def check_filters(histories, results, repository):
+    """Chains whose layers have filters of the same settings, of others, damaged ones or none: the file has those of all layers, or
+    none, and is the one that Git writes of all commits from nothing, with filters or without."""
+    kind, ids, info = repository.object_format, repository.add(shapes.ticking(PARENTS)), repository.info_path()
+    lower, upper = chain_of(repository, ids, [3, len(ids)], (2, 2), ["--changed-paths"])
+    bare = chain_of(repository, ids, [3, len(ids)], (2, 2), [])
+    trees.lay_out(info, {})
+    plain, filtered = repository.new_graph(), repository.new_graph("--changed-paths")
+    at = Outline(upper, kind).chunks["BDAT"].start
+    more_bits = changed(upper, kind, at + 8, 11)
+    in_file = Outline(filtered, kind).chunks["BDAT"].start
+    for name, chain, expected in (
+        ("filters in both layers", [lower, upper], filtered),
+        ("more bits per entry in the upper layer", [lower, more_bits], changed(filtered, kind, in_file + 8, 11)),
+        ("other settings in the upper layer", [lower, changed(upper, kind, at + 4, 6)], plain),
+        ("another version in the upper layer", [lower, changed(upper, kind, at, 2)], plain),
+        ("damaged filters in the upper layer", [lower, changed(upper, kind, at, 3)], plain),
+        ("no filters in the lower layer", [bare[0], relaid(bare[0], upper, kind)], plain),
+        ("no filters in the upper layer", [lower, relaid(lower, bare[1], kind)], plain),
+    ):
+        lay_chain(repository, chain)
+        results.check("%s, %s, merged" % (kind, name), is_file(expected, histories.merge(info)))
+
+
+def check_log(programs, results, repository):
+    """Filters of many paths, of too many and of none, some of which were not computed: over the merged file `git log` names the
+    commits of a path that it names without."""
+    histories, kind, info = programs[1], repository.object_format, repository.info_path()
+    changes = many_paths()
+    ids = add_changes(repository, changes)
+    paths = sorted({path for change in changes for path in change.paths[:2] + change.paths[-2:]})
+    plain = [log_of(repository, path, "false") for path in paths]
+    filtered = repository.new_graph("--changed-paths")
+    for name, most in (("all of them computed", len(ids)), ("some of them computed", 2)):
+        chain = chain_of(repository, ids, [4, len(ids)], (2, 2), ["--changed-paths", "--max-new-filters=%d" % most])
+        lay_chain(repository, chain)
+        title = "%s, filters of many paths, %s, merged" % (kind, name)
+        answer = histories.merge(info)
+        results.check(title, is_file(filtered if most == len(ids) else merged.file_of(chain), answer))
+        trees.lay_out(info, {trees.FILE: answer.out})
+        results.check(title + " and found right", found_right(programs, repository, repository.graph_path()))
+        differ = [path for path, said in zip(paths, plain) if log_of(repository, path, "true") != said]
+        results.check(title + ", git log", "of %s it says something else" % differ[:3] if differ else None)
+
+
+def log_of(repository, path, graph):
+    """The commits that Git says change a path: without commit-graphs or with."""
+    return repository.git("-c", "core.commitGraph=" + graph, "log", "--all", "--format=%H", "--", os.fsdecode(path))
+
+
+def changed(layer, kind, at, number):
+    """The layer with another number of four bytes at a place."""
+    return sealed(layer[:at] + big_endian(number, 4) + layer[at + 4 :], kind)
+
+
+def relaid(lower, upper, kind):
+    """The upper layer of a chain of two on top of another lower layer."""
+    at, size = Outline(upper, kind).chunks["BASE"].start, ID_LENGTH[kind]
+    return sealed(upper[:at] + lower[-size:] + upper[at + size :], kind)
 
 
 def check_mended(histories, results, repository):
@@ -189,7 +256,9 @@ def tried(graph, status, text):
     read = Graph(graph.layers)
     line = merged.refusal(read)
     if line is None:
-        return "a file", other((0, merged.file_of(graph.layers)), (status, text))
+        file = merged.file_of(graph.layers)
+        kind = "a file with filters" if "BDAT" in Outline(file, graph.kind).chunks else "a file"
+        return kind, other((0, file), (status, text))
     if not line.endswith("*\n"):
         return "no commits", other((1, line.encode()), (status, text))
     named = re.fullmatch(rb"refused write 8 commit (\d+)\n", text)

@@ -3,8 +3,11 @@
 It is written from Git's commit-graph format, and shares nothing with the program.
 """
 
+import itertools
+
 from damage.built import NO_PARENT, TOP_BIT
 from damage.layer import big_endian, exact_fan, with_chunks
+from expected import further, reading
 from expected.listing import GREATEST_GENERATION
 from expected.objects import Graph
 
@@ -63,6 +66,30 @@ def in_order(parents):
     return order
 
 
+def filter_chunks(layers, kind, order):
+    """The chunks of filters of one file with the commits of right layers, which stand there in this order: the filters of all
+    layers, where all have filters, and nothing refuses them, behind the three numbers of the highest layer."""
+    layers = [further.Layer(reading.read_table(layer, layer[6])[0], kind) for layer in layers]
+    if not all(b"BIDX" in layer.chunks and b"BDAT" in layer.chunks for layer in layers):
+        return {}
+    try:
+        further.filters_told(layers)
+    except further.Refused:
+        return {}
+    filters = [part for layer in layers for part in filters_in(layer)]
+    ends = itertools.accumulate(len(filters[commit]) for commit in order)
+    return {
+        b"BIDX": b"".join(big_endian(end, 4) for end in ends),
+        b"BDAT": layers[-1].chunks[b"BDAT"][:12] + b"".join(filters[commit] for commit in order),
+    }
+
+
+def filters_in(layer):
+    """The filters of a layer, which are right."""
+    ends, body = further.numbers(layer.chunks[b"BIDX"], 4), layer.chunks[b"BDAT"][12:]
+    return [body[start:end] for start, end in zip([0, *ends], ends)]
+
+
 def file_of(layers):
     """The file of one layer with the commits of right layers, in which no id stands twice and no commit is on a cycle."""
     graph = Graph(layers)
@@ -93,6 +120,7 @@ def file_of(layers):
         b"GDA2": offsets,
         b"GDO2": b"".join(big_endian(offset, 8) for offset in far),
         b"EDGE": b"".join(big_endian(word, 4) for word in words),
+        **filter_chunks(layers, graph.kind, order),
     }
     header = b"CGPH\x01" + bytes([1 if graph.kind == "sha1" else 2, 0, 0])
     return with_chunks(header, graph.kind, [(name, content) for name, content in chunks.items() if content])
