@@ -1,14 +1,12 @@
 -- The layer of the commits of a graph, with their filters, has the filters of the graph.
-use Rattle.std.proofs.Common.{◌≡◌, ◌≢◌, ℕ, ◌+◌, ◌-◌, ◌<◌, ◌≤◌, ◌^◌, List, [], ◌∷◌, Option, Some, None, map, length, drop}
-use Rattle.std.proofs.Common.{◌↔◌, IsTrue, Bool, true, false, slice_get, get_or, sym, ap, subst, ◌∙◌, arith, refl, ⊎_elim}
+use Rattle.std.proofs.Common.{◌≡◌, ◌≢◌, ℕ, ◌+◌, ◌-◌, ◌<◌, ◌≤◌, ◌^◌, List, Option, Some, None, length, drop}
+use Rattle.std.proofs.Common.{◌↔◌, IsTrue, Bool, true, false, slice_get, get_or, sym, ap, subst, ◌∙◌, arith, ⊎_elim}
 use Rattle.std.specs.Prelude.{IfSome, IfNone, IfOk, All, Result, Ok, Err}
 use Rattle.std.specs.List.{sum_by}
 use Rattle.std.proofs.lemmas.Bool.{cases_lt}
-use Rattle.std.proofs.lemmas.List.{drop_all}
 use Rattle.std.proofs.lemmas.List.Sums.{sum_by-drop_more}
 use Rattle.std.proofs.lemmas.Option.{slice_get_within, slice_get-get_or, get_or_from_slice_get, same_Some}
 use Rattle.graph_chunks.specs.GraphFilters.{graph_filters, graph_filters_refusal}
-use Rattle.graph_chunks.specs.StoredFilters.{index_in, data_in}
 use Rattle.graph_format.specs.Layer.{Layer}
 use Rattle.gix_commitgraph.specs.Graph.{graph_ids, total}
 use Rattle.gix_commitgraph.proofs.layers.GraphLemmas.{counted}
@@ -16,7 +14,7 @@ use Rattle.gix_commitgraph.proofs.lookup.ElementLemmas.{some-place}
 use Rattle.graph_writer.specs.NewFilters.{filter_numbers_in, filter_count, byte_count, new_filter, HasFiltersOf}
 use Rattle.graph_writer.specs.declared.commit.NewCommit.{NewCommit}
 use Rattle.graph_writer.specs.declared.filters.NewFilters.{NewFilters}
-use Rattle.merge_commands.specs.CarriedFilters.{CanCarryFilters, AreCarried, CarriesFilters, HoldFilters}
+use Rattle.merge_commands.specs.CarriedFilters.{AreCarried, CarriesFilters, HoldFilters}
 use Rattle.merge_commands.specs.GraphCommits.{AreCommitsOf}
 
 pub carried : (layers : List Layer) (commits : List NewCommit) (filters : Option NewFilters) (layer : Layer)

@@ -1,8 +1,5 @@
-use Rattle.std.proofs.Common.{◌≡◌, ◌+◌, ◌<◌, ℕ, List, Some, length, drop, slice_get, get_or, refl, sym, ap, ◌∙◌, arith}
-use Rattle.std.specs.List.{sum_by}
-use Rattle.graph_writer.specs.NewFilters.{filter_numbers, filter_numbers_in, filter_count, byte_count, new_filter}
-use Rattle.merge_commands.specs.CarriedFilters.{HoldFilters}
-use Rattle.graph_format.specs.Layer.{Layer}
+use Rattle.std.proofs.Common.{◌≡◌, ◌+◌, ℕ, List, Some, refl, sym, ap, ◌∙◌, arith}
+use Rattle.graph_writer.specs.NewFilters.{filter_numbers_in}
 use Rattle.std.proofs.lemmas.Option.{slice_get_within}
 use Rattle.graph_encoder.specs.declared.filters.FilterNumbers.{FilterNumbers}
 use Rattle.merge_commands.proofs.CarriedSteps.{size-next, more-filters, no-room, top-is}

@@ -17,5 +17,5 @@ returns-clause-written g c = (
   c.in_ok-found.found.filters,
   c.in_ok-found.ensures.found,
   as-lent c.in_ok-found.found.commits.items _ (filters_handed c.as_ref-filters.result) c.in_ok-found.found.filters _
-  c.deref.ensures.value c.as_ref-filters.ensures.value c.in_ok-write_layer_with_filters.ensures.written,
+      c.deref.ensures.value c.as_ref-filters.ensures.value c.in_ok-write_layer_with_filters.ensures.written,
 )
