@@ -1,4 +1,4 @@
-use Rattle.std.proofs.Common.{rules, ◌≡◌, ◌<◌, ◌∙◌, All, List, Some, ap, subst}
+use Rattle.std.proofs.Common.{rules, ◌≡◌, ◌<◌, ◌*◌, ◌⊎◌, ◌∙◌, All, IsTrue, List, Some, ap, is_some, subst, sym}
 use Rattle.graph_format.specs.Layer.{Layer}
 use Rattle.gix_commitgraph.specs.Graph.{total}
 use Rattle.graph_ancestors.specs.WalkAnswer.{numbers_of}
@@ -29,3 +29,11 @@ returns-in-Ok-compare_within-clause-answer c =
       exact = rw (layers, others) at is;
       tells = c.tell.ensures.tells;
     })
+
+pub returns-in-Err-Stopped-clause-stopped : goal.returns-in-Err-Stopped-clause-stopped
+returns-in-Err-Stopped-clause-stopped c =
+    let held : c.args.graph.address.held ≡ Some c.in-Some.opened.now = c.in-Some.ensures in
+    let layers : c.in-Some-as_checked.checked.layers ≡ c.in-Some.opened.now.0 = c.in-Some-as_checked.ensures.graph in
+    let is : (c.limit.result.visits < 3 * total c.in-Some-as_checked.checked.layers) ⊎ IsTrue (is_some c.limit.result.flag) =
+    rw c.in-Err-Stopped.field-0-is at c.in-Err-Stopped.ensures.refused in
+    λ same. rw held (sym c.in-Some-as_checked.ensures.some, rw (c.limit.ensures.visits, c.limit.ensures.flag, layers) at is)
