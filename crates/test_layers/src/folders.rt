@@ -316,7 +316,11 @@ fn a_file_stays_open_until_its_beginning_is_read(rt: HostRuntime) {
     compare_open_files(&rt, alloc, &mut disk, &before, &other);
     fs::rename(&rt, new, old).expect(&rt, "another file in its place");
     assert!(rt; has_part(alloc, &mut disk, &before, (5, 10)));
-    let after = Stored { path: old, ..other };
+    let after = Stored {
+        path: old,
+        bytes: &long,
+        len: 400,
+    };
     assert!(rt; has_part(alloc, &mut disk, &after, (0, 10)));
     assert!(rt; has_part(alloc, &mut disk, &after, (5, 10)));
     fs::remove_file(&rt, old).expect(&rt, "no file");
