@@ -28,6 +28,7 @@ mod merge_bases;
 mod responding;
 #[cfg(test)]
 mod unchecked;
+#[cfg(test)]
 mod unchecked_bases;
 #[cfg(test)]
 mod writes;

@@ -99,8 +99,7 @@ fn many_commits_read_blocks_of_records_and_keep_them(rt: HostRuntime) {
     assert!(rt; folder.parts == 301 + BLOCKS);
     assert!(rt; folder.bytes == alone + 300 * BLOCK * RECORD);
     // All of a block is kept.
-    for first in [0, 1, 2, 127] {
-        read_some(&rt, alloc, &mut folder, &mut parts, first, 300, 128);
-    }
+    read_some(&rt, alloc, &mut folder, &mut parts, 2, 300, 128);
+    read_some(&rt, alloc, &mut folder, &mut parts, 127, 300, 128);
     assert!(rt; folder.parts == 301 + BLOCKS);
 }
