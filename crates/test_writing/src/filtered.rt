@@ -101,6 +101,7 @@ fn filters(rt: &impl Abort, alloc: Global) -> NewFilters {
         assert!(rt; all.has_room(filter.len()));
         all.push(filter).expect(rt, "memory");
     }
+    assert!(rt; all.len() > 1);
     assert!(rt; all.of(1) == b"\xc1\x39\x46".as_slice());
     all
 }
