@@ -1,7 +1,7 @@
 //! The corrected commit dates of a graph.
 
 ghost use Rattle.std.specs.Prelude.{◌≡◌, ◌≢◌, ◌↔◌, ◌⊎◌, All, IsSomeAnd, None, length};
-ghost use Rattle.graph_chunks.specs.GraphStoredDates.{HasDates};
+ghost use Rattle.graph_format.specs.OptionalChunks.{HasDates};
 ghost use Rattle.commitgraph_c.specs.Answers.{layers_of, written};
 ghost use Rattle.commitgraph_c.specs.Codes.{closed_graph, no_dates};
 ghost use Rattle.commitgraph_c.specs.ToldDates.{RefusesDates, TellsDates, told_date_fault};

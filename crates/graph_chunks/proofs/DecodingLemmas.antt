@@ -9,7 +9,8 @@ use Rattle.std.proofs.lemmas.List.{append-nil}
 use Rattle.std.proofs.lemmas.List.FromFn.{map-range_with_len_more}
 use Rattle.gix_chunk_core.specs.FirstFault.{first_below}
 use Rattle.gix_chunk_core.proofs.FirstFaultLemmas.{first_below-none, first_below-none_more, first_below-found}
-use Rattle.graph_chunks.specs.StoredDates.{date_of, stored_dates, date_fault, dates_refusal}
+use Rattle.graph_format.specs.OptionalChunks.{date_of, stored_dates}
+use Rattle.graph_chunks.specs.StoredDates.{date_fault, dates_refusal}
 use Rattle.graph_chunks.specs.declared.dates.layer.LayerDatesError.{LayerDatesError}
 use Rattle.graph_chunks.specs.declared.dates.layer.LayerDatesError.TheVariants.{DataSize, OverflowSize}
 

@@ -24,7 +24,8 @@ use Rattle.graph_format.specs.Integers.{word_in}
 use Rattle.gix_commitgraph.specs.Graph.{graph_commits, start, stop, total}
 use Rattle.gix_commitgraph.proofs.layers.LayerListLemmas.{get-front, graph_commits-at, start-more}
 use Rattle.gix_commitgraph.proofs.layers.PositionLemmas.{length-graph_commits}
-use Rattle.graph_chunks.specs.StoredFilters.{index_in, data_in, both_refused, layer_filters_refusal}
+use Rattle.graph_format.specs.OptionalChunks.{index_in, data_in}
+use Rattle.graph_chunks.specs.StoredFilters.{both_refused, layer_filters_refusal}
 use Rattle.graph_chunks.specs.GraphFilters.{FiltersOfGraph, is_computed, settings_with, settings_in, settings_of, filter_with}
 use Rattle.graph_chunks.specs.GraphFilters.{filter_in}
 use Rattle.graph_chunks.specs.GraphFilters.{graph_filters, same_version, differ, fault_in, filters_fault, filters_in_graph}

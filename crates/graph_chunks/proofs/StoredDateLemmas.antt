@@ -11,14 +11,14 @@ use Rattle.std.proofs.lemmas.List.FromFn.{length-map-range_with_len}
 use Rattle.std.proofs.lemmas.Option.{slice_get-get_or}
 use Rattle.gix_chunk_core.specs.FirstFault.{first_below}
 use Rattle.gix_chunk_core.proofs.FirstFaultLemmas.{first_below-none, first_below-none_more, first_below-found}
-use Rattle.graph_chunks.specs.StoredDates.{date_of, stored_dates}
+use Rattle.graph_format.specs.OptionalChunks.{date_of, stored_dates, offsets_in, overflow_in, times_in, dates_in}
 use Rattle.graph_chunks.specs.declared.dates.layer.LayerDatesError.{LayerDatesError}
 use Rattle.graph_format.specs.Layer.{Layer, IsOpened}
 use Rattle.graph_walks.specs.Dates.{number_at}
 use Rattle.gix_commitgraph.specs.Graph.{IsGraph, start, total}
 use Rattle.gix_commitgraph.proofs.layers.LayerListLemmas.{counted-fits, start-more, start-none}
 use Rattle.graph_format.proofs.LayerHistoryLemmas.{opened_is_paired}
-use Rattle.graph_chunks.specs.GraphStoredDates.{offsets_in, overflow_in, times_in, dates_in, dates_of, layer_refusal}
+use Rattle.graph_chunks.specs.GraphStoredDates.{dates_of, layer_refusal}
 use Rattle.graph_chunks.specs.GraphDates.{in_graph, reading_fault}
 
 -- the dates of the layers below layer i

@@ -13,7 +13,8 @@ use Rattle.graph_format.specs.Layer.{Layer}
 use Rattle.graph_format.specs.Parents.{position_of}
 use Rattle.graph_format.specs.Integers.{word_in}
 use Rattle.gix_commitgraph.specs.Graph.{graph_commits, start}
-use Rattle.graph_chunks.specs.StoredFilters.{index_in, data_in, layer_filters_refusal}
+use Rattle.graph_format.specs.OptionalChunks.{index_in, data_in}
+use Rattle.graph_chunks.specs.StoredFilters.{layer_filters_refusal}
 use Rattle.graph_chunks.specs.declared.filters.FilterSettings.{FilterSettings}
 use Rattle.graph_chunks.specs.declared.filters.FiltersError.{FiltersError}
 use Rattle.graph_chunks.specs.declared.filters.FiltersError.TheVariants as error

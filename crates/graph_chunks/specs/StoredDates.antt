@@ -1,29 +1,12 @@
--- The corrected commit dates that a layer stores ("Generation Data", "Generation Data Overflow"), and why its chunks are refused.
--- Where the second chunk is missing, it is taken for an empty one.
-use Rattle.std.specs.Prelude.{◌≡◌, ◌==◌, ◌⊎◌, ⊤, ℕ, ◌+◌, ◌-◌, ◌*◌, ◌/◌, ◌%◌, ◌^◌, ◌<◌, not, List, map, length, slice_index}
-use Rattle.std.specs.Prelude.{Option, Some, None, is_none, unwrap_or, nat_lt, if◌then◌else◌}
-use Rattle.std.specs.List.{range_with_len}
+-- Why the chunks of a layer with corrected commit dates are refused ("Generation Data", "Generation Data Overflow"). Where the
+-- second chunk is missing, it is taken for an empty one.
+use Rattle.std.specs.Prelude.{◌≡◌, ◌==◌, ◌⊎◌, ⊤, ℕ, ◌*◌, ◌%◌, ◌^◌, ◌<◌, not, List, length, Option, Some, None, is_none, nat_lt}
 use Rattle.gix_chunk_core.specs.FirstFault.{◌when◌, ◌otherwise◌, first_below}
 use Rattle.graph_format.specs.declared.file.Position.{Position}
-use Rattle.graph_format.specs.Integers.{word_in, long_in}
+use Rattle.graph_format.specs.OptionalChunks.{offset_of, date_of}
 use Rattle.graph_chunks.specs.declared.dates.layer.LayerDatesError.{LayerDatesError}
 use Rattle.graph_chunks.specs.declared.dates.layer.LayerDatesError.TheVariants.{DataSize, OverflowSize, OverflowIndex, TooLarge}
 use Rattle.graph_chunks.specs.declared.dates.layer.LayerDatesError.TheVariants.{OutOfMemory}
-
--- the offset of commit p: its word; or, where the word's top bit is set, the number of the overflow list that the other bits name
-abbrev pub offset_of : List ℕ → List ℕ → ℕ → Option ℕ
-offset_of offsets overflow p =
-    if nat_lt (word_in offsets p) (2 ^ 31) then Some (word_in offsets p)
-    else if nat_lt (word_in offsets p - 2 ^ 31) (length overflow / 8) then Some (long_in overflow (word_in offsets p - 2 ^ 31))
-    else None
-
--- its corrected date: its time and its offset together
-abbrev pub date_of : List ℕ → List ℕ → List ℕ → ℕ → ℕ
-date_of offsets overflow times p = slice_index times p + unwrap_or (offset_of offsets overflow p) 0
-
--- the dates of all commits, for which there is a time each
-unfoldable pub stored_dates : List ℕ → List ℕ → List ℕ → List ℕ
-stored_dates offsets overflow times = map (date_of offsets overflow times) (range_with_len 0 (length times))
 
 -- the position in the layer
 abbrev pub date_position : ℕ → Position

@@ -5,7 +5,8 @@ ghost use Rattle.std.specs.Prelude.{IfOk, IfErr, IfSome, IfNone};
 ghost use Rattle.graph_walks.specs.Dates.{number_at};
 ghost use Rattle.gix_commitgraph.specs.Graph.{total};
 ghost use Rattle.gix_commitgraph.specs.Sound.{Sound};
-ghost use Rattle.graph_chunks.specs.GraphStoredDates.{HasDates, dates_of};
+ghost use Rattle.graph_format.specs.OptionalChunks.{HasDates};
+ghost use Rattle.graph_chunks.specs.GraphStoredDates.{dates_of};
 ghost use Rattle.graph_chunks.specs.GraphDates.{graph_dates_refusal, MayRefuseGraphDates};
 ghost use Rattle.graph_chunks.specs.GraphDates.{AreRightByDecodedParents, FollowAllParents};
 

@@ -8,7 +8,8 @@ ghost use Rattle.changed_paths.specs.declared.filters.Answer.TheVariants as answ
 ghost use Rattle.graph_format.specs.Reports.{Reports};
 ghost use Rattle.graph_format.specs.Integers.{word_in};
 ghost use Rattle.gix_commitgraph.specs.Graph.{total};
-ghost use Rattle.graph_chunks.specs.StoredFilters.{index_in, data_in, layer_filters_refusal};
+ghost use Rattle.graph_format.specs.OptionalChunks.{index_in, data_in};
+ghost use Rattle.graph_chunks.specs.StoredFilters.{layer_filters_refusal};
 ghost use Rattle.graph_chunks.specs.GraphFilters.{settings_in, settings_of, graph_filters};
 ghost use Rattle.graph_chunks.specs.GraphFilters.{is_computed, filters_in_graph, differ, fault_in};
 ghost use Rattle.graph_chunks.specs.GraphFilters.{graph_filters_refusal, MayRefuseGraphFilters};

@@ -14,8 +14,7 @@ use Rattle.std.proofs.lemmas.List.{length-take-le}
 use Rattle.graph_format.specs.Format.{chunk_of}
 use Rattle.graph_format.specs.Integers.{word_in, long_in}
 use Rattle.graph_format.specs.Layer.{Layer, bytes_of}
-use Rattle.graph_chunks.specs.StoredDates.{offset_of, date_of, stored_dates}
-use Rattle.graph_chunks.specs.GraphStoredDates.{HasDates, times_in, dates_in}
+use Rattle.graph_format.specs.OptionalChunks.{offset_of, date_of, stored_dates, HasDates, times_in, dates_in}
 use Rattle.graph_encoder.specs.Chunks.{word_bytes, long_bytes, unless_empty}
 use Rattle.graph_encoder.specs.ExtraEdges.{top_bit}
 use Rattle.graph_encoder.specs.DateOffsets.{is_large, large_offsets, offset_word, offset_words}

@@ -6,8 +6,7 @@ use Rattle.gix_hash_core.specs.declared.kind.Kind.{Kind}
 use Rattle.gix_hash_core.specs.Kind.{id_len}
 use Rattle.gix_hash_core.specs.Digest.{digest_of}
 use Rattle.std.specs.Prelude.{zip, codes, option_map}
-use Rattle.graph_chunks.specs.GraphStoredDates.{HasDates, times_in, dates_in}
-use Rattle.graph_chunks.specs.StoredFilters.{index_in, data_in}
+use Rattle.graph_format.specs.OptionalChunks.{HasDates, times_in, dates_in, index_in, data_in}
 use Rattle.graph_encoder.proofs.OffsetLemmas.{dates-said}
 use Rattle.graph_format.specs.Format.{Record, record_of, record_len, pieces, words, commits_of, table_of, chunk_of, fan_id}
 use Rattle.graph_format.specs.Format.{ids_id}

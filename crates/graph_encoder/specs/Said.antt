@@ -7,8 +7,7 @@ use Rattle.graph_format.specs.Format.{Record, words}
 use Rattle.graph_format.specs.Layer.{Layer, IsLayer}
 use Rattle.graph_format.specs.Parents.{DecodedParents, parents_of}
 use Rattle.graph_encoder.specs.ExtraEdges.{top_bit, all_extra_words}
-use Rattle.graph_chunks.specs.GraphStoredDates.{HasDates, times_in, dates_in}
-use Rattle.graph_chunks.specs.StoredFilters.{index_in, data_in}
+use Rattle.graph_format.specs.OptionalChunks.{HasDates, times_in, dates_in, index_in, data_in}
 use Rattle.graph_encoder.specs.Written.{ids_of, ids_up_to, filter_index, filter_data}
 use Rattle.graph_encoder.specs.DateOffsets.{offsets_of}
 use Rattle.graph_encoder.specs.declared.plan.LayerPlan.{LayerPlan}

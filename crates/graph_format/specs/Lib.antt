@@ -26,3 +26,4 @@ pub mod NameRule
 pub mod StoredHistory
 pub mod Faults
 pub mod RightLayer
+pub mod OptionalChunks

@@ -15,7 +15,8 @@ use Rattle.graph_format.proofs.PieceLemmas.{get-map-range}
 use Rattle.gix_commitgraph.specs.Graph.{graph_commits}
 use Rattle.gix_commitgraph.proofs.history.HistoryLemmas.{length-history}
 use Rattle.gix_commitgraph.proofs.layers.PositionLemmas.{length-graph_commits}
-use Rattle.graph_chunks.specs.GraphStoredDates.{times_in, dates_in, times_of, dates_of}
+use Rattle.graph_format.specs.OptionalChunks.{times_in, dates_in}
+use Rattle.graph_chunks.specs.GraphStoredDates.{times_of, dates_of}
 use Rattle.graph_chunks.proofs.StoredDateLemmas.{length-dates_of}
 use Rattle.graph_encoder.specs.Said.{SaysPlan}
 use Rattle.graph_encoder.specs.declared.plan.LayerPlan.{LayerPlan}

@@ -6,7 +6,8 @@ use Rattle.std.proofs.lemmas.Option.{slice_get_within, slice_get-get_or, same_So
 use Rattle.graph_format.specs.Layer.{Layer}
 use Rattle.changed_paths.specs.Filters.{filter_of, filters_refusal}
 use Rattle.graph_chunks.specs.GraphFilters.{filter_in}
-use Rattle.graph_chunks.specs.StoredFilters.{index_in, data_in, layer_filters_refusal}
+use Rattle.graph_format.specs.OptionalChunks.{index_in, data_in}
+use Rattle.graph_chunks.specs.StoredFilters.{layer_filters_refusal}
 use Rattle.graph_encoder.specs.Plan.{AreFilters}
 use Rattle.graph_encoder.specs.Said.{SaysPlan}
 use Rattle.graph_encoder.specs.Written.{filter_index, filter_data}

@@ -15,7 +15,8 @@ use Rattle.gix_commitgraph.specs.Sound.{Sound}
 use Rattle.gix_commitgraph.proofs.history.HistoryLemmas.{length-history}
 use Rattle.gix_commitgraph.proofs.lookup.ElementLemmas.{some-place}
 use Rattle.graph_chunks.specs.GraphDates.{graph_dates_refusal, reading_fault, wrong_date}
-use Rattle.graph_chunks.specs.GraphStoredDates.{HasDates, times_of, dates_of}
+use Rattle.graph_format.specs.OptionalChunks.{HasDates}
+use Rattle.graph_chunks.specs.GraphStoredDates.{times_of, dates_of}
 use Rattle.graph_chunks.proofs.StoredDateLemmas.{length-dates_of}
 use Rattle.graph_levels.specs.OnTop.{FitTogether, level_at, no_level}
 use Rattle.graph_levels.specs.ParentLists.{commit_count, parent_list}

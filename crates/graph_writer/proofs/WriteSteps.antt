@@ -12,7 +12,8 @@ use Rattle.graph_format.specs.Lookup.{scan}
 use Rattle.graph_format.specs.StoredHistory.{history_of}
 use Rattle.gix_commitgraph.specs.Distinct.{AreDistinct}
 use Rattle.gix_commitgraph.specs.Graph.{graph_ids}
-use Rattle.graph_chunks.specs.GraphStoredDates.{HasDates, times_in, dates_in, times_of, dates_of}
+use Rattle.graph_format.specs.OptionalChunks.{HasDates, times_in, dates_in}
+use Rattle.graph_chunks.specs.GraphStoredDates.{times_of, dates_of}
 use Rattle.graph_encoder.specs.DateOffsets.{offsets_of}
 use Rattle.graph_encoder.specs.Said.{SaysPlan}
 use Rattle.graph_encoder.specs.declared.plan.LayerPlan.{LayerPlan}

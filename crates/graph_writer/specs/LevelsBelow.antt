@@ -8,7 +8,8 @@ use Rattle.graph_format.specs.declared.TheConstants.{MAX_COMMITS}
 use Rattle.gix_commitgraph.specs.Graph.{total}
 use Rattle.gix_commitgraph.specs.Sound.{Sound}
 use Rattle.graph_chunks.specs.GraphDates.{graph_dates_refusal}
-use Rattle.graph_chunks.specs.GraphStoredDates.{HasDates, times_of, dates_of}
+use Rattle.graph_format.specs.OptionalChunks.{HasDates}
+use Rattle.graph_chunks.specs.GraphStoredDates.{times_of, dates_of}
 use Rattle.graph_levels.specs.OnTop.{level_at}
 use Rattle.graph_writer.specs.WritingRefusal.{AreDatesBelowRight}
 use Rattle.graph_writer.specs.declared.commit.WriteError.{WriteError}

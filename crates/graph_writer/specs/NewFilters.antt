@@ -4,7 +4,8 @@ use Rattle.std.specs.Prelude.{◌≡◌, ◌≢◌, ◌<◌, ◌≤◌, ℕ, Lis
 use Rattle.std.specs.Prelude.{slice_get, slice_index, slice_range, if◌then◌else◌}
 use Rattle.changed_paths.specs.Filters.{version_of}
 use Rattle.graph_chunks.specs.GraphFilters.{filter_in}
-use Rattle.graph_chunks.specs.StoredFilters.{index_in, data_in, layer_filters_refusal}
+use Rattle.graph_format.specs.OptionalChunks.{index_in, data_in}
+use Rattle.graph_chunks.specs.StoredFilters.{layer_filters_refusal}
 use Rattle.graph_encoder.specs.declared.filters.FilterNumbers.{FilterNumbers}
 use Rattle.graph_format.specs.Integers.{word_in}
 use Rattle.graph_format.specs.Layer.{Layer, IsLayer}

@@ -4,7 +4,7 @@ use Rattle.std.specs.Prelude.{◌≡◌, ◌⊎◌, ◌<◌, ◌≤◌, ◌^◌,
 use Rattle.std.specs.List.{sum_by}
 use Rattle.graph_format.specs.Layer.{Layer}
 use Rattle.graph_chunks.specs.GraphDates.{graph_dates_refusal}
-use Rattle.graph_chunks.specs.GraphStoredDates.{HasDates}
+use Rattle.graph_format.specs.OptionalChunks.{HasDates}
 use Rattle.graph_writer.specs.Cycles.{IsOwnAncestor, HaveNoCycle}
 use Rattle.graph_writer.specs.WriteRefusal.{new_layer_refusal, MayRefuseNewLayer}
 use Rattle.graph_writer.specs.declared.commit.NewCommit.{NewCommit}

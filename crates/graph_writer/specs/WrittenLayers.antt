@@ -11,7 +11,8 @@ use Rattle.graph_format.specs.StoredHistory.{history_of}
 use Rattle.gix_commitgraph.specs.Distinct.{AreDistinct}
 use Rattle.gix_commitgraph.specs.Graph.{graph_ids}
 use Rattle.gix_commitgraph.specs.Sound.{Sound}
-use Rattle.graph_chunks.specs.GraphStoredDates.{HasDates, times_of, dates_of}
+use Rattle.graph_format.specs.OptionalChunks.{HasDates}
+use Rattle.graph_chunks.specs.GraphStoredDates.{times_of, dates_of}
 use Rattle.graph_writer.specs.NewCommits.{HoldIds}
 use Rattle.graph_writer.specs.WriteRefusal.{kind_to_write}
 use Rattle.graph_writer.specs.declared.commit.NewCommit.{NewCommit}

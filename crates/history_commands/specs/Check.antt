@@ -11,7 +11,8 @@ use Rattle.gix_commitgraph.specs.Headline.{Stats}
 use Rattle.gix_commitgraph.specs.Sound.{Sound}
 use Rattle.gix_commitgraph.specs.declared.verify.Outcome.{Outcome}
 use Rattle.graph_ancestors.specs.RefusedGraph.{MayRefuseGraph}
-use Rattle.graph_chunks.specs.GraphStoredDates.{HasDates, times_of, dates_of}
+use Rattle.graph_format.specs.OptionalChunks.{HasDates}
+use Rattle.graph_chunks.specs.GraphStoredDates.{times_of, dates_of}
 use Rattle.graph_chunks.specs.GraphDates.{graph_dates_refusal, FollowAllParents, MayRefuseGraphDates}
 use Rattle.graph_chunks.specs.GraphFilters.{settings_of, computed_in, graph_filters_refusal, MayRefuseGraphFilters}
 use Rattle.graph_chunks.specs.declared.dates.DatesError.{DatesError}

@@ -3,7 +3,7 @@
 use Rattle.std.specs.Prelude.{◌≡◌, ◌≢◌, ◌<◌, ◌^◌, ◌-◌, ℕ, List, Option, Some, None, All, length, slice_get}
 use Rattle.std.specs.List.{sum_by}
 use Rattle.graph_chunks.specs.GraphFilters.{graph_filters, graph_filters_refusal, filter_in}
-use Rattle.graph_chunks.specs.StoredFilters.{index_in, data_in}
+use Rattle.graph_format.specs.OptionalChunks.{index_in, data_in}
 use Rattle.graph_format.specs.Layer.{Layer}
 use Rattle.gix_commitgraph.specs.Graph.{graph_ids, total}
 use Rattle.graph_writer.specs.NewFilters.{filter_numbers, filter_numbers_in, filter_count, new_filter}

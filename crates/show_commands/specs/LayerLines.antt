@@ -6,7 +6,7 @@ use Rattle.hex.specs.Hex.{encode_lower}
 use Rattle.graph_format.specs.Format.{chunk_of}
 use Rattle.graph_format.specs.Integers.{word_in}
 use Rattle.graph_format.specs.Layer.{Layer, bytes_of}
-use Rattle.graph_chunks.specs.StoredFilters.{index_in, data_in}
+use Rattle.graph_format.specs.OptionalChunks.{index_in, data_in}
 use Rattle.graph_commands.specs.Listing.{kind_text}
 use Rattle.graph_commands.specs.Text.{◌⧺◌, newline}
 use Rattle.graph_encoder.specs.declared.filters.FilterNumbers.{FilterNumbers}

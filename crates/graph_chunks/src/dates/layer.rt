@@ -4,8 +4,9 @@
 ghost use Rattle.std.specs.Prelude.{◌≡◌, ◌+◌, ◌*◌, ◌%◌, ◌<◌, ◌≤◌, ◌^◌, ◌++◌, All, length, Some};
 ghost use Rattle.std.specs.Prelude.{None, IfOk, IfErr, IfSome, ℕ, List};
 ghost use Rattle.graph_format.specs.Reports.{Reports};
-ghost use Rattle.graph_chunks.specs.StoredDates.{offset_of, date_of, date_fault, dates_refusal};
-ghost use Rattle.graph_chunks.specs.StoredDates.{stored_dates, MayRefuseLayerDates, NamesOneOf};
+ghost use Rattle.graph_format.specs.OptionalChunks.{offset_of, date_of, stored_dates};
+ghost use Rattle.graph_chunks.specs.StoredDates.{date_fault, dates_refusal};
+ghost use Rattle.graph_chunks.specs.StoredDates.{MayRefuseLayerDates, NamesOneOf};
 
 use graph_format::file::Position;
 use graph_format::integers::{long_at, word_at};

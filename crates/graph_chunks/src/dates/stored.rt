@@ -5,8 +5,8 @@ ghost use Rattle.std.specs.Bool.{OnTrue, OnFalse};
 ghost use Rattle.std.specs.Prelude.{IfOk, IfErr, IfSome};
 ghost use Rattle.gix_chunk_core.specs.FirstFault.{first_below};
 ghost use Rattle.graph_chunks.specs.StoredDates.{NamesOneOf};
-ghost use Rattle.graph_chunks.specs.GraphStoredDates.{HasDates, dates_in, dates_of, layer_refusal};
-ghost use Rattle.graph_chunks.specs.GraphStoredDates.{offsets_in, overflow_in};
+ghost use Rattle.graph_format.specs.OptionalChunks.{HasDates, dates_in, offsets_in, overflow_in};
+ghost use Rattle.graph_chunks.specs.GraphStoredDates.{dates_of, layer_refusal};
 ghost use Rattle.graph_chunks.specs.GraphDates.{in_graph, reading_fault, AreReadable, MayNotRead};
 
 use crate::dates::DatesError;
@@ -51,7 +51,7 @@ fn overflow_of(file: &File) -> &[u8]
 }
 
 /// Puts the dates of a layer after those of the layers below it.
-#[tactic(auto, unfolding(crate::specs::GraphStoredDates::dates_in, crate::specs::GraphStoredDates::layer_refusal))]
+#[tactic(auto, unfolding(graph_format::specs::OptionalChunks::dates_in, crate::specs::GraphStoredDates::layer_refusal))]
 fn read_layer(dates: &mut Vec<u64>, file: &File) -> Result<(), LayerDatesError>
     ensures dates { IfOk result (λ _. dates.new.items ≡ dates.old.items ++ dates_in file.now) }
     ensures small { IfOk result (λ _. All (λ date. date < 2 ^ 63) dates.old.items

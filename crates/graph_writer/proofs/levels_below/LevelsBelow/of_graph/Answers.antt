@@ -4,7 +4,8 @@ use Rattle.graph_walks.specs.Dates.{AreRight}
 use Rattle.graph_format.specs.Layer.{Layer}
 use Rattle.graph_format.specs.StoredHistory.{history_of}
 use Rattle.graph_chunks.specs.GraphDates.{graph_dates_refusal}
-use Rattle.graph_chunks.specs.GraphStoredDates.{HasDates, times_of, dates_of}
+use Rattle.graph_format.specs.OptionalChunks.{HasDates}
+use Rattle.graph_chunks.specs.GraphStoredDates.{times_of, dates_of}
 use Rattle.graph_writer.proofs.FitSteps.{graph-levels}
 use Rattle.graph_writer.proofs.levels_below.LevelsBelow.of_graph.Goals as goal
 
