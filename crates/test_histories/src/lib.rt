@@ -25,8 +25,6 @@ mod large;
 #[cfg(test)]
 mod merge_bases;
 #[cfg(test)]
-mod responding;
-#[cfg(test)]
 mod unchecked;
 #[cfg(test)]
 mod unchecked_bases;

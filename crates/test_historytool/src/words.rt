@@ -1,14 +1,31 @@
-//! What `historytool` answers to the words of a command line.
+//! What `historytool` answers to the words of a command line. Where an allocation fails, the
+//! process aborts.
 
-use crate::answers::{CS, ONES, STEP};
-use crate::fixtures::graphs;
 use graph_commands::line::WriteFailed;
 use graph_commands::program::{Complaints, respond};
-use graph_vectors::Sink;
+use graph_folder::folder::Memory;
+use graph_vectors::{Row, Sink, file_of_rows};
 use history_program::command::{Command, Texts};
 use std::alloc::Global;
 use std::io;
 use std::process::Abort;
+
+/// A file of two ways from the fourth commit to the first, one of them of a single step.
+const FILE: &[Row<'static>] = &[
+    (0x11, &[], 1),
+    (0x22, &[0], 2),
+    (0x33, &[1], 3),
+    (0xcc, &[2, 0], 4),
+    (0xdd, &[], 1),
+];
+
+const ONES: &str = "1111111111111111111111111111111111111111";
+
+const CS: &str = "cccccccccccccccccccccccccccccccccccccccc";
+
+/// The shortest walk from the fourth commit to the first, which is one step.
+const STEP: &str = "cccccccccccccccccccccccccccccccccccccccc\n\
+    1111111111111111111111111111111111111111\n";
 
 const ONES_LINE: &str = "1111111111111111111111111111111111111111\n";
 
@@ -108,6 +125,15 @@ const ROWS: &[(&[&str], u8, &str, &str)] = &[
     (&["objects", "file", "00", "1"], 2, "", "usage\n"),
 ];
 
+/// A folder with the file `file`.
+fn with_file(rt: &impl Abort, alloc: Global) -> Memory {
+    let mut memory = Memory::new(alloc);
+    let path = String::from_str(alloc, "file").expect(rt, "memory");
+    let bytes = file_of_rows(alloc, &[], FILE).expect(rt, "a file");
+    memory.put_file(path, bytes).expect(rt, "memory");
+    memory
+}
+
 /// The answer to these words.
 fn answer(
     rt: &impl Abort,
@@ -116,7 +142,7 @@ fn answer(
     output: &mut Sink,
     errors: &mut Sink,
 ) -> Result<u8, WriteFailed> {
-    let mut folder = graphs(rt, alloc);
+    let mut folder = with_file(rt, alloc);
     let mut line = Vec::new(alloc);
     for word in ["historytool"].iter().chain(words.iter()) {
         let word = String::from_str(alloc, word).expect(rt, "memory");
