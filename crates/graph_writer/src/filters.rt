@@ -62,6 +62,23 @@ impl NewFilters {
         }
     }
 
+    /// No filters yet, with room for so many, which have so many bytes together.
+    fn with_room(
+        alloc: Global,
+        numbers: FilterNumbers,
+        filters: usize,
+        bytes: usize,
+    ) -> Result<NewFilters, AllocError>
+        ensures none { IfOk result (λ made. filter_count made ≡ 0) }
+        ensures empty { IfOk result (λ made. byte_count made ≡ 0) }
+        ensures numbers { IfOk result (λ made. filter_numbers made ≡ numbers) }
+    {
+        let mut made = NewFilters::new(alloc, numbers);
+        made.parts.ends.reserve(filters)?;
+        made.parts.bytes.reserve(bytes)?;
+        Ok(made)
+    }
+
     /// How many filters there are.
     pub fn len(&self) -> usize
         ensures { result ≡ filter_count self.now }
@@ -125,7 +142,8 @@ impl NewFilters {
         requires { IsMixed (filter_count self.now) order.now }
         ensures { IfOk result (AreFiltersInOrder order.now self.now) }
     {
-        let mut sorted = NewFilters::new(alloc, self.parts.numbers);
+        let bytes = self.parts.bytes.len();
+        let mut sorted = NewFilters::with_room(alloc, self.parts.numbers, order.len(), bytes)?;
         for number in order {
             sorted.push(self.of(*number))?;
         }

@@ -1,7 +1,7 @@
 """Checks `write`: files and layers of real histories, bit by bit those that Git writes, and each refusal.
 
-What is written passes `check` and `git commit-graph verify`. Git 2.39 reads the time of some odd commits otherwise: these are
-held against their commits by `objects`.
+What is written passes `verify`, `distinct`, `check`, `objects` and `git commit-graph verify`. Git 2.39 reads the time of some odd
+commits otherwise: these are held against their commits by `objects` alone.
 """
 
 import hashlib
@@ -42,38 +42,39 @@ def knows_write(histories):
     return b"write [PATH]" in histories.run(stdin=subprocess.DEVNULL).err
 
 
-def check_kind(histories, results, new):
+def check_kind(programs, results, new):
     """The checks of one kind of hash; a new repository comes from a function of its name."""
+    histories = programs[1]
     if not knows_write(histories):
         print("left out, since the program has no such command: write")
         return
     for name, history in {**shapes.ALL, "criss-cross": CRISS_CROSS}.items():
         repository = new("written, " + name)
         repository.add(history)
-        check_history(histories, results, repository, name)
+        check_history(programs, results, repository, name)
     for version in (2, 1):
         repository = new("written, a chain with dates of %d" % version)
         ids = repository.add(shapes.tangled(60, seed=3))
-        check_chain(histories, results, repository, "a chain", ids, ((20, version), (21, 2), (50, 2), (60, 2)))
+        check_chain(programs, results, repository, "a chain", ids, ((20, version), (21, 2), (50, 2), (60, 2)))
     check_odd(histories, results, new("written, odd commits"))
     check_refused(histories, results, new("written, refused"))
     check_below(histories, results, new("written, refused below"))
     check_cut(histories, results, new("written, cut"))
 
 
-def check_all(histories, results, new):
+def check_all(programs, results, new):
     """A long history of either kind of hash, in a file and in a chain."""
-    if not knows_write(histories):
+    if not knows_write(programs[1]):
         return
     for kind in ID_LENGTH:
         repository = new(kind, "written, a long history")
         ids = repository.add(long_history(kind), every=EVERY)
-        check_history(histories, results, repository, "a long history")
+        check_history(programs, results, repository, "a long history")
         layer = read_bytes(repository.graph_path())
         lists = {"GDA2", "GDO2", "EDGE"}.difference(Outline(layer, kind).chunks)
         results.check("%s, a long history, offsets past 31 bits and extra edges" % kind, "no %s" % lists if lists else None)
         os.remove(repository.graph_path())
-        check_chain(histories, results, repository, "a chain of a long history", ids, STEPS)
+        check_chain(programs, results, repository, "a chain of a long history", ids, STEPS)
 
 
 def long_history(seed):
@@ -88,8 +89,9 @@ def long_history(seed):
     return history
 
 
-def check_history(histories, results, repository, name):
+def check_history(programs, results, repository, name):
     """A file of all commits, in the orders of Git, of ids and of chance: it is Git's, and both find it right."""
+    histories = programs[1]
     title = "%s, %s, written" % (repository.object_format, name)
     newest = repository.git("rev-list", "--all").decode().split()
     if name == LATE:
@@ -103,7 +105,7 @@ def check_history(histories, results, repository, name):
     for order, ids in orders.items():
         results.check("%s, %s" % (title, order), is_file(by_git, histories.write(batch(repository, ids))))
     write_bytes(path, histories.write(batch(repository, newest)).out)
-    results.check(title + ", and found right", found_right(histories, repository, path))
+    results.check(title + ", and found right", found_right(programs, repository, path))
 
 
 def is_file(content, answer):
@@ -115,18 +117,22 @@ def is_file(content, answer):
     return "status %s, %d bytes and Git's %d, the first other one at %s: %r %r" % told
 
 
-def found_right(histories, repository, path):
-    """A complaint where `check` or Git does not find the graph at a path right."""
-    answer, verdict = histories.check(path), repository.git_verdict()
-    if answer.status == 0 and verdict.status == 0:
+def found_right(programs, repository, path):
+    """A complaint where one of our checks or Git does not find the graph at a path right, `objects` beside its commits."""
+    program, histories = programs
+    commits = batch(repository, histories.ids(path).out.decode().split())
+    answers = [program.verify(path), program.distinct(path), histories.check(path), histories.objects(path, commits)]
+    verdict = repository.git_verdict()
+    if not any(answer.status for answer in answers) and verdict.status == 0:
         return None
-    return "%r, and Git says %s" % (answer, verdict)
+    return "%r, and Git says %s" % (answers, verdict)
 
 
-def check_chain(histories, results, repository, name, ids, steps):
+def check_chain(programs, results, repository, name, ids, steps):
     """Each layer of a chain, on top of those below: it is the one that Git writes, also where the lowest has no dates. A step says
     how many of the commits there are then, and which version of dates the layer has that is written then.
     """
+    histories = programs[1]
     for count, version in steps:
         repository.write_graph("--split=no-merge", generation_version=version, tips=ids[:count])
     layers, start = [content for _, content in repository.chain()], 0
@@ -141,7 +147,7 @@ def check_chain(histories, results, repository, name, ids, steps):
             results.check("%s, layer %d, written" % (title, number), is_file(layer, histories.write(stream, *path)))
     lay_chain(repository, layers)
     other = None if len(layers) == len(steps) else "Git made %d layers" % len(layers)
-    results.check(title + ", written and found right", other or found_right(histories, repository, repository.info_path()))
+    results.check(title + ", written and found right", other or found_right(programs, repository, repository.info_path()))
 
 
 def check_odd(histories, results, repository):

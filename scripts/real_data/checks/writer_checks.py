@@ -1,5 +1,5 @@
 """Checks `git cgraph write`, installed, beside `git commit-graph write --reachable` in a copy of the same repository: the files are
-Git's, bit by bit, and Git finds them right and answers from them as before. Also two writers at once, and a folder without room.
+Git's, bit by bit, both find them right, and Git answers from them as before. Also two writers at once, and a folder without room.
 """
 
 import os
@@ -56,6 +56,9 @@ class Pair:
         verdict = self.installed.git(Way(ours), *graph, "verify")
         if verdict.status or verdict.err:
             return answer, "Git says %r" % (verdict,)
+        found = self.installed.ask(Way(ours), "verify", "--all-checks", "--objects")
+        if found.status or found.err:
+            return answer, "ours says %r" % (found,)
         return answer, self.other_answer()
 
     def other_answer(self):

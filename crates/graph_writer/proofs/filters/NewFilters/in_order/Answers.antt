@@ -4,9 +4,9 @@ use Rattle.graph_writer.proofs.filters.NewFilters.in_order.Goals as goal
 
 pub loop-number-init : goal.loop-number-init
 loop-number-init c = record {
-  counted = c.new-sorted.ensures.none;
-  numbers = c.new-sorted.ensures.numbers;
-  room = omega (arith, c.new-sorted.ensures.empty, sizes-mixed c.args.self.now c.args.order.now c.requires);
+  counted = c.in_ok-sorted.ensures.none;
+  numbers = c.in_ok-sorted.ensures.numbers;
+  room = omega (arith, c.in_ok-sorted.ensures.empty, sizes-mixed c.args.self.now c.args.order.now c.requires);
   each = λ p i lt at. absurd (omega (arith, lt));
 }
 
