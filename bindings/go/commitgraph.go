@@ -105,6 +105,9 @@ func OpenWithin(ctx context.Context, path string, distinctIDs bool, visits uint6
 
 // within makes a call that stops where it would have to visit more commits, or where the context is done.
 func within(ctx context.Context, visits uint64, call func(C.cg_limit) C.uint32_t) error {
+	if ctx.Err() != nil {
+		return ctx.Err()
+	}
 	limit := C.cg_limit{visits: C.uint64_t(visits)}
 	if ctx.Done() != nil {
 		if code := C.cg_flag_new(&limit.flag); code != C.CG_OK {

@@ -4,6 +4,7 @@ import (
 	"context"
 	"encoding/hex"
 	"errors"
+	"math"
 	"os"
 	"os/exec"
 	"path/filepath"
@@ -354,6 +355,44 @@ func TestLimits(t *testing.T) {
 	_, compared := graph.CompareWithin(done, 24, tip, root)
 	if opened != context.Canceled || asked != context.Canceled || compared != context.Canceled {
 		t.Error(opened, asked, compared)
+	}
+}
+
+// TestGoroutines has one graph answer four goroutines what it answers one, while a context ends beside them.
+func TestGoroutines(t *testing.T) {
+	r := made(t)
+	r.git("commit-graph", "write", "--reachable")
+	graph, err := Open(r.info, true)
+	if err != nil {
+		t.Fatal(err)
+	}
+	defer graph.Close()
+	answers := func() string {
+		said := []string{}
+		for one := uint32(0); one < graph.Len(); one++ {
+			parents, _ := graph.Parents(one)
+			said = append(said, r.names(graph, parents))
+			for other := uint32(0); other < graph.Len(); other++ {
+				leads, _ := graph.IsAncestor(one, other)
+				found, _ := graph.Compare(one, other)
+				said = append(said, strconv.FormatBool(leads), r.names(graph, found.Bases))
+			}
+		}
+		return strings.Join(said, "\n")
+	}
+	alone, told := answers(), make(chan string)
+	for number := 0; number < 4; number++ {
+		go func() { told <- answers() }()
+	}
+	ctx, end := context.WithCancel(context.Background())
+	go end()
+	for ctx.Err() == nil {
+		if _, err := graph.IsAncestorWithin(ctx, 0, graph.Len()-1, math.MaxUint64); err != nil && err != ctx.Err() {
+			t.Error(err)
+		}
+	}
+	for number := 0; number < 4; number++ {
+		r.same("beside others", <-told, alone)
 	}
 }
 
