@@ -33,7 +33,7 @@ const WRONG: &str = "refused verify 8 position 1 expected 2\n";
 
 const NAMED_WRONG: &str = "refused verify 4 layer 0 fault 2\n";
 
-const FOUND: &str = "position 3 generation 3 time 7\n";
+const FOURTH: &str = "position 3 generation 3 time 7\n";
 
 const ZS: &str = "zzzzzzzzzzzzzzzzzzzzzzzzzzzzzzzzzzzzzzzz";
 
@@ -45,9 +45,8 @@ const MIXED: &str = "ABABababABABababABABababABABababABABabab";
 /// where that is nothing, the usage is told to standard error.
 type Answered = (&'static [&'static str], u8, &'static str);
 
-const ANSWERS: &[Answered] = &[
-    (&["list"], 1, "refused file 1\n"),
-    // What `verify` counts, and what it refuses.
+/// What `verify` counts, and what it refuses.
+const CHECKED: &[Answered] = &[
     (&["verify", "diamond"], 0, OF_DIAMOND),
     (&["verify", "octopus"], 0, OF_OCTOPUS),
     (&["verify", "empty"], 0, "ok commits 0 longest 0\n"),
@@ -74,7 +73,11 @@ const ANSWERS: &[Answered] = &[
     (&["verify", "chained/commit-graphs"], 0, OF_REPEATED),
     (&["verify", "filed"], 0, OF_DIAMOND),
     (&["verify", "damaged"], 0, OF_REPEATED),
-    // Why nothing is opened.
+];
+
+/// Why nothing is opened.
+const UNOPENED: &[Answered] = &[
+    (&["list"], 1, "refused file 1\n"),
     (&["verify", "nothing"], 1, "refused open 1\n"),
     (&["verify", ""], 1, "refused open 1\n"),
     (&["verify", "bare"], 1, "refused open 2\n"),
@@ -93,8 +96,24 @@ const ANSWERS: &[Answered] = &[
         1,
         "refused open 5 layer 0 file 1\n",
     ),
-    // Where commits stand. In a chain the first layer that has an id decides.
-    (&["find", "diamond", FOURS], 0, FOUND),
+    // A text that is no id is refused before anything is opened.
+    (&["find", "diamond", ZS], 2, "refused id 2\n"),
+    (&["find", "nothing", ""], 2, "refused id 1\n"),
+    (&["ancestor", "nothing", ONES, "zz"], 2, "refused id 1\n"),
+    (&["ancestor", "diamond", ZS, ""], 2, "refused id 2\n"),
+    // Other words are no command.
+    (&[], 2, ""),
+    (&["verify"], 2, ""),
+    (&["list", "diamond"], 2, ""),
+    (&["find", "diamond"], 2, ""),
+    (&["distinct", "diamond", ONES], 2, ""),
+    (&["ancestor", "diamond", ONES], 2, ""),
+    (&["check", "diamond"], 2, ""),
+];
+
+/// Where commits stand. In a chain the first layer that has an id decides.
+const FOUND: &[Answered] = &[
+    (&["find", "diamond", FOURS], 0, FOURTH),
     (&["find", "diamond", FIVES], 1, "none\n"),
     (&["find", "diamond", LONG], 1, "none\n"),
     (
@@ -107,6 +126,7 @@ const ANSWERS: &[Answered] = &[
         0,
         "position 0 generation 9 time 7\n",
     ),
+    (&["find", "filed", FOURS], 0, FOURTH),
     (
         &["find", "repeated", ONES],
         0,
@@ -133,13 +153,10 @@ const ANSWERS: &[Answered] = &[
         0,
         "position 5 generation 4 time 7\n",
     ),
-    (&["find", "filed", FOURS], 0, FOUND),
-    // A text that is no id is refused before anything is opened.
-    (&["find", "diamond", ZS], 2, "refused id 2\n"),
-    (&["find", "nothing", ""], 2, "refused id 1\n"),
-    (&["ancestor", "nothing", ONES, "zz"], 2, "refused id 1\n"),
-    (&["ancestor", "diamond", ZS, ""], 2, "refused id 2\n"),
-    // The only shortest walks, with how many commits are visited.
+];
+
+/// The only shortest walks, with how many commits are visited.
+const WALKS: &[Answered] = &[
     (
         &["ancestor", "diamond", THREES, ONES],
         0,
@@ -160,15 +177,29 @@ const ANSWERS: &[Answered] = &[
     (&["ancestor", "wrong", FIVES, ONES], 1, WRONG),
     (&["ancestor", "diamond", FIVES, SIXES], 1, "unknown 1\n"),
     (&["ancestor", "diamond", ONES, FIVES], 1, "unknown 2\n"),
-    // Other words are no command.
-    (&[], 2, ""),
-    (&["verify"], 2, ""),
-    (&["list", "diamond"], 2, ""),
-    (&["find", "diamond"], 2, ""),
-    (&["distinct", "diamond", ONES], 2, ""),
-    (&["ancestor", "diamond", ONES], 2, ""),
-    (&["check", "diamond"], 2, ""),
 ];
+
+fn checked() -> &'static [Answered] {
+    CHECKED
+}
+
+fn unopened() -> &'static [Answered] {
+    UNOPENED
+}
+
+fn found() -> &'static [Answered] {
+    FOUND
+}
+
+fn walks() -> &'static [Answered] {
+    WALKS
+}
+
+/// The tables of all answers. A proof takes the longer the more texts a function names, by their
+/// number times their length in all: so each table has a function of its own.
+fn tables() -> [&'static [Answered]; 4] {
+    [checked(), unopened(), found(), walks()]
+}
 
 /// Asserts what is answered to words.
 fn compare_answers(rt: &impl Abort, alloc: Global, rows: &[Answered]) {
@@ -180,7 +211,9 @@ fn compare_answers(rt: &impl Abort, alloc: Global, rows: &[Answered]) {
 
 #[test]
 fn answers_what_the_words_ask_for(rt: HostRuntime) {
-    compare_answers(&rt, rt.alloc(), ANSWERS);
+    for rows in tables() {
+        compare_answers(&rt, rt.alloc(), rows);
+    }
 }
 
 /// Asserts that a failed write is told to standard error, whichever write of an answer it is, and
@@ -223,7 +256,9 @@ fn compare_all_writes(rt: &impl Abort, alloc: Global, rows: &[Answered]) {
 
 #[test]
 fn tells_of_each_failed_write_once(rt: HostRuntime) {
-    compare_all_writes(&rt, rt.alloc(), ANSWERS);
+    for rows in tables() {
+        compare_all_writes(&rt, rt.alloc(), rows);
+    }
 }
 
 /// Asserts that the first write of an answer is told where that to standard error fails too.

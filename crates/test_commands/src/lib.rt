@@ -13,6 +13,8 @@ mod fixtures;
 #[cfg(test)]
 mod lines;
 #[cfg(test)]
+mod listing;
+#[cfg(test)]
 mod reads;
 #[cfg(test)]
 mod watched;

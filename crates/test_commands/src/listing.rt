@@ -1,14 +1,36 @@
-use crate::fixtures::{built, compare_listing, list};
+//! What `graphtool list` writes of files that are built for it, and readers and writers that fail.
+
+use crate::fixtures::built;
 use gix_hash_core::{Kind, ObjectId};
-use graph_commands::run::WriteFailed;
+use graph_commands::run::{WriteFailed, run_list};
 use graph_vectors::changed::{Change, changed_file};
 use graph_vectors::refused::{ENTRIES, THREE};
 use graph_vectors::{
     END, Entry, LayerPlan, PlanCommit, Row, Sink, Source, file_of_parts, file_of_plan,
-    file_of_rows, file_of_zeros, words,
+    file_of_zeros, words,
 };
 use std::alloc::Global;
+use std::io::Read;
 use std::process::Abort;
+
+/// Runs the command. Its contract is long, and here it ends: this function has none, so the proof
+/// of a test does not go over it once more.
+fn list<R: Read>(alloc: Global, input: &mut R, out: &mut Sink) -> Result<u8, WriteFailed> {
+    run_list(alloc, input, out)
+}
+
+/// Compares the status of the command, and what it writes of an input.
+fn compare_listing<R: Read>(
+    rt: &impl Abort,
+    alloc: Global,
+    input: &mut R,
+    (status, want): (u8, &str),
+) {
+    let mut out = Sink::new(alloc, usize::MAX, None);
+    let answer = list(alloc, input, &mut out);
+    assert!(rt; answer == Ok(status));
+    assert!(rt; out.text() == want);
+}
 
 /// One commit, without parents.
 const ONE: &[Row<'static>] = &[(0x11, &[], 1)];
@@ -194,7 +216,7 @@ fn lists_layers(rt: HostRuntime) {
         ROOT_ON_A_BASE,
     );
     let bases = [ObjectId::from([0xab; 20]), ObjectId::from([0xcd; 20])];
-    let on_two_bases = file_of_rows(alloc, &bases, &[(0x11, &[5], 1)]).expect(&rt, "a file");
+    let on_two_bases = built(&rt, alloc, &bases, &[(0x11, &[5], 1)]);
     compare(&rt, alloc, &on_two_bases, 1208, ON_TWO_BASES);
     compare_listing(&rt, alloc, &mut b"".as_slice(), (1, "refused file 1\n"));
 }
@@ -212,7 +234,7 @@ fn compare_reads(rt: &impl Abort, alloc: Global, bytes: &[u8], reads: usize) {
 
 #[test]
 fn reports_each_read_that_fails(rt: HostRuntime) {
-    compare_reads(&rt, rt.alloc(), &built(&rt, rt.alloc(), ONE), 13);
+    compare_reads(&rt, rt.alloc(), &built(&rt, rt.alloc(), &[], ONE), 13);
 }
 
 /// Lists bytes that are given so many a read to a writer that takes as many a write, and whose
@@ -243,7 +265,7 @@ fn compare_writes(rt: &impl Abort, alloc: Global, bytes: &[u8], most: usize, sta
 
 #[test]
 fn reports_each_write_that_fails(rt: HostRuntime) {
-    let bytes = built(&rt, rt.alloc(), ONE);
+    let bytes = built(&rt, rt.alloc(), &[], ONE);
     let out = compare_writes(&rt, rt.alloc(), &bytes, 1, 0);
     assert!(rt; out.text() == ONE_LISTING);
     let refused = compare_writes(&rt, rt.alloc(), &[0; 1099], 1, 1);
@@ -255,7 +277,7 @@ fn reports_each_write_that_fails(rt: HostRuntime) {
 #[test]
 fn lists_in_blocks(rt: HostRuntime) {
     let parents = vec![in rt.alloc(); 0; 40_002].expect(&rt, "memory");
-    let bytes = built(&rt, rt.alloc(), &[(0x11, &parents, 1)]);
+    let bytes = built(&rt, rt.alloc(), &[], &[(0x11, &parents, 1)]);
     let out = compare_writes(&rt, rt.alloc(), &bytes, usize::MAX, 0);
     assert!(rt; out.writes == 2 && out.bytes.len() == 29 + 88 + 80_003 + 1);
     assert!(rt; out.bytes.ends_with(b",0,0\n"));
