@@ -37,6 +37,9 @@ ITEMS = {"calls": CALLS, "any": FEW, "newest": PAIRS["newest"]}
 """How many items the figures have that are not of each commit."""
 OURS = {"blocks": "iterate", "any-many": "any-yes", "newest-many": "newest-yes"}
 """The figure of our program that another is compared with, where it has another name."""
+ALIGNED = "-mbranches-within-32B-boundaries"
+"""How both programs are assembled. Some processors take a jump across 32 bytes slowly, so that where a loop lies by chance would
+decide on what takes a nanosecond. The library is the same."""
 OPENING = 45
 """Opening may take so many nanoseconds a commit more than ours, as it copies the bytes."""
 BOUNDS = {"iterate": "2.5", "first": "1.5", "blocks": "1.3", "calls": "=3", "open": "+%d" % OPENING, "commit_at": ""}
@@ -106,7 +109,7 @@ def c_program(folder):
     """The path of the program in C, built."""
     program = os.path.join(folder, "library_c")
     library, heap = archives()
-    flags = ["-std=c11", "-D_GNU_SOURCE", "-O2", "-I" + os.path.join(common.TOP, "bindings", "c")]
+    flags = ["-std=c11", "-D_GNU_SOURCE", "-O2", "-Wa," + ALIGNED, "-I" + os.path.join(common.TOP, "bindings", "c")]
     linked = [os.path.join(library, "libcommitgraph_c.a"), os.path.join(heap, "liblibc_c.a")]
     subprocess.check_call(["cc", *flags, os.path.join(SOURCES, "measure.c"), *linked, "-o", program])
     return program
@@ -121,7 +124,8 @@ def rust_program(folder):
     linked = ["-l", "static=commitgraph_c", "-l", "static=libc_c"]
     subprocess.check_call([*rustc, "--crate-type", "rlib", "--crate-name", "commitgraph", *linked, source, "-o", crate])
     measured = os.path.join(SOURCES, "measure.rs")
-    subprocess.check_call([*rustc, "--extern", "commitgraph=" + crate, measured, "-o", program])
+    aligned = ["-C", "llvm-args=-x86-branches-within-32B-boundaries"]
+    subprocess.check_call([*rustc, *aligned, "--extern", "commitgraph=" + crate, measured, "-o", program])
     return program
 
 

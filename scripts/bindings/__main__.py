@@ -607,14 +607,31 @@ def installed(compilers, scratch, graphs):
         done = run(program, graphs["sha1"][0], ids[-1]) if done.returncode == 0 else done
         expect("installed, musl", done.returncode == 0 and "\nparent " in done.stdout, done)
     if present("pkg-config", "Go") and present("go", "Go"):
-        # cgo takes no path with a space in it.
-        package, found = shutil.copytree(TOP / "bindings/go", scratch / "go"), scratch / "found"
-        found.symlink_to(prefix)
-        for_go = {"PKG_CONFIG_PATH": str(found / "lib/pkgconfig"), "GOCACHE": str(scratch / "go-built"), "GOFLAGS": "-mod=mod"}
-        done = run("go", "test", "-count=1", cwd=package, env={**at, **for_go})
-        expect("Go: tests", done.returncode == 0 and done.stdout.startswith("PASS\nok"), done)
+        go(prefix, at, scratch)
     if compilers and present("cmake", "the installed library by CMake"):
         by_cmake(compilers[0], prefix, scratch, graphs["sha1"][0], ids[-1])
+
+
+def go(prefix, environment, scratch):
+    """The package for Go over the installed library: what `go vet` and `gofmt` say of it, and its tests."""
+    # cgo takes no path with a space in it.
+    package, found = shutil.copytree(TOP / "bindings/go", scratch / "go"), scratch / "found"
+    found.symlink_to(prefix)
+    own = {"PKG_CONFIG_PATH": str(found / "lib/pkgconfig"), "GOCACHE": str(scratch / "go-built"), "GOFLAGS": "-mod=mod"}
+    at = {**environment, **own}
+    done = run("go", "vet", "./...", cwd=package, env=at)
+    expect("Go: vet", done.returncode == 0 and not done.stdout, done)
+    if present("gofmt", "Go: the layout"):
+        done = run("gofmt", "-l", ".", cwd=package)
+        expect("Go: the layout", done.returncode == 0 and not done.stdout, done)
+    made = re.findall(r"^func (Test\w+)", (package / "commitgraph_test.go").read_text(), re.MULTILINE)
+    for flags in ([], ["-race"]):
+        if flags and run("go", "test", *flags, "-c", "-o", os.devnull, cwd=package, env=at).returncode:
+            print("Go: the tests with its detector of races: left out, since go does not link it")
+            continue
+        done = run("go", "test", *flags, "-v", "-count=1", cwd=package, env=at)
+        ran = re.findall(r"^--- PASS: (\w+)", done.stdout, re.MULTILINE)
+        expect(f"Go: tests {' '.join(flags)}", done.returncode == 0 and ran == made, done)
 
 
 CMAKE = """cmake_minimum_required(VERSION 3.10)

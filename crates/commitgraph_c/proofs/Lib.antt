@@ -10,6 +10,7 @@ mod FirstRoom
 mod HandedIn
 mod IdRoom
 mod ManyRoom
+mod OneLayer
 mod ParentRoom
 mod PieceRoom
 mod Positions

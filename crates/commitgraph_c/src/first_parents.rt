@@ -10,9 +10,9 @@ ghost use Rattle.commitgraph_c.specs.Codes.{closed_graph, more_parents, no_such_
 ghost use Rattle.commitgraph_c.specs.FirstParents.{TellsFirstParents};
 
 use crate::codes::{CLOSED_GRAPH, MORE_PARENTS, NO_SUCH_POSITION, parent_code};
+use crate::commit_at::commit_at;
 use crate::handle::CgGraph;
 use crate::parents::{CgParents, write_at};
-use gix_commitgraph::Position;
 use gix_commitgraph::file::Commit;
 use graph_format::parents::ParentEdge;
 use graph_layer::fields::parent_edges;
@@ -35,13 +35,13 @@ pub fn cg_first_parents(graph: CgGraph, pos: u32, out: &mut [u32]) -> CgParents
             count: 0,
         };
     };
-    if pos >= graph.num_commits() {
+    let Some(commit) = commit_at(graph, pos) else {
         return CgParents {
             code: NO_SUCH_POSITION,
             count: 0,
         };
-    }
-    write_first(graph.commit_at(Position(pos)), out)
+    };
+    write_first(commit, out)
 }
 
 /// Writes the positions of a commit's first parents, as many as there is room for.

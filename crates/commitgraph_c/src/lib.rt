@@ -11,6 +11,7 @@ mod blocks;
 mod chain;
 mod check;
 mod codes;
+mod commit_at;
 mod compare;
 mod dates;
 mod first_parents;
