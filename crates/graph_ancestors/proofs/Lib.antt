@@ -1,3 +1,4 @@
+pub mod NumberLemmas
 pub mod MarkLemmas
 pub mod QueueLemmas
 pub mod ListLemmas

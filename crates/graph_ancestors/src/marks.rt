@@ -3,6 +3,7 @@
 ghost use Rattle.std.specs.Prelude.{◌≡◌, ◌↔◌, ◌<◌, ◌≤◌, ◌++◌, ◌∷◌, [], length, IsTrue, OnOk};
 ghost use Rattle.graph_ancestors.specs.Marks.{IsMarked, number_in, mark_in};
 
+use crate::numbers::Numbers;
 use std::alloc::{AllocError, Global};
 use std::marker::Model;
 
@@ -17,8 +18,8 @@ pub(crate) struct Marked {
 /// in the order in which they were, each with its mark.
 #[derive(Drop)]
 pub(crate) struct Marks {
-    /// A bit for each number, 64 in a word, which is set where the number is marked.
-    bits: Vec<u64>,
+    /// The numbers that are marked.
+    numbers: Numbers,
     marked: Vec<Marked>,
 }
 
@@ -27,18 +28,19 @@ impl Model for Marks {
 
     ghost Value = { Marking };
 
-    ghost view = { λ a. marking_of a.bits.items a.marked.items };
+    ghost view = { λ a. marking_of a.numbers a.marked.items };
 
-    ghost invariant = { λ a. AreMarks a.bits.items a.marked.items };
+    ghost invariant = { λ a. AreMarks a.numbers a.marked.items };
 }
 
 impl Marks {
-    /// No marks, and no room for any. Nothing is allocated.
-    pub(crate) fn new(alloc: Global) -> Marks
+    /// No marks, and no room for any. Room takes a bit for each number, or if few are expected to
+    /// be marked, memory for those alone. Nothing is allocated.
+    pub(crate) fn new(alloc: Global, is_few: bool) -> Marks
         ensures { result ≡ record { bound = 0; marked = [] } }
     {
         Marks {
-            bits: Vec::new(alloc),
+            numbers: Numbers::new(alloc, is_few),
             marked: Vec::new(alloc),
         }
     }
@@ -48,11 +50,7 @@ impl Marks {
         ensures bound { OnOk result (bound ≤ self.new.bound) }
         ensures marked { self.new.marked ≡ self.old.marked }
     {
-        let words = bound / 64 + 1;
-        if self.bits.len() < words {
-            self.bits.resize(words, 0)?;
-        }
-        Ok(())
+        self.numbers.grow_to(bound)
     }
 
     /// Whether a number has a mark.
@@ -60,8 +58,7 @@ impl Marks {
         requires { number < self.now.bound }
         ensures { IsTrue result ↔ IsMarked self.now.marked number }
     {
-        let word = self.bits[number as usize / 64];
-        (word >> (number % 64)) & 1 == 1
+        self.numbers.has(number)
     }
 
     /// Marks a number that has no mark.
@@ -73,8 +70,13 @@ impl Marks {
             ≡ self.old.marked ++ record { number = number; mark = mark } ∷ []) }
     {
         self.marked.push(Marked { number, mark })?;
-        self.bits[number as usize / 64] |= 1 << (number % 64);
-        Ok(())
+        match self.numbers.put(number) {
+            Ok(()) => Ok(()),
+            Err(error) => {
+                self.marked.pop();
+                Err(error)
+            }
+        }
     }
 
     /// How many numbers are marked.
@@ -106,7 +108,7 @@ impl Marks {
         ensures marked { self.new.marked ≡ [] }
     {
         while let Some(marked) = self.marked.pop() {
-            self.bits[marked.number as usize / 64] = 0;
+            self.numbers.take(marked.number);
         }
     }
 }

@@ -26,6 +26,7 @@ mod parents;
 mod passing;
 mod reload;
 mod shared;
+mod sheet;
 mod trails;
 mod within;
 

@@ -1,11 +1,12 @@
-use Rattle.std.proofs.Common.{◌≡◌, ◌*◌, length}
+use Rattle.std.proofs.Common.{◌≡◌, length}
+use Rattle.graph_ancestors.specs.Numbers.{bound_of}
 use Rattle.graph_ancestors.proofs.MarkLemmas.{AreLeft}
 use Rattle.graph_ancestors.proofs.marks.Marks.clear.Given as goal
 
 abbrev pub invariant-loop-marked : goal.invariant-loop-marked
 invariant-loop-marked l = record {
-  bound : 64 * length l.self-inside.bits.items ≡ l.fn.self.bound;
-  left : AreLeft l.self-inside.bits.items l.self-inside.marked.items;
+  bound : bound_of l.self-inside.numbers ≡ l.fn.self.bound;
+  left : AreLeft l.self-inside.numbers l.self-inside.marked.items;
 }
 
 abbrev pub decreases-loop-marked : goal.decreases-loop-marked

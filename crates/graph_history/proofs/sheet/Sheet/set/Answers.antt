@@ -1,0 +1,19 @@
+use Rattle.std.proofs.Common.{◌<◌, ◌∙◌, List, Some, length, ap, set, sym, subst}
+use Rattle.graph_history.specs.declared.paint.Coat.{Coat}
+use Rattle.graph_history.proofs.SheetLemmas.{sheet_updated}
+use Rattle.graph_history.proofs.sheet.Sheet.set.Goals as goal
+use Rattle.graph_history.proofs.sheet.Sheet.set.Goals.{in-Ok, in-Err}
+
+pub returns-then-self : goal.returns-then-self
+returns-then-self c =
+    let a = c.self.inside in
+    let p = c.args.commit in
+    let inside = subst (λ (l : List Coat). p < length l) (sym c.self.view_is) c.requires in
+    elim c.match-insert.branch [
+      | in-Ok w ↦
+          rw w.result-is
+          (sheet_updated a.is_few a.few c.insert.new.self a.count a.coats.items p (Some c.args.coat) c.if-self.true inside
+          w.in-Ok.ensures.updates
+          ∙ ap (λ (l : List Coat). set l p c.args.coat) c.self.view_is)
+      | in-Err w ↦ rw w.result-is tt
+    ]
