@@ -4,3 +4,5 @@ pub mod SearchLemmas
 pub mod IdLemmas
 pub mod PartLookupLemmas
 pub mod RightAnswerLemmas
+pub mod TrustedLemmas
+pub mod ParentLemmas

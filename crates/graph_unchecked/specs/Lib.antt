@@ -4,4 +4,6 @@ pub mod Unchecked
 pub mod RightAnswers
 pub mod PartLookups
 pub mod PartSearches
+pub mod NamedParents
+pub mod Trusted
 pub mod Unread

@@ -80,7 +80,7 @@ pub(crate) fn find_among<T: Folder>(
 }
 
 /// The positions of the ids after the first.
-fn find_others<T: Folder>(
+pub(crate) fn find_others<T: Folder>(
     alloc: Global,
     folder: &mut T,
     parts: &mut GraphParts,
@@ -106,7 +106,7 @@ fn find_others<T: Folder>(
 }
 
 /// The position of an id.
-fn find<T: Folder>(
+pub(crate) fn find<T: Folder>(
     alloc: Global,
     folder: &mut T,
     parts: &mut GraphParts,

@@ -118,7 +118,7 @@ pub fn compare<T: Folder>(
 }
 
 /// The answer, unless the folder has failed a read since it counted so many failures.
-fn unless_failed<T: Folder, A: Drop>(
+pub(crate) fn unless_failed<T: Folder, A: Drop>(
     folder: &T,
     failures: u64,
     answer: Result<A, Unread>,

@@ -1,0 +1,39 @@
+-- Parts of the files of a graph that is trusted, and what is read of its commits.
+use Rattle.std.specs.Prelude.{◌≡◌, ℕ, List, Option, Some, None, Vec}
+use Rattle.std.specs.Global.{Global}
+use Rattle.std.specs.Option.{ForSome}
+use Rattle.graph_folder.specs.Tree.{Tree}
+use Rattle.graph_walks.specs.History.{parents_at}
+use Rattle.graph_format.specs.Layer.{Layer}
+use Rattle.graph_format.specs.StoredHistory.{history_of}
+use Rattle.graph_format.specs.declared.Position.{Position}
+use Rattle.gix_commitgraph.specs.GraphLookup.{FoundIn}
+use Rattle.gix_commitgraph.specs.IdWalks.{ids_at}
+use Rattle.graph_parts.specs.OfTree.{AreOfTree}
+use Rattle.graph_parts.specs.Shown.{AreGraphParts, Shows}
+use Rattle.graph_parts.specs.Stored.{StoresAt}
+use Rattle.graph_parts.specs.declared.layer.StoredCommit.{StoredCommit}
+use Rattle.graph_parts.specs.declared.parts.GraphParts.{GraphParts}
+use Rattle.graph_unchecked.specs.Unchecked.{IsAnswerAt, IsFoundAt}
+use Rattle.graph_unchecked.specs.declared.trusted.TrustedGraph.{TrustedGraph}
+
+-- The parts are of the files of a graph: where the tree is known, of the one that is opened at the path.
+pub record IsOfPath (known : Option Tree) (path : List ℕ) (parts : GraphParts) : Type 0 where
+  pub right : AreGraphParts parts
+  pub of : AreOfTree known parts
+  pub opened : ForSome known (λ (tree : Tree). IsAnswerAt tree path (λ layers shown. Shows known shown layers) parts)
+
+-- the parts of the graph are such
+abbrev pub IsTrustedAt : Option Tree → List ℕ → TrustedGraph → Type 0
+IsTrustedAt known path graph = IsOfPath known path graph.parts
+
+-- what is found of the commit with an id: its position, and what is stored of it
+abbrev pub IsCommitFound : List ℕ → List Layer → Option (Position × StoredCommit) → Type 0
+IsCommitFound id layers (Some found) = IsFoundAt layers id found.0.0 × StoresAt layers found.0.0 found.1
+IsCommitFound id layers None = FoundIn layers id None
+
+-- the ids of its parents, first parent first
+abbrev pub AreParentsFound : List ℕ → List Layer → Option (Vec (List ℕ) Global) → Type 0
+AreParentsFound id layers (Some ids) =
+    (p : ℕ) × IsFoundAt layers id p × (ids.items ≡ ids_at layers (parents_at (history_of layers) p))
+AreParentsFound id layers None = FoundIn layers id None

@@ -1,0 +1,309 @@
+//! Searches over parts that are kept, as is their memory.
+
+ghost use Rattle.std.specs.Prelude.{◌≡◌, ◌<◌, ◌∷◌, All, List, IfOk};
+ghost use Rattle.std.specs.Option.{ForSome};
+ghost use Rattle.gix_hash_core.specs.Oid.{oid_bytes};
+ghost use Rattle.graph_format.specs.Layer.{Layer};
+ghost use Rattle.gix_commitgraph.specs.Graph.{IsGraph};
+ghost use Rattle.graph_ancestors.specs.WalkAnswer.{numbers_of};
+ghost use Rattle.graph_parts.specs.OfTree.{AreOfTree};
+ghost use Rattle.graph_parts.specs.Shown.{AreGraphParts, SeesMore, Shows, commits_of_parts};
+ghost use Rattle.graph_unchecked.specs.PartLookups.{AreAllWithin, AreBoth, AreBothWithin};
+ghost use Rattle.graph_unchecked.specs.PartLookups.{AreFirstAndOthers};
+ghost use Rattle.graph_unchecked.specs.PartSearches.{AreBasesUnchecked, IsStepsUnchecked};
+ghost use Rattle.graph_unchecked.specs.PartSource.{ReadsOn};
+ghost use Rattle.graph_unchecked.specs.Unchecked.{IsComparedUnchecked, IsFoundAmong};
+ghost use Rattle.graph_unchecked.specs.Unchecked.{IsFoundBetween, IsToldUnchecked};
+ghost use Rattle.graph_unchecked.specs.Unchecked.{IsWalkUnchecked};
+
+use crate::among::{Among, IdComparison};
+use crate::between::Between;
+use crate::ids::read_ids;
+use crate::lookup::{find, find_others};
+use crate::source::PartCommits;
+use crate::unread::Unread;
+use gix_commitgraph::Position;
+use gix_hash_core::{ObjectId, oid};
+use graph_ancestors::AnySearcher;
+use graph_folder::folder::Folder;
+use graph_history::{AnyComparer, Comparison};
+use graph_parts::parts::GraphParts;
+use std::alloc::Global;
+
+/// Whether the commit with the first id is an ancestor of the one with the second, or the same.
+pub(crate) fn told_between<T: Folder>(
+    searcher: &mut AnySearcher,
+    alloc: Global,
+    folder: &mut T,
+    parts: &mut GraphParts,
+    first: oid<'_>,
+    second: oid<'_>,
+) -> Result<Between<bool>, Unread>
+    requires parts { AreGraphParts parts.old }
+    requires of { AreOfTree (T.tree folder.old) parts.old }
+    ensures reads { ReadsOn (T.tree folder.old) parts.old parts.new }
+    ensures told { ForSome (T.tree folder.old) (λ _. (layers : List Layer)
+        → Shows (T.tree folder.old) parts.old layers → IsGraph layers
+        → IfOk result (IsFoundBetween IsToldUnchecked
+        (oid_bytes first.entry) (oid_bytes second.entry) layers)) }
+    ensures tree { T.tree folder.new ≡ T.tree folder.old }
+{
+    let found = both(alloc, folder, parts, first, second)?;
+    match found {
+        Between::FirstMissing => Ok(Between::FirstMissing),
+        Between::SecondMissing => Ok(Between::SecondMissing),
+        Between::Known((first, second)) => {
+            let told = leads(searcher, alloc, folder, parts, first, second)?;
+            Ok(Between::Known(told))
+        }
+    }
+}
+
+/// The ids on a walk along parents from the commit with the first id to the one with the second.
+pub(crate) fn walk_between_ids<T: Folder>(
+    searcher: &mut AnySearcher,
+    alloc: Global,
+    folder: &mut T,
+    parts: &mut GraphParts,
+    first: oid<'_>,
+    second: oid<'_>,
+) -> Result<Between<Option<Vec<ObjectId>>>, Unread>
+    requires parts { AreGraphParts parts.old }
+    requires of { AreOfTree (T.tree folder.old) parts.old }
+    ensures reads { ReadsOn (T.tree folder.old) parts.old parts.new }
+    ensures told { ForSome (T.tree folder.old) (λ _. (layers : List Layer)
+        → Shows (T.tree folder.old) parts.old layers → IsGraph layers
+        → IfOk result (IsFoundBetween IsWalkUnchecked
+        (oid_bytes first.entry) (oid_bytes second.entry) layers)) }
+    ensures tree { T.tree folder.new ≡ T.tree folder.old }
+{
+    let found = both(alloc, folder, parts, first, second)?;
+    match found {
+        Between::FirstMissing => Ok(Between::FirstMissing),
+        Between::SecondMissing => Ok(Between::SecondMissing),
+        Between::Known((first, second)) => {
+            let walk = walk_ids(searcher, alloc, folder, parts, first, second)?;
+            Ok(Between::Known(walk))
+        }
+    }
+}
+
+/// What the commit with the first id and those with the others have in common, and the ids of the
+/// merge bases.
+pub(crate) fn compared_among<T: Folder>(
+    comparer: &mut AnyComparer,
+    alloc: Global,
+    folder: &mut T,
+    parts: &mut GraphParts,
+    first: oid<'_>,
+    others: &[ObjectId],
+) -> Result<Among<IdComparison>, Unread>
+    requires parts { AreGraphParts parts.old }
+    requires of { AreOfTree (T.tree folder.old) parts.old }
+    ensures reads { ReadsOn (T.tree folder.old) parts.old parts.new }
+    ensures told { ForSome (T.tree folder.old) (λ _. (layers : List Layer)
+        → Shows (T.tree folder.old) parts.old layers → IsGraph layers
+        → IfOk result (IsFoundAmong IsComparedUnchecked
+        (oid_bytes first.entry ∷ others.now) layers)) }
+    ensures tree { T.tree folder.new ≡ T.tree folder.old }
+{
+    let found = all(alloc, folder, parts, first, others)?;
+    match found {
+        Among::Missing(number) => Ok(Among::Missing(number)),
+        Among::Known((first, others)) => {
+            let comparison = compared(comparer, alloc, folder, parts, first, &others)?;
+            Ok(Among::Known(comparison))
+        }
+    }
+}
+
+/// The positions of two ids.
+fn both<T: Folder>(
+    alloc: Global,
+    folder: &mut T,
+    parts: &mut GraphParts,
+    first: oid<'_>,
+    second: oid<'_>,
+) -> Result<Between<(Position, Position)>, Unread>
+    requires parts { AreGraphParts parts.old }
+    ensures parts { AreGraphParts parts.new }
+    ensures sees { SeesMore (T.tree folder.old) parts.old parts.new }
+    ensures within { IfOk result (AreBothWithin (commits_of_parts parts.new)) }
+    ensures found { IfOk result (λ found. (layers : List Layer)
+        → Shows (T.tree folder.old) parts.new layers
+        → IsFoundBetween AreBoth (oid_bytes first.entry) (oid_bytes second.entry) layers found) }
+    ensures tree { T.tree folder.new ≡ T.tree folder.old }
+{
+    let Some(first) = find(alloc, folder, parts, first)? else {
+        return Ok(Between::FirstMissing);
+    };
+    let Some(second) = find(alloc, folder, parts, second)? else {
+        return Ok(Between::SecondMissing);
+    };
+    Ok(Between::Known((first, second)))
+}
+
+/// The positions of an id and of some others.
+fn all<T: Folder>(
+    alloc: Global,
+    folder: &mut T,
+    parts: &mut GraphParts,
+    first: oid<'_>,
+    others: &[ObjectId],
+) -> Result<Among<(Position, Vec<Position>)>, Unread>
+    requires parts { AreGraphParts parts.old }
+    ensures parts { AreGraphParts parts.new }
+    ensures sees { SeesMore (T.tree folder.old) parts.old parts.new }
+    ensures within { IfOk result (AreAllWithin (commits_of_parts parts.new)) }
+    ensures found { IfOk result (λ found. (layers : List Layer)
+        → Shows (T.tree folder.old) parts.new layers
+        → IsFoundAmong AreFirstAndOthers (oid_bytes first.entry ∷ others.now) layers found) }
+    ensures tree { T.tree folder.new ≡ T.tree folder.old }
+{
+    let Some(first) = find(alloc, folder, parts, first)? else {
+        return Ok(Among::Missing(1));
+    };
+    let found = find_others(alloc, folder, parts, others)?;
+    match found {
+        Among::Missing(number) => Ok(Among::Missing(number)),
+        Among::Known(others) => Ok(Among::Known((first, others))),
+    }
+}
+
+/// Whether a walk along parents leads from the second commit to the first.
+fn leads<T: Folder>(
+    searcher: &mut AnySearcher,
+    alloc: Global,
+    folder: &mut T,
+    parts: &mut GraphParts,
+    first: Position,
+    second: Position,
+) -> Result<bool, Unread>
+    requires parts { AreGraphParts parts.old }
+    requires of { AreOfTree (T.tree folder.old) parts.old }
+    requires first { first.0 < commits_of_parts parts.old }
+    requires second { second.0 < commits_of_parts parts.old }
+    ensures reads { ReadsOn (T.tree folder.old) parts.old parts.new }
+    ensures told { ForSome (T.tree folder.old) (λ _. (layers : List Layer)
+        → Shows (T.tree folder.old) parts.old layers → IsGraph layers
+        → IfOk result (IsToldUnchecked layers first.0 second.0)) }
+    ensures tree { T.tree folder.new ≡ T.tree folder.old }
+{
+    let mut commits = PartCommits {
+        alloc,
+        folder,
+        parts,
+    };
+    searcher.is_ancestor(&mut commits, first, second)
+}
+
+/// The ids on a walk along parents from the first commit to the second.
+fn walk_ids<T: Folder>(
+    searcher: &mut AnySearcher,
+    alloc: Global,
+    folder: &mut T,
+    parts: &mut GraphParts,
+    first: Position,
+    second: Position,
+) -> Result<Option<Vec<ObjectId>>, Unread>
+    requires parts { AreGraphParts parts.old }
+    requires of { AreOfTree (T.tree folder.old) parts.old }
+    requires first { first.0 < commits_of_parts parts.old }
+    requires second { second.0 < commits_of_parts parts.old }
+    ensures reads { ReadsOn (T.tree folder.old) parts.old parts.new }
+    ensures walk { ForSome (T.tree folder.old) (λ _. (layers : List Layer)
+        → Shows (T.tree folder.old) parts.old layers → IsGraph layers
+        → IfOk result (IsWalkUnchecked layers first.0 second.0)) }
+    ensures tree { T.tree folder.new ≡ T.tree folder.old }
+{
+    let found = walk(searcher, alloc, folder, parts, first, second)?;
+    match found {
+        Some(walk) => {
+            let ids = read_ids(alloc, folder, parts, &walk)?;
+            Ok(Some(ids))
+        }
+        None => Ok(None),
+    }
+}
+
+/// The positions on a walk along parents from the first commit to the second.
+fn walk<T: Folder>(
+    searcher: &mut AnySearcher,
+    alloc: Global,
+    folder: &mut T,
+    parts: &mut GraphParts,
+    first: Position,
+    second: Position,
+) -> Result<Option<Vec<Position>>, Unread>
+    requires parts { AreGraphParts parts.old }
+    requires of { AreOfTree (T.tree folder.old) parts.old }
+    requires first { first.0 < commits_of_parts parts.old }
+    requires second { second.0 < commits_of_parts parts.old }
+    ensures reads { ReadsOn (T.tree folder.old) parts.old parts.new }
+    ensures walk { ForSome (T.tree folder.old) (λ _. (layers : List Layer)
+        → Shows (T.tree folder.old) parts.old layers → IsGraph layers
+        → IfOk result (IsStepsUnchecked layers first.0 second.0)) }
+    ensures tree { T.tree folder.new ≡ T.tree folder.old }
+{
+    let mut commits = PartCommits {
+        alloc,
+        folder,
+        parts,
+    };
+    let reached = searcher.ancestor_walk(&mut commits, first, second)?;
+    Ok(reached.walk)
+}
+
+/// What the first commit and the others have in common, and the ids of the merge bases.
+fn compared<T: Folder>(
+    comparer: &mut AnyComparer,
+    alloc: Global,
+    folder: &mut T,
+    parts: &mut GraphParts,
+    first: Position,
+    others: &[Position],
+) -> Result<IdComparison, Unread>
+    requires parts { AreGraphParts parts.old }
+    requires of { AreOfTree (T.tree folder.old) parts.old }
+    requires first { first.0 < commits_of_parts parts.old }
+    requires others { All (λ other. other.0 < commits_of_parts parts.old) others.now }
+    ensures reads { ReadsOn (T.tree folder.old) parts.old parts.new }
+    ensures compared { ForSome (T.tree folder.old) (λ _. (layers : List Layer)
+        → Shows (T.tree folder.old) parts.old layers → IsGraph layers
+        → IfOk result (IsComparedUnchecked layers first.0 (numbers_of others.now))) }
+    ensures tree { T.tree folder.new ≡ T.tree folder.old }
+{
+    let comparison = bases(comparer, alloc, folder, parts, first, others)?;
+    let base_ids = read_ids(alloc, folder, parts, &comparison.bases.positions)?;
+    Ok(IdComparison {
+        comparison,
+        base_ids,
+    })
+}
+
+/// What the first commit and the others have in common.
+fn bases<T: Folder>(
+    comparer: &mut AnyComparer,
+    alloc: Global,
+    folder: &mut T,
+    parts: &mut GraphParts,
+    first: Position,
+    others: &[Position],
+) -> Result<Comparison, Unread>
+    requires parts { AreGraphParts parts.old }
+    requires of { AreOfTree (T.tree folder.old) parts.old }
+    requires first { first.0 < commits_of_parts parts.old }
+    requires others { All (λ other. other.0 < commits_of_parts parts.old) others.now }
+    ensures reads { ReadsOn (T.tree folder.old) parts.old parts.new }
+    ensures compared { ForSome (T.tree folder.old) (λ _. (layers : List Layer)
+        → Shows (T.tree folder.old) parts.old layers → IsGraph layers
+        → IfOk result (AreBasesUnchecked layers first.0 (numbers_of others.now))) }
+    ensures tree { T.tree folder.new ≡ T.tree folder.old }
+{
+    let mut commits = PartCommits {
+        alloc,
+        folder,
+        parts,
+    };
+    comparer.compare(&mut commits, first, others)
+}

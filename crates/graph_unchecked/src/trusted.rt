@@ -1,0 +1,226 @@
+//! Many questions about one graph, of whose files parts are read and kept.
+
+ghost use Rattle.std.specs.Prelude.{◌≡◌, ◌⊎◌, ◌∷◌, ℕ, List, IfOk, Err, Option};
+ghost use Rattle.std.specs.Option.{ForSome};
+ghost use Rattle.gix_hash_core.specs.Oid.{oid_bytes};
+ghost use Rattle.gix_commitgraph.specs.Graph.{total};
+ghost use Rattle.graph_folder.specs.Tree.{Tree};
+ghost use Rattle.graph_unchecked.specs.Trusted.{AreParentsFound, IsCommitFound, IsTrustedAt};
+ghost use Rattle.graph_unchecked.specs.Unchecked.{IsAnswerAt, IsComparedUnchecked, IsFoundAmong};
+ghost use Rattle.graph_unchecked.specs.Unchecked.{IsFoundBetween, IsToldUnchecked};
+ghost use Rattle.graph_unchecked.specs.Unchecked.{IsWalkUnchecked};
+
+use crate::among::{Among, IdComparison};
+use crate::between::Between;
+use crate::kept::{compared_among, told_between, walk_between_ids};
+use crate::question::unless_failed;
+use crate::record::{found_commit, found_parents};
+use crate::unread::Unread;
+use gix_commitgraph::Position;
+use gix_hash_core::{ObjectId, oid};
+use graph_ancestors::AnySearcher;
+use graph_folder::folder::Folder;
+use graph_history::AnyComparer;
+use graph_parts::opening::open_parts;
+use graph_parts::parts::{GraphParts, StoredCommit};
+use std::alloc::Global;
+
+/// A graph that is trusted, for many questions: its files are read by parts, which are kept from
+/// one question to the next, as is the memory of the searches.
+///
+/// The graph is not checked. In one that is right the answers are exact. In any other a yes and a
+/// walk still name what is there, merge bases are common ancestors, and a no promises nothing.
+///
+/// The folder of each question is the one in which the graph was opened. Each question may answer
+/// `Device` where a read failed, `OutOfMemory`, and `NotByParts` where the graph is to be opened
+/// whole and checked. More can be asked after each of them.
+#[derive(Drop)]
+pub struct TrustedGraph {
+    alloc: Global,
+    parts: GraphParts,
+    searcher: AnySearcher,
+    comparer: AnyComparer,
+}
+
+impl TrustedGraph {
+    /// The graph of what stands at the path: of each layer the first bytes are read.
+    ///
+    /// # Errors
+    ///
+    /// `Device` where a read failed, `OutOfMemory`, and `NotByParts` where the graph is to be
+    /// opened whole and checked.
+    pub fn open<T: Folder>(
+        alloc: Global,
+        folder: &mut T,
+        path: &str,
+    ) -> Result<TrustedGraph, Unread>
+        ensures graph { IfOk result (IsTrustedAt (T.tree folder.old) path.now) }
+
+        // Where a device failed, nothing is opened.
+        ensures failures { (result ≡ Err Unread.Device)
+            ⊎ (T.failure_count folder.new ≡ T.failure_count folder.old) }
+        ensures tree { T.tree folder.new ≡ T.tree folder.old }
+    {
+        let failures = folder.failures();
+        let opened = open_unasked(alloc, folder, path);
+        unless_failed(folder, failures, opened)
+    }
+
+    /// How many commits the graph has.
+    pub fn num_commits(&self) -> u32
+        requires { (known : Option Tree) × (path : List ℕ) × IsTrustedAt known path self.now }
+        ensures { (known : Option Tree) (path : List ℕ) → IsTrustedAt known path self.now
+            → ForSome known (λ tree. IsAnswerAt tree path (λ layers count. count ≡ total layers)
+            result) }
+    {
+        self.parts.commits()
+    }
+
+    /// Whether the commit with the first id is an ancestor of the one with the second, or the same.
+    pub fn is_ancestor<T: Folder>(
+        &mut self,
+        folder: &mut T,
+        first: oid<'_>,
+        second: oid<'_>,
+    ) -> Result<Between<bool>, Unread>
+        requires { (path : List ℕ) × IsTrustedAt (T.tree folder.old) path self.old }
+        ensures graph { (path : List ℕ) → IsTrustedAt (T.tree folder.old) path self.old
+            → IsTrustedAt (T.tree folder.old) path self.new }
+        ensures answer { (path : List ℕ) → IsTrustedAt (T.tree folder.old) path self.old
+            → ForSome (T.tree folder.old) (λ tree. IfOk result
+            (IsAnswerAt tree path (IsFoundBetween IsToldUnchecked
+            (oid_bytes first.entry) (oid_bytes second.entry)))) }
+
+        // Where a device failed, nothing else is answered.
+        ensures failures { (result ≡ Err Unread.Device)
+            ⊎ (T.failure_count folder.new ≡ T.failure_count folder.old) }
+        ensures tree { T.tree folder.new ≡ T.tree folder.old }
+    {
+        let failures = folder.failures();
+        let (searcher, parts) = (&mut self.searcher, &mut self.parts);
+        let told = told_between(searcher, self.alloc, folder, parts, first, second);
+        unless_failed(folder, failures, told)
+    }
+
+    /// The ids on a shortest walk along parents from the commit with the first id to the one with
+    /// the second, both included; `None` where there is no walk. Which of several shortest walks is
+    /// answered is left open.
+    pub fn ancestor_walk<T: Folder>(
+        &mut self,
+        folder: &mut T,
+        first: oid<'_>,
+        second: oid<'_>,
+    ) -> Result<Between<Option<Vec<ObjectId>>>, Unread>
+        requires { (path : List ℕ) × IsTrustedAt (T.tree folder.old) path self.old }
+        ensures graph { (path : List ℕ) → IsTrustedAt (T.tree folder.old) path self.old
+            → IsTrustedAt (T.tree folder.old) path self.new }
+        ensures answer { (path : List ℕ) → IsTrustedAt (T.tree folder.old) path self.old
+            → ForSome (T.tree folder.old) (λ tree. IfOk result
+            (IsAnswerAt tree path (IsFoundBetween IsWalkUnchecked
+            (oid_bytes first.entry) (oid_bytes second.entry)))) }
+
+        // Where a device failed, nothing else is answered.
+        ensures failures { (result ≡ Err Unread.Device)
+            ⊎ (T.failure_count folder.new ≡ T.failure_count folder.old) }
+        ensures tree { T.tree folder.new ≡ T.tree folder.old }
+    {
+        let failures = folder.failures();
+        let (searcher, parts) = (&mut self.searcher, &mut self.parts);
+        let walk = walk_between_ids(searcher, self.alloc, folder, parts, first, second);
+        unless_failed(folder, failures, walk)
+    }
+
+    /// The merge bases of the commit with the first id and those with the others, the least
+    /// position first, and how far they have come apart.
+    pub fn compare<T: Folder>(
+        &mut self,
+        folder: &mut T,
+        first: oid<'_>,
+        others: &[ObjectId],
+    ) -> Result<Among<IdComparison>, Unread>
+        requires { (path : List ℕ) × IsTrustedAt (T.tree folder.old) path self.old }
+        ensures graph { (path : List ℕ) → IsTrustedAt (T.tree folder.old) path self.old
+            → IsTrustedAt (T.tree folder.old) path self.new }
+        ensures answer { (path : List ℕ) → IsTrustedAt (T.tree folder.old) path self.old
+            → ForSome (T.tree folder.old) (λ tree. IfOk result
+            (IsAnswerAt tree path (IsFoundAmong IsComparedUnchecked
+            (oid_bytes first.entry ∷ others.now)))) }
+
+        // Where a device failed, nothing else is answered.
+        ensures failures { (result ≡ Err Unread.Device)
+            ⊎ (T.failure_count folder.new ≡ T.failure_count folder.old) }
+        ensures tree { T.tree folder.new ≡ T.tree folder.old }
+    {
+        let failures = folder.failures();
+        let (comparer, parts) = (&mut self.comparer, &mut self.parts);
+        let compared = compared_among(comparer, self.alloc, folder, parts, first, others);
+        unless_failed(folder, failures, compared)
+    }
+
+    /// The position of the commit with an id, and what is stored of it, in any graph.
+    pub fn find<T: Folder>(
+        &mut self,
+        folder: &mut T,
+        id: oid<'_>,
+    ) -> Result<Option<(Position, StoredCommit)>, Unread>
+        requires { (path : List ℕ) × IsTrustedAt (T.tree folder.old) path self.old }
+        ensures graph { (path : List ℕ) → IsTrustedAt (T.tree folder.old) path self.old
+            → IsTrustedAt (T.tree folder.old) path self.new }
+        ensures answer { (path : List ℕ) → IsTrustedAt (T.tree folder.old) path self.old
+            → ForSome (T.tree folder.old) (λ tree. IfOk result
+            (IsAnswerAt tree path (IsCommitFound (oid_bytes id.entry)))) }
+
+        // Where a device failed, nothing else is answered.
+        ensures failures { (result ≡ Err Unread.Device)
+            ⊎ (T.failure_count folder.new ≡ T.failure_count folder.old) }
+        ensures tree { T.tree folder.new ≡ T.tree folder.old }
+    {
+        let failures = folder.failures();
+        let found = found_commit(self.alloc, folder, &mut self.parts, id);
+        unless_failed(folder, failures, found)
+    }
+
+    /// The ids of the parents of the commit with an id, first parent first, in any graph.
+    pub fn parents<T: Folder>(
+        &mut self,
+        folder: &mut T,
+        id: oid<'_>,
+    ) -> Result<Option<Vec<ObjectId>>, Unread>
+        requires { (path : List ℕ) × IsTrustedAt (T.tree folder.old) path self.old }
+        ensures graph { (path : List ℕ) → IsTrustedAt (T.tree folder.old) path self.old
+            → IsTrustedAt (T.tree folder.old) path self.new }
+        ensures answer { (path : List ℕ) → IsTrustedAt (T.tree folder.old) path self.old
+            → ForSome (T.tree folder.old) (λ tree. IfOk result
+            (IsAnswerAt tree path (AreParentsFound (oid_bytes id.entry)))) }
+
+        // Where a device failed, nothing else is answered.
+        ensures failures { (result ≡ Err Unread.Device)
+            ⊎ (T.failure_count folder.new ≡ T.failure_count folder.old) }
+        ensures tree { T.tree folder.new ≡ T.tree folder.old }
+    {
+        let failures = folder.failures();
+        let found = found_parents(self.alloc, folder, &mut self.parts, id);
+        unless_failed(folder, failures, found)
+    }
+}
+
+/// What `TrustedGraph::open` answers, where the folder's count of failures is not looked at.
+fn open_unasked<T: Folder>(
+    alloc: Global,
+    folder: &mut T,
+    path: &str,
+) -> Result<TrustedGraph, Unread>
+    ensures graph { IfOk result (IsTrustedAt (T.tree folder.old) path.now) }
+    ensures tree { T.tree folder.new ≡ T.tree folder.old }
+{
+    let opened = open_parts(alloc, folder, path)?;
+    match opened {
+        Some(parts) => Ok(TrustedGraph {
+            alloc,
+            parts,
+            searcher: AnySearcher::new(alloc),
+            comparer: AnyComparer::new(alloc),
+        }),
+        None => Err(Unread::NotByParts),
+    }
+}
