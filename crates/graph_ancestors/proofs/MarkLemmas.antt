@@ -6,7 +6,7 @@ use Rattle.std.proofs.lemmas.List.{length_push}
 use Rattle.std.proofs.Math.Seq.{take-append_seam}
 use Rattle.std.specs.Prelude.{◌-◌, take}
 use Rattle.graph_ancestors.specs.Marks.{Marking, Marked, IsMarked, AreMarks, marked_at}
-use Rattle.graph_ancestors.specs.Numbers.{bound_of, holds}
+use Rattle.graph_ancestors.specs.Numbers.{number_bound, holds}
 use Rattle.graph_ancestors.specs.declared.numbers.Numbers.{Numbers}
 use Rattle.graph_ancestors.proofs.QueueLemmas.{marked_new, marked_old, marked_cases}
 
@@ -18,7 +18,7 @@ are_marks-none none empty = record {
 }
 
 -- the set has the same numbers, and no less room
-pub are_marks-same : (old new : Numbers) (marked : List Marked) → bound_of old ≤ bound_of new
+pub are_marks-same : (old new : Numbers) (marked : List Marked) → number_bound old ≤ number_bound new
     → ((n : ℕ) → holds new n ≡ holds old n) → AreMarks old marked → AreMarks new marked
 are_marks-same old new marked more same are = record {
   within = λ n is. omega (arith, are.within n is, more);
@@ -35,7 +35,7 @@ popped marked e old new len long was is =
     as_many = omega (arith, long, ap length was, length_push marked e)
 
 -- a number was to be marked, and is not
-pub are_marks-refused : (old new : Numbers) (marked : List Marked) (number : ℕ) → bound_of new ≡ bound_of old
+pub are_marks-refused : (old new : Numbers) (marked : List Marked) (number : ℕ) → number_bound new ≡ number_bound old
     → holds new number ≡ holds old number → ((n : ℕ) → n ≢ number → holds new n ≡ holds old n)
     → AreMarks old marked → AreMarks new marked
 are_marks-refused old new marked number bound here there are =
@@ -49,8 +49,8 @@ are_marks-refused old new marked number bound here there are =
         (cases_eq n number)
 
 -- a number is marked
-pub are_marks-set : (old new : Numbers) (marked : List Marked) (e : Marked) → bound_of new ≡ bound_of old
-    → e.number < bound_of old → holds new e.number ≡ true
+pub are_marks-set : (old new : Numbers) (marked : List Marked) (e : Marked) → number_bound new ≡ number_bound old
+    → e.number < number_bound old → holds new e.number ≡ true
     → ((n : ℕ) → n ≢ e.number → holds new n ≡ holds old n) → AreMarks old marked → AreMarks new (marked ++ e ∷ [])
 are_marks-set old new marked e bound inside here there are = record {
   within = λ n is.
@@ -77,14 +77,14 @@ are_marks-set old new marked e bound inside here there are = record {
 
 -- While marks are cleared: each number of the set is left.
 pub record AreLeft (numbers : Numbers) (marked : List Marked) : Type 0 where
-  pub within : (n : ℕ) → IsMarked marked n → n < bound_of numbers
+  pub within : (n : ℕ) → IsMarked marked n → n < number_bound numbers
   pub those : (n : ℕ) → holds numbers n ≡ true → IsMarked marked n
 
 pub inside_left : (numbers : Numbers) (marked : List Marked) (e : Marked) → AreLeft numbers (marked ++ e ∷ [])
-    → e.number < bound_of numbers
+    → e.number < number_bound numbers
 inside_left numbers marked e left = left.within e.number (marked_new marked e)
 
-pub are_left-clear : (old new : Numbers) (marked : List Marked) (e : Marked) → bound_of new ≡ bound_of old
+pub are_left-clear : (old new : Numbers) (marked : List Marked) (e : Marked) → number_bound new ≡ number_bound old
     → holds new e.number ≡ false → ((n : ℕ) → holds new n ≡ true → holds old n ≡ true)
     → AreLeft old (marked ++ e ∷ []) → AreLeft new marked
 are_left-clear old new marked e bound here less left = record {

@@ -1,7 +1,7 @@
 -- Numbers that are marked, in the order in which they were. For private contracts alone.
 use Rattle.std.specs.Prelude.{◌≡◌, ◌↔◌, ℕ, ◌<◌, true, List, [], length, slice_get}
 use Rattle.std.specs.Option.{option_map_or}
-use Rattle.graph_ancestors.specs.Numbers.{bound_of, holds}
+use Rattle.graph_ancestors.specs.Numbers.{number_bound, holds}
 use Rattle.graph_ancestors.specs.declared.numbers.Numbers.{Numbers}
 pub use Rattle.graph_ancestors.specs.declared.marks.Marked.{Marked}
 
@@ -24,11 +24,11 @@ IsMarked marked n = (i : ℕ) × (i < length marked) × (number_in marked i ≡ 
 
 -- what a set of numbers, and those that are marked stand for
 abbrev pub marking_of : Numbers → List Marked → Marking
-marking_of numbers marked = record { bound = bound_of numbers; marked = marked }
+marking_of numbers marked = record { bound = number_bound numbers; marked = marked }
 
 -- The numbers that are marked are those of the set.
 pub record AreMarks (numbers : Numbers) (marked : List Marked) : Type 0 where
-  pub within : (n : ℕ) → IsMarked marked n → n < bound_of numbers
+  pub within : (n : ℕ) → IsMarked marked n → n < number_bound numbers
   pub those : (n : ℕ) → (holds numbers n ≡ true) ↔ IsMarked marked n
 
 -- Marks for each layer: which numbers are marked there, and the bound of those that may be; none past the last ones.

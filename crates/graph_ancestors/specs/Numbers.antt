@@ -13,5 +13,5 @@ abbrev pub holds : Numbers → ℕ → Bool
 holds s n = if s.is_few then contains nat_eq s.few n else (bit_of s.bits.items n == 1)
 
 -- the bound of the numbers that it may have
-abbrev pub bound_of : Numbers → ℕ
-bound_of s = if s.is_few then s.most else 64 * length s.bits.items
+abbrev pub number_bound : Numbers → ℕ
+number_bound s = if s.is_few then s.most else 64 * length s.bits.items

@@ -1,7 +1,7 @@
 //! Sets of numbers below a bound.
 
 ghost use Rattle.std.specs.Prelude.{◌≡◌, ◌≢◌, ◌<◌, ◌≤◌, ℕ, true, false, OnErr, OnOk};
-ghost use Rattle.graph_ancestors.specs.Numbers.{bound_of, holds};
+ghost use Rattle.graph_ancestors.specs.Numbers.{number_bound, holds};
 
 use std::alloc::{AllocError, Global};
 use std::collections::HashSet;
@@ -21,7 +21,7 @@ pub(crate) struct Numbers {
 impl Numbers {
     /// No numbers, and no room for any. Nothing is allocated.
     pub(crate) fn new(alloc: Global, is_few: bool) -> Numbers
-        ensures bound { bound_of result ≡ 0 }
+        ensures bound { number_bound result ≡ 0 }
         ensures none { (n : ℕ) → holds result n ≡ false }
     {
         Numbers {
@@ -34,8 +34,8 @@ impl Numbers {
 
     /// Makes room for all numbers below a bound.
     pub(crate) fn grow_to(&mut self, bound: usize) -> Result<(), AllocError>
-        ensures bound { OnOk result (bound ≤ bound_of self.new) }
-        ensures more { bound_of self.old ≤ bound_of self.new }
+        ensures bound { OnOk result (bound ≤ number_bound self.new) }
+        ensures more { number_bound self.old ≤ number_bound self.new }
         ensures same { (n : ℕ) → holds self.new n ≡ holds self.old n }
     {
         if self.is_few {
@@ -51,7 +51,7 @@ impl Numbers {
 
     /// Whether the set has a number.
     pub(crate) fn has(&self, number: u32) -> bool
-        requires { number < bound_of self.now }
+        requires { number < number_bound self.now }
         ensures { result ≡ holds self.now number }
     {
         if self.is_few {
@@ -63,8 +63,8 @@ impl Numbers {
 
     /// Puts a number into the set.
     pub(crate) fn put(&mut self, number: u32) -> Result<(), AllocError>
-        requires { number < bound_of self.old }
-        ensures bound { bound_of self.new ≡ bound_of self.old }
+        requires { number < number_bound self.old }
+        ensures bound { number_bound self.new ≡ number_bound self.old }
         ensures here { OnOk result (holds self.new number ≡ true) }
         ensures there { (n : ℕ) → n ≢ number → holds self.new n ≡ holds self.old n }
         ensures failed { OnErr result (holds self.new number ≡ holds self.old number) }
@@ -81,8 +81,8 @@ impl Numbers {
 
     /// Takes a number out of the set, and perhaps others with it.
     pub(crate) fn take(&mut self, number: u32)
-        requires { number < bound_of self.old }
-        ensures bound { bound_of self.new ≡ bound_of self.old }
+        requires { number < number_bound self.old }
+        ensures bound { number_bound self.new ≡ number_bound self.old }
         ensures here { holds self.new number ≡ false }
         ensures no_more { (n : ℕ) → holds self.new n ≡ true → holds self.old n ≡ true }
     {

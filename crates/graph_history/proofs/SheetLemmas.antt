@@ -1,5 +1,6 @@
 -- The coats of all commits, where those alone are kept that are not bare.
-use Rattle.std.proofs.Common.{◌≡◌, ◌≢◌, ℕ, ◌<◌, ◌≤◌, Bool, true, false, List, length, map, set, get_or, refl, sym, ap, ◌∙◌, ⊎_elim}
+use Rattle.std.proofs.Common.{◌≡◌, ◌≢◌, ℕ, ◌<◌, ◌≤◌, Bool, true, false, List, length, map, set, get_or}
+use Rattle.std.proofs.Common.{refl, sym, ap, ◌∙◌, ⊎_elim}
 use Rattle.std.proofs.Common.{arith, true≢false, nat_eq}
 use Rattle.std.proofs.lemmas.Bool.{cases_eq, cases_lt}
 use Rattle.std.proofs.lemmas.List.{length-set, get_or-set_same, get_or-set_other, get_or_past}

@@ -1,11 +1,11 @@
 use Rattle.std.proofs.Common.{◌≡◌, length}
-use Rattle.graph_ancestors.specs.Numbers.{bound_of}
+use Rattle.graph_ancestors.specs.Numbers.{number_bound}
 use Rattle.graph_ancestors.proofs.MarkLemmas.{AreLeft}
 use Rattle.graph_ancestors.proofs.marks.Marks.clear.Given as goal
 
 abbrev pub invariant-loop-marked : goal.invariant-loop-marked
 invariant-loop-marked l = record {
-  bound : bound_of l.self-inside.numbers ≡ l.fn.self.bound;
+  bound : number_bound l.self-inside.numbers ≡ l.fn.self.bound;
   left : AreLeft l.self-inside.numbers l.self-inside.marked.items;
 }
 

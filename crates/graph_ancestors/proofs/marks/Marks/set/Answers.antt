@@ -1,13 +1,14 @@
 use Rattle.std.proofs.Common.{◌<◌, List, ap, sym, subst, arith}
 use Rattle.graph_ancestors.specs.Marks.{Marking, Marked, AreMarks}
-use Rattle.graph_ancestors.specs.Numbers.{bound_of}
+use Rattle.graph_ancestors.specs.Numbers.{number_bound}
 use Rattle.graph_ancestors.proofs.MarkLemmas.{are_marks-set, are_marks-refused, popped}
 use Rattle.graph_ancestors.proofs.marks.Marks.set.Goals as goal
 
 pub invariant_of-self-in-Ok : goal.invariant_of-self-in-Ok
 invariant_of-self-in-Ok c =
     let a = c.self.inside in
-    let inside : c.args.number < bound_of a.numbers = omega (arith, c.requires.bound, ap (λ (m : Marking). m.bound) c.self.view_is) in
+    let inside : c.args.number < number_bound a.numbers =
+        omega (arith, c.requires.bound, ap (λ (m : Marking). m.bound) c.self.view_is) in
     subst (λ (ms : List Marked). AreMarks c.put.new.self ms) (sym c.in_ok-push.ensures.items)
     (are_marks-set a.numbers c.put.new.self a.marked.items _ c.put.ensures.bound inside c.in-Ok.ensures.here c.put.ensures.there
     c.self.invariant)
