@@ -1,0 +1,90 @@
+//! Commits, graphs and layers for the tests.
+//!
+//! The contracts of checks and of new layers are long, and here they end.
+
+use gix_commitgraph::{File, Graph};
+use gix_hash_core::ObjectId;
+use graph_encoder::{LayerPlan, PlanCommit, build, has_few_extra_words};
+use graph_history::{Checked, CheckedGraph};
+use graph_writer::{NewCommit, WriteError, write_layer};
+use std::alloc::Global;
+use std::process::Abort;
+
+/// The id whose bytes are all this one.
+pub(crate) fn id(byte: u8) -> ObjectId {
+    ObjectId::from([byte; 20])
+}
+
+/// The id that this text spells.
+pub(crate) fn spelled(rt: &impl Abort, text: &str) -> ObjectId {
+    ObjectId::from_hex(text.as_bytes()).expect(rt, "an id")
+}
+
+/// A commit with this id and these parents. Where an allocation fails, the process aborts.
+pub(crate) fn commit(rt: &impl Abort, alloc: Global, byte: u8, parents: &[u8]) -> NewCommit {
+    let mut ids = Vec::new(alloc);
+    for parent in parents {
+        ids.push(id(*parent)).expect(rt, "memory for a parent");
+    }
+    NewCommit {
+        id: id(byte),
+        tree: id(0xee),
+        parents: ids,
+        time: 1000,
+    }
+}
+
+/// The file with these bytes, of no name.
+pub(crate) fn opened(rt: &impl Abort, alloc: Global, bytes: Vec<u8>) -> File {
+    File::new(alloc, bytes, String::new(alloc)).expect(rt, "a file")
+}
+
+/// The graph of one file, checked.
+pub(crate) fn graph_of(rt: &impl Abort, alloc: Global, file: File) -> CheckedGraph {
+    let mut files = Vec::new(alloc);
+    files.push(file).expect(rt, "memory for a file");
+    let graph = Graph::new(alloc, files).expect(rt, "a graph");
+    CheckedGraph::new(alloc, graph).expect(rt, "a right graph")
+}
+
+/// Puts a file on top of a graph.
+pub(crate) fn push(rt: &impl Abort, alloc: Global, graph: &mut CheckedGraph, file: File) {
+    graph.push(alloc, file).expect(rt, "a right graph");
+}
+
+/// The bytes of a layer with these commits, or why there is none.
+pub(crate) fn written(
+    alloc: Global,
+    below: Option<&Checked<'_>>,
+    commits: &[NewCommit],
+) -> Result<Vec<u8>, WriteError> {
+    write_layer(alloc, below, commits)
+}
+
+/// A graph of one commit without parents, whose date is so many seconds past its time, if it has
+/// one.
+pub(crate) fn graph_of_root(
+    rt: &impl Abort,
+    alloc: Global,
+    root: &NewCommit,
+    offset: Option<u64>,
+) -> CheckedGraph {
+    let mut plan = LayerPlan::new(alloc, root.id.as_oid().kind(), &[]).expect(rt, "memory");
+    let commit = PlanCommit {
+        id: root.id,
+        tree: root.tree,
+        parents: Vec::new(alloc),
+        generation: 1,
+        time: root.time,
+    };
+    plan.commits.push(commit).expect(rt, "memory for a commit");
+    if let Some(seconds) = offset {
+        let mut offsets = Vec::new(alloc);
+        offsets.push(seconds).expect(rt, "memory for an offset");
+        plan.date_offsets = Some(offsets);
+    }
+    assert!(rt; plan.is_buildable());
+    assert!(rt; has_few_extra_words(&plan));
+    let bytes = build(alloc, &plan).expect(rt, "memory for a file");
+    graph_of(rt, alloc, opened(rt, alloc, bytes))
+}
