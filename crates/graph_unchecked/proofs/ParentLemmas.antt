@@ -1,6 +1,6 @@
 -- the parents that are read of a commit, in their order
-use Rattle.std.proofs.Common.{◌≡◌, ℕ, ◌+◌, ◌<◌, List, [], ◌∷◌, ◌++◌, Option, Some, None, length, min}
-use Rattle.std.proofs.Common.{refl, sym, ap, subst, ◌∙◌, arith}
+use Rattle.std.proofs.Common.{◌≡◌, ℕ, ◌+◌, ◌<◌, List, [], ◌∷◌, ◌++◌, Option, Some, None, length}
+use Rattle.std.proofs.Common.{refl, sym, ap, subst, ◌∙◌, arith, min}
 use Rattle.std.proofs.Math.Nat.{min-le_left}
 use Rattle.graph_folder.specs.Tree.{Tree}
 use Rattle.graph_find.specs.declared.chain.ChainLayer.{ChainLayer}

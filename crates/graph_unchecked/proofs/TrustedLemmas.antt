@@ -128,7 +128,7 @@ answered-at {A} known path old IsSo r s Kept (inl failed) so of tree is =
     subst (λ (x : Result A Unread). IfOk x (IsAnswerAt tree path IsSo)) (sym failed) tt
 answered-at {A} known path old IsSo r s Kept (inr same) so of tree is =
     subst (λ (x : Result A Unread). IfOk x (IsAnswerAt tree path IsSo)) (sym same.0)
-        (answer-at known path old IsSo s so of tree is)
+    (answer-at known path old IsSo s so of tree is)
 
 pub answered-seen : {A : Type 0} (known : Option Tree) (path : List ℕ) (old new : GraphParts) (IsSo : List Layer → A → Type 0)
     (r s : Result A Unread) (Kept : Type 0) → (r ≡ Err Device) ⊎ ((r ≡ s) × Kept) → SeesMore known old new

@@ -5,4 +5,4 @@ use Rattle.graph_unchecked.proofs.trusted.open_unasked.Goals as goal
 pub returns-in-Some-clause-graph : goal.returns-in-Some-clause-graph
 returns-in-Some-clause-graph g c =
     of-opened (g.T.Folder.tree c.args.folder.now) c.args.path.now c.in-Some.parts
-        (rw c.in-Some.is at c.in_ok-opened.ensures.opened)
+    (rw c.in-Some.is at c.in_ok-opened.ensures.opened)

@@ -18,5 +18,5 @@ pub returns-clause-answer : goal.returns-clause-answer
 returns-clause-answer g c = λ path of.
     answered-at (g.T.Folder.tree c.args.folder.now) path c.args.self.now.parts
     (IsFoundBetween IsWalkUnchecked (oid_bytes c.args.first) (oid_bytes c.args.second))
-        c.unless_failed.result c.walk_between_ids-walk.result _
-        c.unless_failed.ensures c.walk_between_ids-walk.ensures.told of
+    c.unless_failed.result c.walk_between_ids-walk.result _ c.unless_failed.ensures
+    c.walk_between_ids-walk.ensures.told of

@@ -19,5 +19,5 @@ pub returns-clause-answer : goal.returns-clause-answer
 returns-clause-answer g c = λ path of.
     answered-at (g.T.Folder.tree c.args.folder.now) path c.args.self.now.parts
     (IsFoundAmong IsComparedUnchecked (oid_bytes c.args.first ∷ c.args.others.now))
-        c.unless_failed.result c.compared_among-compared.result _
-        c.unless_failed.ensures c.compared_among-compared.ensures.told of
+    c.unless_failed.result c.compared_among-compared.result _ c.unless_failed.ensures
+    c.compared_among-compared.ensures.told of

@@ -18,5 +18,5 @@ pub returns-clause-answer : goal.returns-clause-answer
 returns-clause-answer g c = λ path of.
     answered-at (g.T.Folder.tree c.args.folder.now) path c.args.self.now.parts
     (IsFoundBetween IsToldUnchecked (oid_bytes c.args.first) (oid_bytes c.args.second))
-        c.unless_failed.result c.told_between-told.result _
-        c.unless_failed.ensures c.told_between-told.ensures.told of
+    c.unless_failed.result c.told_between-told.result _ c.unless_failed.ensures
+    c.told_between-told.ensures.told of
