@@ -1,7 +1,8 @@
 //! What `objects` writes.
 
-use crate::fixtures::{Positions, ensure, graphs, joined, objects};
-use crate::streams::{ROOT, SECOND, SHA256, THIRD};
+use crate::folders::{ensure, joined};
+use crate::objects::fixtures::{Positions, graphs, objects};
+use crate::objects::streams::{ROOT, SECOND, SHA256, THIRD};
 use graph_folder::folder::Memory;
 use graph_vectors::{Sink, Source};
 use std::alloc::Global;

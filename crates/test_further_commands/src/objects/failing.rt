@@ -1,7 +1,8 @@
 //! Refusals before anything is read, and readers and writers that fail.
 
-use crate::fixtures::{Positions, ensure, graphs, ids, objects};
-use crate::streams::ROOT;
+use crate::folders::ensure;
+use crate::objects::fixtures::{Positions, graphs, ids, objects};
+use crate::objects::streams::ROOT;
 use graph_commands::line::WriteFailed;
 use graph_folder::folder::Memory;
 use graph_vectors::{Sink, Source};

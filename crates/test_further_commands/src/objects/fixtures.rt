@@ -1,6 +1,7 @@
 //! Graphs of commits that Git made. Where an allocation fails, the process aborts.
 
-use gix_hash_core::{Kind, ObjectId, digest};
+use crate::folders::{checksum_of, put, put_chain};
+use gix_hash_core::{Kind, ObjectId};
 use graph_commands::line::WriteFailed;
 use graph_folder::folder::Memory;
 use graph_vectors::{LayerPlan, PlanCommit, Sink, Source, file_of_plan};
@@ -102,9 +103,12 @@ pub(crate) fn graphs(rt: &impl Abort, alloc: Global) -> Memory {
     let mut memory = Memory::new(alloc);
     for (path, kind, tree, records) in FILES {
         let file = built(rt, alloc, (*kind, tree), &[], records);
-        put(rt, alloc, &mut memory, path, file);
+        put(rt, alloc, &mut memory, &[path], file);
     }
-    put_chain(rt, alloc, &mut memory);
+    let lower = built(rt, alloc, (Kind::Sha1, EMPTY_TREE), &[], LOWER);
+    let base = checksum_of(&lower);
+    let upper = built(rt, alloc, (Kind::Sha1, EMPTY_TREE), &[base], UPPER);
+    put_chain(rt, alloc, &mut memory, lower, upper);
     memory
 }
 
@@ -141,63 +145,6 @@ fn id_of(rt: &impl Abort, text: &str) -> ObjectId {
     ObjectId::from_hex(text.as_bytes()).expect(rt, "an id")
 }
 
-/// Puts a file into a folder in memory.
-fn put(rt: &impl Abort, alloc: Global, memory: &mut Memory, path: &str, bytes: Vec<u8>) {
-    let path = String::from_str(alloc, path).expect(rt, "memory");
-    memory.put_file(path, bytes).expect(rt, "memory");
-}
-
-/// The texts, one after another.
-pub(crate) fn joined(rt: &impl Abort, alloc: Global, parts: &[&str]) -> String {
-    let mut text = String::new(alloc);
-    for part in parts {
-        text.push_str(part).expect(rt, "memory");
-    }
-    text
-}
-
-/// Puts a layer into the folder `chain`, as the file that is named after its checksum, and adds its
-/// line.
-fn put_layer(
-    rt: &impl Abort,
-    alloc: Global,
-    memory: &mut Memory,
-    (checksum, bytes): (ObjectId, Vec<u8>),
-    lines: &mut String,
-) {
-    let checksum = checksum.to_string(alloc).expect(rt, "memory");
-    let path = joined(rt, alloc, &["chain/graph-", &checksum, ".graph"]);
-    put(rt, alloc, memory, &path, bytes);
-    let line = joined(rt, alloc, &[&checksum, "\n"]);
-    lines.push_str(&line).expect(rt, "memory");
-}
-
-/// Puts the folder `chain`.
-fn put_chain(rt: &impl Abort, alloc: Global, memory: &mut Memory) {
-    let lower = built(rt, alloc, (Kind::Sha1, EMPTY_TREE), &[], LOWER);
-    let base = checksum_of(&lower);
-    let upper = built(rt, alloc, (Kind::Sha1, EMPTY_TREE), &[base], UPPER);
-    let top = checksum_of(&upper);
-    let folder = String::from_str(alloc, "chain").expect(rt, "memory");
-    memory.put_dir(folder).expect(rt, "memory");
-    let mut lines = String::new(alloc);
-    put_layer(rt, alloc, memory, (base, lower), &mut lines);
-    put_layer(rt, alloc, memory, (top, upper), &mut lines);
-    put(
-        rt,
-        alloc,
-        memory,
-        "chain/commit-graph-chain",
-        lines.into_bytes(),
-    );
-}
-
-/// The checksum of a SHA-1 file.
-fn checksum_of(bytes: &[u8]) -> ObjectId {
-    let end = bytes.len().saturating_sub(20);
-    digest(Kind::Sha1, &bytes[..end])
-}
-
 /// A folder with a file `line`, of so many commits without parents. The first four bytes of the id
 /// of the commit at position P are the number P + 1, and the others are null.
 pub(crate) fn line(rt: &impl Abort, alloc: Global, count: u32) -> Memory {
@@ -223,7 +170,7 @@ pub(crate) fn line(rt: &impl Abort, alloc: Global, count: u32) -> Memory {
     }
     let mut memory = Memory::new(alloc);
     let file = file_of_plan(alloc, &plan).expect(rt, "a file");
-    put(rt, alloc, &mut memory, "line", file);
+    put(rt, alloc, &mut memory, &["line"], file);
     memory
 }
 
@@ -259,10 +206,4 @@ pub(crate) fn objects(
 ) -> Result<u8, WriteFailed> {
     let range = range_of(positions);
     run_objects(alloc, stream, folder, path, range, out)
-}
-
-/// Asserts that something holds of what is answered at this path. A proof has little to go over
-/// where the message stands in a function alone.
-pub(crate) fn ensure(rt: &impl Abort, path: &str, holds: bool) {
-    assert!(rt; holds, "{path}");
 }

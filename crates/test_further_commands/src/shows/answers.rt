@@ -1,7 +1,7 @@
 //! What `show` writes, by rows that were worked out by hand. The checksums are those that Python's
 //! `hashlib` gives of the same bytes.
 
-use crate::files::graphs;
+use crate::shows::files::graphs;
 use graph_commands::line::WriteFailed;
 use graph_folder::folder::Memory;
 use graph_vectors::Sink;

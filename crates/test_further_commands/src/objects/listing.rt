@@ -1,6 +1,7 @@
 //! What `ids` writes, and which texts spell a range.
 
-use crate::fixtures::{Positions, ensure, graphs, ids, line, range_of};
+use crate::folders::ensure;
+use crate::objects::fixtures::{Positions, graphs, ids, line, range_of};
 use graph_folder::folder::Memory;
 use graph_vectors::Sink;
 use object_commands::PositionRange;
