@@ -33,7 +33,8 @@ type Readable = (
     &'static str,
 );
 
-const READABLE: &[Readable] = &[
+/// Lines of parents before the lines of people.
+const OF_PARENTS: &[Readable] = &[
     // a root
     (
         &[Text(PEOPLE), Text("\nm\n")],
@@ -69,6 +70,17 @@ const READABLE: &[Readable] = &[
         "ffedf31de04daf42b248d41b396ee5edca5732b5",
         "0fd35fb8926fbd958d336ad7335e7dedb4e57f08ae9c6c08aae3af89272a0637",
     ),
+    // digits of upper case
+    (
+        &[Parent("A"), Parent("b"), Text(PEOPLE), Text("\nm\n")],
+        &["a", "b"],
+        "09e86c3d1f340fe567d42282f8a4db5b2ac41905",
+        "c765a360a552103d1a45aab3c2954d91a60b6f1a4c4371a608e8d8efa3d83b86",
+    ),
+];
+
+/// Lines `parent` and `tree` elsewhere, and words that only begin like those of a parent.
+const ELSEWHERE: &[Readable] = &[
     // a tag that was merged, with a line `parent` in it and one behind it
     (
         &[
@@ -132,13 +144,6 @@ const READABLE: &[Readable] = &[
         &[],
         "2bcd5c556654760c635228d5cbe7a10687d73869",
         "91e14b455cbd1b074b30acc87165ce2fc474f5fa94c145694caf258a20723a9f",
-    ),
-    // digits of upper case
-    (
-        &[Parent("A"), Parent("b"), Text(PEOPLE), Text("\nm\n")],
-        &["a", "b"],
-        "09e86c3d1f340fe567d42282f8a4db5b2ac41905",
-        "c765a360a552103d1a45aab3c2954d91a60b6f1a4c4371a608e8d8efa3d83b86",
     ),
     // one byte behind the parents
     (
@@ -264,9 +269,18 @@ fn expect_readable(rt: &impl Abort, alloc: Global, rows: &[Readable]) {
     }
 }
 
+fn of_parents() -> &'static [Readable] {
+    OF_PARENTS
+}
+
+fn elsewhere() -> &'static [Readable] {
+    ELSEWHERE
+}
+
 #[test]
 fn parents_and_ids_are_those_that_git_reads(rt: HostRuntime) {
-    expect_readable(&rt, rt.alloc(), READABLE);
+    expect_readable(&rt, rt.alloc(), of_parents());
+    expect_readable(&rt, rt.alloc(), elsewhere());
 }
 
 /// Asserts that commits are unreadable.

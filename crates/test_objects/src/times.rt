@@ -13,11 +13,12 @@ use std::process::Abort;
 /// repository made by `git init`, and in one made by `git init --object-format=sha256`. The last
 /// column is the time in the file that `git commit-graph write --stdin-commits` of that Git writes
 /// then. The time before it is meant for Git from 2.41 on, which was not run. libgit2 1.5.1 answers
-/// it too (`git_commit_time`) where it reads the committer's line, but 234 in the third row, and 66
+/// it too (`git_commit_time`) where it reads the committer's line, but 234 for `<c@x>1234`, and 66
 /// for `+66`.
 type Timed = (&'static str, &'static str, &'static str, u64, u64);
 
-const TIMES: &[Timed] = &[
+/// Numbers behind an address.
+const BEHIND_ADDRESSES: &[Timed] = &[
     (
         "author A <a@x> 1 +0000\ncommitter C <c@x> 1234567890 +0000\n\nm\n",
         "c91303945b734cbec9a3f5d791ff1bda861ad89e",
@@ -60,6 +61,10 @@ const TIMES: &[Timed] = &[
         12,
         12,
     ),
+];
+
+/// Brackets elsewhere, and lines that end early.
+const ODD_ADDRESSES: &[Timed] = &[
     (
         "author A <a@x> 1 +0000\ncommitter C <c@x>> 77 +0000\n\nm\n",
         "f70d2697717a6a3c16e3e8d39a72aff6069ca057",
@@ -116,6 +121,10 @@ const TIMES: &[Timed] = &[
         0,
         0,
     ),
+];
+
+/// What stands before a number, and the greatest one that a record holds.
+const BEFORE_NUMBERS: &[Timed] = &[
     (
         "author A <a@x> 1 +0000\ncommitter C <c@x>\n68 +0000\n\nm\n",
         "1c695d9a5240bbdd8a109e462b2a3794759af123",
@@ -165,6 +174,10 @@ const TIMES: &[Timed] = &[
         17179869183,
         17179869183,
     ),
+];
+
+/// Other words at the beginning of a line.
+const ODD_WORDS: &[Timed] = &[
     (
         "author A <a@x> 1 +0000\ncommitterC <c@x> 69 +0000\n\nm\n",
         "c45be8587913dfe3b3208b7cb47db8fe82e5a3dd",
@@ -193,6 +206,10 @@ const TIMES: &[Timed] = &[
         0,
         71,
     ),
+];
+
+/// Other lines before that of the committer, or none.
+const OTHER_LINES: &[Timed] = &[
     (
         "author A <a@x> 1 +0000\nencoding x\ncommitter C <c@x> 73 +0000\n\nm\n",
         "9a1189f26b6f4e5c7d8fc1002f7f73123809f3fc",
@@ -262,9 +279,39 @@ fn expect_timed(rt: &impl Abort, alloc: Global, rows: &[Timed]) {
     }
 }
 
+fn behind_addresses() -> &'static [Timed] {
+    BEHIND_ADDRESSES
+}
+
+fn odd_addresses() -> &'static [Timed] {
+    ODD_ADDRESSES
+}
+
+fn before_numbers() -> &'static [Timed] {
+    BEFORE_NUMBERS
+}
+
+fn odd_words() -> &'static [Timed] {
+    ODD_WORDS
+}
+
+fn other_lines() -> &'static [Timed] {
+    OTHER_LINES
+}
+
+/// A proof takes the longer the more texts a function names, by their number times their length in
+/// all: so each table has a function of its own.
 #[test]
 fn times_are_those_that_git_reads(rt: HostRuntime) {
-    expect_timed(&rt, rt.alloc(), TIMES);
+    for rows in [
+        behind_addresses(),
+        odd_addresses(),
+        before_numbers(),
+        odd_words(),
+        other_lines(),
+    ] {
+        expect_timed(&rt, rt.alloc(), rows);
+    }
 }
 
 /// Times that no record holds, in both readings. Of the first Git 2.39.5 stores the low 34 bits, 1,
