@@ -8,7 +8,7 @@ pub invariant_of-self-in-Ok : goal.invariant_of-self-in-Ok
 invariant_of-self-in-Ok c =
     let a = c.self.inside in
     let inside : c.args.number < number_bound a.numbers =
-        omega (arith, c.requires.bound, ap (λ (m : Marking). m.bound) c.self.view_is) in
+    omega (arith, c.requires.bound, ap (λ (m : Marking). m.bound) c.self.view_is) in
     subst (λ (ms : List Marked). AreMarks c.put.new.self ms) (sym c.in_ok-push.ensures.items)
     (are_marks-set a.numbers c.put.new.self a.marked.items _ c.put.ensures.bound inside c.in-Ok.ensures.here c.put.ensures.there
     c.self.invariant)
