@@ -1,4 +1,3 @@
-pub mod NumberLemmas
 pub mod MarkLemmas
 pub mod QueueLemmas
 pub mod ListLemmas

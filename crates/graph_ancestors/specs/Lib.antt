@@ -1,7 +1,6 @@
 pub mod RefusedGraph
 pub mod Cardinality
 pub mod WalkAnswer
-pub mod Numbers
 pub mod Marks
 pub mod Queue
 pub mod BreadthFirst

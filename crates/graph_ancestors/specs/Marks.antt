@@ -1,8 +1,7 @@
 -- Numbers that are marked, in the order in which they were. For private contracts alone.
-use Rattle.std.specs.Prelude.{◌≡◌, ◌↔◌, ℕ, ◌<◌, true, List, [], length, slice_get}
+use Rattle.std.specs.Prelude.{◌≡◌, ◌↔◌, ℕ, ◌*◌, ◌/◌, ◌%◌, ◌<◌, List, [], length, slice_get, slice_index_or}
+use Rattle.std.specs.Int.{bit_at}
 use Rattle.std.specs.Option.{option_map_or}
-use Rattle.graph_ancestors.specs.Numbers.{number_bound, holds}
-use Rattle.graph_ancestors.specs.declared.numbers.Numbers.{Numbers}
 pub use Rattle.graph_ancestors.specs.declared.marks.Marked.{Marked}
 
 -- Marks of numbers below a bound.
@@ -22,14 +21,18 @@ mark_in marked i = option_map_or (λ e. e.mark) (slice_get marked i) 0
 abbrev pub IsMarked : List Marked → ℕ → Type 0
 IsMarked marked n = (i : ℕ) × (i < length marked) × (number_in marked i ≡ n)
 
--- what a set of numbers, and those that are marked stand for
-abbrev pub marking_of : Numbers → List Marked → Marking
-marking_of numbers marked = record { bound = number_bound numbers; marked = marked }
+-- the bit of a number in a table that has 64 in a word, 0 past the last one
+abbrev pub bit_of : List ℕ → ℕ → ℕ
+bit_of bits n = bit_at (slice_index_or bits (n / 64) 0) (n % 64)
 
--- The numbers that are marked are those of the set.
-pub record AreMarks (numbers : Numbers) (marked : List Marked) : Type 0 where
-  pub within : (n : ℕ) → IsMarked marked n → n < number_bound numbers
-  pub those : (n : ℕ) → (holds numbers n ≡ true) ↔ IsMarked marked n
+-- what a table of bits, and the numbers that are marked there, stand for
+abbrev pub marking_of : List ℕ → List Marked → Marking
+marking_of bits marked = record { bound = 64 * length bits; marked = marked }
+
+-- The numbers are those whose bit is set in the table.
+pub record AreMarks (bits : List ℕ) (marked : List Marked) : Type 0 where
+  pub within : (n : ℕ) → IsMarked marked n → n < 64 * length bits
+  pub those : (n : ℕ) → (bit_of bits n ≡ 1) ↔ IsMarked marked n
 
 -- Marks for each layer: which numbers are marked there, and the bound of those that may be; none past the last ones.
 abbrev pub marked_at : List Marking → ℕ → List Marked

@@ -45,15 +45,7 @@ impl AnySearcher {
     /// A searcher. Nothing is allocated.
     pub fn new(alloc: Global) -> AnySearcher {
         AnySearcher {
-            search: Search::new(alloc, false),
-        }
-    }
-
-    /// A searcher for queries that reach few of the source's commits. It takes no bit for each of
-    /// them, but some twenty bytes for each commit that a query reaches. Nothing is allocated.
-    pub fn for_few(alloc: Global) -> AnySearcher {
-        AnySearcher {
-            search: Search::new(alloc, true),
+            search: Search::new(alloc),
         }
     }
 

@@ -16,7 +16,6 @@ mod in_memory;
 pub mod law;
 mod lists;
 mod marks;
-mod numbers;
 mod search;
 mod searcher;
 mod source;

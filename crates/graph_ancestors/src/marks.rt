@@ -3,7 +3,6 @@
 ghost use Rattle.std.specs.Prelude.{◌≡◌, ◌↔◌, ◌<◌, ◌≤◌, ◌++◌, ◌∷◌, [], length, IsTrue, OnOk};
 ghost use Rattle.graph_ancestors.specs.Marks.{IsMarked, number_in, mark_in};
 
-use crate::numbers::Numbers;
 use std::alloc::{AllocError, Global};
 use std::marker::Model;
 
@@ -18,8 +17,8 @@ pub(crate) struct Marked {
 /// in the order in which they were, each with its mark.
 #[derive(Drop)]
 pub(crate) struct Marks {
-    /// The numbers that are marked.
-    numbers: Numbers,
+    /// A bit for each number, 64 in a word, which is set where the number is marked.
+    bits: Vec<u64>,
     marked: Vec<Marked>,
 }
 
@@ -28,19 +27,18 @@ impl Model for Marks {
 
     ghost Value = { Marking };
 
-    ghost view = { λ a. marking_of a.numbers a.marked.items };
+    ghost view = { λ a. marking_of a.bits.items a.marked.items };
 
-    ghost invariant = { λ a. AreMarks a.numbers a.marked.items };
+    ghost invariant = { λ a. AreMarks a.bits.items a.marked.items };
 }
 
 impl Marks {
-    /// No marks, and no room for any. Room takes a bit for each number, or if few are expected to
-    /// be marked, memory for those alone. Nothing is allocated.
-    pub(crate) fn new(alloc: Global, is_few: bool) -> Marks
+    /// No marks, and no room for any. Nothing is allocated.
+    pub(crate) fn new(alloc: Global) -> Marks
         ensures { result ≡ record { bound = 0; marked = [] } }
     {
         Marks {
-            numbers: Numbers::new(alloc, is_few),
+            bits: Vec::new(alloc),
             marked: Vec::new(alloc),
         }
     }
@@ -50,7 +48,11 @@ impl Marks {
         ensures bound { OnOk result (bound ≤ self.new.bound) }
         ensures marked { self.new.marked ≡ self.old.marked }
     {
-        self.numbers.grow_to(bound)
+        let words = bound / 64 + 1;
+        if self.bits.len() < words {
+            self.bits.resize(words, 0)?;
+        }
+        Ok(())
     }
 
     /// Whether a number has a mark.
@@ -58,7 +60,8 @@ impl Marks {
         requires { number < self.now.bound }
         ensures { IsTrue result ↔ IsMarked self.now.marked number }
     {
-        self.numbers.has(number)
+        let word = self.bits[number as usize / 64];
+        (word >> (number % 64)) & 1 == 1
     }
 
     /// Marks a number that has no mark.
@@ -70,13 +73,8 @@ impl Marks {
             ≡ self.old.marked ++ record { number = number; mark = mark } ∷ []) }
     {
         self.marked.push(Marked { number, mark })?;
-        match self.numbers.put(number) {
-            Ok(()) => Ok(()),
-            Err(error) => {
-                self.marked.pop();
-                Err(error)
-            }
-        }
+        self.bits[number as usize / 64] |= 1 << (number % 64);
+        Ok(())
     }
 
     /// How many numbers are marked.
@@ -108,7 +106,7 @@ impl Marks {
         ensures marked { self.new.marked ≡ [] }
     {
         while let Some(marked) = self.marked.pop() {
-            self.numbers.take(marked.number);
+            self.bits[marked.number as usize / 64] = 0;
         }
     }
 }

@@ -35,15 +35,14 @@ pub(crate) struct Search {
 }
 
 impl Search {
-    /// A search that has reached nothing. Where few commits are expected to be reached, it takes
-    /// memory for those alone. Nothing is allocated.
-    pub(crate) fn new(alloc: Global, is_few: bool) -> Search
+    /// A search that has reached nothing. Nothing is allocated.
+    pub(crate) fn new(alloc: Global) -> Search
         ensures { IsIdle result }
     {
         Search {
             alloc,
             least: 0,
-            reached: Marks::new(alloc, is_few),
+            reached: Marks::new(alloc),
             words: WordMarks::new(alloc),
             stack: Vec::new(alloc),
         }

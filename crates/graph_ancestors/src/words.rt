@@ -32,7 +32,7 @@ impl WordMarks {
             → marked_at self.new.layers.items l ≡ marked_at self.old.layers.items l }
     {
         while self.layers.len() <= layer {
-            self.layers.push(Marks::new(self.alloc, false))?;
+            self.layers.push(Marks::new(self.alloc))?;
         }
         self.layers[layer].grow_to(words)
     }

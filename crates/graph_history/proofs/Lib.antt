@@ -2,7 +2,6 @@ pub mod RightGraphLemmas
 pub mod PushLemmas
 pub mod ReachLemmas
 pub mod TrailLemmas
-pub mod SheetLemmas
 pub mod PaintLemmas
 pub mod CoatLemmas
 pub mod TouchLemmas

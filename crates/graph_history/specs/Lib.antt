@@ -3,7 +3,6 @@ pub mod RightGraph
 pub mod Bases
 pub mod IdAncestors
 pub mod Comparison
-pub mod Sheet
 pub mod Trails
 pub mod Paint
 pub mod Painting

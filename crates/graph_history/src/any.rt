@@ -29,8 +29,6 @@ use std::marker::Model;
 #[derive(Drop)]
 pub struct AnyComparer {
     alloc: Global,
-    /// Whether a call is expected to reach few of the source's commits.
-    is_few: bool,
     /// The coats of all commits, idle between calls.
     coats: Option<Coats>,
 }
@@ -43,27 +41,13 @@ impl Model for AnyComparer {
 
     ghost view = { λ _. tt };
 
-    ghost invariant = { λ a. IfSome a.coats (λ c. AreIdle (length c.all) c) };
+    ghost invariant = { λ a. IfSome a.coats (λ c. AreIdle (length c.all.items) c) };
 }
 
 impl AnyComparer {
     /// A comparer. Nothing is allocated yet.
     pub fn new(alloc: Global) -> AnyComparer {
-        AnyComparer {
-            alloc,
-            is_few: false,
-            coats: None,
-        }
-    }
-
-    /// A comparer for calls that reach few of the source's commits. It takes no two bytes for each
-    /// of them, but some twenty for each commit that a call reaches. Nothing is allocated yet.
-    pub fn for_few(alloc: Global) -> AnyComparer {
-        AnyComparer {
-            alloc,
-            is_few: true,
-            coats: None,
-        }
+        AnyComparer { alloc, coats: None }
     }
 
     /// The merge bases of a commit and some others, and how far they have come apart, at positions
@@ -114,7 +98,7 @@ impl AnyComparer {
                 return Ok(coats);
             }
         }
-        Coats::new(self.alloc, commits, self.is_few)
+        Coats::new(self.alloc, commits)
     }
 }
 
@@ -142,7 +126,7 @@ fn compared<S: CommitSource>(
     ensures exact { IfOk result (λ answer. (t : Told) → S.says commits.new t
         → CountWalks t.history
         → IsComparisonIn t.history first.0 (numbers_of others.now) answer.0) }
-    ensures idle { IfOk result (λ answer. AreIdle (length answer.1.all) answer.1) }
+    ensures idle { IfOk result (λ answer. AreIdle (length answer.1.all.items) answer.1) }
     ensures refused { IfErr result (λ e. S.may_fail (S.known commits.old) e
         ⊎ S.Error.from_gives alloc_error e) }
 {

@@ -26,7 +26,6 @@ mod parents;
 mod passing;
 mod reload;
 mod shared;
-mod sheet;
 mod trails;
 mod within;
 

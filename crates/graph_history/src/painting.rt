@@ -50,16 +50,16 @@ pub(crate) struct Painting<'p> {
 impl<'p> Painting<'p> {
     /// A painting that knows nothing.
     fn new(alloc: Global, coats: Coats, first: Position, others: &'p [Position]) -> Painting<'p>
-        requires idle { AreIdle (length coats.all) coats }
-        requires few { length coats.all < 2 ^ 32 }
+        requires idle { AreIdle (length coats.all.items) coats }
+        requires few { length coats.all.items < 2 ^ 32 }
         ensures first { result.first ≡ first }
         ensures others { result.others.now ≡ others.now }
-        ensures painting { IsPainting (length coats.all) result }
-        ensures told { (history : List Node) → length history ≡ length coats.all
+        ensures painting { IsPainting (length coats.all.items) result }
+        ensures told { (history : List Node) → length history ≡ length coats.all.items
             → IsPaintingOf history result }
-        ensures lists { (t : Told) (l : ℕ) → IsPassed result.coats.all (t.lists l)
+        ensures lists { (t : Told) (l : ℕ) → IsPassed result.coats.all.items (t.lists l)
             (trail_in result.coats.trails.layers.items l) }
-        ensures bare { (p : ℕ) → coat_at result.coats.all p ≡ bare }
+        ensures bare { (p : ℕ) → coat_at result.coats.all.items p ≡ bare }
         ensures empty { heap_items result.queue ≡ [] }
     {
         Painting {
@@ -91,7 +91,7 @@ impl<'p> Painting<'p> {
         ensures visits { self.new.visits ≡ self.old.visits }
         ensures len { OnOk result (length (heap_items self.new.queue)
             ≡ length (heap_items self.old.queue)
-            + cond (is_queued self.old.coats.all commit.0) 0 1) }
+            + cond (is_queued self.old.coats.all.items commit.0) 0 1) }
         ensures joins { OnOk result
             (Joins commit.0 (heap_items self.old.queue) (heap_items self.new.queue)) }
         ensures numbered { OnOk result ((t : Told) → S.says commits.new t
@@ -145,14 +145,14 @@ impl<'p> Painting<'p> {
         ensures painting { OnOk result (IsPainting (S.count (S.known commits.old)) self.new) }
         ensures told { OnOk result ((t : Told) → S.says commits.new t
             → IsPaintingOf t.history self.new) }
-        ensures adds { OnOk result (Adds commit.0 paint self.old.coats.all
-            self.new.coats.all) }
+        ensures adds { OnOk result (Adds commit.0 paint self.old.coats.all.items
+            self.new.coats.all.items) }
         ensures level { OnOk result ((t : Told) (level : ℕ) → S.says commits.new t
             → generation_at t.history commit.0 ≤ level
-            → IsLevel t.history self.old.coats.all (heap_items self.old.queue) level
-            → IsLevel t.history self.new.coats.all (heap_items self.new.queue) level) }
-        ensures work { OnOk result (work self.new.coats.all (heap_items self.new.queue)
-            ≤ work self.old.coats.all (heap_items self.old.queue)) }
+            → IsLevel t.history self.old.coats.all.items (heap_items self.old.queue) level
+            → IsLevel t.history self.new.coats.all.items (heap_items self.new.queue) level) }
+        ensures work { OnOk result (work self.new.coats.all.items (heap_items self.new.queue)
+            ≤ work self.old.coats.all.items (heap_items self.old.queue)) }
         ensures failed { IfErr result (λ e. S.may_fail (S.known commits.old) e
             ⊎ S.Error.from_gives alloc_error e) }
     {
@@ -164,7 +164,7 @@ impl<'p> Painting<'p> {
         self.enqueue(commits, commit)?;
         self.add_candidate(commit, paint)?;
         let queued = true;
-        self.coats.set(commit, Coat { paint, queued })?;
+        self.coats.set(commit, Coat { paint, queued });
         Ok(())
     }
 
@@ -174,34 +174,34 @@ impl<'p> Painting<'p> {
         requires painting { IsPainting (S.count (S.known commits.old)) self.old }
         requires told { (t : Told) → S.says commits.old t → IsPaintingOf t.history self.old }
         requires spread { (t : Told) → S.says commits.old t → IsSpread t.history self.old.first.0
-            (numbers_of self.old.others.now) self.old.coats.all }
+            (numbers_of self.old.others.now) self.old.coats.all.items }
         requires level { (t : Told) → S.says commits.old t → CountWalks t.history → (level : ℕ)
-            × IsLevel t.history self.old.coats.all (heap_items self.old.queue) level }
+            × IsLevel t.history self.old.coats.all.items (heap_items self.old.queue) level }
         requires lists { ArePassed (S.says commits.old) self.old }
         ensures known { S.known commits.new ≡ S.known commits.old }
         ensures kept { (t : Told) → S.says commits.new t → S.says commits.old t }
         ensures first { self.new.first ≡ self.old.first }
         ensures others { self.new.others.now ≡ self.old.others.now }
         ensures len { OnOk result
-            (length self.new.coats.all ≡ S.count (S.known commits.old)) }
+            (length self.new.coats.all.items ≡ S.count (S.known commits.old)) }
         ensures counted { OnOk result (IsCounted self.new.coats) }
-        ensures touched { OnOk result (AreTouched self.new.coats.all self.new.taken.items
+        ensures touched { OnOk result (AreTouched self.new.coats.all.items self.new.taken.items
             (heap_items self.new.queue)) }
-        ensures candidates { OnOk result (AreCandidates self.new.coats.all
+        ensures candidates { OnOk result (AreCandidates self.new.coats.all.items
             self.new.candidates.items) }
         ensures paint { OnOk result ((t : Told) → S.says commits.new t
             → IsPaint t.history self.old.first.0 (numbers_of self.old.others.now)
-            self.new.coats.all) }
+            self.new.coats.all.items) }
         ensures spread { OnOk result ((t : Told) → S.says commits.new t
             → IsSpread t.history self.old.first.0 (numbers_of self.old.others.now)
-            self.new.coats.all) }
-        ensures count { OnOk result (IsVisitCount self.new.coats.all self.new.visits) }
+            self.new.coats.all.items) }
+        ensures count { OnOk result (IsVisitCount self.new.coats.all.items self.new.visits) }
         ensures visiting { OnOk result ((t : Told) → S.says commits.new t → CountWalks t.history
             → AreBelowCap t.history self.old.first.0 (numbers_of self.old.others.now)
             → IsVisiting t.history self.old.first.0 (numbers_of self.old.others.now)
-            self.new.coats.all self.new.visits) }
+            self.new.coats.all.items self.new.visits) }
         ensures done { OnOk result ((t : Told) → S.says commits.new t → CountWalks t.history
-            → IsDone t.history self.new.coats.all) }
+            → IsDone t.history self.new.coats.all.items) }
         ensures failed { IfErr result (λ e. S.may_fail (S.known commits.old) e
             ⊎ S.Error.from_gives alloc_error e) }
     {
@@ -215,7 +215,7 @@ impl<'p> Painting<'p> {
             let commit = Position(next.1);
             let paint = self.coats.at(commit).paint;
             let queued = false;
-            self.coats.set(commit, Coat { paint, queued })?;
+            self.coats.set(commit, Coat { paint, queued });
             self.visits = self.visits.saturating_add(1);
             self.visit(commits, commit, paint)?;
         }
@@ -226,9 +226,9 @@ impl<'p> Painting<'p> {
     pub(crate) fn divergence(&self) -> Divergence
         requires { IsCounted self.now.coats }
         ensures ahead { result.ahead
-            ≡ count_by (λ coat. is_ahead coat.paint) self.now.coats.all }
+            ≡ count_by (λ coat. is_ahead coat.paint) self.now.coats.all.items }
         ensures behind { result.behind
-            ≡ count_by (λ coat. is_behind coat.paint) self.now.coats.all }
+            ≡ count_by (λ coat. is_behind coat.paint) self.now.coats.all.items }
     {
         Divergence {
             ahead: self.coats.ahead,
@@ -245,12 +245,12 @@ impl<'p> Painting<'p> {
 
     /// The commits that are merge bases as far as is known, in the order of their positions.
     pub(crate) fn bases(&mut self, alloc: Global) -> Result<Vec<Position>, AllocError>
-        requires { AreCandidates self.old.coats.all self.old.candidates.items }
+        requires { AreCandidates self.old.coats.all.items self.old.candidates.items }
         ensures coats { self.new.coats ≡ self.old.coats }
         ensures queue { heap_items self.new.queue ≡ heap_items self.old.queue }
         ensures taken { self.new.taken.items ≡ self.old.taken.items }
         ensures visits { self.new.visits ≡ self.old.visits }
-        ensures bases { IfOk result (λ bases. AreBases self.old.coats.all
+        ensures bases { IfOk result (λ bases. AreBases self.old.coats.all.items
             (numbers_of bases.items)) }
     {
         self.candidates.sort_unstable();
@@ -266,8 +266,8 @@ impl<'p> Painting<'p> {
 
     /// The coats, all of them bare again. Only the commits that were painted are gone over.
     pub(crate) fn into_coats(self) -> Coats
-        requires { AreTouched self.coats.all self.taken.items (heap_items self.queue) }
-        ensures { AreIdle (length self.entry.coats.all) result }
+        requires { AreTouched self.coats.all.items self.taken.items (heap_items self.queue) }
+        ensures { AreIdle (length self.entry.coats.all.items) result }
     {
         let Painting {
             mut coats,
@@ -298,16 +298,16 @@ pub(crate) fn paint_from<'p, S: CommitSource>(
     requires others { All (λ other. other.0 < S.count (S.known commits.old)) others.now }
     ensures known { S.known commits.new ≡ S.known commits.old }
     ensures kept { (t : Told) → S.says commits.new t → S.says commits.old t }
-    ensures len { IfOk result (λ s. length s.coats.all ≡ S.count (S.known commits.old)) }
+    ensures len { IfOk result (λ s. length s.coats.all.items ≡ S.count (S.known commits.old)) }
     ensures counted { IfOk result (λ s. IsCounted s.coats) }
-    ensures touched { IfOk result (λ s. AreTouched s.coats.all s.taken.items
+    ensures touched { IfOk result (λ s. AreTouched s.coats.all.items s.taken.items
         (heap_items s.queue)) }
-    ensures candidates { IfOk result (λ s. AreCandidates s.coats.all s.candidates.items) }
+    ensures candidates { IfOk result (λ s. AreCandidates s.coats.all.items s.candidates.items) }
     ensures paint { IfOk result (λ s. (t : Told) → S.says commits.new t
-        → IsPaint t.history first.0 (numbers_of others.now) s.coats.all) }
+        → IsPaint t.history first.0 (numbers_of others.now) s.coats.all.items) }
     ensures most { IfOk result (λ s. s.visits ≤ 3 * S.count (S.known commits.old)) }
     ensures painted { IfOk result (λ s. (t : Told) → S.says commits.new t → CountWalks t.history
-        → IsPainted t.history first.0 (numbers_of others.now) s.coats.all) }
+        → IsPainted t.history first.0 (numbers_of others.now) s.coats.all.items) }
     ensures visits { IfOk result (λ s. (t : Told) → S.says commits.new t → CountWalks t.history
         → AreVisits t.history first.0 (numbers_of others.now) s.visits) }
     ensures failed { IfErr result (λ e. S.may_fail (S.known commits.old) e

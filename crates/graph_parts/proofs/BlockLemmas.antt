@@ -3,16 +3,17 @@ use Rattle.std.proofs.Common.{◌≡◌, ℕ, suc, zero, ◌+◌, ◌-◌, ◌*�
 use Rattle.std.proofs.Common.{◌↔◌, true, false}
 use Rattle.std.proofs.Common.{Option, Some, None, Vec, slice_range, refl, sym, ap, subst, ◌∙◌, arith, inl, inr, get_or}
 use Rattle.std.proofs.Common.{if◌then◌else◌}
-use Rattle.std.specs.HashMap.{HashMap, IsEmpty, IsUnchanged, Updates, get}
+use Rattle.std.specs.BTreeMap.{IsEmpty, IsUnchanged, Updates, get, is_at}
 use Rattle.std.specs.Global.{Global}
 use Rattle.std.specs.List.{slice_get}
 use Rattle.std.specs.Map.{lookup}
 use Rattle.std.specs.Option.{ForSome, IfNone, IfSome, IsSomeAnd, is_some}
-use Rattle.std.specs.Prelude.{nat_eq}
+use Rattle.std.specs.Ordering.{is_eq, nat_cmp}
+use Rattle.std.specs.declared.cmp.Ordering.{Ordering}
+use Rattle.std.specs.declared.cmp.Ordering.TheVariants.{Less, Equal, Greater}
 use Rattle.std.proofs.Math.ListN.{set}
 use Rattle.std.proofs.Math.Nat.{mul-add, mul-le-mul_left}
-use Rattle.std.proofs.lemmas.Bool.{eqb-true}
-use Rattle.std.proofs.lemmas.Map.{update_other}
+use Rattle.std.proofs.lemmas.Map.Lookups.{exact_unsigned}
 use Rattle.std.proofs.lemmas.Option.{same_Some, slice_get_read, slice_get_within}
 use Rattle.graph_format.proofs.PieceLemmas.{slice_range-slice_range}
 use Rattle.graph_folder.specs.Tree.{Tree, file_at}
@@ -186,14 +187,14 @@ adds-block old grown new number block before room none place alone is = record {
         ]
     only (Alone k) b keeps = inl ((before.same (Alone k) b).0 (rw alone at keeps))
 
--- another piece alone is as it was
-since : {S : Type 0} (m n : HashMap ℕ (Vec ℕ Global) S) (index : ℕ) (piece : Vec ℕ Global)
-    → Updates nat_eq m n index (Some piece) → (k : ℕ) → nat_eq index k ≡ false → get nat_eq n k ≡ get nat_eq m k
-since m n index piece updates k apart = updates.0 k ∙ update_other nat_eq (get nat_eq m) index (Some piece) k apart
+equal-if : (o : Ordering) → is_eq o ≡ true → o ≡ Equal
+equal-if Less is = let clash : false ≡ true = is in cc
+equal-if Equal is = refl
+equal-if Greater is = let clash : false ≡ true = is in cc
 
 -- a piece is put alone where none is kept so
 pub adds-alone : (old new : Pieces) (index : ℕ) (piece : Vec ℕ Global) → LacksStretch old (Alone index) → new.place ≡ old.place
-    → new.blocks ≡ old.blocks → Updates nat_eq old.alone new.alone index (Some piece) → AddsStretch old new (Alone index) piece
+    → new.blocks ≡ old.blocks → Updates nat_cmp old.alone new.alone index (Some piece) → AddsStretch old new (Alone index) piece
 adds-alone old new index piece none place blocks updates = record {
   place = place;
   stays = stays;
@@ -201,30 +202,30 @@ adds-alone old new index piece none place blocks updates = record {
   there = updates.1;
 }
   where
-    stays-by : (k : ℕ) (b : Vec ℕ Global) → get nat_eq old.alone k ≡ Some b → (v : Bool) → nat_eq index k ≡ v
-        → get nat_eq new.alone k ≡ Some b
+    stays-by : (k : ℕ) (b : Vec ℕ Global) → get nat_cmp old.alone k ≡ Some b → (v : Bool) → is_at (nat_cmp index) k ≡ v
+        → get nat_cmp new.alone k ≡ Some b
     stays-by k b keeps true here =
-        let same : index ≡ k = eqb-true index k here in
-        absurd (none b (subst (λ (n : ℕ). get nat_eq old.alone n ≡ Some b) (sym same) keeps))
-    stays-by k b keeps false apart = since old.alone new.alone index piece updates k apart ∙ keeps
+        let same : index ≡ k = exact_unsigned index k (equal-if (nat_cmp index k) here) in
+        absurd (none b (subst (λ (n : ℕ). get nat_cmp old.alone n ≡ Some b) (sym same) keeps))
+    stays-by k b keeps false apart = updates.2 k apart ∙ keeps
 
     stays : (s : Stretch) (b : Vec ℕ Global) → HasStretch old s b → HasStretch new s b
     stays (Block k) b keeps = rw blocks keeps
-    stays (Alone k) b keeps = stays-by k b keeps (nat_eq index k) refl
+    stays (Alone k) b keeps = stays-by k b keeps (is_at (nat_cmp index) k) refl
 
-    only-by : (k : ℕ) (b : Vec ℕ Global) → get nat_eq new.alone k ≡ Some b → (v : Bool) → nat_eq index k ≡ v
+    only-by : (k : ℕ) (b : Vec ℕ Global) → get nat_cmp new.alone k ≡ Some b → (v : Bool) → is_at (nat_cmp index) k ≡ v
         → HasStretch old (Alone k) b ⊎ ((Alone k ≡ Alone index) × (b ≡ piece))
     only-by k b keeps true here =
-        let same : index ≡ k = eqb-true index k here in
+        let same : index ≡ k = exact_unsigned index k (equal-if (nat_cmp index k) here) in
         let at : Some piece ≡ Some b =
-        sym updates.1 ∙ ap (λ (n : ℕ). get nat_eq new.alone n) same ∙ keeps in
+        sym updates.1 ∙ ap (λ (n : ℕ). get nat_cmp new.alone n) same ∙ keeps in
         inr (ap Alone (sym same), sym (same_Some _ _ at))
-    only-by k b keeps false apart = inl (sym (since old.alone new.alone index piece updates k apart) ∙ keeps)
+    only-by k b keeps false apart = inl (sym (updates.2 k apart) ∙ keeps)
 
     only : (s : Stretch) (b : Vec ℕ Global) → HasStretch new s b
         → HasStretch old s b ⊎ ((s ≡ Alone index) × (b ≡ piece))
     only (Block k) b keeps = inl (rw blocks at keeps)
-    only (Alone k) b keeps = only-by k b keeps (nat_eq index k) refl
+    only (Alone k) b keeps = only-by k b keeps (is_at (nat_cmp index) k) refl
 
 -- no piece more was put alone
 pub same-alone : (old new : Pieces) → new.place ≡ old.place → new.blocks ≡ old.blocks → IsUnchanged old.alone new.alone
@@ -234,7 +235,7 @@ same-alone old new place blocks is = record { place = place; same = same }
     same : (s : Stretch) (b : Vec ℕ Global) → HasStretch new s b ↔ HasStretch old s b
     same (Block k) b = ((λ keeps. rw blocks at keeps), (λ keeps. rw blocks keeps))
     same (Alone k) b =
-        let alike : get nat_eq new.alone k ≡ get nat_eq old.alone k = ap (lookup (nat_eq k)) is in
+        let alike : get nat_cmp new.alone k ≡ get nat_cmp old.alone k = ap (lookup (is_at (nat_cmp k))) is in
         ((λ keeps. sym alike ∙ keeps), (λ keeps. alike ∙ keeps))
 
 -- a piece of a block that is a file's is the file's
@@ -295,7 +296,7 @@ if-missing (Some x) P says missed = let clash : true ≡ false = missed in cc
 
 -- a piece that is kept alone
 pub alone-there : (pieces : Pieces) (index : ℕ) (o : Option (Vec ℕ Global)) (piece : Vec ℕ Global)
-    → o ≡ get nat_eq pieces.alone index → o ≡ Some piece → HasStretch pieces (Alone index) piece
+    → o ≡ get nat_cmp pieces.alone index → o ≡ Some piece → HasStretch pieces (Alone index) piece
 alone-there pieces index o piece is found = sym is ∙ found
 
 pub alone-fits : (pieces : Pieces) (index : ℕ) (piece : Vec ℕ Global) → AreSized pieces
@@ -311,13 +312,13 @@ alone-of pieces index piece file of keeps =
     ∙ ap (λ (n : ℕ). slice_range file (pieces.place.start + pieces.place.size * index) n) (omega arith)
 
 -- neither is kept
-pub lacks-both : (pieces : Pieces) (index : ℕ) (o : Option (Vec ℕ Global)) → o ≡ get nat_eq pieces.alone index → o ≡ None
+pub lacks-both : (pieces : Pieces) (index : ℕ) (o : Option (Vec ℕ Global)) → o ≡ get nat_cmp pieces.alone index → o ≡ None
     → LacksStretch pieces (Block (index / BLOCK_LEN)) → (stretch : Stretch) → IsPieceOf stretch index
     → LacksStretch pieces stretch
 lacks-both pieces index o is missed none (Block number) of other keeps =
     none other (subst (λ (n : ℕ). HasStretch pieces (Block n) other) of keeps)
 lacks-both pieces index o is missed none (Alone one) of other keeps =
-    let at : get nat_eq pieces.alone index ≡ Some other = subst (λ (n : ℕ). get nat_eq pieces.alone n ≡ Some other) of keeps in
+    let at : get nat_cmp pieces.alone index ≡ Some other = subst (λ (n : ℕ). get nat_cmp pieces.alone n ≡ Some other) of keeps in
     let clash : None ≡ Some other = sym missed ∙ is ∙ at in cc
 
 -- nothing was read

@@ -1,9 +1,10 @@
 -- The pieces that lie one after another in a file, and what is kept of them.
 use Rattle.std.specs.Prelude.{◌≡◌, ◌↔◌, ◌⊎◌, ℕ, ◌+◌, ◌-◌, ◌*◌, ◌/◌, ◌≤◌, List, Option, Some, Vec}
-use Rattle.std.specs.Prelude.{length, min, nat_eq, slice_get, slice_range}
-use Rattle.std.specs.HashMap.{get}
+use Rattle.std.specs.Prelude.{length, min, slice_get, slice_range}
+use Rattle.std.specs.BTreeMap.{get}
 use Rattle.std.specs.Global.{Global}
 use Rattle.std.specs.Option.{ForSome}
+use Rattle.std.specs.Ordering.{nat_cmp}
 use Rattle.graph_folder.specs.Tree.{Tree, file_at}
 use Rattle.graph_parts.specs.declared.pieces.TheConstants.{BLOCK_LEN}
 use Rattle.graph_parts.specs.declared.pieces.Pieces.{Pieces}
@@ -41,7 +42,7 @@ IsPieceOf (Alone one) index = one ≡ index
 -- the stretch is kept, with these bytes
 abbrev pub HasStretch : Pieces → Stretch → Vec ℕ Global → Type 0
 HasStretch pieces (Block number) bytes = slice_get pieces.blocks.items number ≡ Some (Some bytes)
-HasStretch pieces (Alone index) bytes = get nat_eq pieces.alone index ≡ Some bytes
+HasStretch pieces (Alone index) bytes = get nat_cmp pieces.alone index ≡ Some bytes
 
 -- it is not kept
 abbrev pub LacksStretch : Pieces → Stretch → Type 0

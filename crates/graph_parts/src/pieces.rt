@@ -15,7 +15,7 @@ ghost use Rattle.graph_parts.specs.declared.pieces.Stretch.TheVariants.{Alone, B
 use graph_find::reading::read_range;
 use graph_folder::folder::{Folder, ReadError};
 use std::alloc::Global;
-use std::collections::HashMap;
+use std::collections::BTreeMap;
 
 /// How many pieces a block has, but for the last one.
 pub const BLOCK_LEN: usize = 128;
@@ -43,7 +43,7 @@ pub(crate) enum Stretch {
 pub(crate) struct Pieces {
     pub(crate) place: Place,
     most_alone: usize,
-    alone: HashMap<usize, Vec<u8>>,
+    alone: BTreeMap<usize, Vec<u8>>,
     blocks: Vec<Option<Vec<u8>>>,
 }
 
@@ -57,7 +57,7 @@ impl Pieces {
         Pieces {
             place,
             most_alone,
-            alone: HashMap::new(alloc),
+            alone: BTreeMap::new(alloc),
             blocks: Vec::new(alloc),
         }
     }

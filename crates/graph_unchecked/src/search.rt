@@ -47,7 +47,7 @@ pub(crate) fn leads<T: Folder>(
         folder,
         parts,
     };
-    AnySearcher::for_few(alloc).is_ancestor(&mut commits, first, second)
+    AnySearcher::new(alloc).is_ancestor(&mut commits, first, second)
 }
 
 /// The ids on a walk along parents from the first commit to the second.
@@ -99,7 +99,7 @@ fn walk_between<T: Folder>(
         folder,
         parts,
     };
-    let reached = AnySearcher::for_few(alloc).ancestor_walk(&mut commits, first, second)?;
+    let reached = AnySearcher::new(alloc).ancestor_walk(&mut commits, first, second)?;
     Ok(reached.walk)
 }
 
@@ -151,5 +151,5 @@ fn bases_of<T: Folder>(
         folder,
         parts,
     };
-    AnyComparer::for_few(alloc).compare(&mut commits, first, others)
+    AnyComparer::new(alloc).compare(&mut commits, first, others)
 }

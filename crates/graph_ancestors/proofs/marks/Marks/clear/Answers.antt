@@ -1,19 +1,19 @@
-use Rattle.std.proofs.Common.{◌∙◌, subst}
+use Rattle.std.proofs.Common.{◌/◌, subst, arith}
+use Rattle.std.proofs.lemmas.List.{length-set}
 use Rattle.graph_ancestors.proofs.MarkLemmas.{AreLeft, are_left-clear, inside_left}
 use Rattle.graph_ancestors.proofs.marks.Marks.clear.Goals as goal
 
-pub take-requires : goal.take-requires
-take-requires c =
+pub index_mut-requires : goal.index_mut-requires
+index_mut-requires c =
     let a = c.loop-marked.self-inside in
-    let left = subst (AreLeft a.numbers) c.in-Some.ensures.items c.loop-marked.invariant.left in
-    inside_left a.numbers c.pop.new.self.items c.in-Some.marked left
+    let left = subst (AreLeft a.bits.items) c.in-Some.ensures.items c.loop-marked.invariant.left in
+    omega (arith, inside_left a.bits.items c.pop.new.self.items c.in-Some.marked left)
 
 pub loop-marked-preserved : goal.loop-marked-preserved
 loop-marked-preserved c =
     let a = c.loop-marked.self-inside in
-    let left = subst (AreLeft a.numbers) c.in-Some.ensures.items c.loop-marked.invariant.left in
+    let left = subst (AreLeft a.bits.items) c.in-Some.ensures.items c.loop-marked.invariant.left in
     record {
-      bound = c.take.ensures.bound ∙ c.loop-marked.invariant.bound;
-      left = are_left-clear a.numbers c.take.new.self c.pop.new.self.items c.in-Some.marked c.take.ensures.bound
-          c.take.ensures.here c.take.ensures.no_more left;
+      bound = omega (arith, c.loop-marked.invariant.bound, length-set a.bits.items (c.in-Some.marked.number / 64) 0);
+      left = are_left-clear a.bits.items c.pop.new.self.items c.in-Some.marked left;
     }

@@ -1,12 +1,11 @@
-use Rattle.std.proofs.Common.{◌≡◌, length}
-use Rattle.graph_ancestors.specs.Numbers.{number_bound}
+use Rattle.std.proofs.Common.{◌≡◌, ◌*◌, length}
 use Rattle.graph_ancestors.proofs.MarkLemmas.{AreLeft}
 use Rattle.graph_ancestors.proofs.marks.Marks.clear.Given as goal
 
 abbrev pub invariant-loop-marked : goal.invariant-loop-marked
 invariant-loop-marked l = record {
-  bound : number_bound l.self-inside.numbers ≡ l.fn.self.bound;
-  left : AreLeft l.self-inside.numbers l.self-inside.marked.items;
+  bound : 64 * length l.self-inside.bits.items ≡ l.fn.self.bound;
+  left : AreLeft l.self-inside.bits.items l.self-inside.marked.items;
 }
 
 abbrev pub decreases-loop-marked : goal.decreases-loop-marked

@@ -6,7 +6,7 @@ use Rattle.graph_history.proofs.paint.Coats.into_idle.Goals as goal
 
 pub returns : goal.returns
 returns c =
-    let coats = c.args.self.all in
+    let coats = c.args.self.all.items in
     let none : (t : Coat → Bool) → t bare ≡ false → 0 ≡ count_by t coats = λ t unmet.
     sym (none_counted [] 0 [] coats c.requires t unmet) in
     record {

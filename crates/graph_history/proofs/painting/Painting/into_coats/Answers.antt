@@ -9,7 +9,7 @@ loop-next-preserved c =
     record {
       len = e.len ∙ l.invariant.len;
       touched =
-          touched_uncovered l.coats.all c.uncover.new.self.all c.args.self.taken.items c.args.self.taken.items
+          touched_uncovered l.coats.all.items c.uncover.new.self.all.items c.args.self.taken.items c.args.self.taken.items
           (heap_items l.queue) (heap_items c.pop.new.self) c.in-Some.next c.in-Some.ensures.permutation e.there
           l.invariant.touched refl e.here;
     }
@@ -22,7 +22,7 @@ loop-number-preserved c =
       len = e.len ∙ l.invariant.len;
       empty = l.invariant.empty;
       touched =
-          touched_popped l.coats.all c.uncover-in-Some-pop.new.self.all l.taken.items
+          touched_popped l.coats.all.items c.uncover-in-Some-pop.new.self.all.items l.taken.items
           c.pop-in-loop-number.new.self.items (heap_items c.pop.new.self) c.in-Some-pop.number c.in-Some-pop.ensures.items
           e.there e.here l.invariant.touched;
     }

@@ -5,8 +5,8 @@ use Rattle.graph_history.proofs.painting.Painting.into_coats.Given as goal
 -- all that are not bare yet are found
 abbrev pub invariant-loop-next : goal.invariant-loop-next
 invariant-loop-next l = record {
-  len : length l.coats.all ≡ length l.fn.self.coats.all;
-  touched : AreTouched l.coats.all l.taken.items (heap_items l.queue);
+  len : length l.coats.all.items ≡ length l.fn.self.coats.all.items;
+  touched : AreTouched l.coats.all.items l.taken.items (heap_items l.queue);
 }
 
 abbrev pub decreases-loop-next : goal.decreases-loop-next
@@ -14,9 +14,9 @@ decreases-loop-next l = length (heap_items l.queue)
 
 abbrev pub invariant-loop-number : goal.invariant-loop-number
 invariant-loop-number l = record {
-  len : length l.coats.all ≡ length l.fn.self.coats.all;
+  len : length l.coats.all.items ≡ length l.fn.self.coats.all.items;
   empty : length (heap_items l.queue) ≡ 0;
-  touched : AreTouched l.coats.all l.taken.items (heap_items l.queue);
+  touched : AreTouched l.coats.all.items l.taken.items (heap_items l.queue);
 }
 
 abbrev pub decreases-loop-number : goal.decreases-loop-number

@@ -9,7 +9,7 @@ use Rattle.graph_history.proofs.painting.Painting.new.Goals as goal
 
 pub returns-clause-painting : goal.returns-clause-painting
 returns-clause-painting c =
-    let coats = c.args.coats.all in
+    let coats = c.args.coats.all.items in
     let e = c.requires.idle in
     record {
       few = c.requires.few;
@@ -25,7 +25,7 @@ pub returns-clause-told : goal.returns-clause-told
 returns-clause-told c = λ h len.
     let a = c.args.first.0 in
     let bs = numbers_of c.args.others.now in
-    let coats = c.args.coats.all in
+    let coats = c.args.coats.all.items in
     let e = c.requires.idle in
     record {
       paint = paint_none h a bs coats e.bare (sym len);

@@ -1,7 +1,7 @@
 -- The piece lies in its block, or is kept alone.
 use Rattle.std.proofs.Common.{◌≡◌, ◌∙◌, ◌/◌, List, ℕ, Some, ap, arith, length, refl, sym}
-use Rattle.std.specs.HashMap.{get}
-use Rattle.std.specs.Prelude.{nat_eq}
+use Rattle.std.specs.BTreeMap.{get}
+use Rattle.std.specs.Ordering.{nat_cmp}
 use Rattle.graph_parts.specs.declared.pieces.Stretch.TheVariants.{Alone, Block}
 use Rattle.graph_parts.proofs.BlockLemmas.{alone-fits, alone-of, piece-fits, piece-of}
 use Rattle.graph_parts.proofs.pieces.Pieces.kept.Goals as goal
@@ -41,18 +41,18 @@ returns-in-Some-clause-some c =
 
 pub returns-in-Some-get-clause-size : goal.returns-in-Some-get-clause-size
 returns-in-Some-get-clause-size c =
-    let has : get nat_eq c.args.self.now.alone c.args.index ≡ Some c.in-Some-get.piece.now =
+    let has : get nat_cmp c.args.self.now.alone c.args.index ≡ Some c.in-Some-get.piece.now =
     sym (rw c.in-Some-get.is at c.get.ensures.value) in
     ap (λ (xs : List ℕ). length xs) c.deref.ensures.value
     ∙ alone-fits c.args.self.now c.args.index c.in-Some-get.piece.now c.requires.sized has
 
 pub returns-in-Some-get-clause-piece : goal.returns-in-Some-get-clause-piece
 returns-in-Some-get-clause-piece c = λ file of.
-    let has : get nat_eq c.args.self.now.alone c.args.index ≡ Some c.in-Some-get.piece.now =
+    let has : get nat_cmp c.args.self.now.alone c.args.index ≡ Some c.in-Some-get.piece.now =
     sym (rw c.in-Some-get.is at c.get.ensures.value) in
     c.deref.ensures.value ∙ alone-of c.args.self.now c.args.index c.in-Some-get.piece.now file of has
 
 pub returns-in-Some-get-clause-some : goal.returns-in-Some-get-clause-some
 returns-in-Some-get-clause-some c =
-    let has : get nat_eq c.args.self.now.alone c.args.index ≡ Some c.in-Some-get.piece.now =
+    let has : get nat_cmp c.args.self.now.alone c.args.index ≡ Some c.in-Some-get.piece.now =
     sym (rw c.in-Some-get.is at c.get.ensures.value) in (Alone c.args.index, c.in-Some-get.piece.now, refl, has)
