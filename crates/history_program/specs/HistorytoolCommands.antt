@@ -13,6 +13,7 @@ use Rattle.show_commands.specs.Show.{MayShow, show_text, show_status}
 use Rattle.object_commands.specs.CommitIds.{MayListIds, ids_text, ids_status}
 use Rattle.object_commands.specs.ComparedObjects.{MayCompareObjects, objects_text, objects_status}
 use Rattle.question_commands.specs.Asking.{MayAsk, ask_text, ask_status}
+use Rattle.question_commands.specs.Trusting.{MayAskTrusted, trusted_text, trusted_status}
 use Rattle.write_commands.specs.WrittenCommits.{MayWriteLayer, written_text, written_status}
 use Rattle.merge_commands.specs.MergedCommits.{MayMerge}
 use Rattle.history_commands.specs.Check.{MayFindInAll, check_text, check_status}
@@ -25,7 +26,7 @@ use Rattle.unchecked_commands.specs.UncheckedBases.{MayCompareUnchecked, told_ba
 use Rattle.unchecked_commands.specs.UncheckedWalk.{MayWalkUnchecked}
 use Rattle.history_program.specs.declared.command.Command.TheVariants as command
 
--- these are the words of a question about ids in the graph at the path, after the program's own name: the word `--unchecked`
+-- these are the words of a command about ids, or none, in the graph at the path, after the program's own name: the word `--unchecked`
 -- before the path says that the graph is not to be checked, and is no path itself
 abbrev pub AreQuestionWords : List ℕ → Bool → List ℕ → List (List ℕ) → List (List ℕ) → Type 0
 AreQuestionWords name false path ids words = (words ≡ name ∷ path ∷ ids) × (path ≢ codes "--unchecked")
@@ -56,7 +57,8 @@ AskAfterName help version words (command.MergeBaseIdsUnchecked group) =
     × (group.others.now ≢ [])
 AskAfterName help version words (command.Check path) = words ≡ codes "check" ∷ path.now ∷ []
 AskAfterName help version words (command.Show path) = words ≡ codes "show" ∷ path.now ∷ []
-AskAfterName help version words (command.Ask path) = words ≡ codes "ask" ∷ path.now ∷ []
+AskAfterName help version words (command.Ask path) = AreQuestionWords (codes "ask") false path.now [] words
+AskAfterName help version words (command.AskUnchecked path) = AreQuestionWords (codes "ask") true path.now [] words
 AskAfterName help version words (command.Ids path None) = words ≡ codes "ids" ∷ path.now ∷ []
 AskAfterName help version words (command.Ids path (Some range)) =
     (from to : List ℕ) × (words ≡ codes "ids" ∷ path.now ∷ from ∷ to ∷ []) × SpellsRange from to range
@@ -120,6 +122,8 @@ HistorytoolMayWrite (command.Show path) input unread IsLeftAlone MayOpenAt befor
     WritesAnswer show_text show_status (MayShow (MayOpenAt path.now before after)) old new status
 HistorytoolMayWrite (command.Ask path) input unread IsLeftAlone MayOpenAt before after old new status =
     WritesAnswer ask_text ask_status (MayAsk (MayOpenAt path.now) before after input unread) old new status
+HistorytoolMayWrite (command.AskUnchecked path) input unread IsLeftAlone MayOpenAt before after old new status =
+    WritesAnswer trusted_text trusted_status (MayAskTrusted (MayOpenAt path.now) before after input unread) old new status
 HistorytoolMayWrite (command.Ids path range) input unread IsLeftAlone MayOpenAt before after old new status =
     WritesAnswer ids_text ids_status (MayListIds range (MayOpenAt path.now before after)) old new status
 HistorytoolMayWrite (command.Objects path range) input unread IsLeftAlone MayOpenAt before after old new status =

@@ -17,13 +17,13 @@ use std::{env, io};
 
 const USAGE: &str = "usage: historytool is-ancestor [--unchecked] PATH HEX HEX \
     | walk [--unchecked] PATH HEX HEX | merge-base [--unchecked] PATH HEX HEX.. \
-    | merge-base-ids [--unchecked] PATH HEX HEX.. | check PATH | show PATH | ask PATH \
+    | merge-base-ids [--unchecked] PATH HEX HEX.. | check PATH | show PATH | ask [--unchecked] PATH \
     | ids PATH [FROM TO] | objects PATH [FROM TO] | write [PATH] | merge PATH \
     | --help | --version";
 
 const HELP: &str = "usage: historytool is-ancestor [--unchecked] PATH HEX HEX \
     | walk [--unchecked] PATH HEX HEX | merge-base [--unchecked] PATH HEX HEX.. \
-    | merge-base-ids [--unchecked] PATH HEX HEX.. | check PATH | show PATH | ask PATH \
+    | merge-base-ids [--unchecked] PATH HEX HEX.. | check PATH | show PATH | ask [--unchecked] PATH \
     | ids PATH [FROM TO] | objects PATH [FROM TO] | write [PATH] | merge PATH \
     | --help | --version\n\
     \n\

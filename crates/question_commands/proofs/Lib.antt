@@ -4,3 +4,5 @@ pub mod ReplyLemmas
 pub mod AskingLemmas
 pub mod ReloadLemmas
 pub mod TakingLemmas
+pub mod PartReplyLemmas
+pub mod TrustingLemmas

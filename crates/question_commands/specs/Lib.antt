@@ -7,3 +7,5 @@ pub mod Asking
 pub mod Ending
 pub mod Proceeding
 pub mod TakenAnew
+pub mod Trusting
+pub mod PartReplies

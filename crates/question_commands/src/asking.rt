@@ -120,7 +120,7 @@ fn write_taken<W: Write>(writer: &mut W, graph: &CheckedGraph) -> Result<(), Wri
 }
 
 /// Writes why a graph was not taken, and an empty line.
-fn write_refused<W: Write>(writer: &mut W, refusal: &Refusal) -> Result<(), WriteFailed>
+pub(crate) fn write_refused<W: Write>(writer: &mut W, refusal: &Refusal) -> Result<(), WriteFailed>
     ensures { OnOk result (Appends (W.contents writer.old) (W.contents writer.new)
         (taken_line (Err refusal.now) ⧺ newline)) }
 {
@@ -324,7 +324,7 @@ fn answer<W: Write>(
 }
 
 /// Adds an empty line to an answer, writes the whole and flushes it. It answers that this was done.
-fn finish<W: Write>(block: &mut Block, writer: &mut W) -> Result<bool, WriteFailed>
+pub(crate) fn finish<W: Write>(block: &mut Block, writer: &mut W) -> Result<bool, WriteFailed>
     ensures written { OnOk result (Appends (with_block (W.contents writer.old) block.old)
         (W.contents writer.new) newline) }
     ensures block { OnOk result (block.new ≡ []) }

@@ -6,9 +6,11 @@
 #![tactic(auto)]
 
 pub mod asking;
+mod by_parts;
 pub mod lines;
 mod place;
 pub mod question;
 mod taking;
 pub mod telling;
+pub mod trusting;
 mod words;

@@ -130,7 +130,7 @@ fn tell_found<W: Write>(
 }
 
 /// Adds the line of a commit that was found, or that there is none.
-fn push_found<W: Write>(
+pub(crate) fn push_found<W: Write>(
     block: &mut Block,
     writer: &mut W,
     found: Option<Found>,
@@ -446,7 +446,7 @@ fn push_bases<W: Write>(
 }
 
 /// Adds how many commits are ahead and behind, and how many were visited.
-fn push_counts<W: Write>(
+pub(crate) fn push_counts<W: Write>(
     block: &mut Block,
     writer: &mut W,
     comparison: &Comparison,

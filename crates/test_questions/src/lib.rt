@@ -15,3 +15,5 @@ mod reloading;
 mod replacing;
 #[cfg(test)]
 mod rows;
+#[cfg(test)]
+mod trusting;

@@ -1,6 +1,8 @@
 //! Questions about five commits, and their answers.
 
 use crate::fixtures::{A, B, C, D, E, FIVE, FIVE_OK, Flushed, NONE, ask, expect_told};
+use std::alloc::Global;
+use std::process::Abort;
 
 /// A question, and the lines of its answer.
 type Row<'a> = (&'a [&'a str], &'a [&'a str]);
@@ -54,27 +56,33 @@ const ROWS: &[Row<'static>] = &[
     (&["reload", A], &["refused question"]),
 ];
 
-#[test]
-fn each_question_is_answered(rt: HostRuntime) {
-    let alloc = rt.alloc();
+/// All questions, one a line, and what is told of them, the line of the graph first. Each question
+/// comes twice, so that what one of them marks would be seen by the next.
+pub(crate) fn asked(rt: &impl Abort, alloc: Global) -> (String, String) {
     let mut input = String::new(alloc);
-    let mut text = String::from_str(alloc, FIVE_OK).expect(&rt, "memory");
-    // Each question comes twice, so that what one of them marks would be seen by the next.
+    let mut text = String::from_str(alloc, FIVE_OK).expect(rt, "memory");
     for _ in 0..2 {
         for (words, lines) in ROWS {
             for (place, word) in words.iter().enumerate() {
                 let space = if place == 0 { "" } else { " " };
-                input.push_str(space).expect(&rt, "memory");
-                input.push_str(word).expect(&rt, "memory");
+                input.push_str(space).expect(rt, "memory");
+                input.push_str(word).expect(rt, "memory");
             }
-            input.push_str("\n").expect(&rt, "memory");
+            input.push_str("\n").expect(rt, "memory");
             for line in *lines {
-                text.push_str(line).expect(&rt, "memory");
-                text.push_str("\n").expect(&rt, "memory");
+                text.push_str(line).expect(rt, "memory");
+                text.push_str("\n").expect(rt, "memory");
             }
-            text.push_str("\n").expect(&rt, "memory");
+            text.push_str("\n").expect(rt, "memory");
         }
     }
+    (input, text)
+}
+
+#[test]
+fn each_question_is_answered(rt: HostRuntime) {
+    let alloc = rt.alloc();
+    let (input, text) = asked(&rt, alloc);
     expect_told(&rt, alloc, &[FIVE], input.as_bytes(), (0, &text));
 }
 

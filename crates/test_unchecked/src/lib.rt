@@ -10,6 +10,8 @@ mod exchanged;
 #[cfg(test)]
 mod graphs;
 #[cfg(test)]
+mod many;
+#[cfg(test)]
 mod questions;
 #[cfg(test)]
 mod searches;
