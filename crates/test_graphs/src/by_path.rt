@@ -156,7 +156,8 @@ fn compare_refused<R: Files + Abort>(
     put(rt, alloc, memory, INFO_FILE, bytes);
     put(rt, alloc, memory, REFUSED, bytes);
     let alone = answers(rt, alloc, memory, INFO_FILE);
-    assert!(rt; is_refused(&alone[0], 0, want) && is_refused(&alone[1], 0, want));
+    assert!(rt; is_refused(&alone[0], 0, want));
+    assert!(rt; is_refused(&alone[1], 0, want));
     put(rt, alloc, memory, CHAIN, b"refused\n");
     assert!(rt; is_refused(&answers(rt, alloc, memory, GRAPHS)[3], 0, want));
     put(rt, alloc, memory, CHAIN, b"first\nrefused\n");
@@ -216,9 +217,11 @@ fn compare_chains<R: Files + Abort>(
     for (lines, want) in rows {
         put(rt, alloc, memory, CHAIN, lines);
         let at_info = answers(rt, alloc, memory, INFO);
-        assert!(rt; at_info[0] == *want && at_info[2] == *want);
+        assert!(rt; at_info[0] == *want);
+        assert!(rt; at_info[2] == *want);
         let at_chain = answers(rt, alloc, memory, GRAPHS);
-        assert!(rt; at_chain[0] == *want && at_chain[3] == *want);
+        assert!(rt; at_chain[0] == *want);
+        assert!(rt; at_chain[3] == *want);
     }
 }
 
@@ -293,18 +296,26 @@ fn compare_kinds<R: Files + Abort>(
     }
 }
 
+/// Compares what the openers answer in a folder on disk and in memory.
+fn compare_openers<R: Files + Abort>(rt: &R, alloc: Global) {
+    let _ = rt.remove_dir_all(alloc, TOP);
+    let mut memory = layers(rt, alloc);
+    for rows in [
+        REFUSED_HEADERS,
+        MISSING_CHUNKS,
+        WRONG_SIZES,
+        WRONG_BASES,
+        MORE,
+    ] {
+        compare_files(rt, alloc, &mut memory, rows);
+    }
+    put(rt, alloc, &mut memory, REFUSED, &[0; 1099]);
+    compare_chains(rt, alloc, &mut memory, CHAINS);
+    compare_kinds(rt, alloc, &mut memory, KINDS);
+    rt.remove_dir_all(alloc, TOP).expect(rt, "a folder");
+}
+
 #[test]
 fn each_opener_by_path_and_over_a_folder(rt: HostRuntime) {
-    let alloc = rt.alloc();
-    let _ = fs::remove_dir_all(&rt, TOP);
-    let mut memory = layers(&rt, alloc);
-    compare_files(&rt, alloc, &mut memory, REFUSED_HEADERS);
-    compare_files(&rt, alloc, &mut memory, MISSING_CHUNKS);
-    compare_files(&rt, alloc, &mut memory, WRONG_SIZES);
-    compare_files(&rt, alloc, &mut memory, WRONG_BASES);
-    compare_files(&rt, alloc, &mut memory, MORE);
-    put(&rt, alloc, &mut memory, REFUSED, &[0; 1099]);
-    compare_chains(&rt, alloc, &mut memory, CHAINS);
-    compare_kinds(&rt, alloc, &mut memory, KINDS);
-    fs::remove_dir_all(&rt, TOP).expect(&rt, "a folder");
+    compare_openers(&rt, rt.alloc());
 }

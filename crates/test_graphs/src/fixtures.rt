@@ -1,5 +1,5 @@
-//! What the tests share: layers and graphs built from rows, and their checks. Where an allocation
-//! fails or a layer is refused, the process aborts.
+//! What the tests share: layers and graphs built from rows, their checks, and texts. Where an
+//! allocation fails or a layer is refused, the process aborts.
 
 use gix_commitgraph::file::Commit;
 use gix_commitgraph::verify::{Outcome, VerifyError, VerifyOptions};
@@ -7,6 +7,7 @@ use gix_commitgraph::{File, Graph};
 use gix_hash_core::{Kind, ObjectId};
 use graph_vectors::{LayerPlan, Row, file_of_plan, file_of_rows};
 use std::alloc::Global;
+use std::fmt::{Debug, Display};
 use std::process::Abort;
 
 /// The layer of these bytes, whose file has this path.
@@ -106,7 +107,8 @@ pub fn compare_refusal(
     (want, calls): (&Fault, usize),
 ) {
     let (answer, seen) = checked(alloc, graph, options, None);
-    assert!(rt; answer.as_ref().err() == Some(want) && seen.len() == calls);
+    assert!(rt; answer.as_ref().err() == Some(want));
+    assert!(rt; seen.len() == calls);
 }
 
 /// What the check says of a right graph: the longest path, and numbers of parents, each with the
@@ -132,4 +134,26 @@ pub fn compare_outcome(
     }
     assert!(rt; outcome.try_clone().expect(rt, "memory") == outcome);
     seen
+}
+
+/// Compares a text with the one that is wanted. Where they differ, the process aborts.
+pub fn compare_text(rt: &impl Abort, text: &str, want: &str) {
+    assert!(rt; text == want);
+}
+
+/// Compares the text of each value with the one beside it. Where two differ, the process aborts.
+pub fn compare_texts<T: Display>(rt: &impl Abort, alloc: Global, rows: &[(T, &str)]) {
+    for (value, want) in rows {
+        let text = value.to_string(alloc).expect(rt, "memory");
+        compare_text(rt, text.as_str(), want);
+    }
+}
+
+/// Compares the debug text of each value with the one beside it. Where two differ, the process
+/// aborts.
+pub fn compare_debug<T: Debug>(rt: &impl Abort, alloc: Global, rows: &[(T, &str)]) {
+    for (value, want) in rows {
+        let text = format!(in alloc; "{value:?}").expect(rt, "memory");
+        compare_text(rt, text.as_str(), want);
+    }
 }

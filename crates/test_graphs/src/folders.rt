@@ -113,7 +113,8 @@ fn compare_failed_reads(rt: &impl Abort, alloc: Global, rows: &[FailedRead]) {
     for (lines, read, want, failures) in rows {
         let mut memory = info_folder(rt, alloc, lines);
         memory.fail_read(*read);
-        assert!(rt; opened(alloc, &mut memory) == *want && memory.failures() == *failures);
+        assert!(rt; opened(alloc, &mut memory) == *want);
+        assert!(rt; memory.failures() == *failures);
     }
 }
 

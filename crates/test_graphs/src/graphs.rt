@@ -41,11 +41,13 @@ type Places<'a> = &'a [(Ends, u32, usize)];
 /// Compares what a graph says of its positions. The number of a layer is found in three comparisons
 /// at most.
 fn compare_places(rt: &impl Abort, graph: &Graph, rows: Places<'_>) {
-    assert!(rt; graph.object_hash() == Kind::Sha1 && graph.num_commits() as usize == rows.len());
+    assert!(rt; graph.object_hash() == Kind::Sha1);
+    assert!(rt; graph.num_commits() as usize == rows.len());
     for (at, (ends, place, layer)) in (0u32..).zip(rows) {
         assert!(rt; at < graph.num_commits());
         let (found, count) = graph.layer_of_counted(Position(at));
-        assert!(rt; found == *layer && count <= 3);
+        assert!(rt; found == *layer);
+        assert!(rt; count <= 3);
         assert!(rt; graph.id_at(Position(at)) == id(*ends).as_oid());
         assert!(rt; graph.commit_at(Position(at)).position() == file::Position(*place));
     }
@@ -55,13 +57,16 @@ fn compare_places(rt: &impl Abort, graph: &Graph, rows: Places<'_>) {
 fn compare_items(rt: &impl Abort, graph: &Graph, rows: Places<'_>) {
     let all = (rows.len(), Some(rows.len()));
     let (mut ids, mut commits) = (graph.iter_ids(), graph.iter_commits());
-    assert!(rt; ids.size_hint() == all && commits.size_hint() == all);
+    assert!(rt; ids.size_hint() == all);
+    assert!(rt; commits.size_hint() == all);
     for (ends, place, _) in rows {
         let commit = commits.next().expect(rt, "a commit");
-        assert!(rt; ids.next() == Some(commit.id()) && commit.id() == id(*ends).as_oid());
+        assert!(rt; ids.next() == Some(commit.id()));
+        assert!(rt; commit.id() == id(*ends).as_oid());
         assert!(rt; commit.position().0 == *place);
     }
-    assert!(rt; ids.next().is_none() && commits.next().is_none());
+    assert!(rt; ids.next().is_none());
+    assert!(rt; commits.next().is_none());
 }
 
 /// Compares where an id is found.
@@ -140,7 +145,8 @@ fn compare_halves(rt: &impl Abort, alloc: Global, rows: &[&[u32]]) {
 fn a_layer_is_found_by_halves(rt: HostRuntime) {
     compare_halves(&rt, rt.alloc(), HALVED);
     let counts = comparisons(&rt, rt.alloc(), 256);
-    assert!(rt; counts.len() == 256 && matches!(counts.last(), Some(8 | 9)));
+    assert!(rt; counts.len() == 256);
+    assert!(rt; matches!(counts.last(), Some(8 | 9)));
 }
 
 /// Compares why empty layers of these kinds make no graph.

@@ -49,7 +49,8 @@ fn compare_graphs(rt: &impl Abort, alloc: Global, rows: &[&[Part]]) {
     for parts in rows {
         let graph = graph(rt, alloc, parts);
         let seen = compare_outcome(rt, alloc, &graph, None, (Some(599), COUNTS));
-        assert!(rt; seen.len() == COMMITS as usize && graph.num_commits() == COMMITS);
+        assert!(rt; seen.len() == COMMITS as usize);
+        assert!(rt; graph.num_commits() == COMMITS);
         for commit in 0..COMMITS {
             compare_commit(rt, alloc, &graph, commit);
         }

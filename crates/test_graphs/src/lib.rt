@@ -1,5 +1,5 @@
-//! Tests of graphs: of opening them in folders, in memory and on disk, and of reading and checking
-//! them, on files that are built for them.
+//! Tests of layers and graphs: of opening them in folders, in memory and on disk, and of reading
+//! and checking them, on files that are built for them; and of the crates below.
 //!
 //! The module `fixtures` has what several tests share.
 #![tactic(auto)]
@@ -16,6 +16,8 @@ mod folders;
 mod graphs;
 #[cfg(test)]
 mod large;
+#[cfg(test)]
+mod layers;
 #[cfg(test)]
 mod sizes;
 #[cfg(test)]

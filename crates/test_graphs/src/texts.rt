@@ -1,8 +1,7 @@
+use crate::fixtures::compare_texts;
 use gix_commitgraph::Position;
 use gix_commitgraph::file::commit::ParentError;
 use gix_commitgraph::verify::{CommitFault, LayerFault, VerifyError};
-use std::alloc::Global;
-use std::process::Abort;
 
 const POS: Position = Position(1);
 
@@ -61,14 +60,6 @@ const VERIFY_ERRORS: &[(VerifyError<&str>, &str)] = &[
         "DuplicateId",
     ),
 ];
-
-/// Compares the text of each error with the one beside it.
-fn compare_texts(rt: &impl Abort, alloc: Global, rows: &[(VerifyError<&str>, &str)]) {
-    for (error, want) in rows {
-        let text = error.to_string(alloc).expect(rt, "memory");
-        assert!(rt; text.as_str() == *want);
-    }
-}
 
 #[test]
 fn errors_of_a_graph_are_their_names(rt: HostRuntime) {

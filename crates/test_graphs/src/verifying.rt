@@ -306,7 +306,8 @@ fn compare_calls(rt: &impl Abort, alloc: Global, graph: &Graph, pos: u32, calls:
     let (answer, seen) = checked(alloc, graph, None, calls.last().copied());
     let (pos, error) = (Position(pos), Refused::Commit);
     let want = VerifyError::Processor { pos, error };
-    assert!(rt; answer.as_ref().err() == Some(&want) && seen.as_slice() == calls);
+    assert!(rt; answer.as_ref().err() == Some(&want));
+    assert!(rt; seen.as_slice() == calls);
 }
 
 /// Two commits, and three more that are on some of them.

@@ -62,12 +62,10 @@ const SPELLED: &[(&[u8], Result<&[u8], IdError>)] = &[
 /// Compares the ids that texts spell.
 fn compare_spelled(rt: &impl Abort, rows: &[(&[u8], Result<&[u8], IdError>)]) {
     for (text, want) in rows {
-        let is_wanted = match (ObjectId::from_hex(text), want) {
-            (Ok(id), Ok(bytes)) => id.as_oid().as_bytes() == *bytes,
-            (Err(error), Err(want)) => error == *want,
-            _ => false,
-        };
-        assert!(rt; is_wanted);
+        match ObjectId::from_hex(text) {
+            Ok(id) => assert!(rt; *want == Ok(id.as_oid().as_bytes())),
+            Err(error) => assert!(rt; *want == Err(error)),
+        }
     }
 }
 
@@ -82,17 +80,23 @@ const IDS: &[(Kind, u8, &[u8])] = &[(Kind::Sha1, 1, &[0x11; 20]), (Kind::Sha256,
 /// Compares what there is to be read of kinds and of ids.
 fn compare_ids(rt: &impl Abort, rows: &[(Kind, u8, &[u8])]) {
     for (kind, number, bytes) in rows {
-        assert!(rt; Kind::try_from(*number) == Ok(*kind) && kind.len_in_bytes() == bytes.len());
-        assert!(rt; kind.null().as_oid().is_null() && kind.null() == ObjectId::null(*kind));
+        assert!(rt; Kind::try_from(*number) == Ok(*kind));
+        assert!(rt; kind.len_in_bytes() == bytes.len());
+        assert!(rt; kind.null().as_oid().is_null());
+        assert!(rt; kind.null() == ObjectId::null(*kind));
         let id = oid::try_from_bytes(bytes).expect(rt, "an id");
-        assert!(rt; id.kind() == *kind && id.as_bytes() == *bytes && id.first_byte() == 0x11);
-        assert!(rt; !id.is_null() && id.to_owned().as_oid() == id);
+        assert!(rt; id.kind() == *kind);
+        assert!(rt; id.as_bytes() == *bytes);
+        assert!(rt; id.first_byte() == 0x11);
+        assert!(rt; !id.is_null());
+        assert!(rt; id.to_owned().as_oid() == id);
     }
 }
 
 /// Compares what is no kind and no id.
 fn compare_others(rt: &impl Abort, lengths: &[usize]) {
-    assert!(rt; Kind::try_from(0) == Err(0) && Kind::try_from(3) == Err(3));
+    assert!(rt; Kind::try_from(0) == Err(0));
+    assert!(rt; Kind::try_from(3) == Err(3));
     assert!(rt; Kind::shortest() == Kind::Sha1);
     for length in lengths {
         let bytes: &[u8] = [0; 40].get(..*length).unwrap_or(&[]);
@@ -117,7 +121,9 @@ fn compare_ascending<T: Ord + Hash>(rt: &impl Abort, values: &[T]) {
     for (at, value) in values.iter().enumerate() {
         assert!(rt; *value == *value);
         for later in &values[at + 1..] {
-            assert!(rt; value < later && value != later && hash_of(value) != hash_of(later));
+            assert!(rt; value < later);
+            assert!(rt; value != later);
+            assert!(rt; hash_of(value) != hash_of(later));
         }
     }
 }

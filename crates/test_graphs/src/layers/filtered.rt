@@ -1,7 +1,7 @@
 //! Files with changed-path filters.
 
-use crate::building::compare_bytes;
 use crate::fixtures::{bare, built};
+use crate::layers::building::compare_bytes;
 use gix_hash_core::{Kind, ObjectId};
 use graph_vectors::{FilterNumbers, LayerPlan, PlanFilters, planned_commit};
 use std::alloc::Global;

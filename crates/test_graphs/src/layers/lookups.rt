@@ -1,4 +1,5 @@
-use crate::fixtures::{damaged_diamond, layer, opened};
+use crate::fixtures::{layer, opened};
+use crate::layers::fixtures::damaged_diamond;
 use gix_hash_core::ObjectId;
 use graph_layer::file::{File, Position};
 use graph_vectors::DIAMOND;
@@ -12,7 +13,7 @@ fn compare(rt: &impl Abort, file: &File, id: ObjectId, want: (Option<Position>, 
 
 #[test]
 fn an_id_is_found_where_it_stands(rt: HostRuntime) {
-    let bytes = layer(&rt, rt.alloc(), DIAMOND);
+    let bytes = layer(&rt, rt.alloc(), &[], DIAMOND);
     let file = opened(&rt, rt.alloc(), bytes, "layer");
     compare(
         &rt,

@@ -74,7 +74,8 @@ fn base_ids_follow_the_records(rt: HostRuntime) {
     let bytes = built(&rt, rt.alloc(), &plan);
     compare_bytes(&rt, &bytes, 1156, BASE);
     let file = opened(&rt, rt.alloc(), bytes, "");
-    assert!(rt; file.object_hash() == Kind::Sha256 && file.base_graph_count() == 1);
+    assert!(rt; file.object_hash() == Kind::Sha256);
+    assert!(rt; file.base_graph_count() == 1);
 }
 
 #[test]

@@ -1,4 +1,5 @@
-use crate::fixtures::{damaged_diamond, opened, try_open};
+use crate::fixtures::opened;
+use crate::layers::fixtures::{damaged_diamond, try_open};
 use gix_chunk_core::ChunkError;
 use gix_hash_core::Kind;
 use graph_format::error::FileError;
@@ -118,7 +119,8 @@ fn compare_empty(rt: &impl Abort, alloc: Global, rows: &[Empty]) {
     for (header, entries, zeros, kind) in rows {
         let bytes = file_of_zeros(alloc, header, entries, *zeros).expect(rt, "memory");
         let file = opened(rt, alloc, bytes, "");
-        assert!(rt; file.num_commits() == 0 && file.object_hash() == *kind);
+        assert!(rt; file.num_commits() == 0);
+        assert!(rt; file.object_hash() == *kind);
         assert!(rt; file.iter_commits().next().is_none());
     }
 }

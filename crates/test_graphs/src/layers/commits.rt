@@ -1,6 +1,7 @@
 //! One commit: its dates, its parents and its texts; and what the words say that it is read from.
 
-use crate::fixtures::{compare_debug, layer_of_one, only_commit};
+use crate::fixtures::compare_debug;
+use crate::layers::fixtures::{layer_of_one, only_commit};
 use graph_format::Position;
 use graph_format::parents::{ExtraEdge, ParentEdge, ParentError};
 use std::alloc::Global;
@@ -38,7 +39,8 @@ const WORDS: &[(u32, ParentEdge, ExtraEdge)] = &[
 /// Compares what words say.
 fn compare_words(rt: &impl Abort, rows: &[(u32, ParentEdge, ExtraEdge)]) {
     for (raw, parent, extra) in rows {
-        assert!(rt; ParentEdge::from_raw(*raw) == *parent && ExtraEdge::from_raw(*raw) == *extra);
+        assert!(rt; ParentEdge::from_raw(*raw) == *parent);
+        assert!(rt; ExtraEdge::from_raw(*raw) == *extra);
     }
 }
 
@@ -67,7 +69,8 @@ fn compare_dates(rt: &impl Abort, alloc: Global, rows: &[(&[u8; 16], u32, u64)])
     for (fields, generation, time) in rows {
         let file = layer_of_one(rt, alloc, fields, None, "");
         let commit = only_commit(rt, &file);
-        assert!(rt; commit.generation() == *generation && commit.committer_timestamp() == *time);
+        assert!(rt; commit.generation() == *generation);
+        assert!(rt; commit.committer_timestamp() == *time);
     }
 }
 
@@ -166,7 +169,8 @@ fn compare_parents(rt: &impl Abort, alloc: Global, rows: &[Listed]) {
         let commit = only_commit(rt, &file);
         assert!(rt; commit.parent1() == want.first().copied().transpose());
         let parents = commit.iter_parents();
-        assert!(rt; parents.size_hint() == *hint && parents.eq(want.iter().copied()));
+        assert!(rt; parents.size_hint() == *hint);
+        assert!(rt; parents.eq(want.iter().copied()));
     }
 }
 
@@ -210,5 +214,6 @@ fn compares_commits(rt: HostRuntime) {
     let same = layer_of_one(&rt, rt.alloc(), ROOT, None, "b");
     let other = layer_of_one(&rt, rt.alloc(), ON_FIVE, None, "a");
     let root = only_commit(&rt, &root);
-    assert!(rt; root == only_commit(&rt, &same) && root != only_commit(&rt, &other));
+    assert!(rt; root == only_commit(&rt, &same));
+    assert!(rt; root != only_commit(&rt, &other));
 }

@@ -3,8 +3,8 @@
 //! The helpers take any folder and have no contract, so that no test's proof goes over the contract
 //! of a disk.
 
-use crate::host::Host;
-use graph_folder::folder::{Disk, Folder, Memory, ReadError, read_all};
+use crate::layers::host::Host;
+use graph_folder::folder::{Disk, Folder, Memory, Part, ReadError, read_all};
 use graph_folder::lines::Lines;
 use graph_vectors::Source;
 use std::alloc::Global;
@@ -51,7 +51,8 @@ fn compare_pieces(rt: &impl Abort, alloc: Global, rows: &[(usize, usize, usize)]
         let bytes = numbers(rt, alloc, *len);
         let mut reader = Source::new(&bytes, *most, None);
         let read = read_all(alloc, &mut reader).ok().expect(rt, "all bytes");
-        assert!(rt; read.as_slice() == bytes.as_slice() && reader.reads == *reads);
+        assert!(rt; read.as_slice() == bytes.as_slice());
+        assert!(rt; reader.reads == *reads);
         for fails_at in 0..*reads {
             let failed = read_all(alloc, &mut Source::new(&bytes, *most, Some(fails_at)));
             assert!(rt; failed.err() == Some(ReadError::Device));
@@ -100,7 +101,8 @@ fn compare_kinds<T: Folder>(rt: &impl Abort, alloc: Global, folder: &mut T, rows
     for (path, file, dir) in rows {
         let is_file = folder.is_file(alloc, path).expect(rt, "memory");
         let is_dir = folder.is_dir(alloc, path).expect(rt, "memory");
-        assert!(rt; is_file == *file && is_dir == *dir);
+        assert!(rt; is_file == *file);
+        assert!(rt; is_dir == *dir);
     }
 }
 
@@ -108,15 +110,20 @@ fn compare_kinds<T: Folder>(rt: &impl Abort, alloc: Global, folder: &mut T, rows
 /// folder failed up to then.
 type Reads<'a> = &'a [(&'a str, Result<&'a [u8], ReadError>, u64)];
 
+/// Whether a read answers this.
+fn is_answer(read: &Result<Vec<u8>, ReadError>, want: &Result<&[u8], ReadError>) -> bool {
+    match (read, want) {
+        (Ok(bytes), Ok(want)) => bytes.as_slice() == *want,
+        (Err(error), Err(want)) => error == want,
+        _ => false,
+    }
+}
+
 /// Compares what the reads of a folder answer.
 fn compare_reads<T: Folder>(rt: &impl Abort, alloc: Global, folder: &mut T, rows: Reads<'_>) {
     for (path, want, failures) in rows {
-        let is_wanted = match (&folder.read(alloc, path), want) {
-            (Ok(bytes), Ok(want)) => bytes.as_slice() == *want,
-            (Err(error), Err(want)) => error == want,
-            _ => false,
-        };
-        assert!(rt; is_wanted && folder.failures() == *failures);
+        assert!(rt; is_answer(&folder.read(alloc, path), want));
+        assert!(rt; folder.failures() == *failures);
     }
 }
 
@@ -148,19 +155,24 @@ struct Stored<'a> {
     len: usize,
 }
 
-/// Whether a part of a file has its bytes from `start` on, `len` of them or all that are left.
+/// Whether this is the part of a file from `start` on, of `len` bytes or all that are left.
+fn is_part(part: &Part, file: &Stored<'_>, (start, len): (usize, usize)) -> bool {
+    let first = start.min(file.bytes.len());
+    let end = first.saturating_add(len).min(file.bytes.len());
+    file.bytes.get(first..end) == Some(part.bytes.as_slice()) && part.file_len == file.len as u64
+}
+
+/// Whether a folder answers this part of a file.
 fn has_part<T: Folder>(
     alloc: Global,
     folder: &mut T,
     file: &Stored<'_>,
     (start, len): (usize, usize),
 ) -> bool {
-    let Ok(Some(part)) = folder.read_part(alloc, file.path, start as u64, len) else {
-        return false;
-    };
-    let first = start.min(file.bytes.len());
-    let end = first.saturating_add(len).min(file.bytes.len());
-    file.bytes.get(first..end) == Some(part.bytes.as_slice()) && part.file_len == file.len as u64
+    match folder.read_part(alloc, file.path, start as u64, len) {
+        Ok(Some(part)) => is_part(&part, file, (start, len)),
+        _ => false,
+    }
 }
 
 /// Whether a folder answers no part of a file.
@@ -202,7 +214,8 @@ fn compare_parts_in_memory(rt: &impl Abort, alloc: Global, memory: &mut Memory) 
         assert!(rt; has_part(alloc, memory, NEW, part));
     }
     let failed = memory.read_part(alloc, NEW.path, 0, 1).err();
-    assert!(rt; failed == Some(ReadError::Device) && memory.failures() == 1);
+    assert!(rt; failed == Some(ReadError::Device));
+    assert!(rt; memory.failures() == 1);
     assert!(rt; memory.read_part(alloc, "c", 0, 1).err() == Some(ReadError::NotOpened));
 }
 
@@ -223,17 +236,12 @@ fn old_and_new(rt: &impl Abort, alloc: Global) -> Memory {
 fn keeps_files_in_memory(rt: HostRuntime) {
     let mut memory = old_and_new(&rt, rt.alloc());
     compare_kinds(&rt, rt.alloc(), &mut memory, IN_MEMORY);
+    compare_bytes(&rt, rt.alloc(), &mut memory, NEW.path, NEW.bytes);
+    let mut memory = old_and_new(&rt, rt.alloc());
     memory.fail_read(0);
     memory.fail_read(2);
     compare_reads(&rt, rt.alloc(), &mut memory, READ_IN_MEMORY);
     compare_parts_in_memory(&rt, rt.alloc(), &mut old_and_new(&rt, rt.alloc()));
-    compare_bytes(
-        &rt,
-        rt.alloc(),
-        &mut old_and_new(&rt, rt.alloc()),
-        NEW.path,
-        NEW.bytes,
-    );
 }
 
 const FOLDER: &str = "graph_folder_test";
@@ -254,9 +262,9 @@ const READ_ON_DISK: Reads<'static> = &[
     (MISSING, Err(ReadError::NotOpened), 0),
 ];
 
-/// Compares the folder on disk. A file of each of some lengths is written over the one before it,
-/// the last of two bytes.
-fn compare_folder<R: Files + Abort, T: Folder>(rt: &R, alloc: Global, disk: &mut T) {
+/// Compares what a folder on disk has. A file of each of some lengths is written over the one
+/// before it, the last of two bytes.
+fn compare_disk<R: Files + Abort, T: Folder>(rt: &R, alloc: Global, disk: &mut T) {
     for len in [0, 1, 3_000_000, 2] {
         let bytes = write_file(rt, alloc, FILE, len);
         compare_reads(rt, alloc, disk, &[(FILE, Ok(&bytes), 0)]);
@@ -271,12 +279,17 @@ fn compare_folder<R: Files + Abort, T: Folder>(rt: &R, alloc: Global, disk: &mut
     assert!(rt; has_no_part(alloc, disk, MISSING, (0, 1)));
 }
 
+/// Makes a folder on disk, and compares what it has.
+fn compare_folder<R: Files + Abort>(rt: &R, alloc: Global) {
+    let _ = rt.remove_dir_all(alloc, FOLDER);
+    fs::create_dir(rt, FOLDER).expect(rt, "a folder");
+    compare_disk(rt, alloc, &mut Disk::new(rt));
+    rt.remove_dir_all(alloc, FOLDER).expect(rt, "no folder");
+}
+
 #[test]
 fn reads_from_disk(rt: HostRuntime) {
-    let _ = fs::remove_dir_all(&rt, FOLDER);
-    fs::create_dir(&rt, FOLDER).expect(&rt, "a folder");
-    compare_folder(&rt, rt.alloc(), &mut Disk::new(&rt));
-    fs::remove_dir_all(&rt, FOLDER).expect(&rt, "no folder");
+    compare_folder(&rt, rt.alloc());
 }
 
 /// Compares parts of the first of two files, and of the other between them.
@@ -294,36 +307,33 @@ fn compare_open_files<T: Folder>(
     }
 }
 
-#[test]
-fn a_file_stays_open_until_its_beginning_is_read(rt: HostRuntime) {
-    let alloc = rt.alloc();
-    let (old, new) = ("graph_folder_old", "graph_folder_new");
-    let (short, long) = (
-        write_file(&rt, alloc, old, 300),
-        write_file(&rt, alloc, new, 400),
-    );
-    let before = Stored {
-        path: old,
-        bytes: &short,
-        len: 300,
-    };
-    let other = Stored {
-        path: new,
-        bytes: &long,
-        len: 400,
-    };
-    let mut disk = Disk::new(&rt);
-    compare_open_files(&rt, alloc, &mut disk, &before, &other);
-    fs::rename(&rt, new, old).expect(&rt, "another file in its place");
+/// The file of these bytes at a path.
+fn whole_file<'a>(path: &'a str, bytes: &'a [u8]) -> Stored<'a> {
+    let len = bytes.len();
+    Stored { path, bytes, len }
+}
+
+const OLD: &str = "graph_folder_old";
+
+const NEXT: &str = "graph_folder_next";
+
+/// Compares parts of a file that another one takes the place of.
+fn compare_replaced<R: Files + Abort>(rt: &R, alloc: Global) {
+    let short = write_file(rt, alloc, OLD, 300);
+    let long = write_file(rt, alloc, NEXT, 400);
+    let (before, after) = (whole_file(OLD, &short), whole_file(OLD, &long));
+    let mut disk = Disk::new(rt);
+    compare_open_files(rt, alloc, &mut disk, &before, &whole_file(NEXT, &long));
+    fs::rename(rt, NEXT, OLD).expect(rt, "another file in its place");
     assert!(rt; has_part(alloc, &mut disk, &before, (5, 10)));
-    let after = Stored {
-        path: old,
-        bytes: &long,
-        len: 400,
-    };
     assert!(rt; has_part(alloc, &mut disk, &after, (0, 10)));
     assert!(rt; has_part(alloc, &mut disk, &after, (5, 10)));
-    fs::remove_file(&rt, old).expect(&rt, "no file");
+    fs::remove_file(rt, OLD).expect(rt, "no file");
+}
+
+#[test]
+fn a_file_stays_open_until_its_beginning_is_read(rt: HostRuntime) {
+    compare_replaced(&rt, rt.alloc());
 }
 
 /// What a host does to a file: how many bytes the file has and how many the host says, how many of

@@ -1,14 +1,13 @@
-//! What the tests share: layers of one commit written byte by byte, layers built from rows, and the
-//! diamond of four commits with some of its bytes changed. Where an allocation fails or a layer is
-//! refused, the process aborts.
+//! What the tests of layers share: layers of one commit written byte by byte, and the diamond of
+//! four commits with some of its bytes changed. Where an allocation fails or a layer is refused,
+//! the process aborts.
 
-use gix_hash_core::Kind;
+use crate::fixtures::opened;
 use graph_format::error::FileError;
 use graph_layer::file::{Commit, File, Position};
 use graph_vectors::changed::{Change, changed_diamond};
-use graph_vectors::{END, LayerPlan, Row, file_of_parts, file_of_plan, file_of_rows, words};
+use graph_vectors::{END, file_of_parts, words};
 use std::alloc::Global;
-use std::fmt::{Debug, Display};
 use std::process::Abort;
 
 /// What a file of one commit has: the fan up to the byte before that of its id, its id, that of its
@@ -33,11 +32,6 @@ pub fn try_open(
 ) -> Result<File, FileError> {
     let path = String::from_str(alloc, path).expect(rt, "memory");
     File::new(alloc, bytes, path)
-}
-
-/// The layer of these bytes, whose file has this path.
-pub fn opened(rt: &impl Abort, alloc: Global, bytes: Vec<u8>, path: &str) -> File {
-    try_open(rt, alloc, bytes, path).ok().expect(rt, "a layer")
 }
 
 /// The SHA-1 layer of one commit with these last sixteen bytes of its record, and these bytes of an
@@ -74,46 +68,8 @@ pub fn only_commit<'a>(rt: &impl Abort, file: &'a File) -> Commit<'a> {
     file.commit_at(Position(0))
 }
 
-/// The plan of a layer of this kind, without bases and commits.
-pub fn bare(rt: &impl Abort, alloc: Global, kind: Kind) -> LayerPlan {
-    LayerPlan::new(alloc, kind, &[]).expect(rt, "memory")
-}
-
-/// The file of a plan. Where the plan is not buildable, the process aborts.
-pub fn built(rt: &impl Abort, alloc: Global, plan: &LayerPlan) -> Vec<u8> {
-    file_of_plan(alloc, plan).expect(rt, "a file")
-}
-
-/// The file of a SHA-1 layer of these commits, which has no bases. Where no file can hold them, the
-/// process aborts.
-pub fn layer(rt: &impl Abort, alloc: Global, rows: &[Row<'_>]) -> Vec<u8> {
-    file_of_rows(alloc, &[], rows).expect(rt, "a file")
-}
-
 /// The diamond's file with these bytes written over it from a place on, and with a right checksum.
 pub fn damaged_diamond(rt: &impl Abort, alloc: Global, change: Change<'_>) -> Vec<u8> {
     let file = changed_diamond(alloc, change).expect(rt, "memory");
     file.expect(rt, "a place in the file")
-}
-
-/// Compares a text with the one that is wanted. Where they differ, the process aborts.
-pub fn compare_text(rt: &impl Abort, text: &str, want: &str) {
-    assert!(rt; text == want);
-}
-
-/// Compares the text of each value with the one beside it. Where two differ, the process aborts.
-pub fn compare_texts<T: Display>(rt: &impl Abort, alloc: Global, rows: &[(T, &str)]) {
-    for (value, want) in rows {
-        let text = value.to_string(alloc).expect(rt, "memory");
-        compare_text(rt, text.as_str(), want);
-    }
-}
-
-/// Compares the debug text of each value with the one beside it. Where two differ, the process
-/// aborts.
-pub fn compare_debug<T: Debug>(rt: &impl Abort, alloc: Global, rows: &[(T, &str)]) {
-    for (value, want) in rows {
-        let text = format!(in alloc; "{value:?}").expect(rt, "memory");
-        compare_text(rt, text.as_str(), want);
-    }
 }
