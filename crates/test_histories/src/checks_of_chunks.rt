@@ -2,12 +2,13 @@
 //!
 //! The five commits are those of the rows of dates.
 
+use crate::fixtures::run;
 use crate::further_chunks::{Chunk, RightRow, right_file};
 use graph_folder::folder::Memory;
-use history_commands::run::run_check;
+use graph_vectors::Sink;
+use history_program::command::Command;
 use std::alloc::Global;
 use std::process::Abort;
-use std::rt::HostRuntime;
 
 /// The five commits, with their generation numbers.
 const FIVE: &[RightRow<'static>] = &[
@@ -34,6 +35,9 @@ const VERIFIED: &str =
 /// The words of `GDA2` with which the dates of the five commits are right, and others.
 const RIGHT: &[u8] = b"\0\0\x01\xf5\0\0\x03\xe9\0\0\0\0\0\0\0\0\0\0\x01\xf6";
 
+/// The same without the first of them.
+const SHORT: &[u8] = b"\0\0\x03\xe9\0\0\0\0\0\0\0\0\0\0\x01\xf6";
+
 const TOO_LATE: &[u8] = b"\0\0\x01\xf5\0\0\x03\xe9\0\0\0\0\0\0\x13\x88\0\0\x01\xf6";
 
 const ELSEWHERE: &[u8] = b"\0\0\x01\xf5\0\0\x03\xe9\0\0\0\0\x80\0\0\0\0\0\x01\xf6";
@@ -48,6 +52,10 @@ const FILTERS: &[u8] = b"\0\0\0\x01\0\0\0\x07\0\0\0\x0a\xff\x00\xff\x00";
 
 const VERSION_3: &[u8] = b"\0\0\0\x03\0\0\0\x07\0\0\0\x0a\xff\x00\xff\x00";
 
+/// The chunks of a graph, and what is written of it after the lines of `verify`, or after the word
+/// `refused`.
+type Told = (&'static [Chunk<'static>], &'static str);
+
 /// Asserts the exit status of `check`, what it writes first, and what it writes then.
 fn expect(
     rt: &impl Abort,
@@ -59,68 +67,79 @@ fn expect(
     let path = String::from_str(alloc, "file").expect(rt, "memory");
     let file = right_file(rt, alloc, rows, chunks);
     folder.put_file(path, file).expect(rt, "memory");
-    let mut out = Vec::new(alloc);
-    let answer = run_check(alloc, &mut folder, "file", &mut out);
+    let mut out = Sink::new(alloc, usize::MAX, None);
+    let answer = run(
+        alloc,
+        &mut folder,
+        Command::Check { path: "file" },
+        &mut out,
+    );
     assert!(rt; answer == Ok(status));
-    let text = str::from_utf8(&out).unwrap_or("no text");
-    assert!(rt; text.strip_prefix(first) == Some(then));
+    assert!(rt; out.text().strip_prefix(first) == Some(then));
 }
+
+/// The same of some graphs of these commits.
+fn expect_all(
+    rt: &impl Abort,
+    alloc: Global,
+    commits: &[RightRow<'_>],
+    (status, first): (u8, &str),
+    rows: &[Told],
+) {
+    for (chunks, then) in rows {
+        expect(rt, alloc, (commits, chunks), (status, first, then));
+    }
+}
+
+const ACCEPTED: &[Told] = &[
+    (&[], "dates none\nfilters none\n"),
+    (&[(b"GDA2", RIGHT)], "dates commits 5\nfilters none\n"),
+    (
+        &[(b"GDA2", ELSEWHERE), (b"GDO2", &[0; 8]), (b"BDAT", FILTERS)],
+        "dates commits 5\nfilters none\n",
+    ),
+    (
+        &[(b"BIDX", INDEX), (b"BDAT", FILTERS)],
+        "dates none\nfilters commits 4\n",
+    ),
+];
 
 #[test]
 fn dates_and_filters_are_told_after_the_lines_of_verify(rt: HostRuntime) {
-    let alloc = rt.alloc();
-    let rows: &[(&[Chunk<'_>], &str)] = &[
-        (&[], "dates none\nfilters none\n"),
-        (&[(b"GDA2", RIGHT)], "dates commits 5\nfilters none\n"),
-        (
-            &[(b"GDA2", ELSEWHERE), (b"GDO2", &[0; 8]), (b"BDAT", FILTERS)],
-            "dates commits 5\nfilters none\n",
-        ),
-        (
-            &[(b"BIDX", INDEX), (b"BDAT", FILTERS)],
-            "dates none\nfilters commits 4\n",
-        ),
-    ];
-    for (chunks, then) in rows {
-        expect(&rt, alloc, (FIVE, *chunks), (0, VERIFIED, *then));
-    }
+    expect_all(&rt, rt.alloc(), FIVE, (0, VERIFIED), ACCEPTED);
 }
+
+const REFUSED: &[Told] = &[
+    (&[(b"GDA2", SHORT)], "dates 1 layer 0\n"),
+    (&[(b"GDA2", RIGHT), (b"GDO2", &[0; 7])], "dates 2 layer 0\n"),
+    (&[(b"GDA2", ELSEWHERE)], "dates 3 position 3\n"),
+    (
+        &[(b"GDA2", ELSEWHERE), (b"GDO2", &[0x7f; 8])],
+        "dates 5 position 1 expected 9187201950435739472\n",
+    ),
+    (
+        &[(b"GDA2", ELSEWHERE), (b"GDO2", &[0xff; 8])],
+        "dates 4 position 3\n",
+    ),
+    (
+        &[(b"GDA2", TOO_LATE), (b"BIDX", INDEX), (b"BDAT", VERSION_3)],
+        "dates 5 position 1 expected 7001\n",
+    ),
+    (
+        &[(b"GDA2", RIGHT), (b"BIDX", INDEX), (b"BDAT", VERSION_3)],
+        "filters 3 layer 0 version 3\n",
+    ),
+    (
+        &[(b"BIDX", FALLING), (b"BDAT", FILTERS)],
+        "filters 6 position 2\n",
+    ),
+];
+
+/// The check of a graph goes before that of its dates.
+const REFUSED_GRAPH: &[Told] = &[(&[(b"GDA2", TOO_LATE)], "verify 8 position 2 expected 2\n")];
 
 #[test]
 fn the_first_refusal_is_the_only_line(rt: HostRuntime) {
-    let alloc = rt.alloc();
-    let rows: &[(&[Chunk<'_>], &str)] = &[
-        (&[(b"GDA2", &RIGHT[4..])], "dates 1 layer 0\n"),
-        (&[(b"GDA2", RIGHT), (b"GDO2", &[0; 7])], "dates 2 layer 0\n"),
-        (&[(b"GDA2", ELSEWHERE)], "dates 3 position 3\n"),
-        (
-            &[(b"GDA2", ELSEWHERE), (b"GDO2", &[0x7f; 8])],
-            "dates 5 position 1 expected 9187201950435739472\n",
-        ),
-        (
-            &[(b"GDA2", ELSEWHERE), (b"GDO2", &[0xff; 8])],
-            "dates 4 position 3\n",
-        ),
-        (
-            &[(b"GDA2", TOO_LATE), (b"BIDX", INDEX), (b"BDAT", VERSION_3)],
-            "dates 5 position 1 expected 7001\n",
-        ),
-        (
-            &[(b"GDA2", RIGHT), (b"BIDX", INDEX), (b"BDAT", VERSION_3)],
-            "filters 3 layer 0 version 3\n",
-        ),
-        (
-            &[(b"BIDX", FALLING), (b"BDAT", FILTERS)],
-            "filters 6 position 2\n",
-        ),
-    ];
-    for (chunks, line) in rows {
-        expect(&rt, alloc, (FIVE, *chunks), (1, "refused ", *line));
-    }
-    expect(
-        &rt,
-        alloc,
-        (WRONG, &[(b"GDA2", TOO_LATE)]),
-        (1, "refused ", "verify 8 position 2 expected 2\n"),
-    );
+    expect_all(&rt, rt.alloc(), FIVE, (1, "refused "), REFUSED);
+    expect_all(&rt, rt.alloc(), WRONG, (1, "refused "), REFUSED_GRAPH);
 }

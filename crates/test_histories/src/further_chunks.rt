@@ -25,56 +25,48 @@ const TRAILER_LEN: usize = 20;
 
 /// The bytes of a file with these commits. Their ids ascend.
 fn planned(rt: &impl Abort, alloc: Global, rows: &[RightRow<'_>]) -> Vec<u8> {
-    let mut commits = Vec::new(alloc);
-    for (generation, time, parents) in rows {
-        let number = u32::try_from(commits.len()).expect(rt, "few commits");
-        let mut id = [0; 20];
-        id[..4].copy_from_slice(&number.saturating_add(1).to_be_bytes());
-        let commit = PlanCommit {
-            id: ObjectId::from(id),
-            tree: ObjectId::from([0x22; 20]),
-            parents: Vec::from_slice(alloc, *parents).expect(rt, "memory"),
-            generation: *generation,
-            time: *time,
-        };
-        commits.push(commit).expect(rt, "memory");
-    }
-    let plan = LayerPlan {
+    let mut plan = LayerPlan {
         kind: Kind::Sha1,
         bases: Vec::new(alloc),
-        commits,
+        commits: Vec::new(alloc),
         date_offsets: None,
         filters: None,
     };
+    let mut number = 0_u32;
+    for row in rows {
+        number = number.saturating_add(1);
+        let commit = commit(rt, alloc, number, row);
+        plan.commits.push(commit).expect(rt, "memory");
+    }
     file_of_plan(alloc, &plan).expect(rt, "a file")
+}
+
+/// A commit, the first four bytes of whose id are this number.
+fn commit(rt: &impl Abort, alloc: Global, number: u32, row: &RightRow<'_>) -> PlanCommit {
+    let (generation, time, parents) = *row;
+    let mut id = [0; 20];
+    id[..4].copy_from_slice(&number.to_be_bytes());
+    PlanCommit {
+        id: ObjectId::from(id),
+        tree: ObjectId::from([0x22; 20]),
+        parents: Vec::from_slice(alloc, parents).expect(rt, "memory"),
+        generation,
+        time,
+    }
 }
 
 /// A file with further chunks, which lie after those that it has. Its checksum is null.
 fn with_chunks(rt: &impl Abort, alloc: Global, bytes: &[u8], chunks: &[Chunk<'_>]) -> Vec<u8> {
     assert!(rt; bytes.len() > 100 && bytes[6] <= 5 && chunks.len() <= 5);
     let count = bytes[6] as usize;
-    let body = 8 + ENTRY_LEN * (count + 1);
-    let end = bytes.len() - TRAILER_LEN;
+    let (body, end) = (8 + ENTRY_LEN * (count + 1), bytes.len() - TRAILER_LEN);
     let moved = (ENTRY_LEN * chunks.len()) as u64;
     let mut file = Vec::from_slice(alloc, b"CGPH\x01\x01").expect(rt, "memory");
-    file.push((count + chunks.len()) as u8).expect(rt, "memory");
-    file.push(0).expect(rt, "memory");
-    for i in 0..count {
-        let entry = &bytes[8 + ENTRY_LEN * i..20 + ENTRY_LEN * i];
-        let mut offset = [0; 8];
-        offset.copy_from_slice(&entry[4..]);
-        let offset = u64::from_be_bytes(offset).saturating_add(moved);
-        put(rt, &mut file, &entry[..4]);
-        put(rt, &mut file, &offset.to_be_bytes());
+    put(rt, &mut file, &[(count + chunks.len()) as u8, 0]);
+    for entry in bytes[8..body - ENTRY_LEN].chunks_exact(ENTRY_LEN) {
+        put_moved(rt, &mut file, entry, moved);
     }
-    let mut offset = (end as u64).saturating_add(moved);
-    for (id, contents) in chunks {
-        put(rt, &mut file, *id);
-        put(rt, &mut file, &offset.to_be_bytes());
-        offset = offset.saturating_add(contents.len() as u64);
-    }
-    put(rt, &mut file, &[0; 4]);
-    put(rt, &mut file, &offset.to_be_bytes());
+    put_entries(rt, &mut file, (end as u64).saturating_add(moved), chunks);
     put(rt, &mut file, &bytes[body..end]);
     for (_, contents) in chunks {
         put(rt, &mut file, *contents);
@@ -83,18 +75,32 @@ fn with_chunks(rt: &impl Abort, alloc: Global, bytes: &[u8], chunks: &[Chunk<'_>
     file
 }
 
+/// Puts an entry of the table whose chunk lies so many bytes further on.
+fn put_moved(rt: &impl Abort, file: &mut Vec<u8>, entry: &[u8], moved: u64) {
+    let (id, offset) = entry.split_at(4.min(entry.len()));
+    let mut start = 0_u64;
+    for byte in offset {
+        start = (start << 8) | u64::from(*byte);
+    }
+    put(rt, file, id);
+    put(rt, file, &start.saturating_add(moved).to_be_bytes());
+}
+
+/// Puts the entries of chunks that lie one after another, and the one that ends the table.
+fn put_entries(rt: &impl Abort, file: &mut Vec<u8>, start: u64, chunks: &[Chunk<'_>]) {
+    let mut offset = start;
+    for (id, contents) in chunks {
+        put(rt, file, *id);
+        put(rt, file, &offset.to_be_bytes());
+        offset = offset.saturating_add(contents.len() as u64);
+    }
+    put(rt, file, &[0; 4]);
+    put(rt, file, &offset.to_be_bytes());
+}
+
 /// Puts bytes at the end of others.
 fn put(rt: &impl Abort, bytes: &mut Vec<u8>, more: &[u8]) {
     bytes.extend_from_slice(more).expect(rt, "memory");
-}
-
-/// Numbers of four bytes each.
-pub fn words(rt: &impl Abort, alloc: Global, numbers: &[u32]) -> Vec<u8> {
-    let mut bytes = Vec::new(alloc);
-    for number in numbers {
-        put(rt, &mut bytes, &number.to_be_bytes());
-    }
-    bytes
 }
 
 /// The bytes of a file with these commits and these further chunks, and with its checksum.

@@ -5,13 +5,14 @@
 //! 9000 + i, which is stored as 2 i. Every fifth commit has no filter, and the others have one of a
 //! byte, in which each path is possible where i is odd, and none where it is even.
 
-use crate::dates::{Layer, compare};
-use crate::further_chunks::{Row, graph, layer, words};
+use crate::dates::{Expected, Layer, compare};
+use crate::further_chunks::{Row, graph, layer};
+use crate::graph_filters::{answers_of, refusal_of, settings_of};
 use changed_paths::filters::Answer;
-use changed_paths::key::PathKey;
-use gix_commitgraph::{Graph, Position};
+use gix_commitgraph::{File, Graph, Position};
 use graph_chunks::dates::DatesError;
-use graph_chunks::filters::{FiltersError, GraphFilters};
+use graph_chunks::filters::FiltersError;
+use graph_vectors::words;
 use std::alloc::Global;
 use std::process::Abort;
 use std::rt::HostRuntime;
@@ -61,7 +62,7 @@ fn compare_dates(
     rt: &impl Abort,
     alloc: Global,
     (rows, offsets, stops): (&[Row<'_>], &[u32], &[usize]),
-    expected: Result<Option<&[u64]>, DatesError>,
+    expected: Expected<'_>,
 ) {
     let mut layers: Vec<Layer<'_>> = Vec::new(alloc);
     let mut from = 0;
@@ -76,61 +77,105 @@ fn compare_dates(
     compare(rt, alloc, &layers, expected);
 }
 
-#[test]
-fn dates_of_six_hundred_commits_are_told_or_the_wrong_one(rt: HostRuntime) {
-    let alloc = rt.alloc();
-    let numbers = numbers(&rt, alloc);
-    let rows = rows(&rt, alloc, &numbers);
+/// The right dates.
+fn dates(rt: &impl Abort, alloc: Global) -> Vec<u64> {
     let mut dates = Vec::new(alloc);
-    for commit in &numbers {
-        let date = u64::from(*commit).saturating_add(9000);
-        dates.push(date).expect(&rt, "memory");
+    for commit in 0..COMMITS {
+        let date = u64::from(commit).saturating_add(9000);
+        dates.push(date).expect(rt, "memory");
     }
-    let right = offsets(&rt, alloc, 0, 0);
-    for stops in STOPS {
-        compare_dates(&rt, alloc, (&rows, &right, *stops), Ok(Some(&dates)));
-        for late in LATE {
-            let pos = Position(*late);
-            let expected = u64::from(*late).saturating_add(9000);
-            let twice = late.saturating_mul(2);
-            for word in [0, twice.saturating_sub(1), twice.saturating_add(1)] {
-                let wrong = offsets(&rt, alloc, *late, word);
-                let error = Err(DatesError::Date { pos, expected });
-                compare_dates(&rt, alloc, (&rows, &wrong, *stops), error);
-            }
-            let wrong = offsets(&rt, alloc, *late, 0x8000_0000);
-            let error = Err(DatesError::OverflowIndex { pos });
-            compare_dates(&rt, alloc, (&rows, &wrong, *stops), error);
-        }
+    dates
+}
+
+/// Asserts why dates are refused where one is wrong, in layers that end there.
+fn compare_late(rt: &impl Abort, alloc: Global, rows: &[Row<'_>], stops: &[usize], late: u32) {
+    let pos = Position(late);
+    let expected = u64::from(late).saturating_add(9000);
+    let twice = late.saturating_mul(2);
+    for word in [0, twice.saturating_sub(1), twice.saturating_add(1)] {
+        let wrong = offsets(rt, alloc, late, word);
+        let error = Err(DatesError::Date { pos, expected });
+        compare_dates(rt, alloc, (rows, &wrong, stops), error);
+    }
+    let wrong = offsets(rt, alloc, late, 0x8000_0000);
+    let error = Err(DatesError::OverflowIndex { pos });
+    compare_dates(rt, alloc, (rows, &wrong, stops), error);
+}
+
+/// Asserts that the right dates are told, and each wrong one, in layers that end there.
+fn compare_all_dates(rt: &impl Abort, alloc: Global, stops: &[usize]) {
+    let numbers = numbers(rt, alloc);
+    let rows = rows(rt, alloc, &numbers);
+    let (right, dates) = (offsets(rt, alloc, 0, 0), dates(rt, alloc));
+    compare_dates(rt, alloc, (&rows, &right, stops), Ok(Some(&dates)));
+    for late in LATE {
+        compare_late(rt, alloc, &rows, stops, *late);
     }
 }
 
-/// The graph of the commits in layers that end there, with filters. For one commit the index has
-/// another word.
+#[test]
+fn dates_of_six_hundred_commits_are_told_or_the_wrong_one(rt: HostRuntime) {
+    for stops in STOPS {
+        compare_all_dates(&rt, rt.alloc(), *stops);
+    }
+}
+
+/// The byte of the filter of a commit, if it has one.
+fn byte_of(commit: usize) -> Option<u8> {
+    if commit % 5 == 0 {
+        None
+    } else if commit % 2 == 1 {
+        Some(0xff)
+    } else {
+        Some(0x00)
+    }
+}
+
+/// What the filter of a commit answers about any path.
+fn answer_of(commit: usize) -> Answer {
+    match byte_of(commit) {
+        None => Answer::NotComputed,
+        Some(0x00) => Answer::Absent,
+        Some(_) => Answer::Possible,
+    }
+}
+
+/// The layer of these commits, the first of which stands at this place, with filters. For one
+/// commit the index has another word.
+fn filtered_layer(
+    rt: &impl Abort,
+    alloc: Global,
+    (rows, from): (&[Row<'_>], usize),
+    (wrong, word): (usize, u32),
+) -> File {
+    let mut body = words(alloc, &[1, 7, 10]).expect(rt, "memory");
+    let mut index = Vec::new(alloc);
+    let (mut end, mut commit) = (0_u32, from);
+    for _ in rows {
+        if let Some(byte) = byte_of(commit) {
+            body.push(byte).expect(rt, "memory");
+            end = end.saturating_add(1);
+        }
+        let word = if commit == wrong { word } else { end };
+        index.push(word).expect(rt, "memory");
+        commit = commit.saturating_add(1);
+    }
+    let index = words(alloc, &index).expect(rt, "memory");
+    layer(rt, alloc, rows, &[(b"BIDX", &index), (b"BDAT", &body)])
+}
+
+/// The graph of the commits in layers that end there, with filters, and another word.
 fn filtered(
     rt: &impl Abort,
     alloc: Global,
     (rows, stops): (&[Row<'_>], &[usize]),
-    wrong: usize,
-    word: u32,
+    wrong: (usize, u32),
 ) -> Graph {
     let mut files = Vec::new(alloc);
     let mut from = 0;
     for stop in stops {
-        let (mut index, mut body) = (Vec::new(alloc), words(rt, alloc, &[1, 7, 10]));
-        let mut end = 0_u32;
-        for commit in from..*stop {
-            if commit % 5 != 0 {
-                let byte = if commit % 2 == 1 { 0xff } else { 0x00 };
-                body.push(byte).expect(rt, "memory");
-                end = end.saturating_add(1);
-            }
-            let word = if commit == wrong { word } else { end };
-            index.push(word).expect(rt, "memory");
-        }
-        let rows = rows.get(from..*stop).expect(rt, "commits");
-        let index = words(rt, alloc, &index);
-        let file = layer(rt, alloc, rows, &[(b"BIDX", &index), (b"BDAT", &body)]);
+        let commits = rows.get(from..*stop).expect(rt, "commits");
+        let file = filtered_layer(rt, alloc, (commits, from), wrong);
         files.push(file).expect(rt, "memory");
         from = *stop;
     }
@@ -139,38 +184,34 @@ fn filtered(
 
 /// Asserts what the filters of the commits say of a path.
 fn compare_filters(rt: &impl Abort, alloc: Global, graph: &Graph) {
-    let filters = GraphFilters::of_graph(alloc, graph).expect(rt, "filters");
-    let path = PathKey::new(b"folder/file");
-    assert!(rt; graph.num_commits() == COMMITS && filters.computed() == 480);
-    for commit in 0..graph.num_commits() {
-        let expected = if commit % 5 == 0 {
-            Answer::NotComputed
-        } else if commit % 2 == 1 {
-            Answer::Possible
-        } else {
-            Answer::Absent
-        };
-        assert!(rt; filters.probe(Position(commit), &path) == expected);
+    assert!(rt; graph.num_commits() == COMMITS);
+    let (_, computed) = settings_of(rt, alloc, graph);
+    assert!(rt; computed == 480);
+    let mut commit = 0;
+    for answer in &answers_of(rt, alloc, graph, b"folder/file") {
+        assert!(rt; *answer == answer_of(commit));
+        commit = commit.saturating_add(1);
+    }
+}
+
+/// Asserts what filters say, or why they are refused, in layers that end there.
+fn compare_all_filters(rt: &impl Abort, alloc: Global, stops: &[usize]) {
+    let numbers = numbers(rt, alloc);
+    let rows = rows(rt, alloc, &numbers);
+    let right = filtered(rt, alloc, (&rows, stops), (usize::MAX, 0));
+    compare_filters(rt, alloc, &right);
+    for late in LATE {
+        let (pos, place) = (Position(*late), *late as usize);
+        let wrong = filtered(rt, alloc, (&rows, stops), (place, 0));
+        assert!(rt; refusal_of(alloc, &wrong) == Some(FiltersError::Falls { pos }));
+        let wrong = filtered(rt, alloc, (&rows, stops), (place, u32::MAX));
+        assert!(rt; refusal_of(alloc, &wrong) == Some(FiltersError::PastEnd { pos }));
     }
 }
 
 #[test]
 fn filters_of_six_hundred_commits_are_asked_or_the_wrong_one(rt: HostRuntime) {
-    let alloc = rt.alloc();
-    let numbers = numbers(&rt, alloc);
-    let rows = rows(&rt, alloc, &numbers);
     for stops in STOPS {
-        let right = filtered(&rt, alloc, (&rows, *stops), usize::MAX, 0);
-        compare_filters(&rt, alloc, &right);
-        for late in LATE {
-            let pos = Position(*late);
-            for (word, error) in [
-                (0, FiltersError::Falls { pos }),
-                (u32::MAX, FiltersError::PastEnd { pos }),
-            ] {
-                let wrong = filtered(&rt, alloc, (&rows, *stops), *late as usize, word);
-                assert!(&rt; GraphFilters::of_graph(alloc, &wrong).err() == Some(error));
-            }
-        }
+        compare_all_filters(&rt, rt.alloc(), *stops);
     }
 }

@@ -29,6 +29,4 @@ mod responding;
 #[cfg(test)]
 mod unchecked;
 #[cfg(test)]
-mod unchecked_bases;
-#[cfg(test)]
 mod writes;

@@ -1,11 +1,12 @@
 //! What `historytool` answers to the words of a command line.
 
 use crate::answers::{CS, ONES, STEP};
-use crate::fixtures::graphs;
+use crate::fixtures::{command_of, ensure, graphs, line_of};
 use graph_commands::line::WriteFailed;
 use graph_commands::program::{Complaints, respond};
+use graph_folder::folder::Memory;
 use graph_vectors::Sink;
-use history_program::command::{Command, Texts};
+use history_program::command::Command;
 use std::alloc::Global;
 use std::io;
 use std::process::Abort;
@@ -14,7 +15,10 @@ const ONES_LINE: &str = "1111111111111111111111111111111111111111\n";
 
 /// The words after the program's own name, with the status and with what is written to the output
 /// and to standard error.
-const ROWS: &[(&[&str], u8, &str, &str)] = &[
+type Response = (&'static [&'static str], u8, &'static str, &'static str);
+
+/// Questions about commits.
+const QUESTIONS: &[Response] = &[
     (&["--help"], 0, "help\n", ""),
     (&["-h"], 0, "help\n", ""),
     (&["--version"], 0, "version\n", ""),
@@ -64,6 +68,10 @@ const ROWS: &[(&[&str], u8, &str, &str)] = &[
         ONES_LINE,
         "",
     ),
+];
+
+/// The other commands.
+const OTHERS: &[Response] = &[
     (&["check", "nowhere"], 1, "refused open 1\n", ""),
     (&["show", "nowhere"], 1, "refused open 1\n", ""),
     (&["ask", "nowhere"], 1, "refused open 1\n", ""),
@@ -86,8 +94,12 @@ const ROWS: &[(&[&str], u8, &str, &str)] = &[
     (&["write"], 1, "refused write 9\n", ""),
     (&["write", "nowhere"], 1, "refused open 1\n", ""),
     (&["write", "file"], 1, "refused write 9\n", ""),
-    (&["write", "file", CS], 2, "", "usage\n"),
     (&["merge", "nowhere"], 1, "refused open 1\n", ""),
+];
+
+/// Words that are no command.
+const NO_COMMANDS: &[Response] = &[
+    (&["write", "file", CS], 2, "", "usage\n"),
     (&["merge"], 2, "", "usage\n"),
     (&[], 2, "", "usage\n"),
     (&["walk", "file", CS], 2, "", "usage\n"),
@@ -108,49 +120,59 @@ const ROWS: &[(&[&str], u8, &str, &str)] = &[
     (&["objects", "file", "00", "1"], 2, "", "usage\n"),
 ];
 
-/// The answer to these words.
-fn answer(
-    rt: &impl Abort,
+fn questions() -> &'static [Response] {
+    QUESTIONS
+}
+
+fn others() -> &'static [Response] {
+    OTHERS
+}
+
+fn no_commands() -> &'static [Response] {
+    NO_COMMANDS
+}
+
+/// What the program answers to a command. The contract is long, and here it ends.
+fn responded(
     alloc: Global,
-    words: &[&str],
+    command: Option<Command<'_>>,
+    folder: &mut Memory,
     output: &mut Sink,
     errors: &mut Sink,
 ) -> Result<u8, WriteFailed> {
-    let mut folder = graphs(rt, alloc);
-    let mut line = Vec::new(alloc);
-    for word in ["historytool"].iter().chain(words.iter()) {
-        let word = String::from_str(alloc, word).expect(rt, "memory");
-        line.push(word).expect(rt, "memory");
-    }
     let complaints = Complaints {
         usage: "usage",
         write_failed: "failed",
     };
-    let texts = Texts {
-        help: "help",
-        version: "version",
-    };
-    let (command, mut input) = (Command::from_words(&line, texts), io::empty());
     respond(
         alloc,
         command,
         complaints,
-        &mut input,
-        &mut folder,
+        &mut io::empty(),
+        folder,
         output,
         errors,
     )
 }
 
-#[test]
-fn runs_what_the_words_ask_historytool_for(rt: HostRuntime) {
-    let alloc = rt.alloc();
-    for (words, status, written, told) in ROWS {
+/// Asserts what the program answers to words.
+fn expect_responses(rt: &impl Abort, alloc: Global, rows: &[Response]) {
+    let mut folder = graphs(rt, alloc);
+    for (words, status, written, told) in rows {
         let mut output = Sink::new(alloc, usize::MAX, None);
         let mut errors = Sink::new(alloc, usize::MAX, None);
-        let answered = answer(&rt, alloc, words, &mut output, &mut errors);
-        assert_eq!(&rt; answered, Ok(*status), "{words:?}");
-        assert_eq!(&rt; output.text(), *written, "{words:?}");
-        assert_eq!(&rt; errors.text(), *told, "{words:?}");
+        let line = line_of(rt, alloc, &[words]);
+        let command = command_of(&line);
+        let answered = responded(alloc, command, &mut folder, &mut output, &mut errors);
+        ensure(rt, written, answered == Ok(*status));
+        ensure(rt, written, output.text() == *written);
+        ensure(rt, written, errors.text() == *told);
+    }
+}
+
+#[test]
+fn runs_what_the_words_ask_historytool_for(rt: HostRuntime) {
+    for rows in [questions(), others(), no_commands()] {
+        expect_responses(&rt, rt.alloc(), rows);
     }
 }

@@ -1,83 +1,102 @@
 //! Graphs that are trusted.
 
-use crate::answers::{ANSWERS, CS, DS, NO_ANSWERS, ONES, STEP, expect};
-use crate::fixtures::{Command, graphs};
+use crate::answers::{
+    CS, DS, ONES, STEP, answers, compare_answers, compare_no_answers, no_answers,
+};
+use crate::fixtures::{Asked, answer, ensure, expect_all, graphs};
+use graph_folder::folder::Memory;
 use graph_vectors::Sink;
-
-const UNCHECKED: [Command; 2] = [Command::IsAncestorUnchecked, Command::WalkUnchecked];
+use std::alloc::Global;
+use std::process::Abort;
 
 #[test]
 fn a_trusted_graph_gets_the_same_answers(rt: HostRuntime) {
-    let alloc = rt.alloc();
-    let mut folder = graphs(&rt, alloc);
-    for (words, told, found) in ANSWERS {
-        let asked = (Command::IsAncestorUnchecked, *words);
-        expect(&rt, alloc, &mut folder, asked, *told);
-        let asked = (Command::WalkUnchecked, *words);
-        expect(&rt, alloc, &mut folder, asked, *found);
-    }
-    for (words, status, line) in NO_ANSWERS {
-        let (path, _, _) = words;
-        if *path != "wrong" {
-            for command in UNCHECKED {
-                expect(&rt, alloc, &mut folder, (command, *words), (*status, line));
-            }
-        }
-    }
+    compare_answers(&rt, rt.alloc(), &["--unchecked"], answers());
+    let commands: [&[&str]; 2] = [&["is-ancestor", "--unchecked"], &["walk", "--unchecked"]];
+    compare_no_answers(&rt, rt.alloc(), &commands, no_answers());
 }
-
-/// A path and the texts of two ids, with the status and the line of `is-ancestor`, and those of
-/// `walk` with the ids exchanged: what is wrong does not show, or it shows, and then the check says
-/// what it is.
-const WRONG: &[((&str, &str, &str), (u8, &str), (u8, &str))] = &[
-    (("wrong", ONES, CS), (0, "yes\n"), (0, STEP)),
-    (("wrong", CS, ONES), (1, "no\n"), (1, "none\n")),
-    (("wrong", DS, DS), (1, "unknown 1\n"), (1, "unknown 1\n")),
-    (("outside", ONES, CS), (1, OUTSIDE), (1, OUTSIDE)),
-    (
-        ("outside", ONES, DS),
-        (1, "unknown 2\n"),
-        (1, "unknown 1\n"),
-    ),
-];
 
 /// The parent of the second commit is no commit of the graph.
 pub(super) const OUTSIDE: &str = "refused verify 7 position 1 parent 7\n";
 
+/// What is wrong does not show, or it shows, and then the check says what it is.
+const WRONG: &[Asked] = &[
+    (
+        &["is-ancestor", "--unchecked", "wrong", ONES, CS],
+        0,
+        "yes\n",
+    ),
+    (&["walk", "--unchecked", "wrong", CS, ONES], 0, STEP),
+    (
+        &["is-ancestor", "--unchecked", "wrong", CS, ONES],
+        1,
+        "no\n",
+    ),
+    (&["walk", "--unchecked", "wrong", ONES, CS], 1, "none\n"),
+    (
+        &["is-ancestor", "--unchecked", "wrong", DS, DS],
+        1,
+        "unknown 1\n",
+    ),
+    (&["walk", "--unchecked", "wrong", DS, DS], 1, "unknown 1\n"),
+    (
+        &["is-ancestor", "--unchecked", "outside", ONES, CS],
+        1,
+        OUTSIDE,
+    ),
+    (&["walk", "--unchecked", "outside", CS, ONES], 1, OUTSIDE),
+    (
+        &["is-ancestor", "--unchecked", "outside", ONES, DS],
+        1,
+        "unknown 2\n",
+    ),
+    (
+        &["walk", "--unchecked", "outside", DS, ONES],
+        1,
+        "unknown 1\n",
+    ),
+];
+
 #[test]
 fn a_wrong_graph_is_refused_where_that_shows(rt: HostRuntime) {
-    let alloc = rt.alloc();
-    let mut folder = graphs(&rt, alloc);
-    for (words, told, found) in WRONG {
-        let (path, first, second) = *words;
-        let asked = (Command::IsAncestorUnchecked, *words);
-        expect(&rt, alloc, &mut folder, asked, *told);
-        let asked = (Command::WalkUnchecked, (path, second, first));
-        expect(&rt, alloc, &mut folder, asked, *found);
+    expect_all(&rt, rt.alloc(), WRONG);
+}
+
+/// Whether a command is refused where a read fails. If not, this is asserted to be its answer.
+fn is_refused(
+    rt: &impl Abort,
+    alloc: Global,
+    folder: &mut Memory,
+    (words, text): (&[&str], &str),
+    read: u32,
+) -> bool {
+    folder.fail_read(read);
+    let mut out = Sink::new(alloc, usize::MAX, None);
+    let answered = answer(rt, alloc, folder, &[words], &mut out);
+    let refused = out.text() == "refused open 3\n";
+    let status = if refused { 1 } else { 0 };
+    ensure(rt, text, answered == Ok(status));
+    ensure(rt, text, refused || out.text() == text);
+    refused
+}
+
+/// Asserts that a command which asks about the graph `chain` is refused where a read fails: those
+/// of the chain, of two heads, and of ids and records of both layers.
+pub(super) fn expect_reads(rt: &impl Abort, alloc: Global, words: &[&str], text: &str) {
+    let mut folder = graphs(rt, alloc);
+    let mut failed = 0u32;
+    for read in 0..20 {
+        if is_refused(rt, alloc, &mut folder, (words, text), read) {
+            failed = failed.saturating_add(1);
+        }
     }
+    ensure(rt, text, failed >= 5);
 }
 
 #[test]
 fn each_read_by_parts_that_fails_is_refused(rt: HostRuntime) {
-    let asked = [
-        (Command::IsAncestorUnchecked, ("chain", ONES, CS), "yes\n"),
-        (Command::WalkUnchecked, ("chain", CS, ONES), STEP),
-    ];
-    for (command, words, text) in asked {
-        let mut failed = 0u32;
-        for read in 0..20 {
-            let mut folder = graphs(&rt, rt.alloc());
-            folder.fail_read(read);
-            let mut out = Sink::new(rt.alloc(), usize::MAX, None);
-            let answer = command.run(rt.alloc(), &mut folder, words, &mut out);
-            if out.text() == "refused open 3\n" {
-                failed = failed.saturating_add(1);
-                assert!(rt; answer == Ok(1));
-            } else {
-                assert!(rt; answer == Ok(0) && out.text() == text);
-            }
-        }
-        // The chain, two heads, and ids and records of both layers.
-        assert!(rt; failed >= 5);
-    }
+    let words = ["is-ancestor", "--unchecked", "chain", ONES, CS];
+    expect_reads(&rt, rt.alloc(), &words, "yes\n");
+    let words = ["walk", "--unchecked", "chain", CS, ONES];
+    expect_reads(&rt, rt.alloc(), &words, STEP);
 }
