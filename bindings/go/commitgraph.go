@@ -359,7 +359,7 @@ func (g *Graph) ID(position uint32) ([]byte, error) {
 	defer runtime.KeepAlive(g)
 	id := make([]byte, 32)
 	length := C.cg_id_at(g.raw, C.uint32_t(position), at(id), C.cg_id_len(g.raw))
-	return written(id, length, position)
+	return g.written(id, length, position)
 }
 
 // IDs are the ids of the commits at these positions.
@@ -382,14 +382,22 @@ func (g *Graph) Tree(position uint32) ([]byte, error) {
 	defer runtime.KeepAlive(g)
 	id := make([]byte, 32)
 	length := C.cg_tree_at(g.raw, C.uint32_t(position), at(id), C.cg_id_len(g.raw))
-	return written(id, length, position)
+	return g.written(id, length, position)
 }
 
-func written(id []byte, length C.size_t, position uint32) ([]byte, error) {
+func (g *Graph) written(id []byte, length C.size_t, position uint32) ([]byte, error) {
 	if length == 0 {
-		return nil, &Error{Code: C.CG_NO_SUCH_POSITION, Position: position}
+		return nil, g.noCommit(position)
 	}
 	return id[:length], nil
+}
+
+// noCommit says why there is no commit at a position: the graph is closed, or has too few.
+func (g *Graph) noCommit(position uint32) error {
+	if C.cg_id_len(g.raw) == 0 {
+		return &Error{Code: C.CG_CLOSED_GRAPH}
+	}
+	return &Error{Code: C.CG_NO_SUCH_POSITION, Position: position}
 }
 
 // Record is what the record of a commit says, but for its ids and its parents.
@@ -404,7 +412,7 @@ func (g *Graph) Record(position uint32) (Record, error) {
 	defer runtime.KeepAlive(g)
 	var told C.cg_commit
 	if !C.cg_commit_at(g.raw, C.uint32_t(position), &told) {
-		return Record{}, &Error{Code: C.CG_NO_SUCH_POSITION, Position: position}
+		return Record{}, g.noCommit(position)
 	}
 	return Record{uint64(told.time), uint32(told.generation)}, nil
 }

@@ -421,6 +421,14 @@ func TestRefusals(t *testing.T) {
 		t.Error(position)
 	}
 	graph.Close()
+	_, ofID := graph.ID(0)
+	_, ofRecord := graph.Record(0)
+	for _, err := range []error{ofID, ofRecord} {
+		var told *Error
+		if !errors.As(err, &told) || told.Code != 2 {
+			t.Error(err)
+		}
+	}
 	changed := append([]byte{}, data...)
 	changed[len(changed)-1] ^= 1
 	for _, bad := range []struct {
