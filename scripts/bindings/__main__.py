@@ -395,7 +395,7 @@ def same_chunks(name, program, scratch, folders=False):
     """What is told of the dates and filters of each graph beside what has to be told, and what `historytool check` says."""
     for title, path, layers in (row for kind in KINDS for row in chunked.graphs(scratch / "chunked", kind)):
         opened, check = path.parent if folders else path, checked_by_program(path.parent) if HISTORYTOOL else []
-        lines = tells(f"{name}: {title}", program, (opened, "dates"), chunked.told_dates(layers))
+        lines = tells(f"{name}: {title}", program, (opened, "dates"), chunked.wanted_dates(title, layers))
         same_check(f"{name}: {title}, dates", "dates", lines[0], check)
         for asked in ("file", "folder", "folder/file", "no/such/file"):
             lines = tells(f"{name}: {title}", program, (opened, "probe", asked), chunked.told_filters(layers, asked.encode()))
