@@ -6,7 +6,7 @@ use Rattle.gix_commitgraph.specs.Graph.{total}
 use Rattle.graph_ancestors.specs.WalkAnswer.{numbers_of}
 use Rattle.graph_history.specs.Comparison.{IsComparisonOf}
 use Rattle.graph_history.specs.declared.bases.Comparison.{Comparison}
-use Rattle.commitgraph_c.specs.Answers.{written}
+use Rattle.c_opening.specs.Answers.{written}
 use Rattle.commitgraph_c.specs.declared.bases.CgBases.{CgBases}
 use Rattle.commitgraph_c.specs.declared.compare.CgTwo.{CgTwo}
 
