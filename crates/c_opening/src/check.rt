@@ -121,7 +121,7 @@ pub fn commits_below(graph: &Graph, layer: usize) -> u32
 }
 
 /// Tells that no graph is right, and neither where nor why.
-pub fn refused(code: u32) -> CgVerdict
+pub(crate) fn refused(code: u32) -> CgVerdict
     ensures { result ≡ refusal_at code 0 0 0 0 }
 {
     CgVerdict {
@@ -180,7 +180,7 @@ pub(crate) fn right(outcome: &Outcome, counts: &mut [CgCount]) -> CgVerdict
 }
 
 /// Tells why a graph is refused. What a processor answers, stops the check.
-pub fn wrong<E: Drop>(error: VerifyError<E>) -> CgVerdict
+pub(crate) fn wrong<E: Drop>(error: VerifyError<E>) -> CgVerdict
     ensures told { result ≡ refusal_of error }
     ensures code { result.code ≢ 0 }
     ensures called { result.called ≡ 0 }

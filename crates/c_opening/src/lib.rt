@@ -7,6 +7,7 @@
 #![tactic(auto)]
 
 pub mod check;
+mod check_within;
 pub mod codes;
 mod flag;
 mod flag_handle;
@@ -15,12 +16,13 @@ mod handle;
 mod kept;
 mod kept_handle;
 mod known;
-pub mod open;
+mod open;
 mod opened;
 pub mod paths;
 pub mod read;
 
 pub use check::{CgCount, CgVerdict, cg_verify};
+pub use check_within::cg_check_within;
 pub use flag_handle::{CgFlag, CgFlagAddress, CgFlagOwned, CgFlagOwner};
 pub use flags::{CgLimit, cg_flag_free, cg_flag_new, cg_flag_raise};
 pub use handle::{CgAddress, CgGraph, CgOwned, CgOwner};

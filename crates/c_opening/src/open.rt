@@ -156,7 +156,7 @@ fn unopened(error: CgError, verdict: &mut CgVerdict) -> CgError
 }
 
 /// Writes a graph that was checked, and its statistics, unless there is no memory for its block.
-pub fn hand_out(
+pub(crate) fn hand_out(
     alloc: Global,
     graph: CheckedGraph,
     verdict: &mut CgVerdict,

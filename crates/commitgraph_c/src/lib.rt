@@ -38,6 +38,4 @@ pub use parents::{CgParents, cg_parents};
 pub use probes::{CgProbed, cg_probe_path};
 pub use query::{CgLeads, CgReached, cg_ancestor_walk, cg_is_ancestor};
 pub use version::cg_version;
-pub use within::{
-    cg_ancestor_walk_within, cg_check_within, cg_is_ancestor_within, cg_merge_bases_within,
-};
+pub use within::{cg_ancestor_walk_within, cg_is_ancestor_within, cg_merge_bases_within};

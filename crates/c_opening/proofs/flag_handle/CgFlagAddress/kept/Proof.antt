@@ -18,7 +18,7 @@ use denote.Opens.{hide}
 use denote.Signature.{plain}
 use denote.Steps.{nothing, heard}
 use denote.Triple.Walked.{says, Stays, stay_dropped, walk_of, ends_at, Goes-dropped}
-use Rattle.std.proofs.Common.{Some, Option, IsSome, ℕ}
+use Rattle.std.proofs.Common.{Some, Option, IsSome}
 use Rattle.std.proofs.raw_atomic.Walks.{proved_at}
 use Rattle.c_opening.proofs.AsBox.{there}
 use Rattle.c_opening.specs.contracts.flag_handle.CgFlagAddress.{the_row as R}

@@ -38,7 +38,7 @@ use denote.Triple.Walked.{says, Stays, stay_dropped, walk_of, ends_at, Goes-drop
 use Rattle.std.proofs.BoxSteps.Form.{D, R, B, τ, word, handle, box_typed}
 use Rattle.std.proofs.BoxSteps.Steps.{box_out, box_in}
 use Rattle.std.proofs.alloc.Calls.{token}
-use Rattle.std.proofs.Common.{Option, Some, IsSome, ℕ}
+use Rattle.std.proofs.Common.{Option, Some, IsSome}
 use Rattle.std.proofs.impls.GlobalAllocator.TheImpl.Met as heap
 use Rattle.std.specs.contracts.boxed.Box.from_raw as g
 use Rattle.std.proofs.boxed.Box.from_raw.Met as g-thm
