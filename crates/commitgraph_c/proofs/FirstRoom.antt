@@ -11,7 +11,7 @@ use Rattle.graph_format.specs.declared.Position.{Position}
 use Rattle.graph_format.specs.declared.parents.ParentEdge.{ParentEdge}
 use Rattle.graph_format.specs.declared.parents.ParentEdge.TheVariants as edge
 use Rattle.graph_format.specs.declared.parents.ParentError.{ParentError}
-use Rattle.graph_ancestors.specs.WalkAnswer.{numbers_of}
+use Rattle.commit_search.specs.Positions.{numbers_of}
 use Rattle.commitgraph_c.specs.Answers.{written}
 use Rattle.commitgraph_c.specs.Codes.{more_parents, parent_code}
 use Rattle.commitgraph_c.specs.FirstParents.{TellsFirstParents}

@@ -4,7 +4,7 @@ use Rattle.std.proofs.Common.{arith, set, Option, Some, None, Result, Ok, Err}
 use Rattle.graph_format.specs.Parents.{DecodedParents, fault_items}
 use Rattle.graph_format.specs.declared.Position.{Position}
 use Rattle.graph_format.specs.declared.parents.ParentError.{ParentError}
-use Rattle.graph_ancestors.specs.WalkAnswer.{numbers_of}
+use Rattle.commit_search.specs.Positions.{numbers_of}
 use Rattle.commitgraph_c.specs.Answers.{written}
 use Rattle.commitgraph_c.proofs.Written.{none_written, past_the_room, one_more, numbers_length, numbers_end}
 

@@ -7,8 +7,8 @@ use Rattle.std.proofs.Math.Seq.{drop-length}
 use Rattle.std.proofs.lemmas.Bool.{cases_lt}
 use Rattle.std.proofs.lemmas.List.{take_more, take_all, length-map, map-append, append-nil}
 use Rattle.graph_format.specs.Layer.{Layer}
-use Rattle.graph_history.specs.Comparison.{IsComparisonOf}
-use Rattle.graph_history.specs.declared.bases.Comparison.{Comparison}
+use Rattle.graph_history.specs.GraphComparison.{IsComparisonOf}
+use Rattle.graph_bases.specs.declared.bases.Comparison.{Comparison}
 use Rattle.commitgraph_c.specs.Answers.{TellsComparison, written}
 use Rattle.commitgraph_c.specs.Compared.{AreComparisonsOf, TellsCompared, base_positions, told_comparison}
 use Rattle.commitgraph_c.specs.declared.bases.CgBases.{CgBases}

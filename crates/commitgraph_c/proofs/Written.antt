@@ -4,7 +4,7 @@ use Rattle.std.proofs.Common.{set, arith}
 use Rattle.std.proofs.Common.{get_or, drop, Some, slice_get}
 use Rattle.std.proofs.lemmas.List.{take_more}
 use Rattle.std.proofs.lemmas.Option.{get_or_from_slice_get, slice_get_within}
-use Rattle.graph_ancestors.specs.WalkAnswer.{numbers_of}
+use Rattle.commit_search.specs.Positions.{numbers_of}
 use Rattle.graph_format.specs.declared.Position.{Position}
 use Rattle.commitgraph_c.specs.Answers.{written}
 

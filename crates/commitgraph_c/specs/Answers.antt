@@ -5,10 +5,11 @@ use Rattle.graph_format.specs.Format.{Record}
 use Rattle.graph_format.specs.Parents.{DecodedParents, parents_of}
 use Rattle.graph_format.specs.Layer.{Layer, record_at}
 use Rattle.graph_format.specs.StoredHistory.{history_of}
-use Rattle.graph_ancestors.specs.WalkAnswer.{IsAnswer, numbers_of}
-use Rattle.graph_history.specs.Comparison.{IsComparisonOf}
-use Rattle.graph_ancestors.specs.declared.Reached.{Reached}
-use Rattle.graph_history.specs.declared.bases.Comparison.{Comparison}
+use Rattle.commit_search.specs.WalkAnswer.{IsAnswer}
+use Rattle.commit_search.specs.Positions.{numbers_of}
+use Rattle.graph_history.specs.GraphComparison.{IsComparisonOf}
+use Rattle.commit_search.specs.declared.Reached.{Reached}
+use Rattle.graph_bases.specs.declared.bases.Comparison.{Comparison}
 use Rattle.gix_commitgraph.specs.Graph.{graph_ids, graph_commits}
 use Rattle.commitgraph_c.specs.Codes.{parent_code}
 use Rattle.commitgraph_c.specs.declared.bases.CgBases.{CgBases}

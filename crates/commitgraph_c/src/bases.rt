@@ -3,7 +3,7 @@
 ghost use Rattle.std.specs.Prelude.{◌≡◌, ◌≢◌, ◌↔◌, ◌<◌, ◌≤◌, ◌⊎◌, false, All, Any, IfOk};
 ghost use Rattle.std.specs.Prelude.{IsSomeAnd, IsTrue, None};
 ghost use Rattle.gix_commitgraph.specs.Graph.{total};
-ghost use Rattle.graph_ancestors.specs.WalkAnswer.{numbers_of};
+ghost use Rattle.commit_search.specs.Positions.{numbers_of};
 ghost use Rattle.commitgraph_c.specs.Answers.{IsChecked, TellsBases, TellsComparison};
 ghost use Rattle.commitgraph_c.specs.Answers.{TellsNoBases};
 ghost use Rattle.commitgraph_c.specs.Codes.{closed_graph, no_such_position, not_checked};

@@ -3,7 +3,7 @@
 ghost use Rattle.std.specs.Prelude.{◌≡◌, ◌↔◌, ◌<◌, ◌≤◌, ◌⊎◌, ◌∷◌, [], false, true, length, min};
 ghost use Rattle.std.specs.Prelude.{IfErr, IfOk, IfSome, IsSomeAnd, None, slice_get, take};
 ghost use Rattle.gix_commitgraph.specs.Graph.{total};
-ghost use Rattle.graph_history.specs.Comparison.{IsComparisonOf};
+ghost use Rattle.graph_history.specs.GraphComparison.{IsComparisonOf};
 ghost use Rattle.commitgraph_c.specs.Answers.{IsChecked};
 ghost use Rattle.commitgraph_c.specs.Codes.{closed_graph, no_such_position, not_checked};
 ghost use Rattle.commitgraph_c.specs.Codes.{out_of_memory};
