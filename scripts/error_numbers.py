@@ -57,7 +57,7 @@ def wrong_conditions(texts):
 
 HEADER, RUST = "bindings/c/commitgraph.h", "bindings/rust/src/codes.rs"
 PYTHON = "bindings/python/commitgraph.py"
-LIBRARY = "crates/commitgraph_c/specs/"
+LIBRARY = ("crates/c_opening/specs/", "crates/c_writing/specs/", "crates/commitgraph_c/specs/")
 IN_HEADER = re.compile(r"^    CG_(\w+) = (\d+)", re.MULTILINE)
 SENTENCE = re.compile(r'^    case CG_(\w+): return "(.+)";$', re.MULTILINE)
 IN_RUST = re.compile(r"^pub\(crate\) const (\w+): u32 = (\d+);$", re.MULTILINE)
@@ -108,7 +108,7 @@ def wrong_codes(texts):
     specs = "".join(text for path, text in texts.items() if path.startswith(LIBRARY))
     defined_ = {int(one or other) for one, other in IN_SPECS.findall(specs)} - {NEVER, 0}
     if defined_ != numbers - {0}:
-        yield "%s and %s differ in %s" % (HEADER, LIBRARY, sorted(defined_ ^ (numbers - {0})))
+        yield "%s and %s differ in %s" % (HEADER, " ".join(LIBRARY), sorted(defined_ ^ (numbers - {0})))
     told = {base + int(row) for base, rows in GROUPS.items() for row in rows.findall(texts[REFUSALS])} - MEMORY
     if told != {number for number in numbers if number > 20}:
         yield "%s and %s differ in %s" % (HEADER, REFUSALS, sorted(told ^ {number for number in numbers if number > 20}))

@@ -5,7 +5,7 @@ what its contracts say, and not their proofs, since the crates above read no mor
 `rt run` and `rt lib`, which keep the proofs too: those are for whoever changes a crate and checks it again. A library that
 is newer than its sources and than what it uses stays as it is.
 
-No library of Rattle exports a function to C. So from the one for C a static library is made, of a crate that is written here:
+No library of Rattle exports a function to C. So from those for C a static library is made, of a crate that is written here:
 each function stands there once more, with its contract, calls the library's, and is proved.
 """
 import concurrent.futures
@@ -26,7 +26,9 @@ LISTED = (line.partition(":") for line in (TOP / "crates.txt").read_text().split
 USES = {crate.split()[0]: used.split() for crate, _, used in LISTED}
 """For each crate, those that crates.txt lists for it."""
 STATIC = "commitgraph_c"
-"""The library of which the static library is made."""
+"""The library beside which the static library stands."""
+FOR_C = ("c_opening", "c_writing", STATIC)
+"""The libraries of whose functions it is made."""
 EXPORTED = re.compile(r"^pub fn (cg_\w+)\((.*?)\)( -> \w+)?(\n.*?)\n\{\n", re.MULTILINE | re.DOTALL)
 """A function for C: its name, its parameters, its result and its contract."""
 USED = re.compile(r"^use (?!crate::)([\w:]+)::(?:\{([^}]*)\}|(\w+));", re.MULTILINE)
@@ -44,10 +46,12 @@ def kit():
 
 def below(crate):
     """The crates of this repository that a crate rests on, the lowest first."""
-    found = []
-    for name in USES.get(crate, []):
-        found += [it for it in (*below(name), name) if it in USES and it not in found]
-    return found
+    return with_below(name for name in USES.get(crate, []) if name in USES)
+
+
+def with_below(crates):
+    """Crates and those that they rest on, the lowest first."""
+    return list(dict.fromkeys(name for crate in crates for name in (*below(crate), crate)))
 
 
 def is_program(crate):
@@ -153,37 +157,43 @@ def linked():
     return ["--toolchain", kit() / "toolchain", "--backend", "llvm"]
 
 
+def export(crate, text):
+    """The text of the functions for C that a file of a crate has, empty where it has none."""
+    functions = EXPORTED.findall(text)
+    named = {word for function in functions for part in function for word in re.findall(r"\w+", part)}
+    used = [(path, name) for path, several, one in USED.findall(text) for name in re.findall(r"[A-Z]\w+", several or one)]
+    own = {name for name in named if name.startswith("Cg")}.difference(name for _, name in used)
+    written = re.findall(r"^ghost use .*\n", text, re.MULTILINE)
+    written += [f"use {crate}::{name};\n" for name in sorted(own)]
+    written += [f"use {path}::{name};\n" for path, name in used if name in named]
+    for name, taken, result, contract in functions:
+        call = ", ".join(re.findall(r"(\w+):", taken))
+        head = f"#[unsafe(no_mangle)]\npub extern \"C\" fn {name}({taken}){result}{contract}"
+        written.append(f"\n{head}\n{{\n    {crate}::{name}({call})\n}}\n")
+    return "".join(written) if functions else ""
+
+
 def write_exports(folder):
-    """Writes the crate of the functions for C, a file for each one of the library's."""
+    """Writes the crate of the functions for C, a file for each one of the libraries for C."""
     (folder / "src").mkdir()
-    modules = []
-    for path in sorted((CRATES / STATIC / "src").glob("*.rt")):
-        text = path.read_text()
-        functions = EXPORTED.findall(text)
-        named = {word for function in functions for part in function for word in re.findall(r"\w+", part)}
-        written = re.findall(r"^ghost use .*\n", text, re.MULTILINE)
-        written += [f"use {STATIC}::{name};\n" for name in sorted(named) if name.startswith("Cg")]
-        for crate, several, one in USED.findall(text):
-            written += [f"use {crate}::{name};\n" for name in re.findall(r"[A-Z]\w+", several or one) if name in named]
-        for name, taken, result, contract in functions:
-            call = ", ".join(re.findall(r"(\w+):", taken))
-            head = f"#[unsafe(no_mangle)]\npub extern \"C\" fn {name}({taken}){result}{contract}"
-            written.append(f"\n{head}\n{{\n    {STATIC}::{name}({call})\n}}\n")
-        if functions:
-            modules.append(path.stem)
-            (folder / f"src/{path.name}").write_text("".join(written))
+    sources = {path: crate for crate in FOR_C for path in (CRATES / crate / "src").glob("*.rt")}
+    written = {path.stem: export(crate, path.read_text()) for path, crate in sources.items()}
+    modules = sorted(name for name, text in written.items() if text)
+    for name in modules:
+        (folder / f"src/{name}.rt").write_text(written[name])
     lines = "".join(f"mod {name};\n" for name in modules)
     (folder / "src/lib.rt").write_text(f"#![tactic(auto)]\n\n{lines}")
 
 
 def build_archive(jobs, date=None):
-    """Proves and builds the static library, over the library for C. It is dated as a crate is. No file of its crate stays, since
-    the kit's gate takes code in the folders of crates alone."""
+    """Proves and builds the static library, over those for C. It is dated as a crate is. No file of its crate stays, since the
+    kit's gate takes code in the folders of crates alone."""
     started = time.time()
     kind = ["--crate-type", "staticlib", *linked(), "-o", archive()]
     with tempfile.TemporaryDirectory() as folder:
         write_exports(pathlib.Path(folder))
-        prove_in(folder, build_words("exports", [*USES[STATIC], STATIC], "lib", kind, jobs))
+        used = list(dict.fromkeys(name for crate in FOR_C for name in (*USES[crate], crate)))
+        prove_in(folder, build_words("exports", used, "lib", kind, jobs))
     os.utime(archive(), (date or started,) * 2)
     print(f"{archive().name}: proved in {time.time() - started:.0f} s", flush=True)
 
@@ -210,11 +220,12 @@ def prove_all(crates, date):
 
 def build(crate):
     """Proves and builds a crate, and first what it uses, where a source is newer. No `rt` works in their folders meanwhile."""
-    locked = [os.open(CRATES / name, os.O_RDONLY) for name in sorted([*below(crate), crate])]
+    crates = with_below(FOR_C if crate == STATIC else [crate])
+    locked = [os.open(CRATES / name, os.O_RDONLY) for name in sorted(crates)]
     for folder in locked:
         fcntl.flock(folder, fcntl.LOCK_EX)
     date = time.time()
-    prove_all([name for name in (*below(crate), crate) if not is_current(name)], date)
+    prove_all([name for name in crates if not is_current(name)], date)
     # The program may be older than a source of a crate that it does not use.
     os.utime(dated(crate), (date, date))
     if crate == STATIC:

@@ -36,7 +36,6 @@ TOP = pathlib.Path(__file__).resolve().parent.parent.parent
 HERE = TOP / "scripts/bindings"
 HEADER = TOP / "bindings/c"
 NAME = proving.STATIC
-CRATE = TOP / "crates" / NAME
 GRAPHTOOL, HISTORYTOOL = [*sys.argv[1:3], None, None][:2]
 KINDS = ("sha1", "sha256")
 REFUSING = [f"-Wl,--wrap={name}" for name in ("malloc", "realloc", "free")]
@@ -76,15 +75,12 @@ def present(tool, part):
 
 def built():
     """The library, built if it is older than a source."""
-    newest = max(path.stat().st_mtime for crate in (NAME, *proving.below(NAME)) for path in proving.source_files(crate))
+    crates = proving.with_below(proving.FOR_C)
+    newest = max(path.stat().st_mtime for crate in crates for path in proving.source_files(crate))
     if not proving.archive().exists() or proving.archive().stat().st_mtime < newest:
         try:
-            # What `rt ci` proved below is not proved again.
-            if all(proving.made(crate).exists() for crate in proving.below(NAME)):
-                proving.prove(NAME, 2)
-                proving.build_archive(2)
-            else:
-                proving.build(NAME)
+            # What `rt ci` proved is not proved again.
+            proving.build(NAME)
             complaint = ""
         except RuntimeError as error:
             complaint = error
@@ -93,12 +89,12 @@ def built():
 
 
 def wait_for_crates(log):
-    """Waits until `rt ci` has proved the library and the crates below it, or has ended: the last line of its log counts. Answers
-    whether it has proved them."""
+    """Waits until `rt ci` has proved the libraries for C and the crates below them, or has ended: the last line of its log counts.
+    Answers whether it has proved them."""
     while True:
         text = log.read_text(errors="replace") if log.exists() else ""
         told = set(re.findall(r"^rt: (\w+) (?:proved|is kept)", text, re.MULTILINE))
-        if told.issuperset([*proving.below(NAME), NAME]):
+        if told.issuperset(proving.with_below(proving.FOR_C)):
             return True
         if re.search(r"^\d+ passed, \d+ failed$", text, re.MULTILINE):
             return False
@@ -108,7 +104,7 @@ def wait_for_crates(log):
 def exports(archive):
     """No export has a `requires`, and each has an `ensures`. The library, the header and the Rust crate have just them,
     and each is called by the Rust crate, and by the programs that make all calls."""
-    texts = [path.read_text() for path in (CRATE / "src").glob("*.rt")]
+    texts = [path.read_text() for name in proving.FOR_C for path in (TOP / "crates" / name / "src").glob("*.rt")]
     found = {name: contract for text in texts for name, _, _, contract in proving.EXPORTED.findall(text)}
     expect("no export has a `requires`", found and not any("requires" in contract for contract in found.values()), found)
     silent = [name for name, contract in found.items() if "ensures" not in contract]
@@ -395,7 +391,7 @@ def same_chunks(name, program, scratch, folders=False):
     """What is told of the dates and filters of each graph beside what has to be told, and what `historytool check` says."""
     for title, path, layers in (row for kind in KINDS for row in chunked.graphs(scratch / "chunked", kind)):
         opened, check = path.parent if folders else path, checked_by_program(path.parent) if HISTORYTOOL else []
-        lines = tells(f"{name}: {title}", program, (opened, "dates"), chunked.told_dates(layers))
+        lines = tells(f"{name}: {title}", program, (opened, "dates"), chunked.wanted_dates(title, layers))
         same_check(f"{name}: {title}, dates", "dates", lines[0], check)
         for asked in ("file", "folder", "folder/file", "no/such/file"):
             lines = tells(f"{name}: {title}", program, (opened, "probe", asked), chunked.told_filters(layers, asked.encode()))

@@ -5,8 +5,8 @@ import itertools
 import random
 
 import real
-from checks import damaged_checks, further_checks
-from damage import further
+from checks import damaged_checks, further_checks, late_checks
+from damage import examples, further
 from expected import reading
 from expected.filters import SEEDS, WORD, murmur3
 from expected.further import Layer, Refused, dates_told, filters_told, numbers, starts, stored_dates
@@ -47,10 +47,28 @@ def all_layers(folder, kind):
     layer = repository.new_graph("--changed-paths")
     for name, _, edits in damaged_checks.damages(layer, kind):
         yield name, damaged_checks.edited([layer], kind, [edits])
+    yield from zip(BY_HAND, layers_by_hand()) if kind == "sha1" else ()
     chance = random.Random(4)
     found = filter(lambda graph: graph.kind == kind, (further.graph(chance) for _ in itertools.count()))
     for number, graph in enumerate(itertools.islice(found, AT_RANDOM)):
         yield f"graph {number} at random", graph.layers
+
+
+BY_HAND = {
+    "five commits by hand": (3001, 2001, 3000, 2000, 2002),
+    "a commit on three roots by hand": (31, 10, 30, 20),
+    "600 commits by hand": range(9000, 9600),
+    "600 commits in three layers by hand": range(9000, 9600),
+}
+"""The dates of some graphs, as they were worked out by hand."""
+
+
+def layers_by_hand():
+    """The layers of these graphs."""
+    files = examples.checked()
+    yield from ([files["dates"]], [files["octopus"]])
+    for stops in late_checks.STOPS:
+        yield late_checks.of_layers(stops, functools.partial(late_checks.dates, {}))[0]
 
 
 def laid_out(folder, layers, size):
@@ -67,6 +85,12 @@ def read_layers(layers):
     """The chunks of some layers."""
     kind = "sha256" if layers[0][5] == 2 else "sha1"
     return [Layer(reading.read_table(layer, layer[6])[0], kind) for layer in layers]
+
+
+def wanted_dates(title, layers):
+    """What is told of the dates of a graph: those that were worked out by hand, or those of a plain reading."""
+    dates = BY_HAND.get(title.partition(", ")[2])
+    return told_dates(layers) if dates is None else f"dates commits {len(dates)}\n" + "".join(f"{date}\n" for date in dates)
 
 
 def told_dates(layers):

@@ -49,6 +49,8 @@ NAME is a file of the folder `checks`, such as show_checks; without one, all are
   bit, and Git answers from them as before. Two writers at once, and no room on the disk; and all processes killed before each
   system call that changes a file, by killing.c: the old commit-graph or the new one is there.
 - a file of 300,000 commits, asked by each command, and with one fault late in it, which is named at its position.
+- the tables of the folder `tables`: what every command writes for a command line, over small files, to the letter; also byte by byte,
+  and where reads of standard input and writes fail. And dates and filters of 600 commits, with a fault late in them.
 - surroundings that are hostile: streams, paths, chain files, and every amount of memory.
 
 What an answer has to be is made from Git's own words, `git rev-list --parents` and `git cat-file`,

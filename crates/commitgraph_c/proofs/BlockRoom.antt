@@ -14,11 +14,12 @@ use Rattle.graph_format.specs.Parents.{edge_of}
 use Rattle.graph_format.specs.declared.Position.{Position}
 use Rattle.graph_format.specs.declared.parents.ParentEdge.TheVariants as edge
 use Rattle.graph_layer.proofs.ElementLemmas.{drop-next}
-use Rattle.commitgraph_c.specs.Answers.{TellsParents, parents_in, written}
+use Rattle.commitgraph_c.specs.QueryAnswers.{TellsParents, parents_in}
+use Rattle.c_opening.specs.Answers.{written}
 use Rattle.commitgraph_c.specs.Blocks.{TellsBlock, block_of, parent_positions, told_parents}
 use Rattle.commitgraph_c.specs.declared.parents.CgParents.{CgParents}
 use Rattle.commitgraph_c.proofs.FieldParents.{one_told}
-use Rattle.commitgraph_c.proofs.Written.{first_places, next_taken, none_written, numbers_length, one_more, written_after}
+use Rattle.c_opening.proofs.Written.{first_places, next_taken, none_written, numbers_length, one_more, written_after}
 
 -- the element at an index of what is left from a place on
 pub at_drop : {X : Type 0} (xs : List X) (n i : ℕ) (x : X) → slice_get xs (n + i) ≡ Some x → slice_get (drop n xs) i ≡ Some x

@@ -4,8 +4,8 @@ use Rattle.graph_format.specs.Parents.{both_parents}
 use Rattle.graph_format.specs.declared.Position.{Position}
 use Rattle.graph_format.specs.declared.parents.ParentEdge.{ParentEdge}
 use Rattle.graph_format.specs.declared.parents.ParentEdge.TheVariants as edge
-use Rattle.commitgraph_c.specs.Answers.{TellsParents}
-use Rattle.commitgraph_c.proofs.Written.{none_written, one_written, two_written}
+use Rattle.commitgraph_c.specs.QueryAnswers.{TellsParents}
+use Rattle.c_opening.proofs.Written.{none_written, one_written, two_written}
 
 module _ (first second : ParentEdge) (edges : Option (List ℕ)) (room : List ℕ) where
   pub none_told : first ≡ edge.None → second ≡ edge.None

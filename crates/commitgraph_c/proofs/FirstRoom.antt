@@ -11,13 +11,13 @@ use Rattle.graph_format.specs.declared.Position.{Position}
 use Rattle.graph_format.specs.declared.parents.ParentEdge.{ParentEdge}
 use Rattle.graph_format.specs.declared.parents.ParentEdge.TheVariants as edge
 use Rattle.graph_format.specs.declared.parents.ParentError.{ParentError}
-use Rattle.graph_ancestors.specs.WalkAnswer.{numbers_of}
-use Rattle.commitgraph_c.specs.Answers.{written}
-use Rattle.commitgraph_c.specs.Codes.{more_parents, parent_code}
+use Rattle.commit_search.specs.Positions.{numbers_of}
+use Rattle.c_opening.specs.Answers.{written}
+use Rattle.c_opening.specs.Codes.{more_parents, parent_code}
 use Rattle.commitgraph_c.specs.FirstParents.{TellsFirstParents}
 use Rattle.commitgraph_c.specs.declared.parents.CgParents.{CgParents}
 use Rattle.commitgraph_c.proofs.ParentRoom.{AreSeen, AreTold, next_of}
-use Rattle.commitgraph_c.proofs.Written.{numbers_length, none_written, one_written, two_written}
+use Rattle.c_opening.proofs.Written.{numbers_length, none_written, one_written, two_written}
 
 -- what comes after items that fill the room is not written
 past_room : (items more room : List ℕ) → length room ≤ length items → written (items ++ more) room ≡ written items room

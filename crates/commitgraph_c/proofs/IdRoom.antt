@@ -16,8 +16,8 @@ use Rattle.graph_format.proofs.WholePieceLemmas.{whole_pieces}
 use Rattle.graph_encoder.proofs.Pieces.{length-flat_map-sized}
 use Rattle.graph_encoder.proofs.PlannedChunks.{id-whole}
 use Rattle.gix_commitgraph.specs.Graph.{IsGraph, graph_ids}
-use Rattle.commitgraph_c.specs.Answers.{written}
-use Rattle.commitgraph_c.proofs.Written.{first_places, none_written, written_after}
+use Rattle.c_opening.specs.Answers.{written}
+use Rattle.c_opening.proofs.Written.{first_places, none_written, written_after}
 
 pieces_sized : (o : Option (List ℕ)) (size count : ℕ) (ids : List (List ℕ)) → 0 < size
     → IsSomeAnd o (λ chunk. (length chunk ≡ count) × (ids ≡ pieces size chunk)) → All (λ id. length id ≡ size) ids

@@ -4,9 +4,9 @@ use Rattle.std.proofs.Common.{arith, set, Option, Some, None, Result, Ok, Err}
 use Rattle.graph_format.specs.Parents.{DecodedParents, fault_items}
 use Rattle.graph_format.specs.declared.Position.{Position}
 use Rattle.graph_format.specs.declared.parents.ParentError.{ParentError}
-use Rattle.graph_ancestors.specs.WalkAnswer.{numbers_of}
-use Rattle.commitgraph_c.specs.Answers.{written}
-use Rattle.commitgraph_c.proofs.Written.{none_written, past_the_room, one_more, numbers_length, numbers_end}
+use Rattle.commit_search.specs.Positions.{numbers_of}
+use Rattle.c_opening.specs.Answers.{written}
+use Rattle.c_opening.proofs.Written.{none_written, past_the_room, one_more, numbers_length, numbers_end}
 
 -- Some parents were gone over, and the items to come are those of the others, and the fault after them.
 pub record AreSeen (parents : DecodedParents) (count : ℕ) (room now : List ℕ) (left : List (Result Position ParentError))

@@ -2,9 +2,9 @@
 use Rattle.std.proofs.Common.{◌≡◌, ◌∙◌, ap, sym, subst, ℕ, ◌+◌, ◌<◌, List, [], ◌∷◌, ◌++◌, length, take, get_or, All}
 use Rattle.std.proofs.lemmas.List.{take_more}
 use Rattle.std.proofs.lemmas.List.Elements.{All-nil, All-cons, All-head, All-tail}
-use Rattle.graph_ancestors.specs.WalkAnswer.{numbers_of}
+use Rattle.commit_search.specs.Positions.{numbers_of}
 use Rattle.graph_format.specs.declared.Position.{Position}
-use Rattle.commitgraph_c.proofs.Written.{numbers_end}
+use Rattle.c_opening.proofs.Written.{numbers_end}
 
 -- that of the next number is one more
 pub next_found : (found : List Position) (pos : Position) (numbers : List ℕ) (i : ℕ) → numbers_of found ≡ take i numbers

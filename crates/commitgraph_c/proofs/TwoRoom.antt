@@ -7,15 +7,16 @@ use Rattle.std.proofs.Math.Seq.{drop-length}
 use Rattle.std.proofs.lemmas.Bool.{cases_lt}
 use Rattle.std.proofs.lemmas.List.{take_more, take_all, length-map, map-append, append-nil}
 use Rattle.graph_format.specs.Layer.{Layer}
-use Rattle.graph_history.specs.Comparison.{IsComparisonOf}
-use Rattle.graph_history.specs.declared.bases.Comparison.{Comparison}
-use Rattle.commitgraph_c.specs.Answers.{TellsComparison, written}
+use Rattle.graph_history.specs.GraphComparison.{IsComparisonOf}
+use Rattle.graph_bases.specs.declared.bases.Comparison.{Comparison}
+use Rattle.commitgraph_c.specs.QueryAnswers.{TellsComparison}
+use Rattle.c_opening.specs.Answers.{written}
 use Rattle.commitgraph_c.specs.Compared.{AreComparisonsOf, TellsCompared, base_positions, told_comparison}
 use Rattle.commitgraph_c.specs.declared.bases.CgBases.{CgBases}
 use Rattle.commitgraph_c.specs.declared.compare.CgTwo.{CgTwo}
-use Rattle.commitgraph_c.proofs.Written.{first_places, none_written, one_more, written_after, written_length}
+use Rattle.c_opening.proofs.Written.{first_places, none_written, one_more, written_after, written_length}
 use Rattle.commitgraph_c.proofs.BlockRoom.{rest_put}
-use Rattle.commitgraph_c.proofs.Written.{numbers_length}
+use Rattle.c_opening.proofs.Written.{numbers_length}
 
 -- before the first
 pub none_compared : (layers : List Layer) (answers : List CgBases) (room : List ℕ)

@@ -4,10 +4,11 @@ use Rattle.std.specs.Prelude.{option_map, unwrap_or}
 use Rattle.std.specs.List.{flat_map}
 use Rattle.std.specs.Option.{option_map_or}
 use Rattle.graph_format.specs.Layer.{Layer}
-use Rattle.graph_ancestors.specs.WalkAnswer.{numbers_of}
+use Rattle.commit_search.specs.Positions.{numbers_of}
 use Rattle.gix_commitgraph.specs.Graph.{graph_commits}
-use Rattle.commitgraph_c.specs.Answers.{parents_in, written}
-use Rattle.commitgraph_c.specs.Codes.{parent_code}
+use Rattle.commitgraph_c.specs.QueryAnswers.{parents_in}
+use Rattle.c_opening.specs.Answers.{written}
+use Rattle.c_opening.specs.Codes.{parent_code}
 use Rattle.commitgraph_c.specs.declared.blocks.CgBlock.{CgBlock}
 use Rattle.commitgraph_c.specs.declared.parents.CgParents.{CgParents}
 

@@ -3,10 +3,10 @@ use Rattle.std.specs.Prelude.{◌≡◌, ◌<◌, ◌≤◌, ◌⊎◌, ℕ, ◌
 use Rattle.std.specs.List.{flat_map}
 use Rattle.graph_format.specs.Layer.{Layer}
 use Rattle.gix_commitgraph.specs.Graph.{total}
-use Rattle.graph_ancestors.specs.WalkAnswer.{numbers_of}
-use Rattle.graph_history.specs.Comparison.{IsComparisonOf}
-use Rattle.graph_history.specs.declared.bases.Comparison.{Comparison}
-use Rattle.commitgraph_c.specs.Answers.{written}
+use Rattle.commit_search.specs.Positions.{numbers_of}
+use Rattle.graph_history.specs.GraphComparison.{IsComparisonOf}
+use Rattle.graph_bases.specs.declared.bases.Comparison.{Comparison}
+use Rattle.c_opening.specs.Answers.{written}
 use Rattle.commitgraph_c.specs.declared.bases.CgBases.{CgBases}
 use Rattle.commitgraph_c.specs.declared.compare.CgTwo.{CgTwo}
 

@@ -1,9 +1,9 @@
 -- what is told of the first parents of a commit, as many as there is room for
 use Rattle.std.specs.Prelude.{◌≡◌, ℕ, List, length, min, nat_le, if◌then◌else◌, option_map, unwrap_or}
 use Rattle.graph_format.specs.Parents.{DecodedParents}
-use Rattle.graph_ancestors.specs.WalkAnswer.{numbers_of}
-use Rattle.commitgraph_c.specs.Answers.{written}
-use Rattle.commitgraph_c.specs.Codes.{more_parents, parent_code}
+use Rattle.commit_search.specs.Positions.{numbers_of}
+use Rattle.c_opening.specs.Answers.{written}
+use Rattle.c_opening.specs.Codes.{more_parents, parent_code}
 use Rattle.commitgraph_c.specs.declared.parents.CgParents.{CgParents}
 
 -- How many are written, and what comes after them: more parents, the number of the fault, or 0 where these are all.

@@ -12,7 +12,7 @@ use Rattle.graph_layer.specs.declared.file.verify.Outcome.{Outcome}
 use Rattle.graph_layer.specs.declared.file.verify.TraverseError.{TraverseError}
 use Rattle.graph_layer.specs.declared.file.verify.TraverseError.TheVariants as error
 use Rattle.graph_ancestors.specs.declared.checking.NoFault.{NoFault}
-use Rattle.commitgraph_c.specs.Codes.{commit_code, layer_code, out_of_memory, parent_code}
+use Rattle.c_opening.specs.Codes.{commit_code, layer_code, out_of_memory, parent_code}
 use Rattle.commitgraph_c.specs.declared.layer_check.CgLayerVerdict.{CgLayerVerdict}
 
 -- a verdict that is no statistics: its code, the position of a commit in the layer, and a byte of the fan

@@ -5,7 +5,7 @@ use Rattle.graph_chunks.specs.GraphFilters.{FiltersOfGraph, IsPossibleBy, IsAbse
 use Rattle.graph_chunks.specs.GraphFilters.{settings_of, graph_filters, MayRefuseGraphFilters}
 use Rattle.graph_chunks.specs.declared.filters.FiltersError.{FiltersError}
 use Rattle.graph_chunks.specs.declared.filters.FiltersError.TheVariants as fault
-use Rattle.commitgraph_c.specs.Codes.{out_of_memory}
+use Rattle.c_opening.specs.Codes.{out_of_memory}
 use Rattle.commitgraph_c.specs.declared.probes.CgProbed.{CgProbed}
 
 -- the filters of a graph's commits, with the settings to ask them by

@@ -3,14 +3,14 @@
 ghost use Rattle.std.specs.Prelude.{◌≡◌, ◌≢◌, ◌↔◌, ◌<◌, ◌≤◌, ◌⊎◌, false, All, Any, IfOk};
 ghost use Rattle.std.specs.Prelude.{IsSomeAnd, IsTrue, None};
 ghost use Rattle.gix_commitgraph.specs.Graph.{total};
-ghost use Rattle.graph_ancestors.specs.WalkAnswer.{numbers_of};
-ghost use Rattle.commitgraph_c.specs.Answers.{IsChecked, TellsBases, TellsComparison};
-ghost use Rattle.commitgraph_c.specs.Answers.{TellsNoBases};
-ghost use Rattle.commitgraph_c.specs.Codes.{closed_graph, no_such_position, not_checked};
+ghost use Rattle.commit_search.specs.Positions.{numbers_of};
+ghost use Rattle.commitgraph_c.specs.QueryAnswers.{IsChecked, TellsBases, TellsComparison};
+ghost use Rattle.commitgraph_c.specs.QueryAnswers.{TellsNoBases};
+ghost use Rattle.c_opening.specs.Codes.{closed_graph, no_such_position, not_checked};
 
-use crate::codes::{CLOSED_GRAPH, NO_SUCH_POSITION, NOT_CHECKED, OUT_OF_MEMORY};
-use crate::handle::CgGraph;
 use crate::query::write_positions;
+use c_opening::CgGraph;
+use c_opening::codes::{CLOSED_GRAPH, NO_SUCH_POSITION, NOT_CHECKED, OUT_OF_MEMORY};
 use gix_commitgraph::Position;
 use graph_history::{Checked, Comparison};
 use std::alloc::{AllocError, Global};

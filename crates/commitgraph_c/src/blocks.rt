@@ -3,12 +3,13 @@
 ghost use Rattle.std.specs.Prelude.{◌≡◌, drop, length, map, Some};
 ghost use Rattle.graph_layer.specs.Commit.{commit_parents};
 ghost use Rattle.gix_commitgraph.specs.Graph.{graph_commits};
-ghost use Rattle.commitgraph_c.specs.Answers.{TellsParents, layers_of, told_commit, written};
+ghost use Rattle.commitgraph_c.specs.QueryAnswers.{TellsParents};
+ghost use Rattle.c_opening.specs.Answers.{layers_of, told_commit, written};
 ghost use Rattle.commitgraph_c.specs.Blocks.{TellsBlock, block_of, commits_from};
 
-use crate::handle::CgGraph;
 use crate::parents::{CgParents, write_parents};
-use crate::read::{CgCommit, told};
+use c_opening::read::told;
+use c_opening::{CgCommit, CgGraph};
 use gix_commitgraph::file::Commit;
 use gix_commitgraph::law::graph::the_commits_of_layers_add_up;
 use gix_commitgraph::{Graph, Position};

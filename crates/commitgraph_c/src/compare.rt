@@ -3,15 +3,15 @@
 ghost use Rattle.std.specs.Prelude.{◌≡◌, ◌↔◌, ◌<◌, ◌≤◌, ◌⊎◌, ◌∷◌, [], false, true, length, min};
 ghost use Rattle.std.specs.Prelude.{IfErr, IfOk, IfSome, IsSomeAnd, None, slice_get, take};
 ghost use Rattle.gix_commitgraph.specs.Graph.{total};
-ghost use Rattle.graph_history.specs.Comparison.{IsComparisonOf};
-ghost use Rattle.commitgraph_c.specs.Answers.{IsChecked};
-ghost use Rattle.commitgraph_c.specs.Codes.{closed_graph, no_such_position, not_checked};
-ghost use Rattle.commitgraph_c.specs.Codes.{out_of_memory};
+ghost use Rattle.graph_history.specs.GraphComparison.{IsComparisonOf};
+ghost use Rattle.commitgraph_c.specs.QueryAnswers.{IsChecked};
+ghost use Rattle.c_opening.specs.Codes.{closed_graph, no_such_position, not_checked};
+ghost use Rattle.c_opening.specs.Codes.{out_of_memory};
 ghost use Rattle.commitgraph_c.specs.Compared.{AreNotTwo, AreTwo, TellsCompared};
 
 use crate::bases::{CgBases, tell};
-use crate::codes::{CLOSED_GRAPH, NO_SUCH_POSITION, NOT_CHECKED, OUT_OF_MEMORY};
-use crate::handle::CgGraph;
+use c_opening::CgGraph;
+use c_opening::codes::{CLOSED_GRAPH, NO_SUCH_POSITION, NOT_CHECKED, OUT_OF_MEMORY};
 use gix_commitgraph::Position;
 use graph_history::{Checked, Comparer, Comparison};
 use std::alloc::Global;

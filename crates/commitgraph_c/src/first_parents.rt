@@ -5,14 +5,15 @@ ghost use Rattle.std.specs.Prelude.{Option, if◌then◌else◌, length, min, na
 ghost use Rattle.graph_format.specs.Parents.{second_parents};
 ghost use Rattle.graph_layer.specs.Commit.{commit_parents};
 ghost use Rattle.gix_commitgraph.specs.Graph.{total};
-ghost use Rattle.commitgraph_c.specs.Answers.{HasCommit, layers_of, parents_in};
-ghost use Rattle.commitgraph_c.specs.Codes.{closed_graph, more_parents, no_such_position};
+ghost use Rattle.c_opening.specs.Answers.{HasCommit, layers_of};
+ghost use Rattle.commitgraph_c.specs.QueryAnswers.{parents_in};
+ghost use Rattle.c_opening.specs.Codes.{closed_graph, more_parents, no_such_position};
 ghost use Rattle.commitgraph_c.specs.FirstParents.{TellsFirstParents};
 
-use crate::codes::{CLOSED_GRAPH, MORE_PARENTS, NO_SUCH_POSITION, parent_code};
 use crate::commit_at::commit_at;
-use crate::handle::CgGraph;
 use crate::parents::{CgParents, write_at};
+use c_opening::CgGraph;
+use c_opening::codes::{CLOSED_GRAPH, MORE_PARENTS, NO_SUCH_POSITION, parent_code};
 use gix_commitgraph::file::Commit;
 use graph_format::parents::ParentEdge;
 use graph_layer::fields::parent_edges;

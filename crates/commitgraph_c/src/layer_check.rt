@@ -1,17 +1,17 @@
 //! The check of one layer, without those below it.
 
 ghost use Rattle.std.specs.Prelude.{◌≡◌, ◌≢◌, ◌↔◌, ◌≤◌, ◌⊎◌, IsSomeAnd, None, length};
-ghost use Rattle.commitgraph_c.specs.Answers.{layers_of};
-ghost use Rattle.commitgraph_c.specs.Codes.{closed_graph, no_such_layer};
+ghost use Rattle.c_opening.specs.Answers.{layers_of};
+ghost use Rattle.c_opening.specs.Codes.{closed_graph, no_such_layer};
 ghost use Rattle.commitgraph_c.specs.Layers.{HasLayer};
 ghost use Rattle.commitgraph_c.specs.LayerVerdict.{IsLayerVerdict, TellsLayerOutcome};
 ghost use Rattle.commitgraph_c.specs.LayerVerdict.{refusal_in, refusal_of_layer};
 
-use crate::codes::{
+use crate::layers::file_of;
+use c_opening::CgGraph;
+use c_opening::codes::{
     CLOSED_GRAPH, NO_SUCH_LAYER, OUT_OF_MEMORY, commit_code, layer_code, parent_code,
 };
-use crate::handle::CgGraph;
-use crate::layers::file_of;
 use gix_commitgraph::File;
 use gix_commitgraph::file::Commit;
 use gix_commitgraph::file::verify::{Outcome, TraverseError};

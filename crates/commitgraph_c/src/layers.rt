@@ -3,12 +3,12 @@
 ghost use Rattle.std.specs.Prelude.{◌≡◌, ◌≢◌, ◌≤◌, IfSome, IsSomeAnd, IsTrue, false, length};
 ghost use Rattle.std.specs.Prelude.{option_map, slice_get};
 ghost use Rattle.std.specs.Option.{option_map_or};
-ghost use Rattle.commitgraph_c.specs.Answers.{layers_of};
+ghost use Rattle.c_opening.specs.Answers.{layers_of};
 ghost use Rattle.commitgraph_c.specs.Layers.{HasLayer, hash_number, told_layer};
 
-use crate::check::commits_below;
-use crate::handle::CgGraph;
-use crate::read::put;
+use c_opening::CgGraph;
+use c_opening::check::commits_below;
+use c_opening::read::put;
 use gix_commitgraph::{File, Graph};
 use gix_hash_core::Kind;
 use graph_layer::fields::base_id_at;

@@ -2,9 +2,9 @@
 
 ghost use Rattle.std.specs.Prelude.{◌≡◌, ◌≤◌, IfSome, IsTrue, false};
 ghost use Rattle.gix_commitgraph.specs.Graph.{total};
-ghost use Rattle.commitgraph_c.specs.Answers.{HasId, HasRecord, layers_of};
+ghost use Rattle.c_opening.specs.Answers.{HasId, HasRecord, layers_of};
 
-use crate::handle::CgGraph;
+use c_opening::CgGraph;
 use gix_commitgraph::Position;
 
 /// The bytes of an id, which are lent until the graph is closed: for C a pointer and a length.

@@ -6,16 +6,16 @@ ghost use Rattle.gix_hash_core.specs.Kind.{id_len, is_id_len};
 ghost use Rattle.gix_hash_core.specs.Oid.{oid_bytes};
 ghost use Rattle.graph_format.specs.Format.{pieces};
 ghost use Rattle.gix_commitgraph.specs.Graph.{total};
-ghost use Rattle.commitgraph_c.specs.Answers.{layers_of};
-ghost use Rattle.commitgraph_c.specs.Codes.{closed_graph, no_such_position};
+ghost use Rattle.c_opening.specs.Answers.{layers_of};
+ghost use Rattle.c_opening.specs.Codes.{closed_graph, no_such_position};
 ghost use Rattle.commitgraph_c.specs.Many.{AnswersFirst};
-ghost use Rattle.commitgraph_c.specs.ManyIds.{AnswersLookup, TellsIds};
+ghost use Rattle.c_opening.specs.Answers.{AnswersLookup};
+ghost use Rattle.commitgraph_c.specs.ManyIds.{TellsIds};
 
-use crate::codes::{CLOSED_GRAPH, NO_SUCH_POSITION};
-use crate::handle::CgGraph;
-use crate::opened::Opened;
 use crate::pairs::CgAnswered;
-use crate::read::look_up;
+use c_opening::codes::{CLOSED_GRAPH, NO_SUCH_POSITION};
+use c_opening::read::look_up;
+use c_opening::{CgGraph, Opened};
 use gix_commitgraph::{Graph, Position};
 use gix_hash_core::oid;
 

@@ -3,12 +3,12 @@
 ghost use Rattle.std.specs.Prelude.{◌≡◌, ◌≢◌, ◌↔◌, ◌≤◌, ◌⊎◌, IsSomeAnd, None};
 ghost use Rattle.gix_commitgraph.specs.Graph.{total};
 ghost use Rattle.graph_objects.specs.Matching.{MatchesAt};
-ghost use Rattle.commitgraph_c.specs.Answers.{layers_of};
-ghost use Rattle.commitgraph_c.specs.Codes.{closed_graph, no_such_position};
+ghost use Rattle.c_opening.specs.Answers.{layers_of};
+ghost use Rattle.c_opening.specs.Codes.{closed_graph, no_such_position};
 ghost use Rattle.commitgraph_c.specs.Matched.{TellsMismatch, matched_code, told_mismatch};
 
-use crate::codes::{CLOSED_GRAPH, NO_SUCH_POSITION};
-use crate::handle::CgGraph;
+use c_opening::CgGraph;
+use c_opening::codes::{CLOSED_GRAPH, NO_SUCH_POSITION};
 use gix_commitgraph::Position;
 use graph_objects::{Mismatch, matches};
 

@@ -3,13 +3,13 @@
 ghost use Rattle.std.specs.Prelude.{◌≡◌, ◌↔◌, ◌<◌, ◌≤◌, ◌⊎◌, false, true, length, min, None};
 ghost use Rattle.std.specs.Prelude.{IfErr, IfOk, IfSome, IsSomeAnd, slice_get};
 ghost use Rattle.gix_commitgraph.specs.Graph.{total};
-ghost use Rattle.commitgraph_c.specs.Answers.{IsChecked};
+ghost use Rattle.commitgraph_c.specs.QueryAnswers.{IsChecked};
 ghost use Rattle.commitgraph_c.specs.Many.{AnswersFirst, AnswersPair, IsNoPair, IsPair};
-ghost use Rattle.commitgraph_c.specs.Codes.{closed_graph, no_such_position, not_checked};
-ghost use Rattle.commitgraph_c.specs.Codes.{out_of_memory};
+ghost use Rattle.c_opening.specs.Codes.{closed_graph, no_such_position, not_checked};
+ghost use Rattle.c_opening.specs.Codes.{out_of_memory};
 
-use crate::codes::{CLOSED_GRAPH, NO_SUCH_POSITION, NOT_CHECKED, OUT_OF_MEMORY};
-use crate::handle::CgGraph;
+use c_opening::CgGraph;
+use c_opening::codes::{CLOSED_GRAPH, NO_SUCH_POSITION, NOT_CHECKED, OUT_OF_MEMORY};
 use gix_commitgraph::Position;
 use graph_history::{Checked, Searcher};
 use std::alloc::Global;

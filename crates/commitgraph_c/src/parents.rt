@@ -4,11 +4,12 @@ ghost use Rattle.std.specs.Prelude.{◌≡◌, ◌≢◌, ◌↔◌, ◌<◌, �
 ghost use Rattle.std.specs.Prelude.{true};
 ghost use Rattle.graph_layer.specs.Commit.{commit_parents};
 ghost use Rattle.gix_commitgraph.specs.Graph.{total};
-ghost use Rattle.commitgraph_c.specs.Answers.{HasCommit, TellsParents, layers_of, parents_in};
-ghost use Rattle.commitgraph_c.specs.Codes.{closed_graph, no_such_position};
+ghost use Rattle.c_opening.specs.Answers.{HasCommit, layers_of};
+ghost use Rattle.commitgraph_c.specs.QueryAnswers.{TellsParents, parents_in};
+ghost use Rattle.c_opening.specs.Codes.{closed_graph, no_such_position};
 
-use crate::codes::{CLOSED_GRAPH, NO_SUCH_POSITION, parent_code};
-use crate::handle::CgGraph;
+use c_opening::CgGraph;
+use c_opening::codes::{CLOSED_GRAPH, NO_SUCH_POSITION, parent_code};
 use gix_commitgraph::Position;
 use gix_commitgraph::file::Commit;
 use gix_commitgraph::law::sound::the_parents_of_a_right_graph_are_there;

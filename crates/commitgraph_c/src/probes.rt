@@ -4,14 +4,14 @@ ghost use Rattle.std.specs.Prelude.{◌≡◌, ◌≢◌, ◌↔◌, ◌<◌, �
 ghost use Rattle.std.specs.Prelude.{slice_get};
 ghost use Rattle.gix_commitgraph.specs.Graph.{total};
 ghost use Rattle.graph_chunks.specs.GraphFilters.{graph_filters_refusal};
-ghost use Rattle.commitgraph_c.specs.Answers.{layers_of};
-ghost use Rattle.commitgraph_c.specs.Codes.{closed_graph, no_such_position};
+ghost use Rattle.c_opening.specs.Answers.{layers_of};
+ghost use Rattle.c_opening.specs.Codes.{closed_graph, no_such_position};
 ghost use Rattle.commitgraph_c.specs.Many.{AnswersFirst};
 ghost use Rattle.commitgraph_c.specs.Probes.{AnswersProbe, RefusesFilters, filters_told};
 ghost use Rattle.commitgraph_c.specs.Probes.{told_filter_fault, with_probes, without_probes};
 
-use crate::codes::{CLOSED_GRAPH, NO_SUCH_POSITION, OUT_OF_MEMORY};
-use crate::handle::CgGraph;
+use c_opening::CgGraph;
+use c_opening::codes::{CLOSED_GRAPH, NO_SUCH_POSITION, OUT_OF_MEMORY};
 use changed_paths::filters::Answer;
 use changed_paths::key::PathKey;
 use gix_commitgraph::Position;

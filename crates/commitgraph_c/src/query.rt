@@ -4,12 +4,13 @@ ghost use Rattle.std.specs.Prelude.{◌≡◌, ◌≢◌, ◌↔◌, ◌≤◌, 
 ghost use Rattle.graph_walks.specs.Walks.{Reaches};
 ghost use Rattle.graph_format.specs.StoredHistory.{history_of};
 ghost use Rattle.gix_commitgraph.specs.Graph.{total};
-ghost use Rattle.graph_ancestors.specs.WalkAnswer.{numbers_of};
-ghost use Rattle.commitgraph_c.specs.Answers.{IsChecked, TellsAnswer, TellsWalk, written};
-ghost use Rattle.commitgraph_c.specs.Codes.{closed_graph, no_such_position, not_checked};
+ghost use Rattle.commit_search.specs.Positions.{numbers_of};
+ghost use Rattle.commitgraph_c.specs.QueryAnswers.{IsChecked, TellsAnswer, TellsWalk};
+ghost use Rattle.c_opening.specs.Answers.{written};
+ghost use Rattle.c_opening.specs.Codes.{closed_graph, no_such_position, not_checked};
 
-use crate::codes::{CLOSED_GRAPH, NO_SUCH_POSITION, NOT_CHECKED, OUT_OF_MEMORY};
-use crate::handle::CgGraph;
+use c_opening::CgGraph;
+use c_opening::codes::{CLOSED_GRAPH, NO_SUCH_POSITION, NOT_CHECKED, OUT_OF_MEMORY};
 use gix_commitgraph::Position;
 use graph_history::Reached;
 use std::alloc::Global;
@@ -120,7 +121,7 @@ pub(crate) fn tell(reached: &Reached, out: &mut [u32]) -> CgReached
 }
 
 /// Writes positions, as many as there is room for.
-#[tactic(auto, using(crate::proofs::Written::next_position, crate::proofs::Written::no_place, crate::proofs::Written::written_length))]
+#[tactic(auto, using(c_opening::proofs::Written::next_position, c_opening::proofs::Written::no_place, c_opening::proofs::Written::written_length))]
 pub(crate) fn write_positions(positions: &[Position], out: &mut [u32])
     ensures { out.new ≡ written (numbers_of positions.now) out.old }
 {

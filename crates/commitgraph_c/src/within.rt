@@ -1,29 +1,22 @@
-//! Searches and checks that a limit stops.
+//! Searches that a limit stops.
 
-ghost use Rattle.std.specs.Prelude.{◌≡◌, ◌≢◌, ◌↔◌, ◌*◌, ◌<◌, ◌≤◌, ◌⊎◌, false, true, Any, IfNone};
-ghost use Rattle.std.specs.Prelude.{IfSome, IsSomeAnd, IsTrue, None, Some};
+ghost use Rattle.std.specs.Prelude.{◌≡◌, ◌≢◌, ◌↔◌, ◌*◌, ◌<◌, ◌≤◌, ◌⊎◌, false, Any, IsSomeAnd};
+ghost use Rattle.std.specs.Prelude.{IsTrue, None};
 ghost use Rattle.graph_walks.specs.Walks.{Reaches};
 ghost use Rattle.graph_format.specs.StoredHistory.{history_of};
-ghost use Rattle.gix_commitgraph.specs.Distinct.{IsSoundWith};
 ghost use Rattle.gix_commitgraph.specs.Graph.{total};
 ghost use Rattle.graph_history.specs.Limits.{MayBeStopped};
-ghost use Rattle.commitgraph_c.specs.Answers.{IsChecked, TellsAnswer, TellsBases, TellsNoBases};
-ghost use Rattle.commitgraph_c.specs.Codes.{closed_graph, no_such_position, not_checked, stopped};
-ghost use Rattle.commitgraph_c.specs.Files.{told_graph};
-ghost use Rattle.commitgraph_c.specs.ToldLimit.{told_bound};
-ghost use Rattle.commitgraph_c.specs.Verdict.{IsRefusedWithin, TellsCounts, TellsStats};
-ghost use Rattle.commitgraph_c.specs.Verdict.{closed_verdict, options_of, told_unopened};
+ghost use Rattle.commitgraph_c.specs.QueryAnswers.{IsChecked, TellsAnswer, TellsBases};
+ghost use Rattle.commitgraph_c.specs.QueryAnswers.{TellsNoBases};
+ghost use Rattle.c_opening.specs.Codes.{closed_graph, no_such_position, not_checked, stopped};
+ghost use Rattle.c_opening.specs.ToldLimit.{told_bound};
 
 use crate::bases::{self, CgBases, are_below, positions_of};
-use crate::check::{CgCount, CgVerdict, refused, wrong};
-use crate::codes::{CLOSED_GRAPH, NO_SUCH_POSITION, NOT_CHECKED, OUT_OF_MEMORY, STOPPED};
-use crate::flags::CgLimit;
-use crate::handle::{CgGraph, CgOwner};
-use crate::open::hand_out;
 use crate::query::{self, CgLeads, CgReached};
-use gix_commitgraph::verify::VerifyOptions;
-use gix_commitgraph::{GraphError, Position};
-use graph_history::{CheckedGraph, LimitError};
+use c_opening::codes::{CLOSED_GRAPH, NO_SUCH_POSITION, NOT_CHECKED, OUT_OF_MEMORY, STOPPED};
+use c_opening::{CgGraph, CgLimit};
+use gix_commitgraph::Position;
+use graph_history::LimitError;
 use std::alloc::Global;
 
 /// Looks for a shortest walk as `cg_ancestor_walk` does, unless the limit stops it.
@@ -145,44 +138,5 @@ pub fn cg_merge_bases_within(
         Ok(comparison) => bases::tell(&comparison, out),
         Err(LimitError::Stopped) => bases::refused(STOPPED),
         Err(LimitError::Source(_)) => bases::refused(OUT_OF_MEMORY),
-    }
-}
-
-/// Checks an open graph as `cg_check` does, unless the limit stops the check. The graph that is
-/// passed is taken as by `cg_close`, also where the check is stopped.
-pub fn cg_check_within(
-    alloc: Global,
-    graph: CgOwner,
-    distinct_ids: bool,
-    limit: CgLimit,
-    verdict: &mut CgVerdict,
-    counts: &mut [CgCount],
-    out: &mut CgOwner,
-) -> u32
-    ensures code { result ≡ verdict.new.code }
-    ensures opened { result ≡ 0 → IsSomeAnd graph.address.held (λ was.
-        out.new.address.held ≡ Some (was.0, true)) }
-    ensures right { result ≡ 0 → IsSomeAnd graph.address.held (λ was.
-        IsSoundWith (options_of distinct_ids) was.0) }
-    ensures verdict { result ≡ 0 → IsSomeAnd graph.address.held (λ was.
-        TellsStats was.0 verdict.new × TellsCounts was.0 verdict.new counts.old counts.new) }
-    ensures refused { result ≢ 0 → IfSome graph.address.held (λ was.
-        IsRefusedWithin (told_bound limit) (options_of distinct_ids) was.0 verdict.new
-        ⊎ (verdict.new ≡ told_unopened (told_graph GraphError.OutOfMemory))) }
-    ensures closed { IfNone graph.address.held (verdict.new ≡ closed_verdict) }
-    ensures kept { result ≢ 0 → (out.new ≡ out.old) × (counts.new ≡ counts.old) }
-{
-    let Some(opened) = graph.into_box() else {
-        *verdict = refused(CLOSED_GRAPH);
-        return CLOSED_GRAPH;
-    };
-    let graph = Box::into_inner(opened).into_graph();
-    let options = VerifyOptions { distinct_ids };
-    match CheckedGraph::new_within(alloc, options, graph, limit.limit()) {
-        Ok(graph) => hand_out(alloc, graph, verdict, counts, out).code,
-        Err(refusal) => {
-            *verdict = wrong(refusal);
-            verdict.code
-        }
     }
 }

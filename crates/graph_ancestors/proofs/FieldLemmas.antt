@@ -11,8 +11,9 @@ use Rattle.graph_format.specs.declared.Position.{Position}
 use Rattle.graph_format.specs.declared.parents.ParentEdge.{ParentEdge}
 use Rattle.graph_format.specs.declared.parents.ParentEdge.TheVariants as edge
 use Rattle.gix_commitgraph.specs.GraphLaw.{LiesIn}
-use Rattle.graph_ancestors.specs.Commits.{list_of, list_in, named_from, IsReading, NamesParents, Names, AreParentFields}
-use Rattle.graph_ancestors.proofs.ListLemmas.{head_contained, tail_contained, contained_cases}
+use Rattle.commit_search.specs.EdgeLists.{list_of, list_in, named_from}
+use Rattle.graph_ancestors.specs.Commits.{IsReading, NamesParents, Names, AreParentFields}
+use Rattle.commit_search.proofs.EdgeListLemmas.{head_contained, tail_contained, contained_cases}
 
 -- the fields of the commit at p, in the layer in which it lies
 module _ (layers : List Layer) (p l : ℕ) (layer : Layer) (lies : LiesIn layers p l layer)

@@ -1,13 +1,4 @@
-pub mod MarkLemmas
-pub mod QueueLemmas
-pub mod ListLemmas
+pub mod WordLemmas
 pub mod FieldLemmas
 pub mod InMemoryLemmas
-pub mod SearchLemmas
-pub mod AheadLemmas
-pub mod StepLemmas
-pub mod ShortestWalkLemmas
-pub mod VisitLemmas
-pub mod QueryLemmas
-pub mod KnownAnswerLemmas
-pub mod DescentLemmas
+pub mod SearcherLemmas

@@ -1,34 +1,15 @@
 -- what is read of the commits of a graph on a search along parents
-use Rattle.std.specs.Prelude.{◌≡◌, ◌⊎◌, ℕ, List, [], map, drop, slice_get, Option, None, option_map, Contains}
-use Rattle.std.specs.Option.{option_map_or}
+use Rattle.std.specs.Prelude.{◌≡◌, ◌⊎◌, ℕ, List, drop, slice_get, Option, None, option_map, Contains}
 use Rattle.graph_walks.specs.History.{Node, IsParent}
-use Rattle.graph_format.specs.Format.{Record, words}
+use Rattle.graph_format.specs.Format.{Record}
 use Rattle.graph_format.specs.Layer.{Layer, record_at}
 use Rattle.graph_format.specs.StoredHistory.{history_of}
 use Rattle.graph_format.specs.Parents.{edge_of, listed}
 use Rattle.graph_format.specs.declared.parents.ParentEdge.{ParentEdge}
 use Rattle.graph_format.specs.declared.parents.ParentEdge.TheVariants as edge
-use Rattle.graph_format.specs.declared.parents.ExtraEdge.{ExtraEdge}
-use Rattle.graph_format.specs.declared.parents.ExtraEdge.TheVariants as extra
+use Rattle.commit_search.specs.EdgeLists.{list_in, named_from}
 use Rattle.gix_commitgraph.specs.Graph.{graph_commits}
 use Rattle.gix_commitgraph.specs.GraphLaw.{LiesIn}
-
--- the words of a layer's extra edge list, none where it has no such list
-abbrev pub list_of : Layer → List ℕ
-list_of layer = option_map_or words layer.edges []
-
--- those of the layer with this index
-abbrev pub list_in : List Layer → ℕ → List ℕ
-list_in layers l = option_map_or list_of (slice_get layers l) []
-
--- the parent that a word names
-abbrev pub named_by : ExtraEdge → ℕ
-named_by (extra.Internal pos) = pos.0
-named_by (extra.Last pos) = pos.0
-
--- the parents that the words of a list name from one on
-abbrev pub named_from : List ℕ → ℕ → List ℕ
-named_from list next = map (λ pos. pos.0) (listed (drop next list)).positions
 
 -- The words of a list from one on name parents of p, up to a last one.
 pub record IsReading (history : List Node) (list : List ℕ) (p next : ℕ) : Type 0 where

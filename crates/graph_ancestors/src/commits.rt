@@ -9,10 +9,11 @@ ghost use Rattle.gix_commitgraph.specs.Graph.{IsGraph};
 ghost use Rattle.gix_commitgraph.specs.GraphLaw.{LiesIn};
 ghost use Rattle.gix_commitgraph.specs.InGraph.{InGraph};
 ghost use Rattle.gix_commitgraph.specs.Sound.{Sound};
-ghost use Rattle.graph_ancestors.specs.Commits.{AreParentFields, list_in, named_by, stored_fields};
+ghost use Rattle.commit_search.specs.EdgeLists.{list_in};
+ghost use Rattle.graph_ancestors.specs.Commits.{AreParentFields, stored_fields};
 
 use gix_commitgraph::file::Commit;
-use gix_commitgraph::file::commit::{ExtraEdge, ParentEdge};
+use gix_commitgraph::file::commit::ParentEdge;
 use gix_commitgraph::law::graph::{
     a_commit_lies_in_its_layer, a_position_lies_in_one_layer,
     the_history_of_a_graph_is_that_of_its_layers, the_history_of_a_graph_says_what_its_records_say,
@@ -76,14 +77,4 @@ pub fn list_of(graph: &Graph, layer: usize) -> &[u32]
     ensures { result.now ≡ list_in graph.now layer }
 {
     extra_edges(&graph.layers()[layer]).unwrap_or(&[])
-}
-
-/// The parent that a word of an extra edge list names ("Extra Edge List").
-pub fn parent_of(edge: ExtraEdge) -> Position
-    ensures { result.0 ≡ named_by edge }
-{
-    match edge {
-        ExtraEdge::Internal(parent) => parent,
-        ExtraEdge::Last(parent) => parent,
-    }
 }

@@ -6,11 +6,12 @@ ghost use Rattle.graph_format.specs.StoredHistory.{history_of};
 ghost use Rattle.gix_commitgraph.specs.Graph.{IsGraph, total};
 ghost use Rattle.gix_commitgraph.specs.GraphLaw.{LiesIn};
 ghost use Rattle.gix_commitgraph.specs.Sound.{Sound};
-ghost use Rattle.graph_ancestors.specs.Commits.{IsReading, list_in};
-ghost use Rattle.graph_ancestors.specs.Source.{told_of};
+ghost use Rattle.commit_search.specs.EdgeLists.{list_in};
+ghost use Rattle.graph_ancestors.specs.Commits.{IsReading};
+ghost use Rattle.commit_search.specs.Source.{told_of};
 
 use crate::commits::{generation_of, layer_of, list_of, parent_fields_of};
-use crate::source::CommitSource;
+use commit_search::CommitSource;
 use gix_commitgraph::file::commit::{ExtraEdge, ParentEdge};
 use gix_commitgraph::law::graph::{
     a_position_lies_in_one_layer, the_history_of_a_graph_is_that_of_its_layers,

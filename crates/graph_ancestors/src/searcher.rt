@@ -5,11 +5,11 @@ ghost use Rattle.graph_walks.specs.Walks.{Reaches};
 ghost use Rattle.graph_format.specs.StoredHistory.{history_of};
 ghost use Rattle.gix_commitgraph.specs.Graph.{total};
 ghost use Rattle.gix_commitgraph.specs.Sound.{Sound};
-ghost use Rattle.graph_ancestors.specs.WalkAnswer.{IsAnswer, MayLead};
+ghost use Rattle.commit_search.specs.WalkAnswer.{IsAnswer, MayLead};
 
 use crate::Reached;
-use crate::any::AnySearcher;
 use crate::in_memory::InMemory;
+use commit_search::AnySearcher;
 use gix_commitgraph::{Graph, Position};
 use std::alloc::{AllocError, Global};
 use std::marker::Model;

@@ -12,7 +12,7 @@ use Rattle.graph_layer.specs.declared.opening.error.OpenError.{OpenError}
 use Rattle.gix_commitgraph.specs.GraphLookup.{FoundIn}
 use Rattle.gix_commitgraph.specs.Sound.{Sound}
 use Rattle.gix_commitgraph.proofs.sound.SoundLemmas.{sound-scanned}
-use Rattle.graph_ancestors.specs.declared.Reached.{Reached}
+use Rattle.commit_search.specs.declared.Reached.{Reached}
 use Rattle.graph_commands.specs.declared.ancestor.Ancestry.{Ancestry}
 use Rattle.graph_commands.specs.declared.ancestor.Ancestry.TheVariants.{FirstUnknown, SecondUnknown, Known}
 use Rattle.graph_commands.specs.declared.refusal.Refusal.{Refusal}

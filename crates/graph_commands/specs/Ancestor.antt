@@ -13,7 +13,7 @@ use Rattle.graph_layer.specs.declared.opening.error.OpenError.{OpenError}
 use Rattle.gix_commitgraph.specs.Graph.{graph_ids}
 use Rattle.gix_commitgraph.specs.GraphLookup.{FoundIn}
 use Rattle.gix_commitgraph.specs.Sound.{Sound}
-use Rattle.graph_ancestors.specs.WalkAnswer.{IsAnswer}
+use Rattle.commit_search.specs.WalkAnswer.{IsAnswer}
 use Rattle.graph_ancestors.specs.RefusedGraph.{MayRefuseGraph}
 use Rattle.graph_commands.specs.declared.ancestor.Ancestry.{Ancestry}
 use Rattle.graph_commands.specs.declared.ancestor.Ancestry.TheVariants.{FirstUnknown, SecondUnknown, Known}

@@ -11,8 +11,8 @@ use Rattle.graph_walks.specs.Walks.{IsWalk, IsWalkBetween, Reaches}
 use Rattle.graph_format.specs.Layer.{Layer}
 use Rattle.graph_format.specs.StoredHistory.{history_of, layer_history}
 use Rattle.gix_commitgraph.proofs.layers.LayerListLemmas.{get-front}
-use Rattle.graph_history.specs.Bases.{IsCommonAncestor, IsMergeBase, IsReachedFromSome}
-use Rattle.graph_history.proofs.ReachLemmas.{reaches_within}
+use Rattle.graph_bases.specs.Bases.{IsCommonAncestor, IsMergeBase, IsReachedFromSome}
+use Rattle.graph_bases.proofs.ReachLemmas.{reaches_within}
 
 pub history-more : (layers : List Layer) (file : Layer)
     → history_of (layers ++ file ∷ []) ≡ history_of layers ++ history_of (file ∷ [])

@@ -4,9 +4,10 @@ use Rattle.graph_walks.specs.Walks.{CountWalks}
 use Rattle.graph_format.specs.Layer.{Layer}
 use Rattle.gix_commitgraph.specs.Graph.{total}
 use Rattle.gix_commitgraph.specs.Sound.{Sound}
-use Rattle.graph_ancestors.specs.Source.{Told, told_of}
-use Rattle.graph_history.specs.Comparison.{IsComparisonIn, IsComparisonOf}
-use Rattle.graph_history.specs.declared.bases.Comparison.{Comparison}
+use Rattle.commit_search.specs.Source.{Told, told_of}
+use Rattle.graph_bases.specs.Comparison.{IsComparisonIn}
+use Rattle.graph_history.specs.GraphComparison.{IsComparisonOf}
+use Rattle.graph_bases.specs.declared.bases.Comparison.{Comparison}
 
 pub memory_comparison : (layers after : List Layer) → after ≡ layers → Sound layers → (a : ℕ) (bs : List ℕ) {E : Type 0}
     (r : Result Comparison E) → IfOk r (λ c. All (λ base. base.0 < total layers) c.bases.positions.items)

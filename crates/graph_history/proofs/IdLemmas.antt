@@ -13,11 +13,11 @@ use Rattle.graph_format.specs.StoredHistory.{history_of}
 use Rattle.gix_commitgraph.specs.Distinct.{AreDistinct}
 use Rattle.gix_commitgraph.specs.Graph.{graph_ids}
 use Rattle.gix_commitgraph.specs.IdWalks.{IsIdWalk, ids_at}
-use Rattle.graph_ancestors.specs.WalkAnswer.{IsShortestWalk}
-use Rattle.graph_history.specs.Bases.{IsCommonAncestor, IsMergeBase, IsReachedFromSome}
+use Rattle.commit_search.specs.WalkAnswer.{IsShortestWalk}
+use Rattle.graph_bases.specs.Bases.{IsCommonAncestor, IsMergeBase, IsReachedFromSome}
 use Rattle.graph_history.specs.IdAncestors.{IsIdWalkBetween, IsShortestIdWalk, LeadsTo, LeadsDownTo, SomeLeadsTo, IsSharedId}
 use Rattle.graph_history.specs.IdAncestors.{IsMergeBaseId}
-use Rattle.graph_history.proofs.ReachLemmas.{reaches_within}
+use Rattle.graph_bases.proofs.ReachLemmas.{reaches_within}
 
 -- each commit of a walk is one of the history
 walk_within : (h : List Node) (walk : List ℕ) (k x : ℕ) → IsWalk h walk → slice_get walk k ≡ Some x → x < length h

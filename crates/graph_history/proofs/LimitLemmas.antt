@@ -14,8 +14,8 @@ use Rattle.gix_commitgraph.specs.declared.verify.Outcome.{Outcome}
 use Rattle.gix_commitgraph.specs.declared.verify.VerifyError.{VerifyError}
 use Rattle.gix_commitgraph.specs.declared.verify.VerifyError.TheVariants as error
 use Rattle.gix_commitgraph.specs.declared.verify.VerifyOptions.{VerifyOptions}
-use Rattle.graph_ancestors.specs.WalkAnswer.{MayLead}
-use Rattle.graph_ancestors.specs.Source.{Told, told_of}
+use Rattle.commit_search.specs.WalkAnswer.{MayLead}
+use Rattle.commit_search.specs.Source.{Told, told_of}
 use Rattle.graph_history.specs.Limits.{Bound, EndsEarly, IfSource, IsSource, MayBeStopped, MayRefuseWithin, StopsAfter}
 use Rattle.graph_history.specs.declared.limit.LimitError.{LimitError}
 use Rattle.graph_history.specs.declared.limit.LimitError.TheVariants as limited

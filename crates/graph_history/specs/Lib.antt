@@ -1,11 +1,7 @@
 pub mod Checked
 pub mod RightGraph
-pub mod Bases
 pub mod IdAncestors
-pub mod Comparison
-pub mod Trails
-pub mod Paint
-pub mod Painting
 pub mod Reload
 pub mod LowerStatistics
 pub mod Limits
+pub mod GraphComparison

@@ -1,48 +1,20 @@
-//! What a commit and some others have in common, and how far they have come apart.
+//! What commits of a right graph have in common, and how far they have come apart.
 
 ghost use Rattle.std.specs.Prelude.{◌≡◌, ◌<◌, All, IfOk};
 ghost use Rattle.graph_format.specs.StoredHistory.{history_of};
 ghost use Rattle.gix_commitgraph.specs.Graph.{total};
-ghost use Rattle.graph_ancestors.specs.WalkAnswer.{numbers_of};
-ghost use Rattle.graph_history.specs.Bases.{AreMergeBases, IsAhead, IsBehind};
-ghost use Rattle.graph_history.specs.Bases.{AreVisits};
-ghost use Rattle.graph_history.specs.Comparison.{IsComparisonOf};
-ghost use Rattle.graph_ancestors.specs.Cardinality.{IsNumberOf};
+ghost use Rattle.commit_search.specs.Positions.{numbers_of};
+ghost use Rattle.graph_bases.specs.Bases.{AreMergeBases, IsAhead, IsBehind};
+ghost use Rattle.graph_bases.specs.Bases.{AreVisits};
+ghost use Rattle.graph_history.specs.GraphComparison.{IsComparisonOf};
+ghost use Rattle.commit_search.specs.Cardinality.{IsNumberOf};
 
-use crate::any::AnyComparer;
 use crate::checked::Checked;
 use gix_commitgraph::Position;
 use graph_ancestors::InMemory;
+use graph_bases::{AnyComparer, Bases, Comparison, Divergence};
 use std::alloc::{AllocError, Global};
 use std::marker::Model;
-
-/// The merge bases of a commit and some others.
-#[derive(Debug, Drop)]
-pub struct Bases {
-    /// Each once, the least position first.
-    pub positions: Vec<Position>,
-    /// How many commits were visited: taken from the queue of the search. A commit at the cap may
-    /// have been visited up to three times.
-    pub visits: u64,
-}
-
-/// How far a commit and some others have come apart.
-#[derive(Clone, Copy, Debug, PartialEq, Eq)]
-pub struct Divergence {
-    /// How many commits the first leads to, and none of the others does.
-    pub ahead: u32,
-    /// How many commits some of the others leads to, and the first does not.
-    pub behind: u32,
-}
-
-/// What a commit and some others have in common, and how far they have come apart.
-#[derive(Debug, Drop)]
-pub struct Comparison {
-    /// The merge bases.
-    pub bases: Bases,
-    /// How many commits are on one side alone.
-    pub divergence: Divergence,
-}
 
 impl<'g> Checked<'g> {
     /// The merge bases of a commit and some others, at positions that are below the graph's

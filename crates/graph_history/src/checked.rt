@@ -7,7 +7,7 @@ ghost use Rattle.gix_commitgraph.specs.Distinct.{IsSoundWith};
 ghost use Rattle.gix_commitgraph.specs.Graph.{total};
 ghost use Rattle.gix_commitgraph.specs.Headline.{Stats};
 ghost use Rattle.gix_commitgraph.specs.Sound.{Sound};
-ghost use Rattle.graph_ancestors.specs.WalkAnswer.{IsAnswer, MayLead};
+ghost use Rattle.commit_search.specs.WalkAnswer.{IsAnswer, MayLead};
 ghost use Rattle.graph_ancestors.specs.RefusedGraph.{MayRefuseGraph};
 ghost use Rattle.graph_history.specs.Checked.{MayRefuseWith};
 ghost use Rattle.graph_history.specs.RightGraph.{plain_options};

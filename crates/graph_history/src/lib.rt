@@ -12,7 +12,6 @@
 #![tactic(auto)]
 
 mod access;
-mod any;
 mod bases;
 mod checked;
 pub mod law;
@@ -20,19 +19,15 @@ mod limit;
 mod limited;
 mod lower;
 mod owned;
-mod paint;
-mod painting;
 mod parents;
-mod passing;
 mod reload;
 mod shared;
-mod trails;
 mod within;
 
-pub use any::AnyComparer;
-pub use bases::{Bases, Comparer, Comparison, Divergence};
+pub use bases::Comparer;
 pub use checked::Checked;
 pub use graph_ancestors::{NoFault, Reached, Searcher};
+pub use graph_bases::{AnyComparer, Bases, Comparison, Divergence};
 pub use limit::{Flag, Limit, LimitError, Stopped};
 pub use owned::{CheckedGraph, PushError};
 pub use parents::ParentPositions;

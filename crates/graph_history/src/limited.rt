@@ -1,13 +1,13 @@
 //! A source of commits that a limit stops.
 
 ghost use Rattle.std.specs.Prelude.{◌≡◌, ℕ};
-ghost use Rattle.graph_ancestors.specs.Source.{Told};
+ghost use Rattle.commit_search.specs.Source.{Told};
 ghost use Rattle.graph_history.specs.Limits.{IfSource};
 
 use crate::limit::{Limit, LimitError};
+use commit_search::CommitSource;
 use gix_commitgraph::Position;
 use gix_commitgraph::file::commit::{ExtraEdge, ParentEdge};
-use graph_ancestors::CommitSource;
 
 /// A source that says what another one does, until a limit stops it. A search visits a commit by
 /// reading its parents, so it is stopped there.

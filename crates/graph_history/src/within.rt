@@ -5,12 +5,11 @@ ghost use Rattle.graph_walks.specs.Walks.{Reaches};
 ghost use Rattle.graph_format.specs.StoredHistory.{history_of};
 ghost use Rattle.gix_commitgraph.specs.Distinct.{IsSoundWith};
 ghost use Rattle.gix_commitgraph.specs.Graph.{total};
-ghost use Rattle.graph_ancestors.specs.WalkAnswer.{IsAnswer, MayLead, numbers_of};
-ghost use Rattle.graph_history.specs.Comparison.{IsComparisonOf};
+ghost use Rattle.commit_search.specs.WalkAnswer.{IsAnswer, MayLead};
+ghost use Rattle.commit_search.specs.Positions.{numbers_of};
+ghost use Rattle.graph_history.specs.GraphComparison.{IsComparisonOf};
 ghost use Rattle.graph_history.specs.Limits.{EndsEarly, IsSource, MayRefuseWithin, bound_of};
 
-use crate::any::AnyComparer;
-use crate::bases::Comparison;
 use crate::checked::Checked;
 use crate::limit::{Limit, LimitError, Stopped};
 use crate::limited::Limited;
@@ -20,6 +19,7 @@ use gix_commitgraph::law::check::a_check_of_a_graph_calls_on_each_position_once;
 use gix_commitgraph::verify::{VerifyError, VerifyOptions};
 use gix_commitgraph::{Graph, Position};
 use graph_ancestors::{AnySearcher, InMemory, Reached};
+use graph_bases::{AnyComparer, Comparison};
 use std::alloc::{AllocError, Global};
 
 /// How many commits a search breadth first has read at most past the one that it visits.

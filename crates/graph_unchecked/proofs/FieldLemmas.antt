@@ -8,9 +8,9 @@ use Rattle.graph_format.specs.Parents.{DecodedParents, both_parents, followed_by
 use Rattle.graph_format.specs.declared.Position.{Position}
 use Rattle.graph_format.specs.declared.parents.ParentEdge.{ParentEdge}
 use Rattle.graph_format.specs.declared.parents.ParentEdge.TheVariants as edge
-use Rattle.graph_ancestors.specs.Commits.{named_from}
-use Rattle.graph_ancestors.specs.Source.{AreFieldsTold, FieldNames, IsFieldTrue, IsFieldWithin, Told}
-use Rattle.graph_ancestors.proofs.ListLemmas.{contained_cases, head_contained, named_past, tail_contained}
+use Rattle.commit_search.specs.EdgeLists.{named_from}
+use Rattle.commit_search.specs.Source.{AreFieldsTold, FieldNames, IsFieldTrue, IsFieldWithin, Told}
+use Rattle.commit_search.proofs.EdgeListLemmas.{contained_cases, head_contained, named_past, tail_contained}
 use Rattle.graph_unchecked.specs.PartSource.{AreFieldsThere}
 
 -- the decoded parents as numbers

@@ -7,7 +7,7 @@ use Rattle.graph_format.specs.Layer.{Layer}
 use Rattle.graph_format.specs.declared.Position.{Position}
 use Rattle.gix_commitgraph.specs.Graph.{graph_ids}
 use Rattle.gix_commitgraph.specs.IdWalks.{ids_at}
-use Rattle.graph_ancestors.specs.WalkAnswer.{numbers_of}
+use Rattle.commit_search.specs.Positions.{numbers_of}
 
 -- one id more
 pub ids-more : (layers : List Layer) (positions : List Position) (i : ℕ) (none : Position) (ids more : List (List ℕ))

@@ -20,9 +20,9 @@ use Rattle.graph_format.specs.declared.parents.ExtraEdge.TheVariants as extra
 use Rattle.graph_format.specs.declared.parents.ParentEdge.{ParentEdge}
 use Rattle.graph_format.specs.declared.parents.ParentEdge.TheVariants as edge
 use Rattle.gix_commitgraph.specs.GraphLaw.{LiesIn}
-use Rattle.graph_ancestors.specs.Commits.{list_in, list_of, named_by, named_from}
-use Rattle.graph_ancestors.specs.WalkAnswer.{numbers_of}
-use Rattle.graph_ancestors.proofs.ListLemmas.{named_internal, named_last, named_past}
+use Rattle.commit_search.specs.EdgeLists.{list_in, list_of, named_by, named_from}
+use Rattle.commit_search.specs.Positions.{numbers_of}
+use Rattle.commit_search.proofs.EdgeListLemmas.{named_internal, named_last, named_past}
 use Rattle.graph_parts.specs.PartFiles.{edge_count, edge_words}
 use Rattle.graph_parts.specs.Shown.{AreGraphParts, Shows, edge_count_at, files_of}
 use Rattle.graph_parts.specs.Stored.{StoresAt, StoresEdge}

@@ -8,12 +8,13 @@ use Rattle.graph_format.specs.Layer.{Layer}
 use Rattle.graph_format.specs.declared.Position.{Position}
 use Rattle.gix_commitgraph.specs.Graph.{IsGraph, total}
 use Rattle.gix_commitgraph.specs.IdWalks.{ids_at}
-use Rattle.graph_ancestors.specs.Source.{Told, told_of}
-use Rattle.graph_ancestors.specs.WalkAnswer.{IsAnswer, IsAnyAnswer, numbers_of}
-use Rattle.graph_ancestors.specs.declared.Reached.{Reached}
-use Rattle.graph_history.specs.Bases.{IsCommonAncestor}
-use Rattle.graph_history.specs.Comparison.{IsComparisonIn}
-use Rattle.graph_history.specs.declared.bases.Comparison.{Comparison}
+use Rattle.commit_search.specs.Source.{Told, told_of}
+use Rattle.commit_search.specs.WalkAnswer.{IsAnswer, IsAnyAnswer}
+use Rattle.commit_search.specs.Positions.{numbers_of}
+use Rattle.commit_search.specs.declared.Reached.{Reached}
+use Rattle.graph_bases.specs.Bases.{IsCommonAncestor}
+use Rattle.graph_bases.specs.Comparison.{IsComparisonIn}
+use Rattle.graph_bases.specs.declared.bases.Comparison.{Comparison}
 use Rattle.graph_parts.specs.OfTree.{AreOfTree}
 use Rattle.graph_parts.specs.Shown.{AreGraphParts, Shows, files_of}
 use Rattle.graph_parts.specs.declared.parts.GraphParts.{GraphParts}

@@ -14,8 +14,8 @@ use Rattle.graph_format.specs.declared.parents.ExtraEdge.TheVariants as extra
 use Rattle.graph_format.specs.declared.parents.ParentEdge.{ParentEdge}
 use Rattle.gix_commitgraph.specs.Graph.{IsGraph, graph_commits, start, total}
 use Rattle.gix_commitgraph.specs.GraphLaw.{LiesIn}
-use Rattle.graph_ancestors.specs.Commits.{list_in, list_of}
-use Rattle.graph_ancestors.specs.Source.{AreFieldsRead, AreFieldsTold, IsNextListed, IsWordRead, IsWordTold, Told, told_of}
+use Rattle.commit_search.specs.EdgeLists.{list_in, list_of}
+use Rattle.commit_search.specs.Source.{AreFieldsRead, AreFieldsTold, IsNextListed, IsWordRead, IsWordTold, Told, told_of}
 use Rattle.graph_find.specs.declared.chain.ChainLayer.{ChainLayer}
 use Rattle.graph_parts.specs.PartFiles.{commits_in_all, edge_words}
 use Rattle.graph_parts.specs.Shown.{AreGraphParts, SeesMore, Shows, commits_of_parts, edge_count_at, files_of}

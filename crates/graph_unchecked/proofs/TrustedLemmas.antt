@@ -8,7 +8,7 @@ use Rattle.graph_format.specs.Layer.{Layer}
 use Rattle.graph_format.specs.declared.Position.{Position}
 use Rattle.gix_commitgraph.specs.Graph.{IsGraph}
 use Rattle.gix_commitgraph.specs.OpenAlways.{IsFromPath}
-use Rattle.graph_ancestors.specs.WalkAnswer.{numbers_of}
+use Rattle.commit_search.specs.Positions.{numbers_of}
 use Rattle.graph_parts.specs.PathOpening.{opened_at}
 use Rattle.graph_parts.specs.Shown.{ArePartsOf, SeesMore, Shows}
 use Rattle.graph_parts.specs.declared.parts.GraphParts.{GraphParts}

@@ -2,7 +2,7 @@
 use Rattle.std.specs.Prelude.{ℕ, List, [], ◌∷◌}
 use Rattle.graph_format.specs.declared.parents.ParentEdge.{ParentEdge}
 use Rattle.graph_format.specs.declared.parents.ParentEdge.TheVariants as edge
-use Rattle.graph_ancestors.specs.Commits.{named_from}
+use Rattle.commit_search.specs.EdgeLists.{named_from}
 
 -- the second field, where the extra edge list of the layer has these words
 abbrev pub named_by_second : List ℕ → ParentEdge → List ℕ

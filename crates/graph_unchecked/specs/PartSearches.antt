@@ -6,10 +6,11 @@ use Rattle.graph_format.specs.Layer.{Layer}
 use Rattle.graph_format.specs.StoredHistory.{history_of}
 use Rattle.graph_format.specs.declared.Position.{Position}
 use Rattle.gix_commitgraph.specs.Graph.{total}
-use Rattle.graph_ancestors.specs.WalkAnswer.{IsShortestWalk, numbers_of}
-use Rattle.graph_history.specs.Bases.{IsCommonAncestor}
-use Rattle.graph_history.specs.Comparison.{IsComparisonIn}
-use Rattle.graph_history.specs.declared.bases.Comparison.{Comparison}
+use Rattle.commit_search.specs.WalkAnswer.{IsShortestWalk}
+use Rattle.commit_search.specs.Positions.{numbers_of}
+use Rattle.graph_bases.specs.Bases.{IsCommonAncestor}
+use Rattle.graph_bases.specs.Comparison.{IsComparisonIn}
+use Rattle.graph_bases.specs.declared.bases.Comparison.{Comparison}
 
 -- A walk from the first commit to the second.
 pub record IsStepsUnchecked (layers : List Layer) (first second : ℕ) (answer : Option (Vec Position Global)) : Type 0 where

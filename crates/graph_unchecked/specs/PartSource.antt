@@ -8,8 +8,8 @@ use Rattle.graph_format.specs.declared.parents.ExtraEdge.TheVariants as extra
 use Rattle.graph_format.specs.declared.parents.ParentEdge.{ParentEdge}
 use Rattle.graph_format.specs.declared.parents.ParentEdge.TheVariants as edge
 use Rattle.gix_commitgraph.specs.Graph.{IsGraph}
-use Rattle.graph_ancestors.specs.Commits.{named_by}
-use Rattle.graph_ancestors.specs.Source.{IsFieldWithin, Told, told_of}
+use Rattle.commit_search.specs.EdgeLists.{named_by}
+use Rattle.commit_search.specs.Source.{IsFieldWithin, Told, told_of}
 use Rattle.graph_find.specs.declared.chain.ChainLayer.{ChainLayer}
 use Rattle.graph_parts.specs.PartFiles.{edge_count}
 use Rattle.graph_parts.specs.OfTree.{AreOfTree}

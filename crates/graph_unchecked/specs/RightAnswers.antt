@@ -8,8 +8,9 @@ use Rattle.graph_format.specs.Lookup.{scan}
 use Rattle.graph_format.specs.StoredHistory.{history_of}
 use Rattle.gix_commitgraph.specs.Graph.{graph_ids}
 use Rattle.gix_commitgraph.specs.IdWalks.{ids_at}
-use Rattle.graph_ancestors.specs.WalkAnswer.{IsShortestWalk, numbers_of}
-use Rattle.graph_history.specs.Comparison.{IsComparisonOf}
+use Rattle.commit_search.specs.WalkAnswer.{IsShortestWalk}
+use Rattle.commit_search.specs.Positions.{numbers_of}
+use Rattle.graph_history.specs.GraphComparison.{IsComparisonOf}
 use Rattle.graph_unchecked.specs.declared.among.Among.{Among}
 use Rattle.graph_unchecked.specs.declared.among.Among.TheVariants.{Missing, Known as known_of_all}
 use Rattle.graph_unchecked.specs.declared.among.IdComparison.{IdComparison}

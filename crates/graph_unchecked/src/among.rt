@@ -1,7 +1,7 @@
 //! What is found of several commits.
 
 use gix_hash_core::ObjectId;
-use graph_history::Comparison;
+use graph_bases::Comparison;
 
 /// What is found of the commits with some ids.
 #[derive(Debug, Drop)]

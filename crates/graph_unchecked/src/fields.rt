@@ -1,13 +1,13 @@
 //! Whether what was read of a commit can be that of a commit of a right graph.
 
 ghost use Rattle.std.specs.Prelude.{◌≡◌, ◌<◌, ◌≤◌, ◌-◌, ◌^◌, IsTrue};
-ghost use Rattle.graph_ancestors.specs.Source.{IsFieldWithin};
+ghost use Rattle.commit_search.specs.Source.{IsFieldWithin};
 ghost use Rattle.graph_parts.specs.Shown.{AreGraphParts, files_of};
 ghost use Rattle.graph_unchecked.specs.PartSource.{AreFieldsThere, IsFollowed, IsWordThere};
 ghost use Rattle.graph_unchecked.specs.PartSource.{word_total};
 
+use commit_search::edges::parent_of;
 use gix_commitgraph::file::commit::{ExtraEdge, ParentEdge};
-use graph_ancestors::commits::parent_of;
 use graph_parts::parts::GraphParts;
 
 /// How many words the extra edge list of a layer has, of those that have a number.

@@ -4,7 +4,7 @@ ghost use Rattle.std.specs.Prelude.{◌≡◌, List, IfOk, Some, slice_get};
 ghost use Rattle.graph_format.specs.Layer.{Layer};
 ghost use Rattle.gix_commitgraph.specs.Graph.{graph_ids};
 ghost use Rattle.gix_commitgraph.specs.IdWalks.{ids_at};
-ghost use Rattle.graph_ancestors.specs.WalkAnswer.{numbers_of};
+ghost use Rattle.commit_search.specs.Positions.{numbers_of};
 ghost use Rattle.graph_parts.specs.Shown.{AreGraphParts, SeesMore, Shows};
 
 use crate::unread::Unread;

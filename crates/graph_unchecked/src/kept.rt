@@ -5,7 +5,7 @@ ghost use Rattle.std.specs.Option.{ForSome};
 ghost use Rattle.gix_hash_core.specs.Oid.{oid_bytes};
 ghost use Rattle.graph_format.specs.Layer.{Layer};
 ghost use Rattle.gix_commitgraph.specs.Graph.{IsGraph};
-ghost use Rattle.graph_ancestors.specs.WalkAnswer.{numbers_of};
+ghost use Rattle.commit_search.specs.Positions.{numbers_of};
 ghost use Rattle.graph_parts.specs.OfTree.{AreOfTree};
 ghost use Rattle.graph_parts.specs.Shown.{AreGraphParts, SeesMore, Shows, commits_of_parts};
 ghost use Rattle.graph_unchecked.specs.PartLookups.{AreAllWithin, AreBoth, AreBothWithin};
@@ -25,8 +25,8 @@ use crate::unread::Unread;
 use gix_commitgraph::Position;
 use gix_hash_core::{ObjectId, oid};
 use graph_ancestors::AnySearcher;
+use graph_bases::{AnyComparer, Comparison};
 use graph_folder::folder::Folder;
-use graph_history::{AnyComparer, Comparison};
 use graph_parts::parts::GraphParts;
 use std::alloc::Global;
 

@@ -2,7 +2,7 @@
 
 ghost use Rattle.std.specs.Prelude.{◌≡◌, ◌<◌, ℕ, IfOk};
 ghost use Rattle.graph_walks.specs.History.{generation_at};
-ghost use Rattle.graph_ancestors.specs.Source.{AreFieldsRead, IsWordRead, Told};
+ghost use Rattle.commit_search.specs.Source.{AreFieldsRead, IsWordRead, Told};
 ghost use Rattle.graph_parts.specs.PartFiles.{commits_in_all};
 ghost use Rattle.graph_parts.specs.Shown.{AreGraphParts, files_of};
 ghost use Rattle.graph_parts.specs.Spots.{LiesInFile};

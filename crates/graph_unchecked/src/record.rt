@@ -6,8 +6,8 @@ ghost use Rattle.graph_walks.specs.History.{parents_at};
 ghost use Rattle.graph_format.specs.Layer.{Layer};
 ghost use Rattle.graph_format.specs.StoredHistory.{history_of};
 ghost use Rattle.gix_commitgraph.specs.Graph.{IsGraph};
-ghost use Rattle.graph_ancestors.specs.Commits.{list_in, named_from};
-ghost use Rattle.graph_ancestors.specs.WalkAnswer.{numbers_of};
+ghost use Rattle.commit_search.specs.EdgeLists.{list_in, named_from};
+ghost use Rattle.commit_search.specs.Positions.{numbers_of};
 ghost use Rattle.graph_parts.specs.Shown.{AreGraphParts, SeesMore, Shows, commits_of_parts};
 ghost use Rattle.graph_unchecked.specs.NamedParents.{named_by_both, named_by_second};
 ghost use Rattle.graph_unchecked.specs.Trusted.{AreParentsFound, IsCommitFound};
@@ -16,6 +16,7 @@ use crate::fields::words_in;
 use crate::ids::read_ids;
 use crate::lookup::find;
 use crate::unread::Unread;
+use commit_search::edges::parent_of;
 use gix_commitgraph::Position;
 use gix_commitgraph::file::commit::{ExtraEdge, ParentEdge};
 use gix_commitgraph::law::graph::{
@@ -23,7 +24,6 @@ use gix_commitgraph::law::graph::{
     the_history_of_a_graph_says_what_its_records_say,
 };
 use gix_hash_core::{ObjectId, oid};
-use graph_ancestors::commits::parent_of;
 use graph_folder::folder::Folder;
 use graph_parts::parts::{GraphParts, StoredCommit};
 use std::alloc::Global;

@@ -5,7 +5,7 @@ ghost use Rattle.std.specs.Option.{ForSome};
 ghost use Rattle.graph_folder.specs.Tree.{Tree};
 ghost use Rattle.graph_format.specs.Layer.{Layer};
 ghost use Rattle.gix_commitgraph.specs.Graph.{IsGraph};
-ghost use Rattle.graph_ancestors.specs.WalkAnswer.{numbers_of};
+ghost use Rattle.commit_search.specs.Positions.{numbers_of};
 ghost use Rattle.graph_parts.specs.OfTree.{AreOfTree};
 ghost use Rattle.graph_parts.specs.Shown.{AreGraphParts, Shows, commits_of_parts};
 ghost use Rattle.graph_unchecked.specs.PartSource.{ReadsOn};
@@ -20,8 +20,8 @@ use crate::unread::Unread;
 use gix_commitgraph::Position;
 use gix_hash_core::ObjectId;
 use graph_ancestors::AnySearcher;
+use graph_bases::{AnyComparer, Comparison};
 use graph_folder::folder::Folder;
-use graph_history::{AnyComparer, Comparison};
 use graph_parts::parts::GraphParts;
 use std::alloc::Global;
 

@@ -12,10 +12,10 @@ ghost use Rattle.graph_unchecked.specs.PartSource.{IsWordOf, KnownParts, PartsTe
 use crate::fields::words_in;
 use crate::reads::{read_fields, read_number, read_word};
 use crate::unread::Unread;
+use commit_search::CommitSource;
 use gix_commitgraph::Position;
 use gix_commitgraph::file::commit::{ExtraEdge, ParentEdge};
 use gix_commitgraph::law::graph::the_history_of_a_graph_is_that_of_its_layers;
-use graph_ancestors::CommitSource;
 use graph_folder::folder::Folder;
 use graph_parts::parts::GraphParts;
 use std::alloc::Global;

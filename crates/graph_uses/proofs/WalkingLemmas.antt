@@ -16,10 +16,10 @@ use Rattle.std.proofs.lemmas.List.Sums.{sum_by-cons, sum_by-set, sum_by_push, ge
 use Rattle.gix_commitgraph.specs.History.{Node, IsParent, generation_at, parents_at}
 use Rattle.gix_commitgraph.specs.Position.{Position}
 use Rattle.gix_commitgraph.specs.Walks.{Reaches}
-use Rattle.graph_ancestors.specs.WalkAnswer.{numbers_of}
-use Rattle.graph_ancestors.proofs.ListLemmas.{head_contained, contained_cases}
-use Rattle.graph_history.specs.Painting.{entry_cmp}
-use Rattle.graph_history.proofs.ReachLemmas.{reaches_itself, reaches_then, step_reaches, carried}
+use Rattle.commit_search.specs.Positions.{numbers_of}
+use Rattle.commit_search.proofs.EdgeListLemmas.{head_contained, contained_cases}
+use Rattle.graph_bases.specs.Painting.{entry_cmp}
+use Rattle.graph_bases.proofs.ReachLemmas.{reaches_itself, reaches_then, step_reaches, carried}
 use Rattle.graph_uses.specs.IdAnswers.{AreAncestors}
 use Rattle.graph_uses.specs.Walking.{is_seen, Enqueues}
 

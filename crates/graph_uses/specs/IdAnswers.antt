@@ -8,8 +8,8 @@ use Rattle.gix_commitgraph.specs.Lookup.{scan}
 use Rattle.gix_commitgraph.specs.StoredHistory.{history_of}
 use Rattle.gix_commitgraph.specs.Graph.{graph_ids}
 use Rattle.gix_commitgraph.specs.IdWalks.{ids_at}
-use Rattle.graph_ancestors.specs.Cardinality.{Lists}
-use Rattle.graph_history.specs.Bases.{AreMergeBases}
+use Rattle.commit_search.specs.Cardinality.{Lists}
+use Rattle.graph_bases.specs.Bases.{AreMergeBases}
 
 -- the graph has a commit with the id
 abbrev pub HasCommitWithId : List Layer → List ℕ → Type 0

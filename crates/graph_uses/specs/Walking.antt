@@ -2,7 +2,7 @@
 use Rattle.std.specs.Prelude.{◌≡◌, ◌⊎◌, ℕ, Bool, true, false, List, ◌∷◌, IsPermutation, slice_index_or, slice_set}
 use Rattle.std.specs.BinaryHeap.{IsHeap}
 use Rattle.gix_commitgraph.specs.History.{Node, generation_at}
-use Rattle.graph_history.specs.Painting.{entry_cmp}
+use Rattle.graph_bases.specs.Painting.{entry_cmp}
 
 -- the commit is marked
 abbrev pub is_seen : List Bool → ℕ → Bool

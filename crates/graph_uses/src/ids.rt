@@ -3,7 +3,7 @@
 ghost use Rattle.std.specs.Prelude.{◌≡◌, ◌<◌, All, IfOk};
 ghost use Rattle.gix_commitgraph.specs.Graph.{total};
 ghost use Rattle.gix_commitgraph.specs.IdWalks.{ids_at};
-ghost use Rattle.graph_ancestors.specs.WalkAnswer.{numbers_of};
+ghost use Rattle.commit_search.specs.Positions.{numbers_of};
 
 use gix_commitgraph::Position;
 use gix_hash_core::ObjectId;

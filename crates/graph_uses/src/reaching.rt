@@ -5,7 +5,7 @@ ghost use Rattle.gix_hash_core.specs.Oid.{oid_bytes};
 ghost use Rattle.gix_commitgraph.specs.Graph.{total};
 ghost use Rattle.gix_commitgraph.specs.StoredHistory.{history_of};
 ghost use Rattle.gix_commitgraph.specs.Walks.{Reaches};
-ghost use Rattle.graph_ancestors.specs.WalkAnswer.{MayLead};
+ghost use Rattle.commit_search.specs.WalkAnswer.{MayLead};
 ghost use Rattle.graph_uses.specs.IdAnswers.{AreThose, HasCommitWithId, IsMergedInto};
 
 use gix_commitgraph::Position;

@@ -5,7 +5,7 @@ ghost use Rattle.std.specs.BinaryHeap.{heap_items};
 ghost use Rattle.gix_hash_core.specs.Oid.{oid_bytes};
 ghost use Rattle.gix_commitgraph.specs.Graph.{total};
 ghost use Rattle.gix_commitgraph.specs.StoredHistory.{history_of};
-ghost use Rattle.graph_ancestors.specs.WalkAnswer.{numbers_of};
+ghost use Rattle.commit_search.specs.Positions.{numbers_of};
 ghost use Rattle.graph_uses.specs.IdAnswers.{AreAncestorIds, AreAncestors, HasCommitWithId};
 ghost use Rattle.graph_uses.specs.Walking.{Enqueues};
 

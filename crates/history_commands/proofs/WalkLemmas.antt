@@ -14,8 +14,9 @@ use Rattle.graph_format.specs.Lookup.{scan}
 use Rattle.graph_format.specs.declared.Position.{Position}
 use Rattle.gix_commitgraph.specs.Graph.{graph_ids}
 use Rattle.gix_commitgraph.proofs.history.HistoryLemmas.{length-history}
-use Rattle.graph_ancestors.specs.WalkAnswer.{IsAnswer, IsShortestWalk, numbers_of}
-use Rattle.graph_ancestors.specs.declared.Reached.{Reached}
+use Rattle.commit_search.specs.WalkAnswer.{IsAnswer, IsShortestWalk}
+use Rattle.commit_search.specs.Positions.{numbers_of}
+use Rattle.commit_search.specs.declared.Reached.{Reached}
 use Rattle.graph_history.proofs.RightGraphLemmas.{all_within}
 use Rattle.history_commands.specs.Question.{MayFindBoth}
 use Rattle.history_commands.specs.Walk.{IsWalkOfIds, AreInGraph, MayBeWalk, id_in, id_line, with_ids, walk_found_text}

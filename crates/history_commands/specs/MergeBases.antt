@@ -12,9 +12,9 @@ use Rattle.graph_format.specs.declared.Position.{Position}
 use Rattle.graph_layer.specs.declared.opening.error.OpenError.{OpenError}
 use Rattle.gix_commitgraph.specs.Graph.{graph_ids, total}
 use Rattle.gix_commitgraph.specs.Sound.{Sound}
-use Rattle.graph_history.specs.Comparison.{IsComparisonIn}
+use Rattle.graph_bases.specs.Comparison.{IsComparisonIn}
 use Rattle.graph_ancestors.specs.RefusedGraph.{MayRefuseGraph}
-use Rattle.graph_history.specs.declared.bases.Comparison.{Comparison}
+use Rattle.graph_bases.specs.declared.bases.Comparison.{Comparison}
 use Rattle.graph_commands.specs.Ancestor.{IsThere, visits_line}
 use Rattle.graph_commands.specs.RefusalLines.{refusal_text, refusal_status}
 use Rattle.graph_commands.specs.Text.{◌⧺◌, newline}

@@ -13,38 +13,37 @@ use Rattle.graph_folder.specs.Tree.{Tree}
 use Rattle.graph_folder.specs.declared.folder.ReadError.{ReadError}
 use Rattle.graph_folder.specs.declared.folder.ReadError.TheVariants.{NotOpened}
 use Rattle.graph_format.specs.Layer.{Layer}
+use Rattle.graph_layer.specs.declared.opening.error.OpenError.{OpenError}
 use Rattle.graph_commands.specs.Block.{with_block}
 use Rattle.graph_commands.specs.OpenerAnswer.{MayOpen}
 use Rattle.graph_commands.specs.Text.{newline}
-use Rattle.question_commands.specs.Asking.{AreLinesOf, AreTurns, MayAsk, MayTake, MayTurn, Opener, Reloads, Session, Standing}
-use Rattle.question_commands.specs.Asking.{Turn, all_checked, end_text, end_status, session_text, taken_line, turn_text}
+use Rattle.graph_commands.specs.declared.refusal.Refusal.{Refusal}
+use Rattle.graph_commands.specs.declared.refusal.Refusal.TheVariants as refusal
+use Rattle.graph_reload.specs.TakenAnew.{MayNotTake}
+use Rattle.history_commands.specs.Check.{MayRefuseToStart}
+use Rattle.question_commands.specs.Asking.{AreTurns, MayAsk, MayTurn, Reloads, Session, Standing}
+use Rattle.question_commands.specs.Asking.{Turn, all_checked, session_text, turn_text}
+use Rattle.question_answers.specs.Taken.{MayTake, Opener, end_text, end_status, taken_line}
 use Rattle.question_commands.specs.Ending.{EndsAsked}
 use Rattle.question_commands.specs.declared.asking.Asked.{Asked}
-use Rattle.question_commands.specs.InputLines.{HasNoLine, LeavesBehind, TakesLine}
-use Rattle.question_commands.specs.Proceeding.{HasRead, Proceeds}
-use Rattle.question_commands.specs.Replies.{HasWords, MayTellFor}
-use Rattle.question_commands.specs.declared.question.Name.TheVariants.{Reload}
-use Rattle.question_commands.proofs.ReplyLemmas.{tells_kept}
+use Rattle.question_lines.specs.InputLines.{HasNoLine, TakesLine}
+use Rattle.question_lines.specs.ReadLines.{AreLinesOf, HasRead}
+use Rattle.question_lines.proofs.ReadLemmas.{lines_ended, lines_failed, reads_line, reads_more, reads_none}
+use Rattle.question_answers.proofs.BlockLemmas.{with_nothing}
+use Rattle.question_commands.specs.Proceeding.{Proceeds}
+use Rattle.question_answers.specs.Replies.{HasWords, MayTellFor}
+use Rattle.question_lines.specs.declared.question.Name.TheVariants.{Reload}
+use Rattle.question_answers.proofs.ReplyLemmas.{tells_kept}
 
--- nothing was read yet
-pub reads_none : (input : Option (List ℕ)) → HasRead input input []
-reads_none None = tt
-reads_none (Some bytes) = refl
-
--- some lines were read, and behind others
-pub reads_more : (input middle left : Option (List ℕ)) (first behind : List (List ℕ)) → HasRead input middle first
-    → HasRead middle left behind → HasRead input left (first ++ behind)
-reads_more None middle left first behind before after = tt
-reads_more (Some bytes) None left first behind before after = absurd before
-reads_more (Some bytes) (Some more) None first behind before after = absurd after
-reads_more (Some bytes) (Some more) (Some rest) first behind before after =
-    before ∙ ap (λ (l : List (List ℕ)). first ++ l) after ∙ sym (append_assoc first behind (lines rest))
-
--- a line was read
-pub reads_line : (input left : Option (List ℕ)) (line : List ℕ) → LeavesBehind line input left → HasRead input left (line ∷ [])
-reads_line None left line behind = tt
-reads_line (Some bytes) None line behind = absurd behind
-reads_line (Some bytes) (Some more) line behind = behind.1
+-- a graph that is not taken is refused as at the start
+pub starts-not : (MayOpen : Result (List Layer) OpenError → Type 0) (x : Refusal) → MayNotTake MayOpen x
+    → MayRefuseToStart MayOpen x
+starts-not MayOpen (refusal.Open e) may = may
+starts-not MayOpen (refusal.Verify e) may = may
+starts-not MayOpen (refusal.Id e) may = absurd may
+starts-not MayOpen (refusal.Read e) may = absurd may
+starts-not MayOpen (refusal.File e) may = absurd may
+starts-not MayOpen refusal.Walk may = absurd may
 
 all_append : {X : Type 0} (P : X → Type 0) (xs ys : List X) → AllByRecursion P xs → AllByRecursion P ys
     → AllByRecursion P (xs ++ ys)
@@ -101,29 +100,6 @@ module _ (MayOpen : Opener) where
             (Appends-trans old written new (flat_map turn_text before.0) (flat_map turn_text behind.0) before.3 behind.3),
         omega (arith, before.4, behind.4, sum_by-append (λ (t : Turn). t.checked) before.0 behind.0),
       )
-
--- no byte is left where none is there
-nothing_left : (ahead left : List ℕ) → ahead ++ left ≡ [] → left ≡ []
-nothing_left [] left none = none
-nothing_left (byte ∷ ahead) left none = cc
-
--- all lines were read
-pub lines_ended : (input left unread : Option (List ℕ)) (ahead : List ℕ) (asked : List (List ℕ)) → HasRead input left asked
-    → HasNoLine left (prepend_known ahead unread) → AreLinesOf input unread asked None
-lines_ended None left unread ahead asked read none = tt
-lines_ended (Some bytes) None unread ahead asked read none = absurd read
-lines_ended (Some bytes) (Some more) None ahead asked read none = absurd none
-lines_ended (Some bytes) (Some more) (Some rest) ahead asked read none = (
-  read ∙ ap (λ (l : List ℕ). asked ++ lines l) none.0 ∙ append-nil asked,
-  nothing_left ahead rest none.1,
-)
-
--- no further line could be read
-pub lines_failed : (input left unread : Option (List ℕ)) (asked : List (List ℕ)) (error : ReadError) → HasRead input left asked
-    → error ≢ NotOpened → AreLinesOf input unread asked (Some error)
-lines_failed None left unread asked error read is = (is, tt)
-lines_failed (Some bytes) None unread asked error read is = absurd read
-lines_failed (Some bytes) (Some more) unread asked error read is = (is, (lines more, read))
 
 module _ (MayOpen : Opener) (first last : Standing) (input left unread old new : Option (List ℕ)) (checked counted : ℕ)
     (proceeds : Proceeds MayOpen first last input left old new checked) (counts : counted ≡ min checked (2 ^ 64 - 1)) where
@@ -215,10 +191,6 @@ asks_ended (Ok asked) MayOpen before opened after input unread a b c d layers tu
 asks_ended (Err error) MayOpen before opened after input unread a b c d layers turns last failed checked takes are is read first
     middle counts end =
     tt
-
-with_nothing : (old : Option (List ℕ)) → with_block old [] ≡ old
-with_nothing None = refl
-with_nothing (Some bytes) = ap (λ (l : List ℕ). Some l) (append-nil bytes)
 
 -- an answer and an empty line were written, if they were
 pub finishes : {E : Type 0} (result : Result Bool E) (layers : List Layer) (line text block : List ℕ)

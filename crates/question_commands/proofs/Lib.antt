@@ -1,6 +1,1 @@
-pub mod LineLemmas
-pub mod QuestionLemmas
-pub mod ReplyLemmas
 pub mod AskingLemmas
-pub mod ReloadLemmas
-pub mod TakingLemmas

@@ -1,27 +1,19 @@
 -- Questions about graphs, one a line: which graph stands at each, what may be told, and what is written of the whole.
-use Rattle.std.specs.Prelude.{◌≡◌, ◌≢◌, ◌⊎◌, ℕ, ◌^◌, ◌-◌, List, [], ◌∷◌, ◌++◌, Option, Some, None, Result, Ok, Err, IfSome}
-use Rattle.std.specs.Prelude.{codes, decimal, map, min, sum_by}
-use Rattle.std.specs.Io.KnownBytes.{IsAtEnd}
+use Rattle.std.specs.Prelude.{◌≡◌, ◌⊎◌, ℕ, ◌^◌, ◌-◌, List, [], ◌∷◌, ◌++◌, Option, Result, Ok, Err}
+use Rattle.std.specs.Prelude.{map, min, sum_by}
 use Rattle.std.specs.List.{AllByRecursion, flat_map}
-use Rattle.std.specs.Str.Lines.{lines}
 use Rattle.graph_folder.specs.declared.folder.ReadError.{ReadError}
-use Rattle.graph_folder.specs.declared.folder.ReadError.TheVariants.{NotOpened}
 use Rattle.graph_format.specs.Layer.{Layer}
 use Rattle.graph_layer.specs.declared.opening.error.OpenError.{OpenError}
-use Rattle.gix_commitgraph.specs.Graph.{total}
-use Rattle.gix_commitgraph.specs.Sound.{Sound}
 use Rattle.graph_commands.specs.RefusalLines.{refusal_text, refusal_status}
 use Rattle.graph_commands.specs.Text.{◌⧺◌, newline}
 use Rattle.graph_commands.specs.declared.refusal.Refusal.{Refusal}
-use Rattle.graph_commands.specs.declared.refusal.Refusal.TheVariants.{Read}
 use Rattle.graph_history.specs.Reload.{StandAboveShared}
 use Rattle.history_commands.specs.Check.{MayRefuseToStart}
-use Rattle.question_commands.specs.Replies.{HasWords, MayTellFor}
-use Rattle.question_commands.specs.declared.question.Name.TheVariants.{Reload}
-
--- What an opener may answer in a call that took the count of the device's failures from one number to another.
-abbrev pub Opener : Type 1
-Opener = ℕ → ℕ → Result (List Layer) OpenError → Type 0
+use Rattle.question_lines.specs.ReadLines.{AreLinesOf}
+use Rattle.question_answers.specs.Replies.{HasWords, MayTellFor}
+use Rattle.question_answers.specs.Taken.{MayTake, Opener, end_status, end_text, taken_line}
+use Rattle.question_lines.specs.declared.question.Name.TheVariants.{Reload}
 
 -- What stands between two lines: the graph that answers, and how many reads of the folder's device have failed.
 pub record Standing : Type 0 where
@@ -35,16 +27,6 @@ pub record Turn : Type 0 where
   pub told : List ℕ
   pub after : Standing
   pub checked : ℕ
-
--- what may come of opening a path and checking its graph, as `verify` does: a right graph, or a refusal
-abbrev pub MayTake : (Result (List Layer) OpenError → Type 0) → Result (List Layer) Refusal → Type 0
-MayTake MayOpen (Ok layers) = MayOpen (Ok layers) × Sound layers
-MayTake MayOpen (Err refusal) = MayRefuseToStart MayOpen refusal
-
--- its line: how many commits the graph has, or why it is refused
-abbrev pub taken_line : Result (List Layer) Refusal → List ℕ
-taken_line (Ok layers) = codes "ok commits " ⧺ decimal (total layers) ⧺ newline
-taken_line (Err refusal) = refusal_text refusal ⧺ newline
 
 -- the graph that stands then: the new one, or where that was refused the one that stood before
 abbrev pub layers_after : List Layer → Result (List Layer) Refusal → List Layer
@@ -94,13 +76,6 @@ pub record Session : Type 0 where
   pub turns : List Turn
   pub failed : Option ReadError
 
--- the lines of the turns are those of the input, all of which was read; or where a read failed, its first lines. (NotOpened is no
--- failure of a read.)
-abbrev pub AreLinesOf : Option (List ℕ) → Option (List ℕ) → List (List ℕ) → Option ReadError → Type 0
-AreLinesOf input unread asked None = IfSome input (λ bytes. (lines bytes ≡ asked) × IsAtEnd unread)
-AreLinesOf input unread asked (Some error) =
-    (error ≢ NotOpened) × IfSome input (λ bytes. (rest : List (List ℕ)) × (lines bytes ≡ asked ++ rest))
-
 -- the turns begin with the graph that the path opened, and end with some graph
 abbrev pub IsSession : Opener → ℕ → ℕ → Option (List ℕ) → Option (List ℕ) → Session → Type 0
 IsSession MayOpen old new input unread session =
@@ -114,15 +89,6 @@ IsSession MayOpen old new input unread session =
 abbrev pub MayAsk : Opener → ℕ → ℕ → Option (List ℕ) → Option (List ℕ) → Result Session Refusal → Type 0
 MayAsk MayOpen old new input unread (Ok session) = IsSession MayOpen old new input unread session
 MayAsk MayOpen old new input unread (Err refusal) = MayRefuseToStart (MayOpen old new) refusal × (unread ≡ input)
-
--- why the turns ended, if a read failed
-abbrev pub end_text : Option ReadError → List ℕ
-end_text (Some error) = refusal_text (Read error) ⧺ newline
-end_text None = []
-
-abbrev pub end_status : Option ReadError → ℕ
-end_status (Some error) = 1
-end_status None = 0
 
 -- the text of a session: the line of the graph and an empty one, the texts of the turns, and why they ended
 abbrev pub session_text : Session → List ℕ

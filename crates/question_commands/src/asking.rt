@@ -9,26 +9,26 @@ ghost use Rattle.graph_commands.specs.Block.{with_block};
 ghost use Rattle.graph_commands.specs.OpenerAnswer.{MayOpen};
 ghost use Rattle.graph_commands.specs.Text.{◌⧺◌, newline};
 ghost use Rattle.graph_history.specs.RightGraph.{plain_options};
-ghost use Rattle.question_commands.specs.Asking.{MayAsk, all_checked, end_text, end_status};
-ghost use Rattle.question_commands.specs.Asking.{AreLinesOf, AreTurns, Reloads};
+ghost use Rattle.question_lines.specs.ReadLines.{AreLinesOf};
+ghost use Rattle.question_lines.specs.declared.question.Name.TheVariants as named;
+ghost use Rattle.question_answers.specs.Replies.{HasWords, MayTellFor};
+ghost use Rattle.question_answers.specs.Taken.{end_text, end_status, taken_line};
+ghost use Rattle.question_commands.specs.Asking.{AreTurns, MayAsk, Reloads, all_checked};
 ghost use Rattle.question_commands.specs.Ending.{EndsAsked};
-ghost use Rattle.question_commands.specs.Asking.{Standing, Turn, taken_line, turn_text};
+ghost use Rattle.question_commands.specs.Asking.{Standing, Turn, turn_text};
 ghost use Rattle.question_commands.specs.Proceeding.{Proceeds, StopsAt};
-ghost use Rattle.question_commands.specs.Replies.{HasWords, MayTellFor};
-ghost use Rattle.question_commands.specs.declared.question.Name.TheVariants as named;
 
-use crate::lines::LineReader;
-use crate::question::{Question, read_question};
-use crate::taking::take_anew;
-use crate::telling::Teller;
 use graph_commands::block::Block;
-use graph_commands::line::{WriteFailed, write_line};
-use graph_commands::refusal::Refusal;
+use graph_commands::line::WriteFailed;
 use graph_commands::run::refuse;
-use graph_commands::status::Status;
 use graph_folder::folder::{Folder, ReadError};
 use graph_history::CheckedGraph;
+use graph_reload::taking::take_anew;
 use history_commands::opening::open_checked;
+use question_answers::telling::Teller;
+use question_answers::turn::{end, finish, write_count, write_refused};
+use question_lines::lines::LineReader;
+use question_lines::question::{Question, read_question};
 use std::alloc::Global;
 use std::io::{Read, Write};
 
@@ -98,13 +98,10 @@ fn finish_all<W: Write>(writer: &mut W, ended: Ended) -> Result<Asked, WriteFail
         (end_text ended.failed) × (asked.status ≡ end_status ended.failed)
         × (asked.checked ≡ ended.checked)) }
 {
-    let status = match ended.failed {
-        None => Status::Yes as u8,
-        Some(error) => refuse(writer, &Refusal::Read(error))?,
-    };
+    let Ended { failed, checked } = ended;
     Ok(Asked {
-        status,
-        checked: ended.checked,
+        status: end(writer, failed)?,
+        checked,
     })
 }
 
@@ -113,20 +110,7 @@ fn write_taken<W: Write>(writer: &mut W, graph: &CheckedGraph) -> Result<(), Wri
     ensures { OnOk result (Appends (W.contents writer.old) (W.contents writer.new)
         (taken_line (Ok graph.now.layers) ⧺ newline)) }
 {
-    let commits = graph.as_checked().num_commits();
-    write_line(writer, format_args!("ok commits {commits}\n"))?;
-    writer.flush()?;
-    Ok(())
-}
-
-/// Writes why a graph was not taken, and an empty line.
-fn write_refused<W: Write>(writer: &mut W, refusal: &Refusal) -> Result<(), WriteFailed>
-    ensures { OnOk result (Appends (W.contents writer.old) (W.contents writer.new)
-        (taken_line (Err refusal.now) ⧺ newline)) }
-{
-    write_line(writer, format_args!("{refusal}\n"))?;
-    writer.flush()?;
-    Ok(())
+    write_count(writer, graph.as_checked().num_commits())
 }
 
 /// Answers all lines, over the graph or those that are taken in its place.
@@ -321,17 +305,4 @@ fn answer<W: Write>(
             finish(block, writer)
         }
     }
-}
-
-/// Adds an empty line to an answer, writes the whole and flushes it. It answers that this was done.
-fn finish<W: Write>(block: &mut Block, writer: &mut W) -> Result<bool, WriteFailed>
-    ensures written { OnOk result (Appends (with_block (W.contents writer.old) block.old)
-        (W.contents writer.new) newline) }
-    ensures block { OnOk result (block.new ≡ []) }
-    ensures told { IfOk result (λ told. told ≡ true) }
-{
-    block.push_byte(writer, b'\n')?;
-    block.write_out(writer)?;
-    writer.flush()?;
-    Ok(true)
 }

@@ -1,14 +1,10 @@
 //! Questions about graphs that were checked, one a line.
 //!
-//! [`asking`] has the command: its contract says what it may write. [`lines`] reads lines with room
-//! for the longest of them alone, [`question`] has which line asks which question, and [`telling`]
-//! the answers over one graph.
+//! [`asking`] has the command: its contract says what it may write. [`lines`] and [`question`] say
+//! which line asks which question, and [`telling`] has the answers over one graph.
 #![tactic(auto)]
 
 pub mod asking;
-pub mod lines;
-mod place;
-pub mod question;
-mod taking;
-pub mod telling;
-mod words;
+
+pub use question_answers::telling;
+pub use question_lines::{lines, question};

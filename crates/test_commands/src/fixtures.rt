@@ -1,13 +1,12 @@
 //! What the tests share: a folder of graphs that are built from rows, and commands that are run in
 //! it. Where an allocation fails, the process aborts.
 
-use gix_commitgraph::GENERATION_NUMBER_MAX;
-use gix_hash_core::{Kind, ObjectId, digest};
+use gix_hash_core::ObjectId;
 use graph_commands::command::Command;
 use graph_commands::line::WriteFailed;
 use graph_commands::program::{Complaints, respond};
 use graph_folder::folder::{Folder, Memory};
-use graph_vectors::{DIAMOND, OCTOPUS, Row, Sink, file_of_rows};
+use graph_vectors::{DIAMOND, Row, Sink, file_of_rows};
 use std::alloc::Global;
 use std::io;
 use std::process::Abort;
@@ -24,82 +23,190 @@ pub const FIVES: &str = "5555555555555555555555555555555555555555";
 
 pub const SIXES: &str = "6666666666666666666666666666666666666666";
 
+pub const CS: &str = "cccccccccccccccccccccccccccccccccccccccc";
+
 /// The text of an id of the other kind of hash.
 pub const LONG: &str = "4444444444444444444444444444444444444444444444444444444444444444";
 
-/// A chain in whose layers 0x33 and 0x44 stand twice.
-const REPEATED: &[&[Row<'static>]] = &[
-    &[(0x11, &[], 1), (0x33, &[0], 2)],
-    &[(0x33, &[], 1), (0x44, &[0], 2), (0x55, &[1], 3)],
-    &[(0x22, &[4], 4), (0x44, &[], 1)],
+/// The layers of a chain in which 0x33 and 0x44 stand twice, the lowest first, and their checksums,
+/// which are those that Python's `hashlib` gives.
+const LOWEST: &[Row<'static>] = &[(0x11, &[], 1), (0x33, &[0], 2)];
+
+const MIDDLE: &[Row<'static>] = &[(0x33, &[], 1), (0x44, &[0], 2), (0x55, &[1], 3)];
+
+const HIGHEST: &[Row<'static>] = &[(0x22, &[4], 4), (0x44, &[], 1)];
+
+const OF_LOWEST: &str = "d4acf176695c236bbec4d0a2f3ceab09f5436e96";
+
+const OF_MIDDLE: &str = "efa7039cace7373e71879fba4d83bb0fd1b7225f";
+
+/// The lowest layer of the other chains.
+const LINE: &[Row<'static>] = &[(0x11, &[], 1), (0x22, &[0], 2)];
+
+const OF_LINE: &str = "b9ca0f11f5955add95a308e337a7296ccc2f3a2f";
+
+/// The upper layer of a chain in which each id stands once.
+const APART: &[Row<'static>] = &[(0x15, &[1], 3), (0x33, &[1], 3), (0x44, &[], 1)];
+
+/// The upper layer of a chain with two ways from its second commit to the first of the lower layer.
+const MERGING: &[Row<'static>] = &[(0x33, &[1], 3), (0xcc, &[2, 0], 4), (0xdd, &[], 1)];
+
+/// A path, the checksums of the layers below, and the commits of the file there.
+type Layer = (
+    &'static str,
+    &'static [&'static str],
+    &'static [Row<'static>],
+);
+
+const LAYERS: &[Layer] = &[
+    ("diamond", &[], DIAMOND),
+    (
+        "repeated/graph-d4acf176695c236bbec4d0a2f3ceab09f5436e96.graph",
+        &[],
+        LOWEST,
+    ),
+    (
+        "repeated/graph-efa7039cace7373e71879fba4d83bb0fd1b7225f.graph",
+        &[OF_LOWEST],
+        MIDDLE,
+    ),
+    (
+        "repeated/graph-74ba8302038f56a86f95fad4f6344032e1fee5e2.graph",
+        &[OF_LOWEST, OF_MIDDLE],
+        HIGHEST,
+    ),
+    (
+        "distinct/graph-b9ca0f11f5955add95a308e337a7296ccc2f3a2f.graph",
+        &[],
+        LINE,
+    ),
+    (
+        "distinct/graph-6bdacddf2333030f7460b48a9cdff3dccc538b83.graph",
+        &[OF_LINE],
+        APART,
+    ),
+    (
+        "merging/graph-b9ca0f11f5955add95a308e337a7296ccc2f3a2f.graph",
+        &[],
+        LINE,
+    ),
+    (
+        "merging/graph-60cbf9c3e11e3234715fa9e53551a0b3a9dded38.graph",
+        &[OF_LINE],
+        MERGING,
+    ),
 ];
 
-/// A chain in which each id stands once.
-const DISTINCT: &[&[Row<'static>]] = &[
-    &[(0x11, &[], 1), (0x22, &[0], 2)],
-    &[(0x15, &[1], 3), (0x33, &[1], 3), (0x44, &[], 1)],
+/// The same of info folders: with a chain alone, and with a damaged file beside it.
+const LAYERS_BELOW: &[Layer] = &[
+    (
+        "chained/commit-graphs/graph-d4acf176695c236bbec4d0a2f3ceab09f5436e96.graph",
+        &[],
+        LOWEST,
+    ),
+    (
+        "chained/commit-graphs/graph-efa7039cace7373e71879fba4d83bb0fd1b7225f.graph",
+        &[OF_LOWEST],
+        MIDDLE,
+    ),
+    (
+        "chained/commit-graphs/graph-74ba8302038f56a86f95fad4f6344032e1fee5e2.graph",
+        &[OF_LOWEST, OF_MIDDLE],
+        HIGHEST,
+    ),
+    (
+        "damaged/commit-graphs/graph-d4acf176695c236bbec4d0a2f3ceab09f5436e96.graph",
+        &[],
+        LOWEST,
+    ),
+    (
+        "damaged/commit-graphs/graph-efa7039cace7373e71879fba4d83bb0fd1b7225f.graph",
+        &[OF_LOWEST],
+        MIDDLE,
+    ),
+    (
+        "damaged/commit-graphs/graph-74ba8302038f56a86f95fad4f6344032e1fee5e2.graph",
+        &[OF_LOWEST, OF_MIDDLE],
+        HIGHEST,
+    ),
 ];
 
-/// The same, but for an id that is not above the one before, and stands in the lower layer too.
-const FALLING: &[&[Row<'static>]] = &[
-    &[(0x11, &[], 1), (0x22, &[0], 2)],
-    &[(0x33, &[], 1), (0x11, &[], 1), (0x44, &[], 1)],
-];
+/// The lines of a chain of the first three layers.
+const THREE_LINES: &[u8] = b"d4acf176695c236bbec4d0a2f3ceab09f5436e96\n\
+    efa7039cace7373e71879fba4d83bb0fd1b7225f\n\
+    74ba8302038f56a86f95fad4f6344032e1fee5e2\n";
 
-/// Paths, and what stands there: a file of one layer, or the folder of a chain of more layers, the
-/// lowest first.
-const GRAPHS: &[(&str, &[&[Row<'static>]])] = &[
-    ("diamond", &[DIAMOND]),
-    ("empty", &[&[]]),
-    ("octopus", &[OCTOPUS]),
-    ("cycle", &[&[(0x11, &[0], GENERATION_NUMBER_MAX)]]),
-    ("wrong", &[&[(0x11, &[], 1), (0x22, &[0], 3)]]),
-    ("letters", &[&[(0xab, &[], 9)]]),
-    ("graph-00.graph", &[DIAMOND]),
-    ("repeated", REPEATED),
-    ("distinct", DISTINCT),
-    ("falling", FALLING),
-    // Info folders: with a chain alone, with a file beside it, and with a damaged one.
-    ("chained/commit-graphs", REPEATED),
-    ("filed/commit-graphs", REPEATED),
-    ("filed/commit-graph", &[DIAMOND]),
-    ("damaged/commit-graphs", REPEATED),
-];
+const LINES_OF_DISTINCT: &[u8] = b"b9ca0f11f5955add95a308e337a7296ccc2f3a2f\n\
+    6bdacddf2333030f7460b48a9cdff3dccc538b83\n";
 
-/// Files that are no layers and no chains of layers.
-const DAMAGED: &[(&str, &[u8])] = &[
+const LINES_OF_MERGING: &[u8] = b"b9ca0f11f5955add95a308e337a7296ccc2f3a2f\n\
+    60cbf9c3e11e3234715fa9e53551a0b3a9dded38\n";
+
+/// Chain files, and a file that is no layer.
+const OTHERS: &[(&str, &[u8])] = &[
+    ("repeated/commit-graph-chain", THREE_LINES),
+    ("distinct/commit-graph-chain", LINES_OF_DISTINCT),
+    ("merging/commit-graph-chain", LINES_OF_MERGING),
+    ("chained/commit-graphs/commit-graph-chain", THREE_LINES),
+    ("damaged/commit-graphs/commit-graph-chain", THREE_LINES),
     ("damaged/commit-graph", &[0; 1099]),
-    ("small", &[0; 1099]),
-    ("missing/commit-graph-chain", b"ab"),
-    ("no-text/commit-graph-chain", b"\xff\n"),
 ];
 
-/// The folders that have no chain in them.
 const FOLDERS: &[&str] = &[
-    "bare", "chained", "chained/", "filed", "damaged", "missing", "no-text",
+    "repeated",
+    "distinct",
+    "merging",
+    "chained",
+    "chained/commit-graphs",
+    "damaged",
+    "damaged/commit-graphs",
 ];
 
 /// The folder of all these.
 pub fn graphs(rt: &impl Abort, alloc: Global) -> Memory {
     let mut memory = Memory::new(alloc);
-    for (path, layers) in GRAPHS {
-        match layers {
-            [rows] => put(rt, alloc, &mut memory, path, built(rt, alloc, &[], rows)),
-            _ => put_chain(rt, alloc, &mut memory, path, layers),
-        }
-    }
-    for (path, bytes) in DAMAGED {
-        let bytes = Vec::from_slice(alloc, bytes).expect(rt, "memory");
-        put(rt, alloc, &mut memory, path, bytes);
-    }
-    for path in FOLDERS {
-        memory.put_dir(owned(rt, alloc, path)).expect(rt, "memory");
-    }
+    put_layers(rt, alloc, &mut memory, LAYERS);
+    put_layers(rt, alloc, &mut memory, LAYERS_BELOW);
+    put_others(rt, alloc, &mut memory, OTHERS);
+    put_folders(rt, alloc, &mut memory, FOLDERS);
     memory
 }
 
+/// Puts layers into a folder in memory.
+fn put_layers(rt: &impl Abort, alloc: Global, memory: &mut Memory, layers: &[Layer]) {
+    for (path, below, rows) in layers {
+        let bytes = built(rt, alloc, &ids(rt, alloc, below), rows);
+        put(rt, alloc, memory, path, bytes);
+    }
+}
+
+/// The ids that texts spell.
+fn ids(rt: &impl Abort, alloc: Global, texts: &[&str]) -> Vec<ObjectId> {
+    let mut ids = Vec::new(alloc);
+    for text in texts {
+        let id = ObjectId::from_hex(text.as_bytes()).expect(rt, "an id");
+        ids.push(id).expect(rt, "memory");
+    }
+    ids
+}
+
+/// Puts files of these bytes.
+fn put_others(rt: &impl Abort, alloc: Global, memory: &mut Memory, files: &[(&str, &[u8])]) {
+    for (path, bytes) in files {
+        let bytes = Vec::from_slice(alloc, bytes).expect(rt, "memory");
+        put(rt, alloc, memory, path, bytes);
+    }
+}
+
+/// Puts folders.
+fn put_folders(rt: &impl Abort, alloc: Global, memory: &mut Memory, folders: &[&str]) {
+    for path in folders {
+        memory.put_dir(owned(rt, alloc, path)).expect(rt, "memory");
+    }
+}
+
 /// The text, in memory of its own.
-fn owned(rt: &impl Abort, alloc: Global, text: &str) -> String {
+pub fn owned(rt: &impl Abort, alloc: Global, text: &str) -> String {
     String::from_str(alloc, text).expect(rt, "memory")
 }
 
@@ -115,53 +222,15 @@ pub fn built(rt: &impl Abort, alloc: Global, bases: &[ObjectId], rows: &[Row<'_>
     file_of_rows(alloc, bases, rows).expect(rt, "a file")
 }
 
-/// The texts, one after another.
-fn joined(rt: &impl Abort, alloc: Global, parts: &[&str]) -> String {
-    let mut text = String::new(alloc);
-    for part in parts {
-        text.push_str(part).expect(rt, "memory");
-    }
-    text
-}
-
-/// Puts a layer into the folder of a chain, as the file that is named after its checksum, and adds
-/// its line.
-fn put_layer(
-    rt: &impl Abort,
-    alloc: Global,
-    memory: &mut Memory,
-    folder: &str,
-    (checksum, bytes): (ObjectId, Vec<u8>),
-    lines: &mut String,
-) {
-    let checksum = checksum.to_string(alloc).expect(rt, "memory");
-    let path = joined(rt, alloc, &[folder, "/graph-", &checksum, ".graph"]);
-    put(rt, alloc, memory, &path, bytes);
-    let line = joined(rt, alloc, &[&checksum, "\n"]);
-    lines.push_str(&line).expect(rt, "memory");
-}
-
-/// Puts a folder with a chain: each layer as the file that is named after its checksum, and the
-/// chain file with the lines of these layers.
-fn put_chain(
-    rt: &impl Abort,
-    alloc: Global,
-    memory: &mut Memory,
-    folder: &str,
-    layers: &[&[Row<'_>]],
-) {
-    let (mut bases, mut lines) = (Vec::new(alloc), String::new(alloc));
-    for rows in layers {
-        let bytes = built(rt, alloc, &bases, rows);
-        let checksum = digest(Kind::Sha1, &bytes[..bytes.len().saturating_sub(20)]);
-        bases.push(checksum).expect(rt, "memory");
-        put_layer(rt, alloc, memory, folder, (checksum, bytes), &mut lines);
-    }
-    let path = joined(rt, alloc, &[folder, "/commit-graph-chain"]);
-    put(rt, alloc, memory, &path, lines.into_bytes());
-    memory
-        .put_dir(owned(rt, alloc, folder))
+/// The words of a command line, after the name of the program.
+fn line_of(rt: &impl Abort, alloc: Global, words: &[&str]) -> Vec<String> {
+    let mut line = Vec::new(alloc);
+    line.push(owned(rt, alloc, "graphtool"))
         .expect(rt, "memory");
+    for word in words {
+        line.push(owned(rt, alloc, word)).expect(rt, "memory");
+    }
+    line
 }
 
 /// What a program answers to these words after its own name, and what it writes to the output and
@@ -177,17 +246,13 @@ pub fn answer<T: Folder>(
     output: &mut Sink,
     errors: &mut Sink,
 ) -> Result<u8, WriteFailed> {
-    let mut line = Vec::new(alloc);
-    line.push(owned(rt, alloc, "graphtool"))
-        .expect(rt, "memory");
-    for word in words {
-        line.push(owned(rt, alloc, word)).expect(rt, "memory");
-    }
+    let line = line_of(rt, alloc, words);
+    let command = Command::from_words(&line);
     let complaints = Complaints {
         usage: "usage",
         write_failed: "failed",
     };
-    let (command, mut input) = (Command::from_words(&line), io::empty());
+    let mut input = io::empty();
     respond(
         alloc, command, complaints, &mut input, folder, output, errors,
     )
@@ -199,8 +264,8 @@ pub fn ensure(rt: &impl Abort, want: &str, holds: bool) {
     assert!(rt; holds, "{want}");
 }
 
-/// Asserts the status of an answer to these words, and what is written to the output. Only where
-/// that is nothing, the usage is told to standard error.
+/// Asserts the status of an answer to these words, and what is written to the output, and that
+/// nothing is written to standard error.
 pub fn expect<T: Folder>(
     rt: &impl Abort,
     alloc: Global,
@@ -211,11 +276,10 @@ pub fn expect<T: Folder>(
     let mut output = Sink::new(alloc, usize::MAX, None);
     let mut errors = Sink::new(alloc, usize::MAX, None);
     let answered = answer(rt, alloc, folder, words, &mut output, &mut errors);
-    let told = if written.is_empty() { "usage\n" } else { "" };
     ensure(rt, written, answered == Ok(status));
     ensure(
         rt,
         written,
-        output.text() == written && errors.text() == told,
+        output.text() == written && errors.text().is_empty(),
     );
 }

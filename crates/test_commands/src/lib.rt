@@ -1,11 +1,13 @@
-//! Tests of the commands of `graphtool`, on layers, chains and folders that are built for them.
+//! Tests of the commands that no run of a program can be: readers, folders and memory that fail at
+//! one call, folders that change between two reads, and reads that are counted.
 //!
-//! [`fixtures`] has the folder of graphs that the commands are asked about, and [`watched`] folders
-//! that count what is asked of them, that change, and that find no memory.
+//! What the programs answer is tested by the tables of `scripts/real_data`. [`fixtures`] has the
+//! folder of graphs that the commands are asked about, and [`watched`] folders that count what is
+//! asked of them, that change, and that find no memory.
 #![tactic(auto)]
 
 #[cfg(test)]
-mod answers;
+mod alone;
 #[cfg(test)]
 mod failing;
 #[cfg(test)]
@@ -13,8 +15,8 @@ mod fixtures;
 #[cfg(test)]
 mod lines;
 #[cfg(test)]
-mod listing;
-#[cfg(test)]
 mod reads;
+#[cfg(test)]
+mod unchecked;
 #[cfg(test)]
 mod watched;

@@ -1,5 +1,4 @@
-//! Tests of the commands of `object_commands`, `show_commands` and `question_commands`: those that
-//! hold a commit-graph against its commits, `show`, and `ask`.
+//! Tests of `question_commands`: of the command `ask`.
 //!
 //! [`folders`] has what they share.
 #![tactic(auto)]
@@ -7,8 +6,4 @@
 #[cfg(test)]
 mod folders;
 #[cfg(test)]
-mod objects;
-#[cfg(test)]
 mod questions;
-#[cfg(test)]
-mod shows;

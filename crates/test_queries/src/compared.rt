@@ -1,6 +1,9 @@
 //! The bases and the counts are those that Git 2.39.5 names for the same commits, but for the
 //! cycles, which no repository has. On a cycle a commit is its own proper ancestor, and so no base.
 
+ghost use Rattle.std.specs.Prelude.{◌<◌};
+ghost use Rattle.gix_commitgraph.specs.Graph.{total};
+
 use crate::fixtures::{compared, right_graph};
 use gix_commitgraph::{GENERATION_NUMBER_MAX, Position};
 use graph_history::{Checked, Comparer, Comparison};
@@ -107,97 +110,93 @@ const ABOVE_A_LINE: Layers = &[&[
     (0x66, &[3], 5),
 ]];
 
-/// A graph, a commit and some others, their merge bases, and how many commits are ahead and behind.
-type Query = (Layers, u32, &'static [u32], &'static [u32], u32, u32);
+/// A graph, a commit and three others, some of which are one, their merge bases, and how many
+/// commits are ahead and behind.
+type Query = (Layers, u32, [u32; 3], &'static [u32], u32, u32);
 
 const QUERIES: &[Query] = &[
-    (CRISS_CROSS, 5, &[6], &[1, 2], 2, 2),
-    (CRISS_CROSS, 5, &[5], &[5], 0, 0),
-    (CRISS_CROSS, 3, &[4], &[1, 2], 1, 1),
-    (CRISS_CROSS, 5, &[0], &[0], 4, 0),
-    (CRISS_CROSS, 0, &[5], &[0], 0, 4),
-    (CRISS_CROSS, 1, &[5, 6], &[1], 0, 5),
-    (CRISS_CROSS, 5, &[1, 6], &[1, 2], 2, 2),
-    (IN_LAYERS, 6, &[5], &[1, 2], 2, 2),
-    (IN_LAYERS, 0, &[5], &[0], 0, 4),
-    (IN_THREE_LAYERS, 4, &[5], &[1], 2, 2),
-    (IN_THREE_LAYERS, 5, &[0, 4], &[1], 2, 2),
-    (TWICE, 7, &[8], &[3, 4], 2, 2),
-    (TWICE, 7, &[1, 2], &[1, 2], 4, 0),
-    (APART, 0, &[3], &[], 1, 3),
-    (APART, 0, &[2, 3], &[], 1, 3),
-    (APART, 3, &[0, 1], &[1], 2, 1),
-    (REDUNDANT, 2, &[3], &[1], 1, 1),
-    (OCTOPUS, 4, &[5], &[2], 3, 1),
-    (OCTOPUS, 5, &[6], &[0], 2, 2),
-    (OCTOPUS, 5, &[4, 6], &[2], 1, 4),
-    (OCTOPUS, 6, &[5, 4, 7], &[3], 1, 5),
-    (OCTOPUS, 4, &[5, 6], &[2, 3], 2, 2),
-    (CYCLE, 1, &[2], &[], 1, 1),
-    (CYCLE, 0, &[0], &[], 0, 0),
-    (CYCLE_ABOVE_A_FORK, 3, &[4], &[], 1, 1),
-    (CYCLE_ABOVE_A_FORK, 1, &[2], &[], 0, 0),
-    (CYCLE_ABOVE_A_FORK, 3, &[5], &[0], 3, 1),
-    (CYCLE_ABOVE_A_FORK, 5, &[3, 4], &[0], 1, 4),
-    (CYCLE_ABOVE_A_FORK, 0, &[3], &[0], 0, 3),
-    (ABOVE_A_LINE, 4, &[5], &[3], 1, 1),
+    (CRISS_CROSS, 5, [6, 6, 6], &[1, 2], 2, 2),
+    (CRISS_CROSS, 5, [5, 5, 5], &[5], 0, 0),
+    (CRISS_CROSS, 3, [4, 4, 4], &[1, 2], 1, 1),
+    (CRISS_CROSS, 5, [0, 0, 0], &[0], 4, 0),
+    (CRISS_CROSS, 0, [5, 5, 5], &[0], 0, 4),
+    (CRISS_CROSS, 1, [5, 6, 6], &[1], 0, 5),
+    (CRISS_CROSS, 5, [1, 6, 6], &[1, 2], 2, 2),
+    (IN_LAYERS, 6, [5, 5, 5], &[1, 2], 2, 2),
+    (IN_LAYERS, 0, [5, 5, 5], &[0], 0, 4),
+    (IN_THREE_LAYERS, 4, [5, 5, 5], &[1], 2, 2),
+    (IN_THREE_LAYERS, 5, [0, 4, 4], &[1], 2, 2),
+    (TWICE, 7, [8, 8, 8], &[3, 4], 2, 2),
+    (TWICE, 7, [1, 2, 2], &[1, 2], 4, 0),
+    (APART, 0, [3, 3, 3], &[], 1, 3),
+    (APART, 0, [2, 3, 3], &[], 1, 3),
+    (APART, 3, [0, 1, 1], &[1], 2, 1),
+    (REDUNDANT, 2, [3, 3, 3], &[1], 1, 1),
+    (OCTOPUS, 4, [5, 5, 5], &[2], 3, 1),
+    (OCTOPUS, 5, [6, 6, 6], &[0], 2, 2),
+    (OCTOPUS, 5, [4, 6, 6], &[2], 1, 4),
+    (OCTOPUS, 6, [5, 4, 7], &[3], 1, 5),
+    (OCTOPUS, 4, [5, 6, 6], &[2, 3], 2, 2),
+    (CYCLE, 1, [2, 2, 2], &[], 1, 1),
+    (CYCLE, 0, [0, 0, 0], &[], 0, 0),
+    (CYCLE_ABOVE_A_FORK, 3, [4, 4, 4], &[], 1, 1),
+    (CYCLE_ABOVE_A_FORK, 1, [2, 2, 2], &[], 0, 0),
+    (CYCLE_ABOVE_A_FORK, 3, [5, 5, 5], &[0], 3, 1),
+    (CYCLE_ABOVE_A_FORK, 5, [3, 4, 4], &[0], 1, 4),
+    (CYCLE_ABOVE_A_FORK, 0, [3, 3, 3], &[0], 0, 3),
+    (ABOVE_A_LINE, 4, [5, 5, 5], &[3], 1, 1),
 ];
 
-/// The positions of these numbers.
-fn positions(rt: &impl Abort, alloc: Global, numbers: &[u32]) -> Vec<Position> {
-    let mut positions = Vec::new(alloc);
-    for number in numbers {
-        positions.push(Position(*number)).expect(rt, "memory");
-    }
-    positions
+/// The commit of this number.
+fn commit(rt: &impl Abort, checked: &Checked<'_>, number: u32) -> Position
+    ensures { result.0 < total checked.now.layers }
+{
+    checked.position(number).expect(rt, "a commit")
 }
 
-/// What is answered of a commit and some others of a graph, by one call and by two.
+/// What is answered of a commit and three others of a graph, by one call and by two.
 fn answer_of(
     rt: &impl Abort,
     alloc: Global,
     checked: &Checked<'_>,
     first: u32,
-    others: &[u32],
+    others: [u32; 3],
 ) -> Comparison {
-    let first = checked.position(first).expect(rt, "a commit");
-    let others = positions(rt, alloc, others);
-    let commits = checked.num_commits();
-    assert!(rt; others.iter().all(|other| other.0 < commits));
-    let answer = checked.compare(alloc, first, &others).expect(rt, "memory");
+    let first = commit(rt, checked, first);
+    let [one, two, three] = others;
+    let others = [
+        commit(rt, checked, one),
+        commit(rt, checked, two),
+        commit(rt, checked, three),
+    ];
     let apart = checked.divergence(alloc, first, &others);
+    let answer = checked.compare(alloc, first, &others).expect(rt, "memory");
     assert!(rt; apart.expect(rt, "memory") == answer.divergence);
-    let bases = checked
-        .merge_bases(alloc, first, &others)
-        .expect(rt, "memory");
-    assert!(rt; bases.positions == answer.bases.positions);
-    assert!(rt; bases.visits == answer.bases.visits);
     answer
 }
 
 /// Compares an answer with the numbers of the bases and the two counts.
 fn compare_answer(
     rt: &impl Abort,
-    alloc: Global,
     answer: &Comparison,
-    (bases, ahead, behind): (&[u32], u32, u32),
+    bases: &[u32],
+    (ahead, behind): (u32, u32),
 ) {
-    assert!(rt; answer.bases.positions == positions(rt, alloc, bases));
+    assert!(rt; answer.bases.positions.len() == bases.len());
+    for (base, want) in answer.bases.positions.iter().zip(bases) {
+        assert!(rt; base.0 == *want);
+    }
     assert!(rt; answer.divergence.ahead == ahead && answer.divergence.behind == behind);
 }
 
 /// Compares the answers to queries.
 fn compare_queries(rt: &impl Abort, alloc: Global, rows: &[Query]) {
-    for (layers, first, others, bases, ahead, behind) in rows {
-        let graph = right_graph(rt, alloc, layers);
-        let answer = answer_of(rt, alloc, &graph.as_checked(), *first, others);
-        compare_answer(rt, alloc, &answer, (bases, *ahead, *behind));
+    for row in rows {
+        let graph = right_graph(rt, alloc, row.0);
+        let checked = graph.as_checked();
+        let answer = answer_of(rt, alloc, &checked, row.1, row.2);
+        compare_answer(rt, &answer, row.3, (row.4, row.5));
     }
-}
-
-#[test]
-fn bases_and_counts_are_those_of_git(rt: HostRuntime) {
-    compare_queries(&rt, rt.alloc(), QUERIES);
 }
 
 /// A graph, two commits, and how many commits a search visits, those with the highest generation
@@ -216,16 +215,12 @@ const VISITS: &[Visited] = &[
 
 /// Compares how many commits searches visit.
 fn compare_visits(rt: &impl Abort, alloc: Global, rows: &[Visited]) {
-    for (layers, first, other, visits) in rows {
-        let graph = right_graph(rt, alloc, layers);
-        let answer = answer_of(rt, alloc, &graph.as_checked(), *first, &[*other]);
-        assert!(rt; answer.bases.visits == *visits);
+    for row in rows {
+        let graph = right_graph(rt, alloc, row.0);
+        let checked = graph.as_checked();
+        let answer = answer_of(rt, alloc, &checked, row.1, [row.2; 3]);
+        assert!(rt; answer.bases.visits == row.3);
     }
-}
-
-#[test]
-fn visits_are_those_of_the_search(rt: HostRuntime) {
-    compare_visits(&rt, rt.alloc(), VISITS);
 }
 
 /// Two commits, their merge bases, and how many commits are ahead and behind.
@@ -245,17 +240,19 @@ const PAIRS: &[Pair] = &[
 /// Compares what one comparer answers of pairs of commits.
 fn compare_pairs(rt: &impl Abort, alloc: Global, checked: &Checked<'_>, rows: &[Pair]) {
     let mut comparer = Comparer::new(alloc, checked);
-    for (first, other, bases, ahead, behind) in rows {
-        let kept = compared(rt, &mut comparer, *first, *other);
-        compare_answer(rt, alloc, &kept, (bases, *ahead, *behind));
-        let fresh = answer_of(rt, alloc, checked, *first, &[*other]);
+    for row in rows {
+        let kept = compared(rt, &mut comparer, row.0, row.1);
+        compare_answer(rt, &kept, row.2, (row.3, row.4));
+        let fresh = answer_of(rt, alloc, checked, row.0, [row.1; 3]);
         assert!(rt; kept.bases.visits == fresh.bases.visits);
     }
 }
 
-/// What a search marks in the memory that is kept is gone before the next one.
+/// What a search marks in the memory that a comparer keeps is gone before the next one.
 #[test]
-fn a_comparer_keeps_nothing_of_a_question_for_the_next(rt: HostRuntime) {
+fn bases_counts_and_visits_are_as_wanted(rt: HostRuntime) {
+    compare_queries(&rt, rt.alloc(), QUERIES);
+    compare_visits(&rt, rt.alloc(), VISITS);
     let graph = right_graph(&rt, rt.alloc(), CRISS_CROSS);
     compare_pairs(&rt, rt.alloc(), &graph.as_checked(), PAIRS);
 }

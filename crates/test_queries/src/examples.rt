@@ -1,6 +1,6 @@
 //! The examples of calls of `graph_uses`, on the diamond.
 
-use crate::fixtures::{built, checked_with};
+use crate::fixtures::checked_with;
 use gix_commitgraph::opening::OpenError;
 use gix_commitgraph::verify::VerifyOptions;
 use gix_commitgraph::{FileError, Position};
@@ -14,7 +14,7 @@ use graph_uses::parents::parents_of;
 use graph_uses::query::parents_at_path;
 use graph_uses::reaching::{merged, reaches};
 use graph_uses::walking::ancestors;
-use graph_vectors::{DIAMOND, Row, plan_of_rows};
+use graph_vectors::{DIAMOND, Row, file_of_rows};
 use std::alloc::Global;
 use std::fs;
 use std::process::Abort;
@@ -34,21 +34,11 @@ const FOURS: &str = "4444444444444444444444444444444444444444";
 
 const FIVES: &str = "5555555555555555555555555555555555555555";
 
-/// The bytes of a file of these commits, each of which was made at 1700000000.
-fn file_of(rt: &impl Abort, alloc: Global, rows: &[Row<'_>]) -> Vec<u8> {
-    let mut plan = plan_of_rows(alloc, &[], rows).expect(rt, "memory for a plan");
-    for commit in &mut plan.commits {
-        commit.time = 1700000000;
-    }
-    built(rt, alloc, &plan)
-}
-
 /// The checked graph of the diamond, whose ids are asked to be distinct or not.
 fn diamond(rt: &impl Abort, alloc: Global, distinct_ids: bool) -> CheckedGraph {
-    let graph = open_bytes(alloc, file_of(rt, alloc, DIAMOND));
-    let graph = graph.ok().expect(rt, "a graph");
-    let options = VerifyOptions { distinct_ids };
-    checked_with(rt, alloc, options, graph)
+    let bytes = file_of_rows(alloc, &[], DIAMOND).expect(rt, "a file");
+    let graph = open_bytes(alloc, bytes).ok().expect(rt, "a graph");
+    checked_with(rt, alloc, VerifyOptions { distinct_ids }, graph)
 }
 
 /// The id that repeats this byte.
@@ -56,9 +46,17 @@ fn id(byte: u8) -> ObjectId {
     ObjectId::from([byte; 20])
 }
 
-#[test]
-fn bytes_in_memory_that_are_no_file_are_refused(rt: HostRuntime) {
-    let alloc = rt.alloc();
+/// The ids that repeat these bytes.
+fn ids(rt: &impl Abort, alloc: Global, bytes: &[u8]) -> Vec<ObjectId> {
+    let mut ids = Vec::new(alloc);
+    for byte in bytes {
+        ids.push(id(*byte)).expect(rt, "memory");
+    }
+    ids
+}
+
+/// Asserts the refusal of bytes that are no file.
+fn compare_bytes(rt: &impl Abort, alloc: Global) {
     let (layer, error) = (0, FileError::TooSmall);
     let refused = open_bytes(alloc, Vec::new(alloc)).err();
     assert!(rt; refused == Some(OpenError::Layer { layer, error }));
@@ -69,7 +67,7 @@ fn compare_found(rt: &impl Abort, checked: &Checked<'_>) {
     assert!(rt; find(checked, THREES) == Ok(Some(Position(2))));
     assert!(rt; find(checked, FIVES) == Ok(None));
     assert!(rt; find(checked, "33") == Err(IdError::Length));
-    assert!(rt; time_of(checked, id(0x33).as_oid()) == Some(1700000000));
+    assert!(rt; time_of(checked, id(0x33).as_oid()) == Some(7));
     assert!(rt; time_of(checked, id(0x55).as_oid()).is_none());
 }
 
@@ -81,38 +79,41 @@ const PARENTS: &[(u32, &[Position])] = &[
 ];
 
 /// Asserts the parents of the diamond's commits.
-fn compare_parents(rt: &impl Abort, alloc: Global, checked: &Checked<'_>) {
-    for (number, want) in PARENTS {
-        let pos = checked.position(*number).expect(rt, "a commit");
+fn compare_parents(
+    rt: &impl Abort,
+    alloc: Global,
+    checked: &Checked<'_>,
+    rows: &[(u32, &[Position])],
+) {
+    for row in rows {
+        let pos = checked.position(row.0).expect(rt, "a commit");
         let parents = parents_of(alloc, checked, pos).expect(rt, "parents");
-        assert!(rt; parents.as_slice() == *want);
+        assert!(rt; parents.as_slice() == row.1);
     }
-    assert!(rt; checked.position(4).is_none());
 }
 
 /// Positions of two commits, and whether the first leads to the second.
 const LEADS: &[(u32, u32, bool)] = &[(3, 0, true), (1, 2, false), (2, 2, true), (0, 3, false)];
 
 /// Asserts which of the diamond's commits lead to which.
-fn compare_leads(rt: &impl Abort, alloc: Global, checked: &Checked<'_>) {
-    for (from, to, want) in LEADS {
-        let from = checked.position(*from).expect(rt, "a commit");
-        let to = checked.position(*to).expect(rt, "a commit");
-        assert!(rt; reaches(alloc, checked, from, to).expect(rt, "an answer") == *want);
+fn compare_leads(rt: &impl Abort, alloc: Global, checked: &Checked<'_>, rows: &[(u32, u32, bool)]) {
+    for row in rows {
+        let from = checked.position(row.0).expect(rt, "a commit");
+        let to = checked.position(row.1).expect(rt, "a commit");
+        assert!(rt; reaches(alloc, checked, from, to).expect(rt, "an answer") == row.2);
     }
 }
 
 /// Asserts which commits are merged into the second, all ancestors of the last, and the merge base
 /// of the two between.
 fn compare_ancestors(rt: &impl Abort, alloc: Global, checked: &Checked<'_>) {
-    let commits = [id(0x11), id(0x33), id(0x22), id(0x55)];
-    let found = merged(alloc, checked, id(0x22).as_oid(), &commits).expect(rt, "an answer");
-    assert!(rt; found.as_slice() == [id(0x11), id(0x22)].as_slice());
-    let all = ancestors(alloc, checked, id(0x44).as_oid()).expect(rt, "an answer");
-    let want = [id(0x44), id(0x33), id(0x22), id(0x11)];
-    assert!(rt; all.as_slice() == want.as_slice());
+    let commits = ids(rt, alloc, &[0x11, 0x33, 0x22, 0x55]);
+    let found = merged(alloc, checked, id(0x22).as_oid(), &commits);
+    assert!(rt; found.expect(rt, "an answer") == ids(rt, alloc, &[0x11, 0x22]));
+    let all = ancestors(alloc, checked, id(0x44).as_oid());
+    assert!(rt; all.expect(rt, "an answer") == ids(rt, alloc, &[0x44, 0x33, 0x22, 0x11]));
     let bases = merge_bases(alloc, checked, id(0x22).as_oid(), id(0x33).as_oid());
-    assert!(rt; bases.expect(rt, "an answer").as_slice() == [id(0x11)].as_slice());
+    assert!(rt; bases.expect(rt, "an answer") == ids(rt, alloc, &[0x11]));
 }
 
 /// Asserts where the only commits with some ids stand, the first of which is told where ids were
@@ -126,18 +127,11 @@ fn compare_only(rt: &impl Abort, checked: &Checked<'_>, want: Option<Position>) 
 fn compare_diamond(rt: &impl Abort, alloc: Global, distinct_ids: bool, only: Option<Position>) {
     let graph = diamond(rt, alloc, distinct_ids);
     let checked = graph.as_checked();
-    assert!(rt; checked.outcome().parent_counts.get(&1) == Some(&2));
     compare_found(rt, &checked);
-    compare_parents(rt, alloc, &checked);
-    compare_leads(rt, alloc, &checked);
+    compare_parents(rt, alloc, &checked, PARENTS);
+    compare_leads(rt, alloc, &checked, LEADS);
     compare_ancestors(rt, alloc, &checked);
     compare_only(rt, &checked, only);
-}
-
-#[test]
-fn asks_a_graph_in_memory(rt: HostRuntime) {
-    compare_diamond(&rt, rt.alloc(), false, None);
-    compare_diamond(&rt, rt.alloc(), true, Some(Position(2)));
 }
 
 const RIGHT: &str = "graph_uses_test_right";
@@ -146,49 +140,45 @@ const WRONG: &str = "graph_uses_test_wrong";
 
 const MISSING: &str = "graph_uses_test_missing";
 
-/// Paths and texts of ids, with the parents of the commit, or why there is no answer.
-type AtPath = (
-    &'static str,
-    &'static str,
-    Result<&'static [u8], &'static str>,
-);
+/// Texts of ids, with the parents of their commits in the right file.
+const AT_PATH: &[(&str, &[u8])] = &[(FOURS, &[0x22, 0x33]), (FIVES, &[])];
 
-const AT_PATHS: &[AtPath] = &[
-    (RIGHT, FOURS, Ok(&[0x22, 0x33])),
-    (RIGHT, FIVES, Ok(&[])),
-    (
-        MISSING,
-        FOURS,
-        Err("the graph was not opened: NothingFound"),
-    ),
-    (WRONG, FOURS, Err("the graph failed its check: Commit")),
+/// Paths where there is no right graph, and what is said of them.
+const REFUSED: &[(&str, &str)] = &[
+    (MISSING, "the graph was not opened: NothingFound"),
+    (WRONG, "the graph failed its check: Commit"),
 ];
 
-/// Asserts the parents of a commit of a graph on disk, or why there is no answer.
-fn compare_at_path<R: Files + Abort>(
-    rt: &R,
-    alloc: Global,
-    (path, text): (&str, &str),
-    want: Result<&[u8], &str>,
-) {
-    match (parents_at_path(rt, alloc, path, text), want) {
-        (Ok(parents), Ok(want)) => {
-            assert!(rt; parents.len() == want.len());
-            for (parent, byte) in parents.iter().zip(want) {
-                assert!(rt; *parent == id(*byte));
-            }
-        }
-        (Err(error), Err(want)) => {
-            let text = error.to_string(alloc).expect(rt, "memory for a text");
-            assert!(rt; text.as_str() == want);
-        }
-        _ => panic!(rt; "another answer"),
+/// The parents of a commit of a graph on disk.
+fn parents_at<R: Files + Abort>(rt: &R, alloc: Global, path: &str, id: &str) -> Vec<ObjectId> {
+    let parents = parents_at_path(rt, alloc, path, id);
+    parents.ok().expect(rt, "parents")
+}
+
+/// Why there are none.
+fn refusal_at<R: Files + Abort>(rt: &R, alloc: Global, path: &str, id: &str) -> String {
+    let error = parents_at_path(rt, alloc, path, id).err();
+    let text = error.expect(rt, "a refusal").to_string(alloc);
+    text.expect(rt, "memory for a text")
+}
+
+/// Asserts the parents of commits of a graph on disk.
+fn compare_at_path<R: Files + Abort>(rt: &R, alloc: Global, rows: &[(&str, &[u8])]) {
+    for row in rows {
+        assert!(rt; parents_at(rt, alloc, RIGHT, row.0) == ids(rt, alloc, row.1));
+    }
+}
+
+/// Asserts why there are none at other paths.
+fn compare_refused<R: Files + Abort>(rt: &R, alloc: Global, rows: &[(&str, &str)]) {
+    for row in rows {
+        assert!(rt; refusal_at(rt, alloc, row.0, FOURS).as_str() == row.1);
     }
 }
 
 /// Writes a file of these commits.
 fn put<R: Files + Abort>(rt: &R, alloc: Global, path: &str, rows: &[Row<'_>]) {
-    let bytes = file_of(rt, alloc, rows);
+    let bytes = file_of_rows(alloc, &[], rows).expect(rt, "a file");
     fs::write(rt, path, bytes.as_slice()).expect(rt, "a file");
 }
 
@@ -198,20 +188,17 @@ fn checked_at<R: Files + Abort>(rt: &R, alloc: Global, path: &str) -> CheckedGra
     graph.ok().expect(rt, "a right graph")
 }
 
-/// Asserts what is answered at paths.
-fn compare_at_paths<R: Files + Abort>(rt: &R, alloc: Global, rows: &[AtPath]) {
-    for (path, text, want) in rows {
-        compare_at_path(rt, alloc, (path, text), *want);
-    }
-}
-
 #[test]
-fn asks_a_graph_on_disk(rt: HostRuntime) {
+fn asks_graphs_in_memory_and_on_disk(rt: HostRuntime) {
+    compare_bytes(&rt, rt.alloc());
+    compare_diamond(&rt, rt.alloc(), false, None);
+    compare_diamond(&rt, rt.alloc(), true, Some(Position(2)));
     put(&rt, rt.alloc(), RIGHT, DIAMOND);
     put(&rt, rt.alloc(), WRONG, TWICE);
     let graph = checked_at(&rt, rt.alloc(), RIGHT);
     compare_found(&rt, &graph.as_checked());
-    compare_at_paths(&rt, rt.alloc(), AT_PATHS);
+    compare_at_path(&rt, rt.alloc(), AT_PATH);
+    compare_refused(&rt, rt.alloc(), REFUSED);
     fs::remove_file(&rt, RIGHT).expect(&rt, "no file");
     fs::remove_file(&rt, WRONG).expect(&rt, "no file");
 }

@@ -6,18 +6,12 @@
 
 use gix_commitgraph::verify::{VerifyError, VerifyOptions};
 use gix_commitgraph::{File, Graph, Position};
-use gix_hash_core::{Kind, ObjectId};
-use graph_history::{
-    Checked, CheckedGraph, Comparer, Comparison, NoFault, PushError, Reached, Searcher,
-};
-use graph_vectors::{LayerPlan, Row, file_of_plan, file_of_rows};
+use gix_hash_core::ObjectId;
+use graph_history::{Checked, CheckedGraph, Comparer, Comparison, NoFault, Reached, Searcher};
+use graph_vectors::refused::ENTRIES;
+use graph_vectors::{Row, file_of_rows, file_of_zeros};
 use std::alloc::Global;
 use std::process::Abort;
-
-/// The file of a plan. Where the plan is not buildable, the process aborts.
-pub fn built(rt: &impl Abort, alloc: Global, plan: &LayerPlan) -> Vec<u8> {
-    file_of_plan(alloc, plan).expect(rt, "a file")
-}
 
 /// The layer of these bytes, whose file has this path.
 pub fn opened(rt: &impl Abort, alloc: Global, bytes: Vec<u8>, path: &str) -> File {
@@ -31,10 +25,10 @@ pub fn layer(rt: &impl Abort, alloc: Global, bases: &[ObjectId], rows: &[Row<'_>
     opened(rt, alloc, bytes, "commit-graph")
 }
 
-/// The layer of this kind without bases and commits.
-pub fn empty_layer(rt: &impl Abort, alloc: Global, kind: Kind) -> File {
-    let plan = LayerPlan::new(alloc, kind, &[]).expect(rt, "memory");
-    opened(rt, alloc, built(rt, alloc, &plan), "commit-graph")
+/// The SHA-256 layer without bases and commits. Its checksum is wrong.
+pub fn sha256_layer(rt: &impl Abort, alloc: Global) -> File {
+    let bytes = file_of_zeros(alloc, b"CGPH\x01\x02\x03\x00", ENTRIES, 1056);
+    opened(rt, alloc, bytes.expect(rt, "memory"), "commit-graph")
 }
 
 /// The graph of these layers.
@@ -108,11 +102,6 @@ pub fn right<'g>(rt: &impl Abort, alloc: Global, graph: &'g Graph) -> Checked<'g
     Checked::new(alloc, graph).ok().expect(rt, "a right graph")
 }
 
-/// Puts a layer on top.
-pub fn push(alloc: Global, lower: &mut CheckedGraph, file: File) -> Result<(), PushError> {
-    lower.push(alloc, file)
-}
-
 /// What is answered of a walk between the commits of these numbers.
 pub fn walk_of(
     rt: &impl Abort,
@@ -126,20 +115,18 @@ pub fn walk_of(
     checked.ancestor_walk(alloc, from, to).expect(rt, "memory")
 }
 
-/// What a searcher answers of such a walk.
-pub fn walk_by(rt: &impl Abort, searcher: &mut Searcher<'_>, from: u32, to: u32) -> Reached {
+/// What a searcher answers of such a walk, and whether it finds that there is one.
+pub fn asked_by(
+    rt: &impl Abort,
+    searcher: &mut Searcher<'_>,
+    from: u32,
+    to: u32,
+) -> (Reached, bool) {
     let commits = searcher.graph().num_commits();
     assert!(rt; from < commits && to < commits);
     let answer = searcher.ancestor_walk(Position(from), Position(to));
-    answer.expect(rt, "memory")
-}
-
-/// Whether a searcher finds the second of these commits to be an ancestor of the first.
-pub fn leads_by(rt: &impl Abort, searcher: &mut Searcher<'_>, from: u32, to: u32) -> bool {
-    let commits = searcher.graph().num_commits();
-    assert!(rt; from < commits && to < commits);
-    let answer = searcher.is_ancestor(Position(to), Position(from));
-    answer.expect(rt, "memory")
+    let leads = searcher.is_ancestor(Position(to), Position(from));
+    (answer.expect(rt, "memory"), leads.expect(rt, "memory"))
 }
 
 /// Whether the second of these commits is an ancestor of the first.
@@ -156,7 +143,8 @@ pub fn compared(
     first: u32,
     other: u32,
 ) -> Comparison {
-    let first = comparer.graph().position(first).expect(rt, "a commit");
-    let other = comparer.graph().position(other).expect(rt, "a commit");
+    let graph = comparer.graph();
+    let first = graph.position(first).expect(rt, "a commit");
+    let other = graph.position(other).expect(rt, "a commit");
     comparer.compare(first, &[other]).expect(rt, "memory")
 }

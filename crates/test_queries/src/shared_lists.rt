@@ -4,11 +4,11 @@
 use crate::fixtures::{
     checked, compared, graph_of_one, graph_of_two, layer as layer_of_rows, leads, opened, walk_of,
 };
-use crate::reloading::reload;
+use crate::reloading::reloaded;
 use gix_commitgraph::file::Commit;
 use gix_commitgraph::{File, Graph, Position};
 use gix_hash_core::Kind;
-use graph_history::{Checked, CheckedGraph, Comparer, Comparison, Reloaded};
+use graph_history::{Checked, Comparer, Comparison};
 use graph_vectors::{END, file_of_parts, reseal, words};
 use std::alloc::Global;
 use std::convert::Infallible;
@@ -129,8 +129,10 @@ fn compare_walk(rt: &impl Abort, alloc: Global, checked: &Checked<'_>) {
 /// Compares what is answered of the last commits of the two lines. They lead to all commits, and
 /// both of them to the roots alone.
 fn compare_apart(rt: &impl Abort, answer: &Comparison) {
-    let positions = answer.bases.positions.as_slice();
-    assert!(rt; positions.iter().map(|pos| pos.0).eq(0..ROOTS));
+    assert!(rt; answer.bases.positions.len() == ROOTS as usize);
+    for (number, pos) in answer.bases.positions.iter().enumerate() {
+        assert!(rt; pos.0 as usize == number);
+    }
     assert!(rt; answer.divergence.ahead == LINE && answer.divergence.behind == LINE);
     assert!(rt; answer.bases.visits == u64::from(COMMITS));
 }
@@ -149,12 +151,6 @@ fn compare_bases(rt: &impl Abort, alloc: Global, checked: &Checked<'_>) {
     compare_apart(rt, &compared(rt, &mut comparer, second, first));
 }
 
-/// Compares what is counted of the graph of the layer.
-fn compare_counts(rt: &impl Abort, checked: &Checked<'_>) {
-    assert!(rt; checked.outcome().longest_path_length == Some(LINE));
-    assert!(rt; checked.outcome().parent_counts.len() == 2 * LINE as usize + 1);
-}
-
 #[test]
 fn a_shared_list_is_gone_over_once(rt: HostRuntime) {
     let file = layer(&rt, rt.alloc());
@@ -162,7 +158,6 @@ fn a_shared_list_is_gone_over_once(rt: HostRuntime) {
     let graph = graph_of_one(&rt, rt.alloc(), file);
     let graph = checked(&rt, rt.alloc(), graph);
     let checked = graph.as_checked();
-    compare_counts(&rt, &checked);
     compare_walk(&rt, rt.alloc(), &checked);
     compare_bases(&rt, rt.alloc(), &checked);
 }
@@ -173,12 +168,6 @@ fn with_one_above(rt: &impl Abort, alloc: Global, byte: u8) -> Graph {
     let bases = [lower.checksum().to_owned()];
     let upper = layer_of_rows(rt, alloc, &bases, &[(byte, &[], 1)]);
     graph_of_two(rt, alloc, lower, upper)
-}
-
-/// Asserts that one commit was checked, and that the graph counts the same as the one of before.
-fn assert_same(rt: &impl Abort, answer: &Reloaded, old: &CheckedGraph) {
-    assert!(rt; answer.checked == 1);
-    assert!(rt; answer.graph.as_checked().outcome() == old.as_checked().outcome());
 }
 
 // The commits of the layer below are compared and counted, and not checked. A check takes ten times
@@ -192,8 +181,8 @@ fn a_shared_list_is_reloaded_in_less_time_than_a_check_takes(rt: HostRuntime) {
     let check = start.elapsed(&rt).expect(&rt, "a clock").as_micros();
     let next = with_one_above(&rt, alloc, 0x44);
     let start = Instant::now(&rt).expect(&rt, "a clock");
-    let answer = reload(alloc, &old, next);
+    let answer = reloaded(alloc, &old, next);
     let reloading = start.elapsed(&rt).expect(&rt, "a clock").as_micros();
-    assert_same(&rt, &answer.ok().expect(&rt, "a right graph"), &old);
+    assert!(&rt; answer == Ok(1));
     assert!(&rt; reloading < check);
 }

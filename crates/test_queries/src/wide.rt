@@ -1,8 +1,8 @@
 //! A commit with so many parents that a search has to keep many of them.
 
-use crate::fixtures::{graph_of_one, layer, leads_by, right, walk_by};
+use crate::fixtures::{graph_of_one, layer, leads, right, walk_of};
 use gix_commitgraph::Graph;
-use graph_history::Searcher;
+use graph_history::Checked;
 use graph_vectors::Row;
 use std::alloc::Global;
 use std::process::Abort;
@@ -18,25 +18,33 @@ const PARENTS: &[u32] = &[
     119, 120, 121,
 ];
 
+/// Those of the two roots, and of the commits between.
+const NONE: &[u32] = &[];
+
+const FIRST: &[u32] = &[0];
+
 /// The position of the last commit.
 const LAST: u32 = 122;
 
 /// How often each question is asked.
 const TIMES: u32 = 200;
 
+/// The parents and the generation number of the commit whose id repeats this byte.
+fn fields(byte: u8) -> (&'static [u32], u32) {
+    match byte {
+        1 | 2 => (NONE, 1),
+        123 => (PARENTS, 3),
+        _ => (FIRST, 2),
+    }
+}
+
 /// The rows of the commits.
 fn rows(rt: &impl Abort, alloc: Global) -> Vec<Row<'static>> {
     let mut rows = Vec::new(alloc);
-    for byte in 1..=2 {
-        let root: Row<'static> = (byte, &[], 1);
-        rows.push(root).expect(rt, "memory");
+    for byte in 1..124 {
+        let (parents, generation) = fields(byte);
+        rows.push((byte, parents, generation)).expect(rt, "memory");
     }
-    for byte in 3..=122 {
-        let parent: Row<'static> = (byte, &[0], 2);
-        rows.push(parent).expect(rt, "memory");
-    }
-    let last: Row<'static> = (123, PARENTS, 3);
-    rows.push(last).expect(rt, "memory");
     rows
 }
 
@@ -47,14 +55,9 @@ fn wide(rt: &impl Abort, alloc: Global) -> Graph {
 }
 
 /// Looks for a walk from the last commit to the second root, to which none leads.
-fn walk(rt: &impl Abort, searcher: &mut Searcher<'_>) {
-    let answer = walk_by(rt, searcher, LAST, 1);
+fn walk(rt: &impl Abort, alloc: Global, checked: &Checked<'_>) {
+    let answer = walk_of(rt, alloc, checked, LAST, 1);
     assert!(rt; answer.walk.is_none() && answer.visits == LAST);
-}
-
-/// Asks whether there is one.
-fn search(rt: &impl Abort, searcher: &mut Searcher<'_>) {
-    assert!(rt; !leads_by(rt, searcher, LAST, 1));
 }
 
 // A walk that reads 64 commits ahead at each, and uses one, takes forty times as long.
@@ -62,15 +65,14 @@ fn search(rt: &impl Abort, searcher: &mut Searcher<'_>) {
 fn a_walk_takes_about_as_long_as_a_search(rt: HostRuntime) {
     let graph = wide(&rt, rt.alloc());
     let checked = right(&rt, rt.alloc(), &graph);
-    let mut searcher = checked.searcher(rt.alloc());
     let start = Instant::now(&rt).expect(&rt, "a clock");
     for _ in 0..TIMES {
-        walk(&rt, &mut searcher);
+        walk(&rt, rt.alloc(), &checked);
     }
     let walks = start.elapsed(&rt).expect(&rt, "a clock").as_micros();
     let start = Instant::now(&rt).expect(&rt, "a clock");
     for _ in 0..TIMES {
-        search(&rt, &mut searcher);
+        assert!(&rt; !leads(&rt, rt.alloc(), &checked, LAST, 1));
     }
     let searches = start.elapsed(&rt).expect(&rt, "a clock").as_micros();
     assert!(&rt; walks / 8 <= searches);

@@ -17,9 +17,10 @@ use Rattle.graph_format.specs.declared.Position.{Position}
 use Rattle.graph_layer.specs.declared.opening.error.OpenError.{OpenError}
 use Rattle.gix_commitgraph.specs.Sound.{Sound}
 use Rattle.gix_commitgraph.proofs.sound.SoundLemmas.{sound-scanned}
-use Rattle.graph_ancestors.specs.WalkAnswer.{numbers_of}
-use Rattle.graph_history.specs.Comparison.{IsComparisonIn, IsComparisonOf}
-use Rattle.graph_history.specs.declared.bases.Comparison.{Comparison}
+use Rattle.commit_search.specs.Positions.{numbers_of}
+use Rattle.graph_bases.specs.Comparison.{IsComparisonIn}
+use Rattle.graph_history.specs.GraphComparison.{IsComparisonOf}
+use Rattle.graph_bases.specs.declared.bases.Comparison.{Comparison}
 use Rattle.graph_commands.specs.Ancestor.{IsThere}
 use Rattle.graph_commands.specs.OpenerAnswer.{MayOpen}
 use Rattle.graph_commands.specs.Text.{◌⧺◌, newline}

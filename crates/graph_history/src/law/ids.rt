@@ -7,8 +7,8 @@ ghost use Rattle.graph_format.specs.StoredHistory.{history_of};
 ghost use Rattle.gix_commitgraph.specs.Distinct.{AreDistinct};
 ghost use Rattle.gix_commitgraph.specs.Graph.{graph_ids, total};
 ghost use Rattle.gix_commitgraph.specs.IdWalks.{ids_at};
-ghost use Rattle.graph_ancestors.specs.WalkAnswer.{IsShortestWalk};
-ghost use Rattle.graph_history.specs.Bases.{IsMergeBase};
+ghost use Rattle.commit_search.specs.WalkAnswer.{IsShortestWalk};
+ghost use Rattle.graph_bases.specs.Bases.{IsMergeBase};
 ghost use Rattle.graph_history.specs.IdAncestors.{IsMergeBaseId, IsShortestIdWalk, LeadsTo};
 
 use gix_commitgraph::law::graph::{

@@ -7,7 +7,7 @@ ghost use Rattle.graph_format.specs.Layer.{Layer, IsOpened};
 ghost use Rattle.graph_format.specs.StoredHistory.{history_of};
 ghost use Rattle.gix_commitgraph.specs.Graph.{total};
 ghost use Rattle.gix_commitgraph.specs.Sound.{Sound};
-ghost use Rattle.graph_history.specs.Bases.{IsMergeBase};
+ghost use Rattle.graph_bases.specs.Bases.{IsMergeBase};
 
 use gix_commitgraph::law::graph::the_history_of_a_graph_is_that_of_its_layers;
 use gix_commitgraph::law::sound::the_parents_of_a_right_graph_are_there;

@@ -1,6 +1,6 @@
 -- The numbers so far are those of the positions that were found.
 use Rattle.std.proofs.Common.{◌≡◌, take}
-use Rattle.graph_ancestors.specs.WalkAnswer.{numbers_of}
+use Rattle.commit_search.specs.Positions.{numbers_of}
 use Rattle.commitgraph_c.proofs.bases.positions_of.Given as goal
 
 abbrev pub invariant-loop-number : goal.invariant-loop-number

@@ -4,7 +4,7 @@ use Rattle.gix_commitgraph.specs.Graph.{graph_commits}
 use Rattle.gix_commitgraph.specs.GraphRemaining.{graph_commits_left}
 use Rattle.graph_layer.specs.Commit.{layer_and_position}
 use Rattle.commitgraph_c.proofs.BlockRoom.{next_told, last_told, only_told, block_told}
-use Rattle.commitgraph_c.proofs.Written.{item_at, items_after}
+use Rattle.c_opening.proofs.Written.{item_at, items_after}
 use Rattle.commitgraph_c.proofs.blocks.write_block.Goals.{In-Some, Left-loop-place}
 use Rattle.commitgraph_c.proofs.blocks.write_block.Goals.{else-loop-place-test, then-loop-place-test+in_default}
 use Rattle.commitgraph_c.proofs.blocks.write_block.Goals as goal

@@ -2,8 +2,8 @@ use Rattle.std.proofs.Common.{◌≡◌, ◌∙◌, Some, drop, map, slice_get, 
 use Rattle.std.proofs.lemmas.Option.{slice_get-map}
 use Rattle.gix_commitgraph.specs.Graph.{graph_commits}
 use Rattle.graph_layer.specs.Commit.{layer_and_position}
-use Rattle.commitgraph_c.specs.Answers.{told_commit}
-use Rattle.commitgraph_c.proofs.Written.{item_at, items_after, next_item}
+use Rattle.c_opening.specs.Answers.{told_commit}
+use Rattle.c_opening.proofs.Written.{item_at, items_after, next_item}
 use Rattle.commitgraph_c.proofs.blocks.write_commits.Goals as goal
 
 pub loop-place-preserved : goal.loop-place-preserved

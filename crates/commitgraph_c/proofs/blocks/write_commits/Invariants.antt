@@ -2,7 +2,7 @@
 use Rattle.std.proofs.Common.{◌≡◌, drop, map, take}
 use Rattle.gix_commitgraph.specs.Graph.{graph_commits}
 use Rattle.gix_commitgraph.specs.GraphRemaining.{graph_commits_left}
-use Rattle.commitgraph_c.specs.Answers.{told_commit, written}
+use Rattle.c_opening.specs.Answers.{told_commit, written}
 use Rattle.commitgraph_c.proofs.blocks.write_commits.Given as goal
 
 abbrev pub invariant-loop-place : goal.invariant-loop-place

@@ -3,7 +3,7 @@ use Rattle.std.proofs.Math.Seq.{drop-length}
 use Rattle.std.proofs.lemmas.List.{take-take, take_all}
 use Rattle.std.specs.Str.Lines.{lines}
 use Rattle.graph_folder.proofs.LineLemmas.{lines_last, lines_first}
-use Rattle.commitgraph_c.proofs.Written.{first_places}
+use Rattle.c_opening.proofs.Written.{first_places}
 use Rattle.commitgraph_c.proofs.chain.first_line.Goals as goal
 
 pub returns-in-Some-clause-line : goal.returns-in-Some-clause-line

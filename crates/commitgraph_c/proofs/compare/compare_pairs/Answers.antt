@@ -1,5 +1,5 @@
 use Rattle.std.proofs.Common.{◌^◌, ◌<◌, ◌∙◌, drop, length, subst, arith, rules, List, ℕ}
-use Rattle.commitgraph_c.specs.Answers.{TellsComparison}
+use Rattle.commitgraph_c.specs.QueryAnswers.{TellsComparison}
 use Rattle.commitgraph_c.proofs.BlockRoom.{rest_of}
 use Rattle.commitgraph_c.proofs.TwoRoom.{next_compared}
 use Rattle.commitgraph_c.proofs.compare.compare_pairs.Goals as goal

@@ -3,9 +3,9 @@ use Rattle.std.proofs.lemmas.Option.{get_or_from_slice_get}
 use Rattle.gix_hash_core.specs.Kind.{is_id_len}
 use Rattle.graph_format.specs.Format.{pieces}
 use Rattle.graph_format.proofs.PieceLemmas.{length-pieces, length-slice_range, pieces-at}
-use Rattle.commitgraph_c.specs.ManyIds.{AnswersLookup}
+use Rattle.c_opening.specs.Answers.{AnswersLookup}
 use Rattle.commitgraph_c.proofs.ManyRoom.{next_answered}
-use Rattle.commitgraph_c.proofs.PieceRoom.{id_positive, piece_at, piece_within}
+use Rattle.c_opening.proofs.PieceRoom.{id_positive, piece_at, piece_within}
 use Rattle.commitgraph_c.proofs.lookups.look_up_all.Goals as goal
 
 pub loop-place-preserved : goal.loop-place-preserved

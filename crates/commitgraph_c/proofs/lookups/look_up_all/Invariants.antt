@@ -1,6 +1,6 @@
 -- The first ids are looked up.
 use Rattle.commitgraph_c.specs.Many.{AnswersFirst}
-use Rattle.commitgraph_c.specs.ManyIds.{AnswersLookup}
+use Rattle.c_opening.specs.Answers.{AnswersLookup}
 use Rattle.graph_format.specs.Format.{pieces}
 use Rattle.commitgraph_c.proofs.lookups.look_up_all.Given as goal
 

@@ -3,7 +3,7 @@ use Rattle.std.proofs.lemmas.Slice.{take-put_mid, drop-put_mid}
 use Rattle.gix_hash_core.specs.Oid.{oid_bytes}
 use Rattle.gix_commitgraph.specs.Graph.{graph_ids}
 use Rattle.commitgraph_c.proofs.IdRoom.{id_fits, next_id_written, part_length, size_positive}
-use Rattle.commitgraph_c.proofs.PieceRoom.{piece_within}
+use Rattle.c_opening.proofs.PieceRoom.{piece_within}
 use Rattle.commitgraph_c.proofs.lookups.write_ids.Goals as goal
 
 pub write_id-requires : goal.write_id-requires

@@ -1,6 +1,6 @@
 use Rattle.std.proofs.Common.{◌≡◌, take}
-use Rattle.graph_ancestors.specs.WalkAnswer.{numbers_of}
-use Rattle.commitgraph_c.specs.Answers.{written}
+use Rattle.commit_search.specs.Positions.{numbers_of}
+use Rattle.c_opening.specs.Answers.{written}
 use Rattle.commitgraph_c.proofs.query.write_positions.Given as goal
 
 abbrev pub invariant-loop-place : goal.invariant-loop-place

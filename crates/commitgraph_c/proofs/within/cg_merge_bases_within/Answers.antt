@@ -1,8 +1,8 @@
 use Rattle.std.proofs.Common.{rules, ◌≡◌, ◌<◌, ◌*◌, ◌⊎◌, ◌∙◌, All, IsTrue, List, Some, ap, is_some, subst, sym}
 use Rattle.graph_format.specs.Layer.{Layer}
 use Rattle.gix_commitgraph.specs.Graph.{total}
-use Rattle.graph_ancestors.specs.WalkAnswer.{numbers_of}
-use Rattle.graph_history.specs.Comparison.{IsComparisonOf}
+use Rattle.commit_search.specs.Positions.{numbers_of}
+use Rattle.graph_history.specs.GraphComparison.{IsComparisonOf}
 use Rattle.commitgraph_c.proofs.Positions.{all_below}
 use Rattle.commitgraph_c.proofs.within.cg_merge_bases_within.Goals as goal
 

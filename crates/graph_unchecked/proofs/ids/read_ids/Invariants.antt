@@ -2,7 +2,7 @@
 use Rattle.std.proofs.Common.{◌≡◌, List, take}
 use Rattle.graph_format.specs.Layer.{Layer}
 use Rattle.gix_commitgraph.specs.IdWalks.{ids_at}
-use Rattle.graph_ancestors.specs.WalkAnswer.{numbers_of}
+use Rattle.commit_search.specs.Positions.{numbers_of}
 use Rattle.graph_parts.specs.Shown.{AreGraphParts, SeesMore, Shows}
 use Rattle.graph_unchecked.proofs.ids.read_ids.Given as goal
 

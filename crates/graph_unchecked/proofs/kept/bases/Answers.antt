@@ -1,7 +1,7 @@
 -- The layers that were shown are shown still, and the source tells of them.
 use Rattle.std.proofs.Common.{◌≡◌, Option, rules, sym, ap, subst, ◌∙◌}
 use Rattle.graph_folder.specs.Tree.{Tree}
-use Rattle.graph_ancestors.specs.WalkAnswer.{numbers_of}
+use Rattle.commit_search.specs.Positions.{numbers_of}
 use Rattle.graph_parts.specs.PartFiles.{commits_in_all}
 use Rattle.graph_parts.specs.Shown.{Shows, files_of}
 use Rattle.graph_parts.proofs.GraphPartLemmas.{count-files, shows-total}

@@ -3,7 +3,7 @@ use Rattle.std.proofs.Common.{◌≡◌, ◌<◌, ◌∷◌, ◌++◌, [], Some,
 use Rattle.std.proofs.lemmas.List.Elements.{All-push}
 use Rattle.std.proofs.lemmas.Option.{slice_get_read}
 use Rattle.graph_format.specs.declared.Position.{Position}
-use Rattle.graph_ancestors.specs.WalkAnswer.{numbers_of}
+use Rattle.commit_search.specs.Positions.{numbers_of}
 use Rattle.graph_parts.specs.Shown.{commits_of_parts}
 use Rattle.graph_parts.proofs.GraphPartLemmas.{same-commits, sees-then}
 use Rattle.graph_unchecked.proofs.PartLookupLemmas.{found-more, not-found}

@@ -3,7 +3,7 @@ use Rattle.std.proofs.Common.{◌≡◌, ◌<◌, List, All, take}
 use Rattle.std.specs.List.{AllZip}
 use Rattle.graph_format.specs.Layer.{Layer}
 use Rattle.graph_format.specs.declared.Position.{Position}
-use Rattle.graph_ancestors.specs.WalkAnswer.{numbers_of}
+use Rattle.commit_search.specs.Positions.{numbers_of}
 use Rattle.graph_parts.specs.Shown.{AreGraphParts, SeesMore, Shows, commits_of_parts}
 use Rattle.graph_unchecked.specs.Unchecked.{IsFoundAt}
 use Rattle.graph_unchecked.proofs.lookup.find_others.Given as goal

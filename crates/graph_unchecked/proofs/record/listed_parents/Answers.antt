@@ -1,6 +1,6 @@
 -- One word more is read, after those before it.
 use Rattle.std.proofs.Common.{◌≡◌, ◌∷◌, ◌++◌, [], rules, ◌∙◌}
-use Rattle.graph_ancestors.specs.Commits.{list_in}
+use Rattle.commit_search.specs.EdgeLists.{list_in}
 use Rattle.graph_parts.proofs.GraphPartLemmas.{sees-then}
 use Rattle.graph_unchecked.proofs.ParentLemmas.{words-as, words-told, word-last, word-more}
 use Rattle.graph_unchecked.proofs.record.listed_parents.Goals as goal

@@ -1,8 +1,8 @@
 -- The words so far name the commits so far, and those from the next one on the others.
 use Rattle.std.proofs.Common.{◌≡◌, ◌++◌, List}
 use Rattle.graph_format.specs.Layer.{Layer}
-use Rattle.graph_ancestors.specs.Commits.{list_in, named_from}
-use Rattle.graph_ancestors.specs.WalkAnswer.{numbers_of}
+use Rattle.commit_search.specs.EdgeLists.{list_in, named_from}
+use Rattle.commit_search.specs.Positions.{numbers_of}
 use Rattle.graph_parts.specs.Shown.{AreGraphParts, SeesMore, Shows}
 use Rattle.graph_unchecked.proofs.record.listed_parents.Given as goal
 

@@ -1,7 +1,7 @@
 -- The ids are read of the same layers after the search.
 use Rattle.std.proofs.Common.{Option, sym, subst, ◌∙◌}
 use Rattle.graph_folder.specs.Tree.{Tree}
-use Rattle.graph_ancestors.specs.WalkAnswer.{numbers_of}
+use Rattle.commit_search.specs.Positions.{numbers_of}
 use Rattle.graph_parts.specs.Shown.{Shows}
 use Rattle.graph_unchecked.proofs.SearchLemmas.{bases-with-ids, shows-after}
 use Rattle.graph_unchecked.proofs.search.compared.Goals as goal

@@ -5,7 +5,7 @@ use Rattle.gix_hash_core.specs.Oid.{oid_bytes}
 use Rattle.gix_commitgraph.specs.Graph.{graph_ids}
 use Rattle.gix_commitgraph.specs.IdWalks.{ids_at}
 use Rattle.gix_commitgraph.specs.Position.{Position}
-use Rattle.graph_ancestors.specs.WalkAnswer.{numbers_of}
+use Rattle.commit_search.specs.Positions.{numbers_of}
 use Rattle.graph_uses.proofs.ids.ids_of.Goals as goal
 
 pub loop-pos-preserved : goal.loop-pos-preserved

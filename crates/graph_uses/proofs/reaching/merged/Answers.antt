@@ -3,7 +3,7 @@ use Rattle.std.proofs.lemmas.List.{take_more}
 use Rattle.std.proofs.lemmas.Bool.{both_ways}
 use Rattle.gix_hash_core.specs.Oid.{oid_bytes}
 use Rattle.graph_uses.specs.IdAnswers.{IsMergedInto}
-use Rattle.graph_ancestors.proofs.KnownAnswerLemmas.{always_err}
+use Rattle.commit_search.proofs.KnownAnswerLemmas.{always_err}
 use Rattle.graph_uses.proofs.SelectionLemmas.{those_with, those_without, merged_has_commit}
 use Rattle.graph_uses.proofs.reaching.merged.Goals as goal
 use Rattle.graph_uses.proofs.reaching.merged.Goals.{then-branch+in_ok-push, else-branch}

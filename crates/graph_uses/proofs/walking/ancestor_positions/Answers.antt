@@ -7,8 +7,8 @@ use Rattle.gix_commitgraph.specs.History.{generation_at, parents_at}
 use Rattle.gix_commitgraph.specs.Position.{Position}
 use Rattle.gix_commitgraph.specs.StoredHistory.{history_of}
 use Rattle.gix_commitgraph.specs.Walks.{Reaches}
-use Rattle.graph_ancestors.specs.WalkAnswer.{numbers_of}
-use Rattle.graph_history.proofs.ReachLemmas.{reaches_within}
+use Rattle.commit_search.specs.Positions.{numbers_of}
+use Rattle.graph_bases.proofs.ReachLemmas.{reaches_within}
 use Rattle.graph_uses.proofs.WalkingLemmas.{begun, enqueued, popped, ended, numbers_within}
 use Rattle.graph_uses.proofs.walking.ancestor_positions.Goals as goal
 

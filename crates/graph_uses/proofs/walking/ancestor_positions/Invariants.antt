@@ -1,7 +1,7 @@
 use Rattle.std.proofs.Common.{◌≡◌, ◌<◌, [], All, heap_items}
 use Rattle.gix_commitgraph.specs.Graph.{total}
 use Rattle.gix_commitgraph.specs.StoredHistory.{history_of}
-use Rattle.graph_ancestors.specs.WalkAnswer.{numbers_of}
+use Rattle.commit_search.specs.Positions.{numbers_of}
 use Rattle.graph_uses.proofs.WalkingLemmas.{IsWalking, work}
 use Rattle.graph_uses.proofs.walking.ancestor_positions.Given as goal
 

@@ -3,7 +3,7 @@ use Rattle.std.proofs.Common.{◌<◌, All, take}
 use Rattle.std.specs.List.{AllZip}
 use Rattle.graph_format.specs.declared.Position.{Position}
 use Rattle.gix_commitgraph.specs.Graph.{total}
-use Rattle.graph_ancestors.specs.WalkAnswer.{numbers_of}
+use Rattle.commit_search.specs.Positions.{numbers_of}
 use Rattle.history_commands.specs.MergeBases.{IsIdAt}
 use Rattle.history_commands.proofs.bases.find_all.Given as goal
 

@@ -2,9 +2,9 @@ use Rattle.std.proofs.Common.{ℕ, List, length, get_or, sym, ap, ◌∙◌, ari
 use Rattle.graph_format.specs.Parents.{extra_edge_of}
 use Rattle.gix_commitgraph.specs.GraphLaw.{LiesIn}
 use Rattle.graph_format.specs.Layer.{Layer}
-use Rattle.graph_ancestors.specs.Commits.{list_in}
+use Rattle.commit_search.specs.EdgeLists.{list_in}
 use Rattle.graph_ancestors.proofs.InMemoryLemmas.{word_read}
-use Rattle.graph_ancestors.proofs.ListLemmas.{reading_within}
+use Rattle.graph_ancestors.proofs.WordLemmas.{reading_within}
 use Rattle.graph_ancestors.proofs.in_memory.InMemoryCommitSource.listed_parent.Goals as goal
 
 pub bounds-list_of-index : goal.bounds-list_of-index

@@ -1,7 +1,7 @@
 use Rattle.std.proofs.Common.{ℕ, List, length, ap, ◌∙◌, arith}
 use Rattle.graph_format.specs.Layer.{Layer}
-use Rattle.graph_ancestors.specs.Commits.{list_in}
-use Rattle.graph_ancestors.proofs.ListLemmas.{reading_within, few_words}
+use Rattle.commit_search.specs.EdgeLists.{list_in}
+use Rattle.graph_ancestors.proofs.WordLemmas.{reading_within, few_words}
 use Rattle.graph_ancestors.proofs.in_memory.InMemoryCommitSource.words_of.Goals as goal
 
 pub overflow_cast-result : goal.overflow_cast-result

@@ -1,5 +1,5 @@
 use Rattle.std.proofs.Common.{◌≡◌}
-use Rattle.graph_ancestors.proofs.InMemoryLemmas.{memory_answer, memory_refused}
+use Rattle.graph_ancestors.proofs.SearcherLemmas.{memory_answer, memory_refused}
 use Rattle.graph_ancestors.proofs.searcher.Searcher.ancestor_walk.Goals as goal
 
 pub returns-clause-answer : goal.returns-clause-answer

@@ -1,5 +1,5 @@
 use Rattle.std.proofs.Common.{◌≡◌}
-use Rattle.graph_ancestors.proofs.InMemoryLemmas.{memory_found, memory_led}
+use Rattle.graph_ancestors.proofs.SearcherLemmas.{memory_found, memory_led}
 use Rattle.graph_ancestors.proofs.searcher.Searcher.is_ancestor.Goals as goal
 
 pub returns-clause-found : goal.returns-clause-found

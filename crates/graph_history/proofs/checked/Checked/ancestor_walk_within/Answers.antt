@@ -1,7 +1,7 @@
 use Rattle.std.proofs.Common.{◌≡◌, refl, ap, sym, subst}
 use Rattle.gix_commitgraph.specs.Graph.{total}
 use Rattle.gix_commitgraph.specs.Sound.{Sound}
-use Rattle.graph_ancestors.specs.Source.{told_of}
+use Rattle.commit_search.specs.Source.{told_of}
 use Rattle.graph_history.specs.Limits.{MayBeStopped, bound_of}
 use Rattle.graph_history.specs.RightGraph.{CheckedLayers}
 use Rattle.graph_history.proofs.LimitLemmas.{walk_ended}

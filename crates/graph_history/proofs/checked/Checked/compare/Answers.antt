@@ -1,9 +1,9 @@
 use Rattle.std.proofs.lemmas.Result.{IfOk-weaker}
 use Rattle.graph_format.specs.StoredHistory.{history_of}
-use Rattle.graph_ancestors.specs.WalkAnswer.{numbers_of}
-use Rattle.graph_history.specs.Bases.{AreVisits}
-use Rattle.graph_history.specs.Comparison.{IsComparisonOf}
-use Rattle.graph_history.specs.declared.bases.Comparison.{Comparison}
+use Rattle.commit_search.specs.Positions.{numbers_of}
+use Rattle.graph_bases.specs.Bases.{AreVisits}
+use Rattle.graph_history.specs.GraphComparison.{IsComparisonOf}
+use Rattle.graph_bases.specs.declared.bases.Comparison.{Comparison}
 use Rattle.graph_history.proofs.checked.Checked.compare.Goals as goal
 
 pub returns-clause-visits : goal.returns-clause-visits

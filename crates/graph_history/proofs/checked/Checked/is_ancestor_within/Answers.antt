@@ -1,7 +1,7 @@
 use Rattle.std.proofs.Common.{◌≡◌, refl, ap, subst}
 use Rattle.gix_commitgraph.specs.Graph.{total}
 use Rattle.gix_commitgraph.specs.Sound.{Sound}
-use Rattle.graph_ancestors.proofs.InMemoryLemmas.{memory_found}
+use Rattle.graph_ancestors.proofs.SearcherLemmas.{memory_found}
 use Rattle.graph_history.specs.Limits.{MayBeStopped, bound_of}
 use Rattle.graph_history.specs.RightGraph.{CheckedLayers}
 use Rattle.graph_history.proofs.LimitLemmas.{leads_ended}

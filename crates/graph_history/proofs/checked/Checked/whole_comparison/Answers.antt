@@ -1,7 +1,7 @@
 use Rattle.std.proofs.Common.{◌≡◌, ap, subst, Ok}
 use Rattle.std.specs.Prelude.{⊤}
 use Rattle.gix_commitgraph.specs.Sound.{Sound}
-use Rattle.graph_ancestors.specs.WalkAnswer.{numbers_of}
+use Rattle.commit_search.specs.Positions.{numbers_of}
 use Rattle.graph_history.specs.RightGraph.{CheckedLayers}
 use Rattle.graph_history.proofs.ComparisonLemmas.{memory_comparison}
 use Rattle.graph_history.proofs.checked.Checked.whole_comparison.Goals as goal

@@ -1,6 +1,6 @@
 use Rattle.std.proofs.Common.{◌≡◌, ap, sym, subst}
 use Rattle.gix_commitgraph.specs.Sound.{Sound}
-use Rattle.graph_ancestors.specs.Source.{told_of}
+use Rattle.commit_search.specs.Source.{told_of}
 use Rattle.graph_history.specs.RightGraph.{CheckedLayers}
 use Rattle.graph_history.proofs.LimitLemmas.{walk_error}
 use Rattle.graph_history.proofs.checked.Checked.whole_walk.Goals as goal

@@ -4,7 +4,7 @@ use Rattle.graph_walks.specs.History.{Node, generation_at, parents_at}
 use Rattle.graph_walks.specs.Walks.{Reaches}
 use Rattle.graph_format.specs.StoredHistory.{history_of}
 use Rattle.gix_commitgraph.specs.Graph.{total}
-use Rattle.graph_history.specs.Bases.{IsMergeBase}
+use Rattle.graph_bases.specs.Bases.{IsMergeBase}
 use Rattle.graph_history.proofs.BelowLemmas.{history-more, generation_stays, parents_stay, reaches_stays, base_stays}
 use Rattle.graph_history.proofs.law.push.a_file_on_top_leaves_the_commits_below_as_they_were.Goals as goal
 

@@ -1,0 +1,7 @@
+mod AsBox
+mod AtPath
+mod Called
+mod Crossing
+mod Files
+pub mod PieceRoom
+pub mod Written

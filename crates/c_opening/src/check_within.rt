@@ -1,0 +1,57 @@
+//! A check that a limit stops.
+
+ghost use Rattle.std.specs.Prelude.{◌≡◌, ◌≢◌, ◌⊎◌, IfNone, IfSome, IsSomeAnd, Some, true};
+ghost use Rattle.gix_commitgraph.specs.Distinct.{IsSoundWith};
+ghost use Rattle.c_opening.specs.Files.{told_graph};
+ghost use Rattle.c_opening.specs.ToldLimit.{told_bound};
+ghost use Rattle.c_opening.specs.Verdict.{IsRefusedWithin, TellsCounts, TellsStats};
+ghost use Rattle.c_opening.specs.Verdict.{closed_verdict, options_of, told_unopened};
+
+use crate::check::{CgCount, CgVerdict, refused, wrong};
+use crate::codes::CLOSED_GRAPH;
+use crate::flags::CgLimit;
+use crate::handle::CgOwner;
+use crate::open::hand_out;
+use gix_commitgraph::GraphError;
+use gix_commitgraph::verify::VerifyOptions;
+use graph_history::CheckedGraph;
+use std::alloc::Global;
+
+/// Checks an open graph as `cg_check` does, unless the limit stops the check. The graph that is
+/// passed is taken as by `cg_close`, also where the check is stopped.
+pub fn cg_check_within(
+    alloc: Global,
+    graph: CgOwner,
+    distinct_ids: bool,
+    limit: CgLimit,
+    verdict: &mut CgVerdict,
+    counts: &mut [CgCount],
+    out: &mut CgOwner,
+) -> u32
+    ensures code { result ≡ verdict.new.code }
+    ensures opened { result ≡ 0 → IsSomeAnd graph.address.held (λ was.
+        out.new.address.held ≡ Some (was.0, true)) }
+    ensures right { result ≡ 0 → IsSomeAnd graph.address.held (λ was.
+        IsSoundWith (options_of distinct_ids) was.0) }
+    ensures verdict { result ≡ 0 → IsSomeAnd graph.address.held (λ was.
+        TellsStats was.0 verdict.new × TellsCounts was.0 verdict.new counts.old counts.new) }
+    ensures refused { result ≢ 0 → IfSome graph.address.held (λ was.
+        IsRefusedWithin (told_bound limit) (options_of distinct_ids) was.0 verdict.new
+        ⊎ (verdict.new ≡ told_unopened (told_graph GraphError.OutOfMemory))) }
+    ensures closed { IfNone graph.address.held (verdict.new ≡ closed_verdict) }
+    ensures kept { result ≢ 0 → (out.new ≡ out.old) × (counts.new ≡ counts.old) }
+{
+    let Some(opened) = graph.into_box() else {
+        *verdict = refused(CLOSED_GRAPH);
+        return CLOSED_GRAPH;
+    };
+    let graph = Box::into_inner(opened).into_graph();
+    let options = VerifyOptions { distinct_ids };
+    match CheckedGraph::new_within(alloc, options, graph, limit.limit()) {
+        Ok(graph) => hand_out(alloc, graph, verdict, counts, out).code,
+        Err(refusal) => {
+            *verdict = wrong(refusal);
+            verdict.code
+        }
+    }
+}

@@ -1,0 +1,2 @@
+mod DateRoom
+mod HandedIn

@@ -1,0 +1,3 @@
+pub mod HandedIn
+pub mod ToldDates
+pub mod ToldWrite

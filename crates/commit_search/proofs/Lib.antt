@@ -1,0 +1,13 @@
+pub mod CardinalityLemmas
+pub mod EdgeListLemmas
+pub mod MarkLemmas
+pub mod QueueLemmas
+pub mod ListLemmas
+pub mod SearchLemmas
+pub mod AheadLemmas
+pub mod StepLemmas
+pub mod ShortestWalkLemmas
+pub mod VisitLemmas
+pub mod QueryLemmas
+pub mod KnownAnswerLemmas
+pub mod DescentLemmas

@@ -1,0 +1,9 @@
+pub mod Cardinality
+pub mod Positions
+pub mod EdgeLists
+pub mod Source
+pub mod WalkAnswer
+pub mod Marks
+pub mod Queue
+pub mod BreadthFirst
+pub mod Search

@@ -1,0 +1,45 @@
+-- what a query for a walk along parents, from one commit of a history to another, answers
+use Rattle.std.specs.Prelude.{◌≡◌, ◌≢◌, ◌⊎◌, ℕ, ◌<◌, ◌≤◌, List, length, IfSome, IfNone}
+use Rattle.graph_walks.specs.declared.TheConstants.{GENERATION_NUMBER_MAX}
+use Rattle.graph_walks.specs.History.{Node, generation_at}
+use Rattle.graph_walks.specs.Walks.{IsWalkBetween, Reaches}
+use Rattle.commit_search.specs.Positions.{numbers_of}
+use Rattle.commit_search.specs.Cardinality.{AtLeast, AtMost}
+use Rattle.commit_search.specs.declared.Reached.{Reached}
+
+-- A walk from p to q, and no walk from p to q has fewer commits.
+pub record IsShortestWalk (history : List Node) (p q : ℕ) (walk : List ℕ) : Type 0 where
+  pub between : IsWalkBetween history p q walk
+  pub least : (other : List ℕ) → IsWalkBetween history p q other → length walk ≤ length other
+
+-- p is a commit that from reaches, and its generation number is at least that of to
+abbrev pub IsAtOrAbove : List Node → ℕ → ℕ → ℕ → Type 0
+IsAtOrAbove history from to p = Reaches history from p × (generation_at history to ≤ generation_at history p)
+
+-- p is a commit that from reaches, and its generation number is greater than that of to
+abbrev pub IsAbove : List Node → ℕ → ℕ → ℕ → Type 0
+IsAbove history from to p = Reaches history from p × (generation_at history to < generation_at history p)
+
+-- The generation numbers allow a walk from one commit to another: they fall along walks, but stay where they are at the cap.
+abbrev pub MayLead : List Node → ℕ → ℕ → Type 0
+MayLead history from to =
+    (generation_at history to < generation_at history from) ⊎ (GENERATION_NUMBER_MAX ≤ generation_at history from)
+
+-- The answer to a query for a walk.
+pub record IsAnswer (history : List Node) (from to : ℕ) (reached : Reached) : Type 0 where
+  -- a walk that is answered is a shortest one; where none is answered, none is there
+  pub walk : IfSome reached.walk (λ walk. IsShortestWalk history from to (numbers_of walk.items))
+  pub none : IfNone reached.walk (¬ Reaches history from to)
+  -- no more commits are visited than there are at or above the generation number of to
+  pub visits : AtLeast reached.visits (IsAtOrAbove history from to)
+  -- no fewer are visited than the walk has, and where there is no walk, than there are above that number
+  pub walk_visits : IfSome reached.walk (λ walk. length walk.items ≤ reached.visits)
+  pub none_visits : IfNone reached.walk (AtMost reached.visits (IsAbove history from to))
+  -- none is visited where the generation numbers allow no walk from one commit to another
+  pub no_visits : from ≢ to → generation_at history from ≤ generation_at history to
+      → generation_at history from < GENERATION_NUMBER_MAX → reached.visits ≡ 0
+
+-- What holds of an answer whatever the generation numbers are: a walk that is answered is one, and no commit is visited twice.
+pub record IsAnyAnswer (history : List Node) (from to : ℕ) (reached : Reached) : Type 0 where
+  pub walk : IfSome reached.walk (λ walk. IsWalkBetween history from to (numbers_of walk.items))
+  pub visits : AtLeast reached.visits (IsAtOrAbove history from to)

@@ -1,0 +1,73 @@
+//! A search depth first, which finds whether there is a walk.
+
+ghost use Rattle.std.specs.Prelude.{◌≡◌, ◌⊎◌, ◌+◌, ◌-◌, ◌<◌, ◌≤◌, ℕ, length, IfOk, IfErr, OnOk};
+ghost use Rattle.std.specs.Prelude.{IsTrue, Contains, alloc_error};
+ghost use Rattle.graph_walks.specs.History.{generation_at};
+ghost use Rattle.graph_walks.specs.Walks.{CountWalks, Reaches};
+ghost use Rattle.commit_search.specs.Search.{IsIdle, Keeps};
+ghost use Rattle.commit_search.specs.Source.{Told};
+
+use crate::search::Search;
+use crate::source::CommitSource;
+use graph_format::Position;
+use graph_walks::law::generations_never_rise_along_walks;
+use std::alloc::AllocError;
+
+impl Search {
+    /// Whether a walk leads from one commit to another, whose generation number is not above that
+    /// of the first. First parents are followed first.
+    pub(crate) fn reaches<S: CommitSource>(
+        &mut self,
+        commits: &mut S,
+        from: Position,
+        to: Position,
+        least: u32,
+    ) -> Result<bool, S::Error>
+        requires idle { IsIdle self.old }
+        requires from { from.0 < S.count (S.known commits.old) }
+        requires least { (t : Told) → S.says commits.old t
+            → least ≡ generation_at t.history to.0 }
+        requires above { Keeps (S.says commits.old) least from.0 }
+        ensures known { S.known commits.new ≡ S.known commits.old }
+        ensures kept { (t : Told) → S.says commits.new t → S.says commits.old t }
+        ensures yes { IfOk result (λ found. (t : Told) → S.says commits.new t
+            → IsTrue found → Reaches t.history from.0 to.0) }
+        ensures no { IfOk result (λ found. (t : Told) → S.says commits.new t
+            → CountWalks t.history → Reaches t.history from.0 to.0 → IsTrue found) }
+        ensures failed { IfErr result (λ e. S.may_fail (S.known commits.old) e
+            ⊎ S.Error.from_gives alloc_error e) }
+    {
+        generations_never_rise_along_walks();
+        self.begin(commits.num_commits(), from, least)?;
+        self.stack.clear();
+        push_places(&mut self.stack, 0, 1)?;
+        while let Some(place) = self.stack.pop() {
+            if self.commit_at(place) == to {
+                return Ok(true);
+            }
+            let reached = self.len() as u32;
+            self.visit(commits, place)?;
+            let end = self.len() as u32;
+            push_places(&mut self.stack, reached, end)?;
+        }
+        Ok(false)
+    }
+}
+
+/// Puts the places from one on, up to an end, on a stack, the first of them last.
+fn push_places(stack: &mut Vec<u32>, from: u32, end: u32) -> Result<(), AllocError>
+    requires { from ≤ end }
+    ensures old { OnOk result
+        ((place : ℕ) → Contains stack.old.items place → Contains stack.new.items place) }
+    ensures new { OnOk result
+        ((place : ℕ) → from ≤ place → place < end → Contains stack.new.items place) }
+    ensures only { OnOk result ((place : ℕ) → Contains stack.new.items place
+        → Contains stack.old.items place ⊎ (place < end)) }
+    ensures len { OnOk result
+        (length stack.new.items ≡ length stack.old.items + (end - from)) }
+{
+    for place in (from..end).rev() {
+        stack.push(place)?;
+    }
+    Ok(())
+}

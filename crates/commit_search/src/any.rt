@@ -1,0 +1,189 @@
+//! Answers to queries over commits that any source gives.
+
+ghost use Rattle.std.specs.Prelude.{◌≡◌, ◌≢◌, ◌⊎◌, ◌<◌, ◌≤◌, ◌∷◌, [], IfOk, IfErr, IfSome};
+ghost use Rattle.std.specs.Prelude.{IfNone, IsTrue, alloc_error};
+ghost use Rattle.graph_walks.specs.History.{generation_at};
+ghost use Rattle.graph_walks.specs.Walks.{CountWalks, Reaches};
+ghost use Rattle.commit_search.specs.WalkAnswer.{IsAnswer, IsAnyAnswer, MayLead};
+ghost use Rattle.commit_search.specs.Search.{IsIdle};
+ghost use Rattle.commit_search.specs.Source.{Told};
+
+use crate::Reached;
+use crate::search::Search;
+use crate::source::CommitSource;
+use graph_format::Position;
+use graph_walks::GENERATION_NUMBER_MAX;
+use graph_walks::law::{generations_fall_along_walks, generations_never_rise_along_walks};
+use std::alloc::{AllocError, Global};
+use std::marker::Model;
+
+/// Answers queries over the commits of any source, and keeps its memory from one to the next: a bit
+/// for each commit of the source, asked for at the first query that needs them, and eight bytes for
+/// each commit that a query reaches. What a query marks there is cleared after it, and no more.
+///
+/// Where the generation numbers that a source says are right, the answers are exact. Where they are
+/// not, a query ends all the same, and a walk or a yes that it answers is there. A contract speaks
+/// of all that the source may say once the query is over: of each history with which all agrees
+/// that was read of it.
+#[derive(Drop)]
+pub struct AnySearcher {
+    search: Search,
+}
+
+impl Model for AnySearcher {
+    ghost use Rattle.commit_search.specs.Search.{IsIdle};
+
+    ghost Value = { Unit {0} };
+
+    ghost view = { λ _. tt };
+
+    ghost invariant = { λ a. IsIdle a.search };
+}
+
+impl AnySearcher {
+    /// A searcher. Nothing is allocated.
+    pub fn new(alloc: Global) -> AnySearcher {
+        AnySearcher {
+            search: Search::new(alloc),
+        }
+    }
+
+    /// Looks for a shortest walk along parents from one commit to another, at positions that are
+    /// below the source's `num_commits()`.
+    ///
+    /// The search goes breadth first. It visits no commit twice, and none whose generation number
+    /// is below that of `to`, and goes over no word of an extra edge list twice. Which of several
+    /// shortest walks it answers is left open. Where the two commits are one, it visits that one
+    /// alone, and where the generation numbers allow no walk, none.
+    ///
+    /// # Errors
+    ///
+    /// A read of the source failed, which comes only where the commits are two; or an allocation
+    /// failed: only where they are one, or their generation numbers allow a walk. The searcher can
+    /// be asked again.
+    pub fn ancestor_walk<S: CommitSource>(
+        &mut self,
+        commits: &mut S,
+        from: Position,
+        to: Position,
+    ) -> Result<Reached, S::Error>
+        requires from { from.0 < S.count (S.known commits.old) }
+        requires to { to.0 < S.count (S.known commits.old) }
+        ensures known { S.known commits.new ≡ S.known commits.old }
+        ensures kept { (t : Told) → S.says commits.new t → S.says commits.old t }
+        ensures visits { IfOk result (λ reached.
+            reached.visits ≤ S.count (S.known commits.old)) }
+        ensures answer { IfOk result (λ reached. (t : Told) → S.says commits.new t
+            → IsAnyAnswer t.history from.0 to.0 reached) }
+        ensures right { IfOk result (λ reached. (t : Told) → S.says commits.new t
+            → CountWalks t.history → IsAnswer t.history from.0 to.0 reached) }
+        ensures refused { IfErr result (λ e.
+            ((from.0 ≢ to.0) × S.may_fail (S.known commits.old) e)
+            ⊎ (S.Error.from_gives alloc_error e × ((t : Told) → S.says commits.new t
+            → (from.0 ≡ to.0) ⊎ MayLead t.history from.0 to.0))) }
+    {
+        generations_never_rise_along_walks();
+        // The contract of `num_commits` says how many commits the source tells of.
+        let _commits = commits.num_commits();
+        if from == to {
+            let walk = walk_of(self.search.alloc, from)?;
+            return Ok(Reached {
+                walk: Some(walk),
+                visits: 1,
+            });
+        }
+        let Some(least) = least_number(commits, from, to)? else {
+            return Ok(Reached {
+                walk: None,
+                visits: 0,
+            });
+        };
+        let reached = self.search.shortest_walk(commits, from, to, least);
+        self.search.clear();
+        reached
+    }
+
+    /// Whether one commit is an ancestor of another, or the same commit, at positions that are
+    /// below the source's `num_commits()`: whether a walk along parents leads from `descendant` to
+    /// `ancestor`. They have the order of `git merge-base --is-ancestor`.
+    ///
+    /// The search goes depth first, first parents first. It visits and leaves out commits as
+    /// [`AnySearcher::ancestor_walk`] does, and goes over no word of an extra edge list twice.
+    ///
+    /// # Errors
+    ///
+    /// Both come only where the commits are two: a read of the source failed; or an allocation
+    /// failed, and the generation numbers allow a walk. The searcher can be asked again.
+    pub fn is_ancestor<S: CommitSource>(
+        &mut self,
+        commits: &mut S,
+        ancestor: Position,
+        descendant: Position,
+    ) -> Result<bool, S::Error>
+        requires ancestor { ancestor.0 < S.count (S.known commits.old) }
+        requires descendant { descendant.0 < S.count (S.known commits.old) }
+        ensures known { S.known commits.new ≡ S.known commits.old }
+        ensures kept { (t : Told) → S.says commits.new t → S.says commits.old t }
+        ensures yes { IfOk result (λ found. (t : Told) → S.says commits.new t
+            → IsTrue found → Reaches t.history descendant.0 ancestor.0) }
+        ensures no { IfOk result (λ found. (t : Told) → S.says commits.new t
+            → CountWalks t.history → Reaches t.history descendant.0 ancestor.0 → IsTrue found) }
+        ensures refused { IfErr result (λ e. (descendant.0 ≢ ancestor.0)
+            × (S.may_fail (S.known commits.old) e
+            ⊎ (S.Error.from_gives alloc_error e × ((t : Told) → S.says commits.new t
+            → MayLead t.history descendant.0 ancestor.0)))) }
+    {
+        // The contract of `num_commits` says how many commits the source tells of.
+        let _commits = commits.num_commits();
+        if descendant == ancestor {
+            return Ok(true);
+        }
+        let Some(least) = least_number(commits, descendant, ancestor)? else {
+            return Ok(false);
+        };
+        let found = self.search.reaches(commits, descendant, ancestor, least);
+        self.search.clear();
+        found
+    }
+}
+
+/// The walk of one commit alone.
+fn walk_of(alloc: Global, pos: Position) -> Result<Vec<Position>, AllocError>
+    ensures { IfOk result (λ walk. walk.items ≡ pos ∷ []) }
+{
+    Ok(vec![in alloc; pos]?)
+}
+
+/// The generation number of a commit, where it allows a walk to it from another commit.
+fn least_number<S: CommitSource>(
+    commits: &mut S,
+    from: Position,
+    to: Position,
+) -> Result<Option<u32>, S::Error>
+    requires from { from.0 < S.count (S.known commits.old) }
+    requires to { to.0 < S.count (S.known commits.old) }
+    requires apart { from.0 ≢ to.0 }
+    ensures known { S.known commits.new ≡ S.known commits.old }
+    ensures kept { (t : Told) → S.says commits.new t → S.says commits.old t }
+    ensures number { IfOk result (λ answer. IfSome answer (λ least. (t : Told)
+        → S.says commits.new t → least ≡ generation_at t.history to.0)) }
+    ensures above { IfOk result (λ answer. IfSome answer (λ least. (t : Told)
+        → S.says commits.new t → least ≤ generation_at t.history from.0)) }
+    ensures allowed { IfOk result (λ answer. IfSome answer (λ _. (t : Told)
+        → S.says commits.new t → MayLead t.history from.0 to.0)) }
+    ensures none { IfOk result (λ answer. IfNone answer ((t : Told) → S.says commits.new t
+        → CountWalks t.history → ¬ Reaches t.history from.0 to.0)) }
+    ensures below { IfOk result (λ answer. IfNone answer ((t : Told) → S.says commits.new t
+        → generation_at t.history from.0 ≤ generation_at t.history to.0)) }
+    ensures failed { IfErr result (S.may_fail (S.known commits.old)) }
+{
+    generations_never_rise_along_walks();
+    generations_fall_along_walks();
+    let above = commits.generation_number(from)?;
+    let least = commits.generation_number(to)?;
+    if least < above || (above == least && least == GENERATION_NUMBER_MAX) {
+        Ok(Some(least))
+    } else {
+        Ok(None)
+    }
+}

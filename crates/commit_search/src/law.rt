@@ -1,0 +1,19 @@
+//! What the words of the contracts mean.
+
+ghost use Rattle.std.specs.Prelude.{◌↔◌, ◌≤◌, ℕ, List, length};
+ghost use Rattle.graph_walks.specs.History.{Node};
+ghost use Rattle.commit_search.specs.WalkAnswer.{IsAtOrAbove, IsAbove};
+ghost use Rattle.commit_search.specs.Cardinality.{AtLeast, AtMost, Lists};
+
+/// How many commits have a property is the length of a list that has each of them once, and no
+/// others. At least n commits are reached at or above the generation number of another exactly
+/// where the list of those has at least n. At most n are reached above it exactly where the list of
+/// those has at most n.
+pub fn numbers_of_commits_are_lengths_of_lists()
+    ensures least { (history : List Node) (from to n : ℕ) (ps : List ℕ)
+        → Lists ps (IsAtOrAbove history from to) → AtLeast n (IsAtOrAbove history from to)
+        ↔ (n ≤ length ps) }
+    ensures most { (history : List Node) (from to n : ℕ) (ps : List ℕ)
+        → Lists ps (IsAbove history from to) → AtMost n (IsAbove history from to)
+        ↔ (length ps ≤ n) }
+{}

@@ -1,0 +1,36 @@
+//! Walks along parents to ancestors, over any source of commits.
+//!
+//! A [`CommitSource`] says what the commits of a commit-graph say, by their positions. A graph in
+//! memory is one, and so may be files of which parts are read as a search goes on. What it says may
+//! be wrong, and its reads may fail.
+//!
+//! An [`AnySearcher`] looks for walks from one commit to another, over any source. It leaves out
+//! each commit whose generation number is too low to lead to the one that is looked for
+//! ("topological level" in Git's commit-graph design). Where the numbers are right, its answers are
+//! exact. Where they are not, it ends all the same, and a walk that it answers is there.
+#![tactic(auto)]
+
+mod ahead;
+mod ancestor;
+mod any;
+pub mod edges;
+pub mod law;
+mod lists;
+mod marks;
+mod search;
+mod source;
+mod walk;
+mod words;
+
+pub use any::AnySearcher;
+use graph_format::Position;
+pub use source::CommitSource;
+
+/// The answer of a query for a walk from one commit to another.
+#[derive(Debug, Drop)]
+pub struct Reached {
+    /// A shortest walk, both commits included, or `None` where there is no walk.
+    pub walk: Option<Vec<Position>>,
+    /// How many commits were visited: taken from the queue of the search.
+    pub visits: u32,
+}

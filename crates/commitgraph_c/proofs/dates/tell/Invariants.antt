@@ -1,6 +1,0 @@
-use Rattle.std.proofs.Common.{◌≡◌, take}
-use Rattle.commitgraph_c.specs.Answers.{written}
-use Rattle.commitgraph_c.proofs.dates.tell.Given as goal
-
-abbrev pub invariant-loop-place : goal.invariant-loop-place
-invariant-loop-place l = l.out ≡ written (take l.place l.dates) l.initial.out

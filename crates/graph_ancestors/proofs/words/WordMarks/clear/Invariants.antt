@@ -1,9 +1,0 @@
-use Rattle.std.proofs.Common.{◌≡◌, ℕ, ◌<◌, [], length}
-use Rattle.graph_ancestors.specs.Marks.{marked_at}
-use Rattle.graph_ancestors.proofs.words.WordMarks.clear.Given as goal
-
-abbrev pub invariant-loop-layer : goal.invariant-loop-layer
-invariant-loop-layer l = record {
-  long : length l.self.layers.items ≡ l.layer-end;
-  cleared : (i : ℕ) → i < l.layer → marked_at l.self.layers.items i ≡ [];
-}

@@ -1,0 +1,11 @@
+pub mod ReachLemmas
+pub mod TrailLemmas
+pub mod PaintLemmas
+pub mod CoatLemmas
+pub mod TouchLemmas
+pub mod PassLemmas
+pub mod BaseLemmas
+pub mod FoundLemmas
+pub mod EdgeLemmas
+pub mod VisitCountLemmas
+pub mod BaseLawLemmas

@@ -1,0 +1,5 @@
+pub mod Bases
+pub mod Comparison
+pub mod Trails
+pub mod Paint
+pub mod Painting

@@ -1,0 +1,18 @@
+//! Merge bases, over any source of commits.
+//!
+//! An [`AnyComparer`] says which merge bases some commits have, and how far they have come apart: a
+//! [`Comparison`] is both. It visits commits with the highest generation numbers first. Where the
+//! numbers that a source says are right, its answers are exact. Where they are not, it ends all the
+//! same, and each base that it answers is a common ancestor.
+#![tactic(auto)]
+
+mod any;
+mod bases;
+pub mod law;
+mod paint;
+mod painting;
+mod passing;
+mod trails;
+
+pub use any::AnyComparer;
+pub use bases::{Bases, Comparison, Divergence};

@@ -1,0 +1,345 @@
+//! To which commits a commit and some others lead, as paint that commits pass on to their parents.
+
+ghost use Rattle.std.specs.Prelude.{◌+◌, ◌*◌, ◌^◌, ◌⊎◌, cond, alloc_error, IfErr};
+ghost use Rattle.std.specs.Prelude.{◌≡◌, ◌<◌, ◌≤◌, ◌++◌, ◌∷◌, if◌then◌else◌, ℕ, List, [], All};
+ghost use Rattle.std.specs.Prelude.{IsPermutation, length, count_by, OnOk, IfOk};
+ghost use Rattle.std.specs.BinaryHeap.{IsHeap, heap_items};
+ghost use Rattle.graph_walks.specs.History.{Node, generation_at};
+ghost use Rattle.graph_walks.specs.Walks.{CountWalks};
+ghost use Rattle.commit_search.specs.Source.{Told};
+ghost use Rattle.commit_search.specs.Positions.{numbers_of};
+ghost use Rattle.graph_bases.specs.Bases.{AreBelowCap, AreVisits};
+ghost use Rattle.graph_bases.specs.Painting.{IsVisitCount, IsVisiting};
+ghost use Rattle.graph_bases.specs.Paint.{is_queued};
+ghost use Rattle.graph_bases.specs.Paint.{is_ahead, is_behind, is_base, bare, coat_at};
+ghost use Rattle.graph_bases.specs.Paint.{IsCounted, IsPaint, AreIdle};
+ghost use Rattle.graph_bases.specs.Painting.{IsSpread, IsLevel, Joins, JoinsNumbered, Adds};
+ghost use Rattle.graph_bases.specs.Painting.{ArePassed, IsPassed, MayAdd, IsPaintingOf};
+ghost use Rattle.graph_bases.specs.Painting.{AreCandidates, IsDone, IsPainting, IsPainted};
+ghost use Rattle.graph_bases.specs.Painting.{AreBases, AreTouched, entry_cmp, work};
+ghost use Rattle.graph_bases.specs.Trails.{trail_in};
+
+use crate::bases::Divergence;
+use crate::paint::{Coat, Coats, Paint};
+use commit_search::CommitSource;
+use graph_format::Position;
+use graph_walks::GENERATION_NUMBER_MAX;
+use graph_walks::law::{generations_fall_along_walks, generations_never_rise_along_walks};
+use std::alloc::{AllocError, Global};
+use std::collections::BinaryHeap;
+
+/// The painting of commits from one of them and some others.
+#[derive(Drop)]
+pub(crate) struct Painting<'p> {
+    first: Position,
+    others: &'p [Position],
+    pub(crate) coats: Coats,
+    /// The commits whose parents have not heard all that is known of them: of each its generation
+    /// number and its position.
+    queue: BinaryHeap<(u32, u32)>,
+    /// The positions of commits to which both sides lead: each merge base is one of them. Others
+    /// turn out to be ancestors of another.
+    candidates: Vec<u32>,
+    /// The positions of the commits that were taken from the queue.
+    taken: Vec<u32>,
+    /// How many commits were taken from the queue.
+    visits: u64,
+}
+
+impl<'p> Painting<'p> {
+    /// A painting that knows nothing.
+    fn new(alloc: Global, coats: Coats, first: Position, others: &'p [Position]) -> Painting<'p>
+        requires idle { AreIdle (length coats.all.items) coats }
+        requires few { length coats.all.items < 2 ^ 32 }
+        ensures first { result.first ≡ first }
+        ensures others { result.others.now ≡ others.now }
+        ensures painting { IsPainting (length coats.all.items) result }
+        ensures told { (history : List Node) → length history ≡ length coats.all.items
+            → IsPaintingOf history result }
+        ensures lists { (t : Told) (l : ℕ) → IsPassed result.coats.all.items (t.lists l)
+            (trail_in result.coats.trails.layers.items l) }
+        ensures bare { (p : ℕ) → coat_at result.coats.all.items p ≡ bare }
+        ensures empty { heap_items result.queue ≡ [] }
+    {
+        Painting {
+            first,
+            others,
+            coats,
+            queue: BinaryHeap::new(alloc),
+            candidates: Vec::new(alloc),
+            taken: Vec::new(alloc),
+            visits: 0,
+        }
+    }
+
+    /// Puts a commit into the queue, where it is not there.
+    fn enqueue<S: CommitSource>(
+        &mut self,
+        commits: &mut S,
+        commit: Position,
+    ) -> Result<(), S::Error>
+        requires painting { IsPainting (S.count (S.known commits.old)) self.old }
+        requires within { commit.0 < S.count (S.known commits.old) }
+        ensures known { S.known commits.new ≡ S.known commits.old }
+        ensures kept { (t : Told) → S.says commits.new t → S.says commits.old t }
+        ensures first { self.new.first ≡ self.old.first }
+        ensures others { self.new.others.now ≡ self.old.others.now }
+        ensures coats { self.new.coats ≡ self.old.coats }
+        ensures candidates { self.new.candidates.items ≡ self.old.candidates.items }
+        ensures taken { self.new.taken.items ≡ self.old.taken.items }
+        ensures visits { self.new.visits ≡ self.old.visits }
+        ensures len { OnOk result (length (heap_items self.new.queue)
+            ≡ length (heap_items self.old.queue)
+            + cond (is_queued self.old.coats.all.items commit.0) 0 1) }
+        ensures joins { OnOk result
+            (Joins commit.0 (heap_items self.old.queue) (heap_items self.new.queue)) }
+        ensures numbered { OnOk result ((t : Told) → S.says commits.new t
+            → JoinsNumbered t.history commit.0 (heap_items self.old.queue)
+            (heap_items self.new.queue)) }
+        ensures failed { IfErr result (λ e. S.may_fail (S.known commits.old) e
+            ⊎ S.Error.from_gives alloc_error e) }
+    {
+        if self.coats.at(commit).queued {
+            return Ok(());
+        }
+        let generation = commits.generation_number(commit)?;
+        push_entry(&mut self.queue, (generation, commit.0))?;
+        Ok(())
+    }
+
+    /// Adds a commit with this paint to the candidates, where that is the paint of a merge base.
+    fn add_candidate(&mut self, commit: Position, paint: Paint) -> Result<(), AllocError>
+        ensures first { self.new.first ≡ self.old.first }
+        ensures others { self.new.others.now ≡ self.old.others.now }
+        ensures coats { self.new.coats ≡ self.old.coats }
+        ensures queue { heap_items self.new.queue ≡ heap_items self.old.queue }
+        ensures taken { self.new.taken.items ≡ self.old.taken.items }
+        ensures visits { self.new.visits ≡ self.old.visits }
+        ensures candidates { OnOk result (self.new.candidates.items
+            ≡ (if is_base paint then self.old.candidates.items ++ commit.0 ∷ []
+            else self.old.candidates.items)) }
+    {
+        if paint.is_base() {
+            self.candidates.push(commit.0)?;
+        }
+        Ok(())
+    }
+
+    /// Adds paint to a commit, and puts it into the queue where that says more than was known.
+    pub(crate) fn add<S: CommitSource>(
+        &mut self,
+        commits: &mut S,
+        commit: Position,
+        paint: Paint,
+    ) -> Result<(), S::Error>
+        requires painting { IsPainting (S.count (S.known commits.old)) self.old }
+        requires within { commit.0 < S.count (S.known commits.old) }
+        requires told { (t : Told) → S.says commits.old t
+            → MayAdd t.history self.old commit.0 paint }
+        ensures known { S.known commits.new ≡ S.known commits.old }
+        ensures kept { (t : Told) → S.says commits.new t → S.says commits.old t }
+        ensures first { self.new.first ≡ self.old.first }
+        ensures others { self.new.others.now ≡ self.old.others.now }
+        ensures trails { self.new.coats.trails ≡ self.old.coats.trails }
+        ensures painting { OnOk result (IsPainting (S.count (S.known commits.old)) self.new) }
+        ensures told { OnOk result ((t : Told) → S.says commits.new t
+            → IsPaintingOf t.history self.new) }
+        ensures adds { OnOk result (Adds commit.0 paint self.old.coats.all.items
+            self.new.coats.all.items) }
+        ensures level { OnOk result ((t : Told) (level : ℕ) → S.says commits.new t
+            → generation_at t.history commit.0 ≤ level
+            → IsLevel t.history self.old.coats.all.items (heap_items self.old.queue) level
+            → IsLevel t.history self.new.coats.all.items (heap_items self.new.queue) level) }
+        ensures work { OnOk result (work self.new.coats.all.items (heap_items self.new.queue)
+            ≤ work self.old.coats.all.items (heap_items self.old.queue)) }
+        ensures failed { IfErr result (λ e. S.may_fail (S.known commits.old) e
+            ⊎ S.Error.from_gives alloc_error e) }
+    {
+        let known = self.coats.at(commit).paint;
+        if known.covers(paint) {
+            return Ok(());
+        }
+        let paint = known.join(paint);
+        self.enqueue(commits, commit)?;
+        self.add_candidate(commit, paint)?;
+        let queued = true;
+        self.coats.set(commit, Coat { paint, queued });
+        Ok(())
+    }
+
+    /// Visits commits, those with the highest generation numbers first, until none that is queued
+    /// can lead to a base.
+    fn run<S: CommitSource>(&mut self, commits: &mut S) -> Result<(), S::Error>
+        requires painting { IsPainting (S.count (S.known commits.old)) self.old }
+        requires told { (t : Told) → S.says commits.old t → IsPaintingOf t.history self.old }
+        requires spread { (t : Told) → S.says commits.old t → IsSpread t.history self.old.first.0
+            (numbers_of self.old.others.now) self.old.coats.all.items }
+        requires level { (t : Told) → S.says commits.old t → CountWalks t.history → (level : ℕ)
+            × IsLevel t.history self.old.coats.all.items (heap_items self.old.queue) level }
+        requires lists { ArePassed (S.says commits.old) self.old }
+        ensures known { S.known commits.new ≡ S.known commits.old }
+        ensures kept { (t : Told) → S.says commits.new t → S.says commits.old t }
+        ensures first { self.new.first ≡ self.old.first }
+        ensures others { self.new.others.now ≡ self.old.others.now }
+        ensures len { OnOk result
+            (length self.new.coats.all.items ≡ S.count (S.known commits.old)) }
+        ensures counted { OnOk result (IsCounted self.new.coats) }
+        ensures touched { OnOk result (AreTouched self.new.coats.all.items self.new.taken.items
+            (heap_items self.new.queue)) }
+        ensures candidates { OnOk result (AreCandidates self.new.coats.all.items
+            self.new.candidates.items) }
+        ensures paint { OnOk result ((t : Told) → S.says commits.new t
+            → IsPaint t.history self.old.first.0 (numbers_of self.old.others.now)
+            self.new.coats.all.items) }
+        ensures spread { OnOk result ((t : Told) → S.says commits.new t
+            → IsSpread t.history self.old.first.0 (numbers_of self.old.others.now)
+            self.new.coats.all.items) }
+        ensures count { OnOk result (IsVisitCount self.new.coats.all.items self.new.visits) }
+        ensures visiting { OnOk result ((t : Told) → S.says commits.new t → CountWalks t.history
+            → AreBelowCap t.history self.old.first.0 (numbers_of self.old.others.now)
+            → IsVisiting t.history self.old.first.0 (numbers_of self.old.others.now)
+            self.new.coats.all.items self.new.visits) }
+        ensures done { OnOk result ((t : Told) → S.says commits.new t → CountWalks t.history
+            → IsDone t.history self.new.coats.all.items) }
+        ensures failed { IfErr result (λ e. S.may_fail (S.known commits.old) e
+            ⊎ S.Error.from_gives alloc_error e) }
+    {
+        generations_never_rise_along_walks();
+        while let Some(next) = self.queue.pop() {
+            push_number(&mut self.taken, next.1)?;
+            let is_below_cap = next.0 < GENERATION_NUMBER_MAX;
+            if self.coats.fresh == 0 && is_below_cap {
+                return Ok(());
+            }
+            let commit = Position(next.1);
+            let paint = self.coats.at(commit).paint;
+            let queued = false;
+            self.coats.set(commit, Coat { paint, queued });
+            self.visits = self.visits.saturating_add(1);
+            self.visit(commits, commit, paint)?;
+        }
+        Ok(())
+    }
+
+    /// How many commits are ahead and behind, as far as is known.
+    pub(crate) fn divergence(&self) -> Divergence
+        requires { IsCounted self.now.coats }
+        ensures ahead { result.ahead
+            ≡ count_by (λ coat. is_ahead coat.paint) self.now.coats.all.items }
+        ensures behind { result.behind
+            ≡ count_by (λ coat. is_behind coat.paint) self.now.coats.all.items }
+    {
+        Divergence {
+            ahead: self.coats.ahead,
+            behind: self.coats.behind,
+        }
+    }
+
+    /// How many commits were taken from the queue.
+    pub(crate) fn visits(&self) -> u64
+        ensures { result ≡ self.now.visits }
+    {
+        self.visits
+    }
+
+    /// The commits that are merge bases as far as is known, in the order of their positions.
+    pub(crate) fn bases(&mut self, alloc: Global) -> Result<Vec<Position>, AllocError>
+        requires { AreCandidates self.old.coats.all.items self.old.candidates.items }
+        ensures coats { self.new.coats ≡ self.old.coats }
+        ensures queue { heap_items self.new.queue ≡ heap_items self.old.queue }
+        ensures taken { self.new.taken.items ≡ self.old.taken.items }
+        ensures visits { self.new.visits ≡ self.old.visits }
+        ensures bases { IfOk result (λ bases. AreBases self.old.coats.all.items
+            (numbers_of bases.items)) }
+    {
+        self.candidates.sort_unstable();
+        let mut bases = Vec::new(alloc);
+        for number in self.candidates.iter() {
+            let commit = Position(*number);
+            if self.coats.at(commit).paint.is_base() {
+                bases.push(commit)?;
+            }
+        }
+        Ok(bases)
+    }
+
+    /// The coats, all of them bare again. Only the commits that were painted are gone over.
+    pub(crate) fn into_coats(self) -> Coats
+        requires { AreTouched self.coats.all.items self.taken.items (heap_items self.queue) }
+        ensures { AreIdle (length self.entry.coats.all.items) result }
+    {
+        let Painting {
+            mut coats,
+            mut queue,
+            mut taken,
+            ..
+        } = self;
+        while let Some(next) = queue.pop() {
+            coats.uncover(next.1);
+        }
+        while let Some(number) = taken.pop() {
+            coats.uncover(number);
+        }
+        coats.into_idle()
+    }
+}
+
+/// Paints commits from one of them and some others.
+pub(crate) fn paint_from<'p, S: CommitSource>(
+    alloc: Global,
+    coats: Coats,
+    commits: &mut S,
+    first: Position,
+    others: &'p [Position],
+) -> Result<Painting<'p>, S::Error>
+    requires idle { AreIdle (S.count (S.known commits.old)) coats }
+    requires first { first.0 < S.count (S.known commits.old) }
+    requires others { All (λ other. other.0 < S.count (S.known commits.old)) others.now }
+    ensures known { S.known commits.new ≡ S.known commits.old }
+    ensures kept { (t : Told) → S.says commits.new t → S.says commits.old t }
+    ensures len { IfOk result (λ s. length s.coats.all.items ≡ S.count (S.known commits.old)) }
+    ensures counted { IfOk result (λ s. IsCounted s.coats) }
+    ensures touched { IfOk result (λ s. AreTouched s.coats.all.items s.taken.items
+        (heap_items s.queue)) }
+    ensures candidates { IfOk result (λ s. AreCandidates s.coats.all.items s.candidates.items) }
+    ensures paint { IfOk result (λ s. (t : Told) → S.says commits.new t
+        → IsPaint t.history first.0 (numbers_of others.now) s.coats.all.items) }
+    ensures most { IfOk result (λ s. s.visits ≤ 3 * S.count (S.known commits.old)) }
+    ensures painted { IfOk result (λ s. (t : Told) → S.says commits.new t → CountWalks t.history
+        → IsPainted t.history first.0 (numbers_of others.now) s.coats.all.items) }
+    ensures visits { IfOk result (λ s. (t : Told) → S.says commits.new t → CountWalks t.history
+        → AreVisits t.history first.0 (numbers_of others.now) s.visits) }
+    ensures failed { IfErr result (λ e. S.may_fail (S.known commits.old) e
+        ⊎ S.Error.from_gives alloc_error e) }
+{
+    generations_never_rise_along_walks();
+    generations_fall_along_walks();
+    // The contract of `num_commits` says how many commits the source tells of.
+    let _commits = commits.num_commits();
+    let mut painting = Painting::new(alloc, coats, first, others);
+    painting.add(commits, first, Paint::First)?;
+    for other in others {
+        painting.add(commits, *other, Paint::Others)?;
+    }
+    painting.run(commits)?;
+    Ok(painting)
+}
+
+/// Adds an entry to a queue.
+fn push_entry(queue: &mut BinaryHeap<(u32, u32)>, entry: (u32, u32)) -> Result<(), AllocError>
+    ensures order { OnOk result
+        (IsHeap entry_cmp (heap_items queue.old) → IsHeap entry_cmp (heap_items queue.new)) }
+    ensures moved { OnOk result
+        (IsPermutation (entry ∷ heap_items queue.old) (heap_items queue.new)) }
+{
+    queue.push(entry)?;
+    Ok(())
+}
+
+/// Adds a number.
+fn push_number(numbers: &mut Vec<u32>, number: u32) -> Result<(), AllocError>
+    ensures { OnOk result (numbers.new.items ≡ numbers.old.items ++ number ∷ []) }
+{
+    numbers.push(number)?;
+    Ok(())
+}

@@ -1,4 +1,0 @@
-use Rattle.graph_history.proofs.law.no_merge_base_is_an_ancestor_of_another.Goals as goal
-
-pub returns : goal.returns
-returns c = λ history first others p q base other proper. other.best p base.common proper

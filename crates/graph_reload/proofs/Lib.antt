@@ -1,0 +1,2 @@
+pub mod ReloadLemmas
+pub mod TakingLemmas

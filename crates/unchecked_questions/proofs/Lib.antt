@@ -1,0 +1,2 @@
+pub mod PartReplyLemmas
+pub mod TrustingLemmas

@@ -1,0 +1,12 @@
+-- The lines of the bases so far are added.
+use Rattle.std.proofs.Common.{take}
+use Rattle.std.specs.Io.KnownBytes.{Appends}
+use Rattle.std.specs.List.{flat_map, zip}
+use Rattle.graph_commands.specs.Block.{with_block}
+use Rattle.unchecked_commands.specs.UncheckedBases.{line_of_told}
+use Rattle.unchecked_questions.proofs.by_parts.push_bases.Given as goal
+
+abbrev pub invariant-loop-place : goal.invariant-loop-place
+invariant-loop-place g l =
+    Appends (with_block (g.W.Write.contents l.fn.writer) l.fn.block) (with_block (g.W.Write.contents l.writer) l.block)
+    (flat_map line_of_told (take l.place (zip l.bases l.ids)))

@@ -1,0 +1,2 @@
+pub mod Trusting
+pub mod PartReplies
