@@ -4,5 +4,6 @@ mod damage;
 mod exchange;
 mod exchanged;
 mod graphs;
+mod many;
 mod questions;
 mod searches;

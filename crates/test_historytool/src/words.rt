@@ -85,6 +85,8 @@ const ROWS: &[(&[&str], u8, &str, &str)] = &[
     (&["show", "nowhere"], 1, "refused open 1\n", ""),
     (&["ask", "nowhere"], 1, "refused open 1\n", ""),
     (&["ask", "file"], 0, "ok commits 5\n\n", ""),
+    (&["ask", "--unchecked", "file"], 0, "ok commits 5\n\n", ""),
+    (&["ask", "--unchecked"], 2, "", "usage\n"),
     (&["ids", "nowhere"], 1, "refused open 1\n", ""),
     (&["ids", "file", "0", "1"], 0, ONES_LINE, ""),
     (

@@ -347,7 +347,7 @@ fn run_history(rt: &HostRuntime, alloc: Global, stage: &mut Stage) -> io::Result
         return say(rt, "no such command");
     };
     let answer = match command {
-        HistoryCommand::Ask { .. } => {
+        HistoryCommand::Ask { .. } | HistoryCommand::AskUnchecked { .. } => {
             let mut questions = QUESTIONS;
             history_answered(alloc, command, &mut questions, memory, out)
         }

@@ -97,6 +97,13 @@ def check_kind(programs, results, new):
     for title, ends in (("", "\n"), (", the last line without its end", "")):
         said = histories.run("ask", path, input="\n".join(asked).encode() + ends.encode())
         results.check("%s, ask, all at once%s" % (kind, title), judge.exactly(0, text, "", said))
+    said = histories.run("ask", "--unchecked", path, input="\n".join(asked).encode())
+    results.check("%s, ask --unchecked, all at once" % kind, judge.exactly(0, text, "", said))
+    command = [histories.path, "ask", "--unchecked", path]
+    results.check("%s, ask --unchecked, one after another" % kind, over_pipes(command, zip(asked, answers), 20))
+    results.check("%s, ask --unchecked, each answer is written by itself" % kind, in_messages(command, asked[:-1], answers))
+    refused = histories.run("ask", "--unchecked", path + "/nowhere", input=b"reload\n")
+    results.check("%s, ask --unchecked, no graph" % kind, judge.exactly(1, "refused open 1\n", "", refused))
     command = [histories.path, "ask", path]
     results.check("%s, ask, one after another" % kind, over_pipes(command, zip(asked, answers), 20))
     results.check("%s, ask, each answer is written by itself" % kind, in_messages(command, asked[:-1], answers))
