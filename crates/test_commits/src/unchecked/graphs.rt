@@ -100,3 +100,69 @@ pub fn ask_bases<T: Folder>(
     let (first, others) = (id_of(first), ids_of(rt, alloc, others));
     compare(alloc, folder, path, first.as_oid(), &others)
 }
+
+/// A question about commits, each of which is given by the byte that its id repeats.
+pub enum Asked {
+    Ancestor(u8, u8),
+    Walk(u8, u8),
+    Bases(u8, &'static [u8]),
+}
+
+/// The number of the commit that is missing, or 0, and the ids that are told: of an ancestor its
+/// own, those on a walk, or those of the merge bases.
+pub type Told = Result<(u64, Vec<ObjectId>), Unread>;
+
+/// What is told of a walk.
+fn told_of_walk(alloc: Global, told: Result<Between<Option<Vec<ObjectId>>>, Unread>) -> Told {
+    match told? {
+        Between::Known(Some(ids)) => Ok((0, ids)),
+        Between::Known(None) => Ok((0, Vec::new(alloc))),
+        Between::FirstMissing => Ok((1, Vec::new(alloc))),
+        Between::SecondMissing => Ok((2, Vec::new(alloc))),
+    }
+}
+
+/// What is told of an ancestor whose id repeats this byte.
+fn told_of_ancestor(
+    rt: &impl Abort,
+    alloc: Global,
+    told: Result<Between<bool>, Unread>,
+    byte: u8,
+) -> Told {
+    match told? {
+        Between::Known(true) => Ok((0, ids_of(rt, alloc, &[byte]))),
+        Between::Known(false) => Ok((0, Vec::new(alloc))),
+        Between::FirstMissing => Ok((1, Vec::new(alloc))),
+        Between::SecondMissing => Ok((2, Vec::new(alloc))),
+    }
+}
+
+/// What is told of merge bases.
+fn told_of_bases(alloc: Global, told: Result<Among<IdComparison>, Unread>) -> Told {
+    match told? {
+        Among::Known(found) => Ok((0, found.base_ids)),
+        Among::Missing(number) => Ok((number, Vec::new(alloc))),
+    }
+}
+
+/// What is told of a question.
+pub fn ask<T: Folder>(
+    rt: &impl Abort,
+    alloc: Global,
+    folder: &mut T,
+    path: &str,
+    asked: &Asked,
+) -> Told {
+    match asked {
+        Asked::Ancestor(first, second) => {
+            let told = ask_ancestor(alloc, folder, path, (*first, *second));
+            told_of_ancestor(rt, alloc, told, *first)
+        }
+        Asked::Walk(first, second) => {
+            told_of_walk(alloc, ask_walk(alloc, folder, path, (*first, *second)))
+        }
+        Asked::Bases(first, others) => {
+            told_of_bases(alloc, ask_bases(rt, alloc, folder, path, (*first, *others)))
+        }
+    }
+}

@@ -47,11 +47,6 @@ pub(crate) fn graph_of(rt: &impl Abort, alloc: Global, file: File) -> CheckedGra
     CheckedGraph::new(alloc, graph).expect(rt, "a right graph")
 }
 
-/// Puts a file on top of a graph.
-pub(crate) fn push(rt: &impl Abort, alloc: Global, graph: &mut CheckedGraph, file: File) {
-    graph.push(alloc, file).expect(rt, "a right graph");
-}
-
 /// The bytes of a layer with these commits, or why there is none.
 pub(crate) fn written(
     alloc: Global,
