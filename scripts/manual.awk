@@ -2,7 +2,8 @@
 #
 # `usage` is the synopsis, `help` the whole as plain text, or with a word the part on that command and its options, and
 # `page` the manual page, in which -v version=TEXT stands at the foot. The document has headings,
-# indented lines that are kept, items that begin with “- ” and a term in backquotes, and paragraphs.
+# indented lines that are kept, items that begin with “- ” and a term in backquotes, and paragraphs. What stands in backquotes
+# is bold on the page, and has quotes in the plain text.
 
 /^# / { page_name = substr($0, 3); next }
 /^## / { finish(); heading(substr($0, 4)); next }
@@ -13,7 +14,11 @@
     sub(/^ +/, "")
     if (text == "") { kind = "paragraph"; text = $0 } else text = text " " $0
 }
-END { finish(); end_kept() }
+END {
+    finish()
+    end_kept()
+    if (mode == "help" && word != "") print "\n'git cgraph --help' has the options of all commands, and examples."
+}
 
 # Writes the paragraph or the item that was read to its end.
 function finish(    colon) {
@@ -73,7 +78,7 @@ function paragraph(text) {
     if (mode == "page") printf "%s%s\n", lines++ ? ".PP\n" : "", roff_text(text)
     else if (mode == "help" && word == "") {
         if (lines++) print ""
-        wrap(plain(text), "")
+        wrap(quoted(text), "")
     }
 }
 
@@ -82,15 +87,21 @@ function item(term, text) {
     if (mode == "page") printf ".TP\n%s\n%s\n", roff_text(term), roff_text(text)
     else if (mode == "help" && word == "") {
         printf "  %s\n", plain(term)
-        wrap(plain(text), "      ")
+        wrap(quoted(text), "      ")
         lines++
     } else if (mode == "help" && section == "Commands" && first_word(plain(term)) == word) {
         print ""
-        wrap(plain(text), "")
+        wrap(quoted(text), "")
     } else if (mode == "help" && text ~ "^With (`[^`]*`(,| and) )*`" word "[ `]") {
         printf "%s  %s\n", options++ ? "" : "\n", plain(term)
-        wrap(plain(text), "      ")
+        wrap(quoted(without_commands(text)), "      ")
     }
+}
+
+# What is said of an option, without the commands that it is for.
+function without_commands(text) {
+    if (!match(text, /^With (`[a-z-]+`(,| and) )*`[a-z-]+`, /)) return text
+    return toupper(substr(text, RLENGTH + 1, 1)) substr(text, RLENGTH + 2)
 }
 
 function first_word(text) {
@@ -100,6 +111,11 @@ function first_word(text) {
 
 function plain(text) {
     gsub(/`/, "", text)
+    return text
+}
+
+function quoted(text) {
+    gsub(/`/, "'", text)
     return text
 }
 
