@@ -34,7 +34,7 @@ function finish(    colon) {
 # The line that says what the command is.
 function about(text) {
     if (mode == "page") {
-        printf ".TH %s 1 \"\" \"%s\" \"Nolavimure\"\n", roff(toupper(page_name)), roff(version)
+        printf ".TH %s 1 \"\" \"%s\" \"Nolavimure\"\n.nh\n.ad l\n", roff(toupper(page_name)), roff(version)
         printf ".SH NAME\n%s \\- %s\n", roff(page_name), roff(text)
     } else if (mode == "help" && word == "") printf "%s: %s\n", page_name, text
 }
@@ -42,24 +42,26 @@ function about(text) {
 function heading(text) {
     end_kept()
     section = text
-    lines = 0
+    lines = in_item = 0
     if (mode == "page") printf ".SH %s\n", roff(toupper(text))
     else if (mode == "help" && word == "" && text != "Synopsis") printf "\n%s\n", text
 }
 
-# A line that is kept as it is; those of the synopsis are the usage text.
+# A line that is kept as it is; those of the synopsis are the usage text, and all others stand further in.
 function kept(line) {
     sub(/^    /, "", line)
-    if (mode == "page")
-        printf "%s%s\n", is_kept ? "" : (lines++ ? ".PP\n" : "") ".nf\n", section == "Synopsis" ? bold(line) : roff(line)
-    else if (section == "Synopsis" && has_word(line)) printf "%s%s\n", usage_start(lines++), line
+    if (mode == "page") {
+        if (!is_kept && section != "Synopsis") print in_item ? ".RS 11" : (lines++ ? ".PP\n" : "") ".RS 4"
+        if (!is_kept) print ".nf"
+        print section == "Synopsis" ? bold(line) : roff_line(line)
+    } else if (section == "Synopsis" && has_word(line)) printf "%s%s\n", usage_start(lines++), line
     else if (section != "Synopsis" && mode == "help" && word == "") printf "%s  %s\n", is_kept ? "" : "\n", line
     is_kept = 1
 }
 
 # Ends the lines that are kept as they are, where there are some.
 function end_kept() {
-    if (is_kept && mode == "page") print ".fi"
+    if (is_kept && mode == "page") print section == "Synopsis" ? ".fi" : ".fi\n.RE"
     is_kept = 0
 }
 
@@ -75,6 +77,7 @@ function has_word(line) {
 
 function paragraph(text) {
     end_kept()
+    in_item = 0
     if (mode == "page") printf "%s%s\n", lines++ ? ".PP\n" : "", roff_text(text)
     else if (mode == "help" && word == "") {
         if (lines++) print ""
@@ -84,8 +87,10 @@ function paragraph(text) {
 
 function item(term, text) {
     end_kept()
-    if (mode == "page") printf ".TP\n%s\n%s\n", roff_text(term), roff_text(text)
-    else if (mode == "help" && word == "") {
+    if (mode == "page") {
+        printf ".TP\n%s\n%s\n", roff_text(term), roff_text(text)
+        in_item = ++lines
+    } else if (mode == "help" && word == "") {
         printf "  %s\n", plain(term)
         wrap(quoted(text), "      ")
         lines++
@@ -130,6 +135,11 @@ function wrap(text, indent,    count, words, at, line) {
         } else line = line " " words[at]
     }
     print line
+}
+
+# A line of its own, which is no request also where it begins as one.
+function roff_line(line) {
+    return (line ~ /^[.']/ ? "\\&" : "") roff(line)
 }
 
 # A text for the manual page, with what stands in backquotes in bold.

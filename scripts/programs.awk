@@ -23,7 +23,7 @@ FILENAME ~ /commands$/ {
 /^## / { end_item(); section = substr($0, 4); next }
 section == "" && /^- / { part = substr($0, 3); if (index(part, "`" program "`: ") == 1) start(part); next }
 section == "What they read" {
-    if (is_first && /^[^ ]/) is_left_out = /^`[a-z-]+` / && !(first_quoted($0) in is_own)
+    if (is_first && /^[^ ]/) is_left_out = /^`[a-z-]+`[ ,]/ && !(first_quoted($0) in is_own)
     if (!is_left_out) read = read $0 "\n"
     is_first = /^$/
     next
