@@ -32,6 +32,9 @@ INSTALLED = {
     *("lib/cmake/commitgraph/commitgraph-config.cmake", "lib/cmake/commitgraph/commitgraph-config-version.cmake"),
     *("share/doc/git-cgraph/LICENSE-MIT", "share/doc/git-cgraph/LICENSE-APACHE", "share/doc/git-cgraph/DIFFERENCES.md"),
 }
+OF_ANOTHER = {"graphtool": ("--unchecked", "merge-base", "FROM TO"), "historytool": ("list reads",)}
+"""What belongs on the page of the other program."""
+
 COMPLETIONS = ("/usr/share/bash-completion/completions/git", "/etc/bash_completion.d/git", "/usr/share/git/completion/git-completion.bash")
 """Where Git's own completion mostly is."""
 
@@ -138,7 +141,8 @@ def check_pages(results, clone, prefix):
                 # Lines are filled up with spaces to the width of the page.
                 shown_words = " ".join(answer.out.split())
                 missing = [word for word in words_of_page(name) if word not in shown_words] if tool == "man" else []
-                right = answer.status == 0 and name.upper() + "(1)" in answer.out and not answer.err and not missing
+                strange = [word for word in OF_ANOTHER.get(name, ()) if word in shown_words]
+                right = answer.status == 0 and name.upper() + "(1)" in answer.out and not answer.err and not missing + strange
                 results.check("the manual page of %s, by %s" % (name, " ".join(command[:2])), None if right else "it is %r" % (answer,))
     install(clone, "--remove", prefix)
 
