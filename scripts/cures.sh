@@ -103,6 +103,8 @@ name_file() {
         return
         ;;
     'refused git 1') number=0 ;;
+    # `list` has left the number of the layer at which it ended.
+    'refused file '*) ;;
     *) return ;;
     esac
     [ -n "$number" ] || return 0
@@ -123,6 +125,11 @@ git_there() {
         printf git
     fi
     ! has_replacements || printf ' --no-replace-objects'
+}
+
+# Turns from the commit-graph of another repository, if it is one, to that which this repository may have of its own.
+turn_to_own() {
+    [ "$home" = "$objects" ] || [ -n "$named" ] || { home=$objects folder=$objects/info kind=file; }
 }
 
 # Where the layer of which a refusal speaks is in another repository's object folder, the commands that write it anew there.
@@ -172,6 +179,11 @@ is_hindered() {
     fi
 }
 
+# Sets `advice` where the row has what only a path of one's own can be asked for: here the whole chain was opened.
+advise() {
+    case $line in 'refused verify 2 '*) advice='write it anew' ;; esac
+}
+
 # Sets what `report` says of a refusal beside the text of its row, and `is_absent` where it says nothing of what is written
 # there.
 diagnose() {
@@ -187,10 +199,10 @@ diagnose() {
     'refused objects '*) diagnose_object ;;
     'refused '*)
         name_file
-        is_hindered || cure=$(anew)
+        is_hindered || { advise && cure=$(anew); }
         ;;
     unknown*)
-        is_hindered || { advice='if the commit is newer than the commit-graph, write that again' && cure=$(writes); }
+        is_hindered || { advice='if the commit is newer than the commit-graph, write that again' && cure=$(turn_to_own && writes); }
         ;;
     *) [ -z "$beside" ] || is_hindered || cure=$(anew) ;;
     esac

@@ -54,7 +54,7 @@ graph_size() {
 # commits went to be checked; and `end N`, the status to end with. Of how many commits there are, and how many bytes the
 # commit-graph has, one is given, and the other empty.
 draw() {
-    commits=$1 size=$2 counted=0 seconds=$((delay - 1)) process='' drawn='' ended=0
+    commits=$1 size=$2 counted=0 seconds=$((delay - 1)) process=none drawn='' ended=0
     is_due=$progress
     draw_line
     while read -r word number; do
@@ -104,8 +104,9 @@ percent() {
 }
 
 # How much of the commit-graph the program has read, or nothing where that is all, or is not known. Linux tells how many
-# bytes a process has read.
+# bytes a process has read. Before there is a process (`none`), nothing was read.
 percent_read() {
+    [ "$process" != none ] || { percent 0 1 && return; }
     [ -n "$process" ] && [ -r "/proc/$process/io" ] || return 0
     while read -r what number; do
         case $what in

@@ -128,7 +128,7 @@ say_uncovered() {
 # The commands that write a commit-graph of all reachable commits, and of no others. With --reachable Git takes what references
 # lead to; where more is reachable, from the HEAD of a worktree, it has to be named.
 covers() {
-    [ "$home" = "$objects" ] || [ -n "$named" ] || { home=$objects folder=$objects/info kind=file; }
+    turn_to_own
     [ "$gone" -eq 0 ] || [ "$kind" = file ] || removes
     if [ -n "$(plain_git rev-list -n 1 --all --not --glob='refs/*' 2>/dev/null)" ]; then
         writes | sed 's/^    \(.*\) commit-graph write --reachable/    \1 rev-list --no-walk --all | \1 commit-graph write --stdin-commits/'

@@ -20,7 +20,7 @@ ODD_REF = "odd';$(id)\"&|<>`\u00e9!#%"
 ECHO = "printf '<%s>' \"$@\"\npwd -P >&2\n"
 """A program that writes its words, and says in which folder it is."""
 
-USAGE = "usage: " + "\n   or: ".join(re.findall(r"^    (git cgraph \[<options>\] .*)$", read("docs", "MANUAL.md"), re.MULTILINE)[:2])
+SYNOPSIS = re.findall(r"^    (git cgraph (?:\[<options>\]|--help) .*)$", read("docs", "MANUAL.md"), re.MULTILINE)
 REVISIONS = ("HEAD", "HEAD~1", "HEAD")
 WORDS = {
     command.word: (command.program, REVISIONS[: command.least() + command.takes_more()])
@@ -135,11 +135,16 @@ def anew(folder, name, *options):
 
 
 def check_words(results, clone):
-    """Words that are no command end with the usage text and status 129, and need no repository."""
+    """Words that are no command end with the usage of the command that was begun, or of all, and status 129, and need no
+    repository.
+    """
     for sentence, words in WRONG.items():
         answer = ask(clone, words, clone.folder)
-        right = answer[:2] == (129, "") and answer.err.startswith(said([sentence]) + USAGE)
-        results.check("git cgraph %s: %s" % (" ".join(words), sentence), None if right else "it is %r" % (answer,))
+        begun = next((word for word in words if not word.startswith("-")), "")
+        own = [line for line in SYNOPSIS if re.search(r" %s( |$)" % begun, line)]
+        lines = SYNOPSIS if sentence.startswith(("there is no ", "after -C ")) else own
+        complaint = exactly(answer, 129, "", said([sentence]) + "usage: " + "\n   or: ".join(lines) + "\n")
+        results.check("git cgraph %s: %s" % (" ".join(words), sentence), complaint)
 
 
 def check_manual(results):

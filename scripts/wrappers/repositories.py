@@ -81,11 +81,29 @@ def check_places(results, own, other):
     own.put("alternates", os.fsencode(quoted_for_git(other.objects) + "\n"))
     other.put("commit-graph", HEADS["sha1"])
     asked(results, "a commit-graph of a pool", own.ask("verify"), ("verify", "info/commit-graph"), other.objects)
+    check_sentences(results, own, os.fsdecode(other.objects) + "/info/commit-graph")
+    own.clone.put_program("graphtool", LISTS)
     own.put_chain(NAMES[:1])
     own.put_layer(NAMES[0])
     asked(results, "a chain before that of a pool", own.ask("verify"), ("verify", "info"), own.objects)
     own.put("commit-graph", HEADS["sha1"])
     asked(results, "a file before a chain", own.ask("verify"), ("verify", "info/commit-graph"), own.objects)
+
+
+def check_sentences(results, own, path):
+    """What is said of the commit-graph at this path, which is that of a pool: a listing that is refused names the file, and a
+    commit that is not in it may be in one of the repository's own.
+    """
+    own.clone.put_program("graphtool", "cat >/dev/null\necho \"$ANSWER\"\nexit 1\n")
+    own.clone.put_program("historytool", "echo 'unknown 2'\nexit 1\n")
+    for words, line, said in (
+        (("list",), "refused file 2", "git cgraph: the file is '%s'\n" % path),
+        (("verify",), "refused verify 2 layer 0", "git cgraph: what to do: write it anew:\n"),
+        (("is-ancestor", "HEAD", "HEAD"), "unknown 2", "write that again:\n    git commit-graph write --reachable\n"),
+    ):
+        answer = own.ask(*words, ANSWER=line)
+        right = answer.out == line + "\n" and said in answer.err
+        results.check("git cgraph %s, %s at a pool" % (words[0], line), None if right else "it is %r" % (answer,))
 
 
 def check_scattered(results, own, other):
