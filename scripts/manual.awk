@@ -17,7 +17,7 @@
 END {
     finish()
     end_kept()
-    if (mode == "help" && word != "") print "\n'git cgraph --help' has the options of all commands, and examples."
+    if (mode == "help" && word != "") print "\n'git cgraph -h' has the options of all commands, and examples."
 }
 
 # Writes the paragraph or the item that was read to its end.

@@ -20,7 +20,7 @@ ODD_REF = "odd';$(id)\"&|<>`\u00e9!#%"
 ECHO = "printf '<%s>' \"$@\"\npwd -P >&2\n"
 """A program that writes its words, and says in which folder it is."""
 
-SYNOPSIS = re.findall(r"^    (git cgraph (?:\[<options>\]|--help) .*)$", read("docs", "MANUAL.md"), re.MULTILINE)
+SYNOPSIS = re.findall(r"^    (git cgraph (?:\[<options>\]|-h) .*)$", read("docs", "MANUAL.md"), re.MULTILINE)
 REVISIONS = ("HEAD", "HEAD~1", "HEAD")
 WORDS = {
     command.word: (command.program, REVISIONS[: command.least() + command.takes_more()])
