@@ -129,6 +129,8 @@ def check_examples(installed, results, folder):
             person = ("-c", "user.name=A", "-c", "user.email=a@example.com")
             installed.git(Way(folder), *person, "commit", "-q", "--allow-empty", "-m", "later")
         if at == len(blocks) - 1:
+            # What `write` has put there may only be read.
+            os.remove(graph)
             shutil.copy(os.path.join(folder, "examples", "damaged"), graph)
         answer = run(["sh", "-c", command + " 2>&1"], installed.variables, cwd=folder)
         expected = re.sub("(?m)^    ", "", out).replace("/repository", os.path.realpath(folder))
