@@ -20,7 +20,7 @@ json_text() {
 # Sees to it that lines become objects, or are held back.
 prepare_objects() {
     make_scratch
-    printf '' >"$scratch/lines" || leave 'no file of a moment can be made'
+    printf '' >"$scratch/lines" || give_up 'no file of a moment can be made'
     if [ "$word" = list ]; then rewrite=list_objects; else rewrite=gather; fi
 }
 

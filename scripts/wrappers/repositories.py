@@ -104,6 +104,9 @@ def check_sentences(results, own, path):
         answer = own.ask(*words, ANSWER=line)
         right = answer.out == line + "\n" and said in answer.err
         results.check("git cgraph %s, %s at a pool" % (words[0], line), None if right else "it is %r" % (answer,))
+    answer = own.ask("verify", "--json", TMPDIR="/nonexistent")
+    right = answer.status == 128 and "in '/nonexistent': TMPDIR has to name one that may be written\n" in answer.err
+    results.check("git cgraph verify --json, without a folder for files of a moment", None if right else "it is %r" % (answer,))
 
 
 def check_scattered(results, own, other):
