@@ -101,7 +101,23 @@ take_apart() {
 # and what to do: report COMMAND PATH [ID..], as the program was asked.
 report() {
     printf %s "$said" >&2
-    [ "$status,$beside" = 0, ] || explain '' "$@" >&2
+    if [ "$status,$beside" != 0, ]; then
+        look_at_file "$2"
+        explain '' "$@" >&2
+    fi
+}
+
+# Where the file of an info folder was refused, a program speaks of the chain alone, which is not there: sets `where` and
+# `advice` to that.
+look_at_file() {
+    case $name,$line in
+    graphtool,'refused open 2' | historytool,'refused open 2') ;;
+    *) return 0 ;;
+    esac
+    if [ -n "$1" ] && [ -f "$1/commit-graph" ] && [ -r "$1/commit-graph" ] && [ ! -e "$1/commit-graphs/commit-graph-chain" ]; then
+        where="the file '$1/commit-graph' was refused, and there is no chain beside it"
+        advice='give the path of that file, to see why it was refused'
+    fi
 }
 
 # Says what `line` means and what to do, by the tables of docs/REFUSALS.md: explain FORM COMMAND PATH [ID..]. `beside` is the

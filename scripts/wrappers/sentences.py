@@ -26,6 +26,7 @@ def check_all(results):
         check_unknown(results, clone, rows)
         check_no_id(results, clone, rows)
         check_other_line(results, clone)
+        check_info_folder(results, clone, rows)
         check_cut_short(results, clone)
         results.check("sentences, nothing is left over", clone.left_over())
 
@@ -79,6 +80,23 @@ def check_no_id(results, clone, rows):
 def check_other_line(results, clone):
     """A line that no row has is passed on with its status, and nothing is said of it."""
     results.check("a line of no row", right(ask(clone, "refused nothing 3", "verify"), "refused nothing 3", "verify", []))
+
+
+def check_info_folder(results, clone, rows):
+    """Where the file of an info folder was refused, and there is no chain, the file is named."""
+    clone.put("info/commit-graph", "")
+    line, path = "refused open 2", "%s/info" % clone.folder
+    refused = "the file '%s/commit-graph' was refused, and there is no chain beside it" % path
+    clone.put_program("graphtool", "echo '%s'\nexit 1\n" % line)
+    for chain, known in (
+        (False, refusals.Known(refused, "give the path of that file, to see why it was refused")),
+        (True, refusals.Known()),
+    ):
+        if chain:
+            clone.put("info/commit-graphs/commit-graph-chain", "")
+        answer = clone.run(["graphtool", "verify", path])
+        title = "an info folder whose file was refused, with%s a chain" % ("" if chain else "out")
+        results.check(title, right(answer, line, "verify", refusals.sentences(rows, line, "verify", known)))
 
 
 def check_cut_short(results, clone):
