@@ -65,6 +65,8 @@ def check_all(results):
         check_completion(results, clone, repository)
         check_away(results, clone, folder, repository)
         results.check("scripts/install, nothing is left over", clone.left_over())
+    with tempfile.TemporaryDirectory() as folder:
+        check_library(results, folder)
 
 
 def install(clone, *words, **streams):
@@ -145,6 +147,26 @@ def check_pages(results, clone, prefix):
                 right = answer.status == 0 and name.upper() + "(1)" in answer.out and not answer.err and not missing + strange
                 results.check("the manual page of %s, by %s" % (name, " ".join(command[:2])), None if right else "it is %r" % (answer,))
     install(clone, "--remove", prefix)
+
+
+def check_library(results, folder):
+    """Where the proofs of changed sources fail, no library is made of what was proved before."""
+    clone = Clone(folder)
+    makes = "#!/bin/sh\nwhile [ $# -gt 1 ]; do case $1 in -o | rcD) echo made >\"$2\" ;; esac; shift; done\n"
+    for tool in ("rt", "ld", "objcopy", "ar"):
+        clone.put("bin/" + tool, makes)
+    proved = "crates/commitgraph_c/out/libcommitgraph_c.a"
+    clone.put(proved, "")
+    clone.put("bin/python3", "#!/bin/sh\necho 'no proof' >&2\nexit 1\n")
+    answer = clone.run(["scripts/library"])
+    right = answer.status == 0 and answer.out.endswith("/libcommitgraph.a\n")
+    results.check("scripts/library, of what is proved", None if right else "it is %r" % (answer,))
+    clone.put("crates/graph_walks/src/lib.rt", "")
+    for name in (proved, "crates/commitgraph_c/out/libcommitgraph.a"):
+        os.utime(os.path.join(clone.folder, name), (0, 0))
+    answer = clone.run(["scripts/library"])
+    right = answer.status == 1 and not answer.out and answer.err.endswith("no proof\n")
+    results.check("scripts/library, where the proofs fail", None if right else "it is %r" % (answer,))
 
 
 def words_of_page(name):
