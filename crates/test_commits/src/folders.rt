@@ -1,4 +1,4 @@
-//! What goes into folders in memory. Where an allocation fails, the process aborts.
+//! Ids, and what goes into folders in memory. Where an allocation fails, the process aborts.
 
 use gix_hash_core::{Kind, ObjectId, digest};
 use graph_folder::folder::Memory;
@@ -19,6 +19,15 @@ pub fn copied(rt: &impl Abort, alloc: Global, bytes: &[u8]) -> Vec<u8> {
 /// The id that repeats a byte.
 pub fn id_of(byte: u8) -> ObjectId {
     ObjectId::from([byte; 20])
+}
+
+/// The ids that repeat these bytes.
+pub fn ids_of(rt: &impl Abort, alloc: Global, bytes: &[u8]) -> Vec<ObjectId> {
+    let mut ids = Vec::new(alloc);
+    for byte in bytes {
+        ids.push(id_of(*byte)).expect(rt, "memory");
+    }
+    ids
 }
 
 /// The file of the layer of these commits on these bases.

@@ -1,12 +1,14 @@
-//! Tests of commits beside a graph that is held whole: they are read by parts, questions about them
-//! are answered by parts, streams of them are compared with a graph, and new layers are made of
-//! them.
+//! Tests of graphs and their commits: checked graphs are asked, commits are read by parts,
+//! questions about graphs that are not checked are answered, streams of commits are compared with
+//! graphs, and new layers are made of them.
 #![tactic(auto)]
 
 #[cfg(test)]
 mod folders;
 #[cfg(test)]
 mod parts;
+#[cfg(test)]
+mod queries;
 #[cfg(test)]
 mod streams;
 #[cfg(test)]

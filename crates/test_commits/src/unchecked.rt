@@ -5,4 +5,3 @@ mod exchange;
 mod exchanged;
 mod graphs;
 mod questions;
-mod searches;

@@ -1,97 +1,62 @@
 //! Makes a call, and writes what it answered.
 
-use crate::calls::{Call, Command, HostOpener, Opener, Query};
-use crate::long::Long;
-use crate::stage::{Chain, Single, Stage};
+use crate::calls::{Call, Command, HostOpener, Opener};
+use crate::inputs::{bytes_of, graph, layer, layers, memory, owned, room};
+use crate::questions::ask;
+use crate::told::{begin, tell, tell_run};
+use anyhow::{Result, ensure};
 use gix_commitgraph::file::Commit;
 use gix_commitgraph::opening::{
     OpenError, open_chain_dir_in, open_file_in, open_in, open_info_dir_in,
 };
 use gix_commitgraph::verify::VerifyOptions;
-use gix_commitgraph::{File, Graph, Position, at};
+use gix_commitgraph::{File, Graph, at};
 use graph_chunks::dates::CorrectedDates;
 use graph_chunks::filters::GraphFilters;
 use graph_commands::line::WriteFailed;
-use graph_commands::program::Run;
 use graph_commands::run::{run_ancestor, run_distinct, run_find, run_list, run_verify};
 use graph_folder::folder::{Folder, Memory};
-use graph_history::{Checked, Comparer, Searcher};
+use graph_history::CheckedGraph;
 use graph_objects::check_objects;
-use graph_vectors::build;
-use history_program::command::{Command as HistoryCommand, Texts};
+use graph_vectors::{Row, build, plan_of_rows};
 use std::alloc::{AllocError, Global};
 use std::convert::Infallible;
-use std::fmt::Debug;
-use std::io::{Read, Write};
-use std::{io, mem};
 
 /// Makes a call, and writes what it answered.
-pub fn make(rt: &HostRuntime, alloc: Global, call: Call, stage: &mut Stage) -> io::Result<()> {
+pub fn make(rt: &HostRuntime, alloc: Global, call: Call) -> Result<()> {
     match call {
-        Call::NewFile => new_file(rt, alloc, &mut stage.single),
-        Call::NewGraph => new_graph(rt, alloc, &mut stage.graphs.chain.layers),
-        Call::Build => told_build(rt, alloc, &stage.single),
-        Call::Traverse => traverse(rt, alloc, &stage.single.layer),
-        Call::Verify => verify_integrity(rt, alloc, false, &stage.graphs.chain.graph),
-        Call::VerifyDistinct => verify_integrity(rt, alloc, true, &stage.graphs.line),
-        Call::Put { folder } => put(rt, alloc, folder, &mut stage.single),
-        Call::Push => push(rt, alloc, &mut stage.graphs.chain),
-        Call::Query(Query::IsAncestorTwice) => {
-            ask(rt, alloc, Query::IsAncestorTwice, &stage.graphs.branches)
-        }
-        Call::Query(query) => ask(rt, alloc, query, &stage.graphs.line),
-        Call::Dates => dates(rt, alloc, &stage.graphs.dated),
-        Call::Filters => filters(rt, alloc, &stage.graphs.dated),
-        Call::CheckObjects => compare(rt, alloc, &stage.long),
-        Call::Run(command) => run(rt, alloc, command, stage),
-        Call::Historytool => run_history(rt, alloc, stage),
-        Call::Open(opener, path) => tell(
-            rt,
-            &opened_in(alloc, &mut stage.folders.memory, opener, path),
-        ),
-        Call::OpenAt(opener) => tell(rt, &opened_at(rt, alloc, opener)),
+        Call::NewFile => new_file(rt, alloc),
+        Call::NewGraph => new_graph(rt, alloc),
+        Call::Build => told_build(rt, alloc),
+        Call::Traverse => traverse(rt, alloc),
+        Call::Verify => verify_integrity(rt, alloc, false, "chain"),
+        Call::VerifyDistinct => verify_integrity(rt, alloc, true, "line"),
+        Call::PutFile => put_file(rt, alloc),
+        Call::PutDir => put_dir(rt, alloc),
+        Call::Push => push(rt, alloc),
+        Call::Query(query, path) => ask(rt, alloc, query, path),
+        Call::Dates => dates(rt, alloc),
+        Call::Filters => filters(rt, alloc),
+        Call::CheckObjects => compare(rt, alloc),
+        Call::List => list(rt, alloc),
+        Call::Run(command) => run(rt, alloc, command),
+        Call::Open(opener, path) => open(rt, alloc, opener, path),
+        Call::OpenAt(opener) => open_at(rt, alloc, opener),
         Call::OpenLayer => open_layer(rt, alloc),
     }
 }
 
-/// Writes a text as a line. A proof has much to go over where a text is made, so that is done in
-/// this function and the next three alone.
-pub fn say(rt: &HostRuntime, text: &str) -> io::Result<()> {
-    println!(rt; "{text}")
+fn new_file(rt: &HostRuntime, alloc: Global) -> Result<()> {
+    let bytes = bytes_of(rt, "f")?;
+    let path = owned(alloc, "f")?;
+    begin(rt)?;
+    let answer = File::new(alloc, bytes, path);
+    tell(rt, &answer.map(|file| file.num_commits()))
 }
 
-/// Writes what was answered as a line.
-fn tell<T: Debug>(rt: &HostRuntime, answer: &T) -> io::Result<()> {
-    println!(rt; "{answer:?}")
-}
-
-/// Writes what was answered, and something beside it, as a line.
-fn tell_both<T: Debug, U: Debug>(rt: &HostRuntime, answer: &T, other: &U) -> io::Result<()> {
-    println!(rt; "{answer:?} {other:?}")
-}
-
-/// Writes what a check answered, and how many calls it made, as a line.
-fn tell_counted<T: Debug>(rt: &HostRuntime, answer: &T, calls: u32) -> io::Result<()> {
-    println!(rt; "{answer:?} after {calls} calls")
-}
-
-/// Writes what was answered of a graph's commits as a line.
-fn tell_of_commits<T: Debug + Drop>(rt: &HostRuntime, answer: Option<T>) -> io::Result<()> {
-    match answer {
-        Some(answer) => tell(rt, &answer),
-        None => say(rt, "no commits"),
-    }
-}
-
-fn new_file(rt: &HostRuntime, alloc: Global, single: &mut Single) -> io::Result<()> {
-    let bytes = mem::replace(&mut single.bytes, Vec::new(alloc));
-    let path = mem::replace(&mut single.path, String::new(alloc));
-    let answer = File::new(alloc, bytes, path).map(|file| file.num_commits());
-    tell(rt, &answer)
-}
-
-fn new_graph(rt: &HostRuntime, alloc: Global, layers: &mut Vec<File>) -> io::Result<()> {
-    let layers = mem::replace(layers, Vec::new(alloc));
+fn new_graph(rt: &HostRuntime, alloc: Global) -> Result<()> {
+    let layers = layers(rt, alloc)?;
+    begin(rt)?;
     tell(rt, &commits(Graph::new(alloc, layers)))
 }
 
@@ -103,16 +68,22 @@ fn commits<E>(answer: Result<Graph, E>) -> Result<u32, E> {
     }
 }
 
-fn told_build(rt: &HostRuntime, alloc: Global, single: &Single) -> io::Result<()> {
-    if !single.plan.is_buildable() {
-        return say(rt, "no file can hold the plan");
-    }
-    let answer = build(alloc, &single.plan).map(|bytes| bytes == single.bytes);
-    tell(rt, &answer)
+/// The commits of the file `f`.
+const FOUR: &[Row<'static>] = &[(1, &[], 1), (2, &[0], 2), (3, &[1], 3), (4, &[0, 0, 2], 4)];
+
+/// Builds a file, and tells whether it is `f`.
+fn told_build(rt: &HostRuntime, alloc: Global) -> Result<()> {
+    let plan = plan_of_rows(alloc, &[], FOUR)?;
+    ensure!(plan.is_buildable(), "no file can hold it");
+    let bytes = bytes_of(rt, "f")?;
+    begin(rt)?;
+    tell(rt, &build(alloc, &plan).map(|built| built == bytes))
 }
 
 /// Checks a layer, then copies what the check counted. Each has a line.
-fn traverse(rt: &HostRuntime, alloc: Global, layer: &File) -> io::Result<()> {
+fn traverse(rt: &HostRuntime, alloc: Global) -> Result<()> {
+    let layer = layer(rt, alloc, "f")?;
+    begin(rt)?;
     let mut calls = 0u32;
     let answer = layer.traverse(
         alloc,
@@ -127,21 +98,18 @@ fn traverse(rt: &HostRuntime, alloc: Global, layer: &File) -> io::Result<()> {
     );
     match answer {
         Ok(outcome) => {
-            tell_counted(rt, &Ok::<u32, ()>(outcome.num_commits), calls)?;
+            tell(rt, &(Ok::<u32, ()>(outcome.num_commits), calls))?;
             tell(rt, &outcome.try_clone().map(|copy| copy == outcome))
         }
-        Err(error) => tell_counted(rt, &Err::<u32, _>(error), calls),
+        Err(error) => tell(rt, &(Err::<u32, _>(error), calls)),
     }
 }
 
 /// Checks a graph, also for distinct ids or not, then copies what the check counted. Each has a
 /// line.
-fn verify_integrity(
-    rt: &HostRuntime,
-    alloc: Global,
-    distinct_ids: bool,
-    graph: &Graph,
-) -> io::Result<()> {
+fn verify_integrity(rt: &HostRuntime, alloc: Global, distinct_ids: bool, path: &str) -> Result<()> {
+    let graph = graph(rt, alloc, path)?;
+    begin(rt)?;
     let mut calls = 0u32;
     let mut accept = |commit: &Commit<'_>| -> Result<(), Infallible> {
         calls = if u32::from(commit.id().first_byte()) == calls.saturating_add(1) {
@@ -159,158 +127,89 @@ fn verify_integrity(
     };
     match answer {
         Ok(outcome) => {
-            tell_counted(rt, &Ok::<u32, ()>(outcome.num_commits), calls)?;
+            tell(rt, &(Ok::<u32, ()>(outcome.num_commits), calls))?;
             tell(rt, &outcome.try_clone().map(|copy| copy == outcome))
         }
-        Err(error) => tell_counted(rt, &Err::<u32, _>(error), calls),
+        Err(error) => tell(rt, &(Err::<u32, _>(error), calls)),
     }
 }
 
-/// Checks a graph for queries, then asks once or twice of its last commit and its first. Each
-/// answer has a line.
-fn ask(rt: &HostRuntime, alloc: Global, query: Query, graph: &Graph) -> io::Result<()> {
-    match Checked::new(alloc, graph) {
-        Ok(checked) => {
-            tell(rt, &Ok::<(), ()>(()))?;
-            ask_checked(rt, alloc, query, &checked)
-        }
-        Err(error) => tell(rt, &Err::<(), _>(error)),
-    }
-}
-
-fn ask_checked(
-    rt: &HostRuntime,
-    alloc: Global,
-    query: Query,
-    checked: &Checked<'_>,
-) -> io::Result<()> {
-    match query {
-        Query::IsAncestor => tell_of_commits(rt, is_ancestor(alloc, checked)),
-        Query::Walk => tell_of_commits(rt, walk(alloc, checked)),
-        Query::IsAncestorTwice => {
-            let mut searcher = checked.searcher(alloc);
-            tell_of_commits(rt, is_ancestor_by(&mut searcher))?;
-            tell_of_commits(rt, is_ancestor_by(&mut searcher))
-        }
-        Query::WalkTwice => {
-            let mut searcher = checked.searcher(alloc);
-            tell_of_commits(rt, walk_by(&mut searcher))?;
-            tell_of_commits(rt, walk_by(&mut searcher))
-        }
-        Query::CompareTwice => {
-            let mut comparer = Comparer::new(alloc, checked);
-            tell_of_commits(rt, bases_by(&mut comparer))?;
-            tell_of_commits(rt, bases_by(&mut comparer))
-        }
-    }
-}
-
-/// Whether the first commit is an ancestor of the last. The contracts of the questions are long,
-/// and here and in the next four functions they end.
-fn is_ancestor(alloc: Global, checked: &Checked<'_>) -> Option<Result<bool, AllocError>> {
-    let last = checked.num_commits().saturating_sub(1);
-    let (from, to) = (checked.position(last)?, checked.position(0)?);
-    Some(checked.is_ancestor(alloc, to, from))
-}
-
-/// A walk, or that there is none.
-type Walk = Result<Option<Vec<Position>>, AllocError>;
-
-/// The walk from the last commit to the first.
-fn walk(alloc: Global, checked: &Checked<'_>) -> Option<Walk> {
-    let last = checked.num_commits().saturating_sub(1);
-    let (from, to) = (checked.position(last)?, checked.position(0)?);
-    match checked.ancestor_walk(alloc, from, to) {
-        Ok(reached) => Some(Ok(reached.walk)),
-        Err(error) => Some(Err(error)),
-    }
-}
-
-fn is_ancestor_by(searcher: &mut Searcher<'_>) -> Option<Result<bool, AllocError>> {
-    let last = searcher.graph().num_commits().checked_sub(1)?;
-    Some(searcher.is_ancestor(Position(0), Position(last)))
-}
-
-fn walk_by(searcher: &mut Searcher<'_>) -> Option<Walk> {
-    let last = searcher.graph().num_commits().checked_sub(1)?;
-    match searcher.ancestor_walk(Position(last), Position(0)) {
-        Ok(reached) => Some(Ok(reached.walk)),
-        Err(error) => Some(Err(error)),
-    }
-}
-
-/// The merge bases of the last commit and the first.
-fn bases_by(comparer: &mut Comparer<'_, '_>) -> Option<Result<Vec<Position>, AllocError>> {
-    let graph = comparer.graph();
-    let last = graph.num_commits().saturating_sub(1);
-    let (from, to) = (graph.position(last)?, graph.position(0)?);
-    match comparer.compare(from, &[to]) {
-        Ok(comparison) => Some(Ok(comparison.bases.positions)),
-        Err(error) => Some(Err(error)),
-    }
-}
-
-fn dates(rt: &HostRuntime, alloc: Global, graph: &Graph) -> io::Result<()> {
-    let answer = CorrectedDates::of_graph(alloc, graph);
+fn dates(rt: &HostRuntime, alloc: Global) -> Result<()> {
+    let graph = graph(rt, alloc, "dated")?;
+    begin(rt)?;
+    let answer = CorrectedDates::of_graph(alloc, &graph);
     tell(rt, &answer.map(|dates| dates.is_some()))
 }
 
-fn filters(rt: &HostRuntime, alloc: Global, graph: &Graph) -> io::Result<()> {
-    let answer = GraphFilters::of_graph(alloc, graph);
+fn filters(rt: &HostRuntime, alloc: Global) -> Result<()> {
+    let graph = graph(rt, alloc, "dated")?;
+    begin(rt)?;
+    let answer = GraphFilters::of_graph(alloc, &graph);
     tell(rt, &answer.map(|filters| filters.computed()))
 }
 
-fn compare(rt: &HostRuntime, alloc: Global, long: &Long) -> io::Result<()> {
-    let (mut stream, commits) = (long.stream.as_slice(), long.graph.num_commits());
-    let answer = check_objects(alloc, &long.graph, &mut stream, 0, commits);
+/// Compares a graph with the stream of its commits.
+fn compare(rt: &HostRuntime, alloc: Global) -> Result<()> {
+    let graph = graph(rt, alloc, "long")?;
+    let stream = bytes_of(rt, "stream")?;
+    begin(rt)?;
+    let commits = graph.num_commits();
+    let answer = check_objects(alloc, &graph, &mut stream.as_slice(), 0, commits);
     tell(rt, &answer)
 }
 
 /// Puts the upper layer of the chain on top of the lower one, which was checked, and tells how many
 /// commits the graph has after that.
-fn push(rt: &HostRuntime, alloc: Global, chain: &mut Chain) -> io::Result<()> {
-    let Some(file) = chain.layers.pop() else {
-        return say(rt, "no layer");
-    };
-    let answer = chain.lower.push(alloc, file);
-    let commits = chain.lower.as_checked().num_commits();
-    tell_both(rt, &answer, &commits)
+fn push(rt: &HostRuntime, alloc: Global) -> Result<()> {
+    let mut lower = CheckedGraph::new(alloc, graph(rt, alloc, "lower")?)?;
+    let upper = layer(rt, alloc, "upper")?;
+    begin(rt)?;
+    let answer = lower.push(alloc, upper);
+    tell(rt, &(answer, lower.as_checked().num_commits()))
 }
 
-/// Puts a file or a folder into a folder, and tells whether it stands there.
-fn put(rt: &HostRuntime, alloc: Global, folder: bool, single: &mut Single) -> io::Result<()> {
-    let path = mem::replace(&mut single.path, String::new(alloc));
-    let bytes = mem::replace(&mut single.bytes, Vec::new(alloc));
+/// Puts a file into a folder, and tells what stands there.
+fn put_file(rt: &HostRuntime, alloc: Global) -> Result<()> {
+    let (path, bytes) = (owned(alloc, "f")?, room(alloc)?);
+    begin(rt)?;
     let mut memory = Memory::new(alloc);
-    let answer = if folder {
-        memory.put_dir(path)
-    } else {
-        memory.put_file(path, bytes)
-    };
-    let stands = (memory.is_file(alloc, "f"), memory.is_dir(alloc, "f"));
-    tell_both(rt, &answer, &stands)
+    let answer = memory.put_file(path, bytes);
+    tell(rt, &(answer, standing(alloc, &mut memory)))
 }
 
-/// Writes what a command answered, and what it wrote.
-fn tell_run(rt: &HostRuntime, answer: Result<u8, WriteFailed>, out: &[u8]) -> io::Result<()> {
-    tell(rt, &answer)?;
-    io::writer(rt).write_all(out)
+/// Puts a folder into a folder, and tells what stands there.
+fn put_dir(rt: &HostRuntime, alloc: Global) -> Result<()> {
+    let path = owned(alloc, "f")?;
+    begin(rt)?;
+    let mut memory = Memory::new(alloc);
+    let answer = memory.put_dir(path);
+    tell(rt, &(answer, standing(alloc, &mut memory)))
 }
 
-fn run(rt: &HostRuntime, alloc: Global, command: Command, stage: &mut Stage) -> io::Result<()> {
-    let (memory, out) = (&mut stage.folders.memory, &mut stage.folders.out);
-    let answer = match command {
-        Command::List => listed(alloc, &stage.single.bytes, out),
-        _ => answered(alloc, command, memory, out),
-    };
-    tell_run(rt, answer, out)
+/// Whether a file stands there, and whether a folder does.
+type Standing = (Result<bool, AllocError>, Result<bool, AllocError>);
+
+fn standing(alloc: Global, memory: &mut Memory) -> Standing {
+    (memory.is_file(alloc, "f"), memory.is_dir(alloc, "f"))
 }
 
-/// The contracts of the commands are long, and here and in the next two functions they end.
-fn listed(alloc: Global, mut bytes: &[u8], out: &mut Vec<u8>) -> Result<u8, WriteFailed> {
-    run_list(alloc, &mut bytes, out)
+/// Lists the file `f`.
+fn list(rt: &HostRuntime, alloc: Global) -> Result<()> {
+    let (bytes, mut out) = (bytes_of(rt, "f")?, room(alloc)?);
+    begin(rt)?;
+    let answer = run_list(alloc, &mut bytes.as_slice(), &mut out);
+    tell_run(rt, answer, &out)
 }
 
+/// Runs another command of `graphtool`.
+fn run(rt: &HostRuntime, alloc: Global, command: Command) -> Result<()> {
+    let (mut memory, mut out) = (memory(rt, alloc)?, room(alloc)?);
+    begin(rt)?;
+    let answer = answered(alloc, command, &mut memory, &mut out);
+    tell_run(rt, answer, &out)
+}
+
+/// The contracts of the commands are long, and here they end.
 fn answered<T: Folder>(
     alloc: Global,
     command: Command,
@@ -318,55 +217,12 @@ fn answered<T: Folder>(
     out: &mut Vec<u8>,
 ) -> Result<u8, WriteFailed> {
     match command {
-        Command::List => run_list(alloc, &mut b"".as_slice(), out),
         Command::Verify { path } => run_verify(alloc, folder, path, out),
         Command::Distinct => run_distinct(alloc, folder, "chain", out),
         Command::Find => run_find(alloc, folder, "chain", SECOND, out),
         Command::Ancestor => run_ancestor(alloc, folder, "chain", SECOND, FIRST, out),
     }
 }
-
-fn history_answered<R: Read>(
-    alloc: Global,
-    command: HistoryCommand<'_>,
-    input: &mut R,
-    memory: &mut Memory,
-    out: &mut Vec<u8>,
-) -> Result<u8, WriteFailed> {
-    command.run(alloc, input, memory, out)
-}
-
-/// Runs the command of `historytool` that the words ask for.
-fn run_history(rt: &HostRuntime, alloc: Global, stage: &mut Stage) -> io::Result<()> {
-    let (memory, out) = (&mut stage.folders.memory, &mut stage.folders.out);
-    let texts = Texts {
-        help: "help",
-        version: "version",
-    };
-    let Some(command) = HistoryCommand::from_words(&stage.folders.words, texts) else {
-        return say(rt, "no such command");
-    };
-    let answer = match command {
-        HistoryCommand::Ask { .. } => {
-            let mut questions = QUESTIONS;
-            history_answered(alloc, command, &mut questions, memory, out)
-        }
-        _ => {
-            let mut stream = stage.long.stream.as_slice();
-            history_answered(alloc, command, &mut stream, memory, out)
-        }
-    };
-    tell_run(rt, answer, out)
-}
-
-/// A line for each question that asks for memory, and one that asks for none.
-const QUESTIONS: &[u8] = b"\
-is-ancestor 0101010101010101010101010101010101010101 0202020202020202020202020202020202020202
-walk 0202020202020202020202020202020202020202 0101010101010101010101010101010101010101
-merge-base 0101010101010101010101010101010101010101 0202020202020202020202020202020202020202
-reload
-parents 0202020202020202020202020202020202020202
-";
 
 /// The id of the chain's first commit.
 const FIRST: &str = "0101010101010101010101010101010101010101";
@@ -375,6 +231,12 @@ const FIRST: &str = "0101010101010101010101010101010101010101";
 const SECOND: &str = "0202020202020202020202020202020202020202";
 
 /// Opens by a path in memory.
+fn open(rt: &HostRuntime, alloc: Global, opener: Opener, path: &str) -> Result<()> {
+    let mut memory = memory(rt, alloc)?;
+    begin(rt)?;
+    tell(rt, &opened_in(alloc, &mut memory, opener, path))
+}
+
 fn opened_in(
     alloc: Global,
     memory: &mut Memory,
@@ -390,19 +252,27 @@ fn opened_in(
 }
 
 /// Opens by a path on disk.
+fn open_at(rt: &HostRuntime, alloc: Global, opener: HostOpener) -> Result<()> {
+    begin(rt)?;
+    tell(rt, &opened_at(rt, alloc, opener))
+}
+
 fn opened_at(rt: &HostRuntime, alloc: Global, opener: HostOpener) -> Result<u32, OpenError> {
     commits(match opener {
         HostOpener::FromFile => Graph::from_file(rt, alloc, "f"),
-        HostOpener::FromInfoDir => Graph::from_info_dir(rt, alloc, "disk"),
-        HostOpener::FromCommitGraphsDir => {
-            Graph::from_commit_graphs_dir(rt, alloc, "disk/commit-graphs")
-        }
-        HostOpener::GraphAt => Graph::at(rt, alloc, "disk"),
-        HostOpener::At => at(rt, alloc, "disk"),
+        HostOpener::FromInfoDir => Graph::from_info_dir(rt, alloc, "info"),
+        HostOpener::FromCommitGraphsDir => Graph::from_commit_graphs_dir(
+            rt,
+            alloc,
+            "info/commit-graphs",
+        ),
+        HostOpener::GraphAt => Graph::at(rt, alloc, "info"),
+        HostOpener::At => at(rt, alloc, "info"),
     })
 }
 
-fn open_layer(rt: &HostRuntime, alloc: Global) -> io::Result<()> {
-    let answer = File::at(rt, alloc, "f").map(|file| file.num_commits());
-    tell(rt, &answer)
+fn open_layer(rt: &HostRuntime, alloc: Global) -> Result<()> {
+    begin(rt)?;
+    let answer = File::at(rt, alloc, "f");
+    tell(rt, &answer.map(|file| file.num_commits()))
 }

@@ -9,15 +9,16 @@ pub enum Call {
     Traverse,
     Verify,
     VerifyDistinct,
-    Put { folder: bool },
+    PutFile,
+    PutDir,
     Push,
-    Query(Query),
+    /// A question, and the path of the graph.
+    Query(Query, &'static str),
     Dates,
     Filters,
     CheckObjects,
+    List,
     Run(Command),
-    /// The command of `historytool` that the words of the stage ask for.
-    Historytool,
     /// An opener, and the path in memory.
     Open(Opener, &'static str),
     OpenAt(HostOpener),
@@ -37,7 +38,6 @@ pub enum Query {
 /// A command of `graphtool`.
 #[derive(Clone, Copy)]
 pub enum Command {
-    List,
     Verify { path: &'static str },
     Distinct,
     Find,
@@ -71,18 +71,21 @@ const CALLS: &[(&str, Call)] = &[
     ("traverse", Call::Traverse),
     ("verify_integrity", Call::Verify),
     ("verify_integrity_with", Call::VerifyDistinct),
-    ("is_ancestor", Call::Query(Query::IsAncestor)),
-    ("is_ancestor twice", Call::Query(Query::IsAncestorTwice)),
-    ("ancestor_walk", Call::Query(Query::Walk)),
-    ("ancestor_walk twice", Call::Query(Query::WalkTwice)),
-    ("compare twice", Call::Query(Query::CompareTwice)),
+    ("is_ancestor", Call::Query(Query::IsAncestor, "line")),
+    (
+        "is_ancestor twice",
+        Call::Query(Query::IsAncestorTwice, "branches"),
+    ),
+    ("ancestor_walk", Call::Query(Query::Walk, "line")),
+    ("ancestor_walk twice", Call::Query(Query::WalkTwice, "line")),
+    ("compare twice", Call::Query(Query::CompareTwice, "line")),
     ("CheckedGraph::push", Call::Push),
-    ("put_file", Call::Put { folder: false }),
-    ("put_dir", Call::Put { folder: true }),
+    ("put_file", Call::PutFile),
+    ("put_dir", Call::PutDir),
     ("CorrectedDates::of_graph", Call::Dates),
     ("GraphFilters::of_graph", Call::Filters),
     ("check_objects", Call::CheckObjects),
-    ("run_list", Call::Run(Command::List)),
+    ("run_list", Call::List),
     ("run_verify", Call::Run(Command::Verify { path: "chain" })),
     (
         "run_verify_info",
@@ -117,11 +120,8 @@ const CALLS: &[(&str, Call)] = &[
 ];
 
 impl Call {
-    /// The call of this name, if there is one. The name of a command of `historytool` is its words.
+    /// The call of this name, if there is one.
     pub fn named(name: &[u8]) -> Option<Call> {
-        if name.starts_with(b"historytool ") {
-            return Some(Call::Historytool);
-        }
         let (_, call) = CALLS.iter().find(|(known, _)| known.as_bytes() == name)?;
         Some(*call)
     }

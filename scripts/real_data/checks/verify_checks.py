@@ -21,15 +21,16 @@ MOST_FINDS = 60
 """Of a file with more commits, some alone are looked up."""
 
 
-def check_kind(program, results, new, differences):
+def check_kind(programs, results, new, differences):
     """The checks of single files; a new repository comes from a function of its name."""
+    program = programs[0]
     for name, history in shapes.ALL.items():
         check_history(program, results, new("verified " + name), name, history, differences)
     repository = new("wrong")
     repository.add(shapes.octopus(3, 4, 2))
-    check_wrong(program, results, repository, differences)
-    check_beside_dates(program, results, repository, differences)
-    check_forms(program, results, repository, differences)
+    check_wrong(programs, results, repository, differences)
+    check_beside_dates(programs, results, repository, differences)
+    check_forms(programs, results, repository, differences)
     check_bytes(program, results, repository)
     check_chance(program, results, repository)
     check_small_stack(program, results, repository)
@@ -52,12 +53,12 @@ def check_history(program, results, repository, name, history, differences):
     check_runs(results, "%s, %s, found" % (kind, name), runs)
 
 
-def check_wrong(program, results, repository, differences):
+def check_wrong(programs, results, repository, differences):
     """What is found wrong in files with one thing wrong, whose checksums are right or are not."""
     kind, file = repository.object_format, original(repository, generation_version=1)
     for name, edited, text in wrong_layout.all_wrong(file) + wrong_commits.all_wrong(file):
-        check_verdict(program, results, repository, differences, (name, sealed(edited, kind), text))
-        answer = verify_bytes(program, repository.graph_path(), edited)
+        check_verdict(programs, results, repository, differences, (name, sealed(edited, kind), text))
+        answer = verify_bytes(programs[0], repository.graph_path(), edited)
         unsealed_text = text if text.startswith("refused open") else CHECKSUM
         results.check("%s, %s, not sealed" % (kind, name), judge.verdict(unsealed_text, answer))
 
@@ -69,14 +70,14 @@ def original(repository, generation_version):
     return Original(layer, repository.object_format, text)
 
 
-def check_beside_dates(program, results, repository, differences):
+def check_beside_dates(programs, results, repository, differences):
     """Files with wrong generations beside right corrected dates."""
     for name, edited, text in wrong_commits.beside_dates(original(repository, generation_version=2)):
         case = (name, sealed(edited, repository.object_format), text)
-        check_verdict(program, results, repository, differences, case)
+        check_verdict(programs, results, repository, differences, case)
 
 
-def check_forms(program, results, repository, differences):
+def check_forms(programs, results, repository, differences):
     """Right files in forms that Git does not write, wrong trailers, and wrong chunks that are ignored."""
     kind, text = repository.object_format, verified(repository.words())
     plain = repository.new_graph(generation_version=1)
@@ -87,16 +88,17 @@ def check_forms(program, results, repository, differences):
         (forms.wrong_chunks_aside(full, kind), text),
     ):
         for name, layer in files:
-            check_verdict(program, results, repository, differences, (name, layer, answer))
+            check_verdict(programs, results, repository, differences, (name, layer, answer))
 
 
-def check_verdict(program, results, repository, differences, case):
+def check_verdict(programs, results, repository, differences, case):
     """The answer to a file, beside Git's verdict on it; a case is its name, its bytes and the answer."""
     name, layer, text = case
-    answer = verify_bytes(program, repository.graph_path(), layer)
+    (program, histories), path = programs, repository.graph_path()
+    answer = verify_bytes(program, path, layer)
     results.check("%s, %s, verified" % (repository.object_format, name), judge.verdict(text, answer))
-    complaint = beside.complaint(program, repository.graph_path(), answer)
-    results.check("%s, %s, distinct and ancestor" % (repository.object_format, name), complaint)
+    complaint = beside.complaint(program, path, answer) or beside.complaint_of_questions(histories, path, answer)
+    results.check("%s, %s, distinct, ancestor, is-ancestor, walk, merge-base and check" % (repository.object_format, name), complaint)
     differences.compare(name, answer, repository.git_verdict())
 
 

@@ -75,6 +75,7 @@ def graphtool():
         "empty": file(),
         "octopus": file(*OCTOPUS),
         "cycle": file((0x11, (0,), GREATEST_GENERATION)),
+        "ring": file(*((byte, (parent,), GREATEST_GENERATION) for byte, parent in ((0x11, 2), (0x22, 0), (0x33, 1)))),
         "wrong": file((0x11, (), 1), (0x22, (0,), 3)),
         "letters": file((0xAB, (), 9)),
         "graph-00.graph": file(*DIAMOND),
@@ -101,6 +102,9 @@ def histories():
         "file": file(*TWO_WAYS),
         **chain("chain", TWO_WAYS[:2], TWO_WAYS[2:]),
         "criss-cross": file(*CRISS_CROSS),
+        # A line of four commits, and two on its end, one of which merges the root once more.
+        "above-a-line": file(*OCTOPUS[:3], (0x44, (2,), 4), (0x55, (3, 0), 5), (0x66, (3,), 5)),
+        "cycle": file(*((byte, (0,), GREATEST_GENERATION) for byte in (0x11, 0x22, 0x33))),
         "sha256": file((0x11, (), 1), (0xCC, (0,), 2), kind="sha256"),
         # The second generation number is not one more than the first.
         "wrong": file((0x11, (), 1), (0xCC, (0,), 3)),

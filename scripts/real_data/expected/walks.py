@@ -19,8 +19,10 @@ class Walks:
     def judge(self, first, second, reached, answer):
         """The answer is a shortest walk, where Git says that the first commit reaches the second, or else that there is none.
 
-        The number of visits lies within its bounds, which are numbers of commits. Where the generation numbers allow no walk,
-        nothing is visited, and where both commits are one, that alone.
+        The number of visits lies within its bounds, which are numbers of commits. Breadth first, those that are fewer steps away
+        than the end are visited, the end, and some that are as many; and where no walk is there, those above the end, and some at
+        its generation number. Where the generation numbers allow no walk, nothing is visited, and where both commits are one, that
+        alone.
         """
         match = ANSWER.fullmatch(answer.out.decode())
         if not match or answer.err or answer.status != (0 if reached else 1):
@@ -31,10 +33,10 @@ class Walks:
         commit_at = {place: commit for commit, place in self.place.items()}
         walk = [commit_at.get(int(pos)) for pos in match.group(1).split()] if match.group(1) else []
         complaint = self.no_walk(walk, first, second, steps[second] + 1) if reached else walk and "a walk %s" % walk
-        level = self.generation[second]
-        at_or_above = sum(self.generation[commit] >= level for commit in steps)
-        above = sum(self.generation[commit] > level for commit in steps)
-        least, most, visits = len(walk) - 1 if reached else above, at_or_above, int(match.group(2))
+        level, end = self.generation[second], steps.get(second, len(steps))
+        most = sum(self.generation[commit] >= level for commit in steps if steps[commit] <= end)
+        above = sum(self.generation[commit] > level for commit in steps if steps[commit] < end)
+        least, visits = above + int(reached), int(match.group(2))
         if first == second or self.generation[first] <= level:
             least = most = int(first == second)
         bounds = None if least <= visits <= most else "%d visits, not %d to %d" % (visits, least, most)

@@ -172,18 +172,6 @@ fn expect_edges(
     }
 }
 
-#[test]
-fn commits_are_those_of_the_rows(rt: HostRuntime) {
-    let alloc = rt.alloc();
-    let mut folder = graphs(&rt, alloc);
-    let mut parts = opened_file(&rt, alloc, &mut folder, "octopus");
-    expect_commits(&rt, alloc, &mut folder, &mut parts, &COMMITS[..4]);
-    expect_edges(&rt, alloc, &mut folder, &mut parts, &EDGES[..2]);
-    let mut parts = opened_chain(&rt, alloc, &mut folder, "chain");
-    expect_commits(&rt, alloc, &mut folder, &mut parts, COMMITS);
-    expect_edges(&rt, alloc, &mut folder, &mut parts, EDGES);
-}
-
 /// Compares what is read of the last commit where a read fails, and then where none does.
 fn expect_failure(rt: &impl Abort, alloc: Global, folder: &mut Memory, parts: &mut GraphParts)
     requires { AreGraphParts parts.old }
@@ -199,12 +187,18 @@ fn expect_failure(rt: &impl Abort, alloc: Global, folder: &mut Memory, parts: &m
 }
 
 #[test]
-fn a_failed_read_can_be_made_again(rt: HostRuntime) {
+fn commits_are_those_of_the_rows_after_a_failed_read_too(rt: HostRuntime) {
     let alloc = rt.alloc();
     let mut folder = graphs(&rt, alloc);
+    let mut parts = opened_file(&rt, alloc, &mut folder, "octopus");
+    expect_commits(&rt, alloc, &mut folder, &mut parts, &COMMITS[..4]);
+    expect_edges(&rt, alloc, &mut folder, &mut parts, &EDGES[..2]);
     let mut parts = opened_chain(&rt, alloc, &mut folder, "chain");
     expect_failure(&rt, alloc, &mut folder, &mut parts);
+    expect_commits(&rt, alloc, &mut folder, &mut parts, COMMITS);
+    expect_edges(&rt, alloc, &mut folder, &mut parts, EDGES);
     // The file of the lower layer changes its length.
+    let mut parts = opened_chain(&rt, alloc, &mut folder, "chain");
     let changed = copied(&rt, alloc, b"other");
     put(&rt, alloc, &mut folder, "chain/graph-a.graph", changed);
     assert!(rt; parts.commits() == 6);

@@ -77,8 +77,7 @@ fn compare_asked(rt: &impl Abort, alloc: Global, rows: &[Asked]) {
     let mut parts = opened_file(rt, alloc, &mut folder, "g");
     for (steps, asked, bytes) in rows {
         read_some(rt, alloc, &mut folder, &mut parts, *steps);
-        assert!(rt; folder.parts == *asked);
-        assert!(rt; folder.bytes == *bytes);
+        assert!(rt; folder.parts == *asked && folder.bytes == *bytes);
     }
 }
 
@@ -88,11 +87,6 @@ const FEW: &[Asked] = &[
     // Each record is kept.
     ((0, 300, 3331), 301, HEAD + 300 * RECORD),
 ];
-
-#[test]
-fn a_commit_reads_its_record_and_keeps_it(rt: HostRuntime) {
-    compare_asked(&rt, rt.alloc(), FEW);
-}
 
 /// How many bytes are asked for where the first record of each block is read alone, and where 300
 /// blocks are then read.
@@ -110,6 +104,7 @@ const MANY: &[Asked] = &[
 ];
 
 #[test]
-fn many_commits_read_blocks_of_records_and_keep_them(rt: HostRuntime) {
+fn near_commits_read_blocks_of_records_and_keep_them(rt: HostRuntime) {
+    compare_asked(&rt, rt.alloc(), FEW);
     compare_asked(&rt, rt.alloc(), MANY);
 }

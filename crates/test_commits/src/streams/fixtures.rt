@@ -1,6 +1,7 @@
 //! What the tests share. Where an allocation fails, the process aborts.
 
-use gix_commitgraph::{File, Graph, Position};
+use crate::queries::fixtures::{graph_of_one, opened};
+use gix_commitgraph::{Graph, Position};
 use gix_hash_core::{Kind, ObjectId};
 use graph_objects::{Mismatch, ObjectsError, check_objects, matches};
 use graph_vectors::{LayerPlan, PlanCommit, Source, file_of_plan};
@@ -94,10 +95,7 @@ pub(crate) fn graph_of(
         plan.commits.push(commit).expect(rt, "memory for a commit");
     }
     let bytes = file_of_plan(alloc, &plan).expect(rt, "a file of the plan");
-    let file = File::new(alloc, bytes, String::new(alloc)).expect(rt, "a layer");
-    let mut files = Vec::new(alloc);
-    files.push(file).expect(rt, "memory for a list");
-    Graph::new(alloc, files).expect(rt, "a graph")
+    graph_of_one(rt, alloc, opened(rt, alloc, bytes, ""))
 }
 
 /// The answer to a reader for some positions of the graph.

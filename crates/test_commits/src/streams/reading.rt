@@ -3,89 +3,76 @@
 use crate::streams::fixtures::{
     EMPTY_TREE, RECORDS, STREAM, answer_to, answer_to_contents, graph_of,
 };
-use gix_commitgraph::Position;
+use gix_commitgraph::{Graph, Position};
 use graph_objects::{Mismatch, ObjectsError};
 use graph_vectors::Source;
 use std::alloc::Global;
 use std::process::Abort;
 
-/// Compares the answer to a reader for some positions of the graph, and how many reads there were,
-/// where that is asked.
-fn compare(
-    rt: &impl Abort,
-    alloc: Global,
-    mut reader: Source<'_>,
-    positions: (u32, u32),
-    (want, reads): (Result<(), ObjectsError>, Option<usize>),
-) {
-    let graph = graph_of(rt, alloc, RECORDS, EMPTY_TREE);
-    let answer = answer_to(rt, alloc, &graph, &mut reader, positions);
-    assert!(rt; answer == want);
-    assert!(rt; reads.is_none() || reads == Some(reader.reads));
+/// From which byte of the stream up to which there is one, how much a read gives at most, and which
+/// one fails; for which positions it is; and what is answered.
+type Read = (
+    (usize, usize),
+    usize,
+    Option<usize>,
+    (u32, u32),
+    Result<(), ObjectsError>,
+);
+
+const READS: &[Read] = &[
+    ((0, END), 1, None, (0, 4), Ok(())),
+    ((0, END), 7, None, (0, 4), Ok(())),
+    ((0, END), usize::MAX, None, (0, 4), Ok(())),
+    // Parts of the stream for parts of the graph.
+    ((0, MIDDLE), usize::MAX, None, (0, 2), Ok(())),
+    ((MIDDLE, END), usize::MAX, None, (2, 4), Ok(())),
+    ((END, END), usize::MAX, None, (3, 3), Ok(())),
+    // Reads that fail.
+    ((0, END), 400, Some(0), (0, 4), Err(ObjectsError::Device)),
+    ((0, END), 400, Some(1), (0, 4), Err(ObjectsError::Device)),
+    ((0, END), 400, Some(2), (0, 4), Err(ObjectsError::Device)),
+];
+
+/// How many bytes the first two entries have, whose contents have 188 and 189, and all four. There
+/// are 53 bytes around the contents of each.
+const MIDDLE: usize = 188 + 189 + 2 * 53;
+
+const END: usize = MIDDLE + 237 + 140 + 2 * 53;
+
+/// The reader of a row.
+fn reader(rt: &impl Abort, row: &Read) -> Source<'static> {
+    let bytes = STREAM.as_bytes().get(row.0.0..row.0.1);
+    Source::new(bytes.expect(rt, "so many bytes"), row.1, row.2)
 }
 
-/// Compares the answers to the whole stream, of which a read gives so many bytes at most.
-fn compare_whole(rt: &impl Abort, alloc: Global, most: &[usize]) {
-    for most in most {
-        let reader = Source::new(STREAM.as_bytes(), *most, None);
-        compare(rt, alloc, reader, (0, 4), (Ok(()), None));
+/// Compares what is answered of rows.
+fn compare_reads(rt: &impl Abort, alloc: Global, graph: &Graph, rows: &[Read]) {
+    for row in rows {
+        let mut reader = reader(rt, row);
+        assert!(rt; answer_to(rt, alloc, graph, &mut reader, row.3) == row.4);
     }
 }
 
-#[test]
-fn a_stream_that_git_wrote_matches(rt: HostRuntime) {
-    compare_whole(&rt, rt.alloc(), &[1, 7, usize::MAX]);
-}
-
-/// All of a short stream, and then its end.
-#[test]
-fn a_short_stream_is_read_at_once(rt: HostRuntime) {
-    let reader = Source::new(STREAM.as_bytes(), usize::MAX, None);
-    compare(&rt, rt.alloc(), reader, (0, 4), (Ok(()), Some(2)));
-}
-
-/// Compares the answers to parts of the stream for parts of the graph.
-fn compare_parts(rt: &impl Abort, alloc: Global) {
-    // The first two entries have 188 and 189 bytes of contents, and 53 bytes around each.
-    let (front, back) = STREAM.as_bytes().split_at(188 + 189 + 2 * 53);
-    let front = Source::new(front, usize::MAX, None);
-    compare(rt, alloc, front, (0, 2), (Ok(()), None));
-    let back = Source::new(back, usize::MAX, None);
-    compare(rt, alloc, back, (2, 4), (Ok(()), None));
-    let nothing = Source::new(b"", usize::MAX, None);
-    compare(rt, alloc, nothing, (3, 3), (Ok(()), None));
-}
-
-#[test]
-fn parts_of_a_stream_match_parts_of_the_graph(rt: HostRuntime) {
-    compare_parts(&rt, rt.alloc());
-}
-
-/// Compares the answers where these reads fail.
-fn compare_failed(rt: &impl Abort, alloc: Global, reads: &[usize]) {
-    for read in reads {
-        let reader = Source::new(STREAM.as_bytes(), 400, Some(*read));
-        let want = (Err(ObjectsError::Device), None);
-        compare(rt, alloc, reader, (0, 4), want);
-    }
-}
-
-#[test]
-fn a_failed_read_is_told_as_such(rt: HostRuntime) {
-    compare_failed(&rt, rt.alloc(), &[0, 1, 2]);
+/// Compares that all of a short stream is read at once, and then its end.
+fn compare_short(rt: &impl Abort, alloc: Global, graph: &Graph) {
+    let mut reader = Source::new(STREAM.as_bytes(), usize::MAX, None);
+    assert!(rt; answer_to(rt, alloc, graph, &mut reader, (0, 4)) == Ok(()));
+    assert!(rt; reader.reads == 2);
 }
 
 /// Compares what is answered of the contents of the first commit, for that one and for another.
-fn compare_contents(rt: &impl Abort, alloc: Global) {
-    let graph = graph_of(rt, alloc, RECORDS, EMPTY_TREE);
+fn compare_contents(rt: &impl Abort, graph: &Graph) {
     let contents = &STREAM.as_bytes()[52..240];
-    let own = answer_to_contents(rt, &graph, Position(0), contents);
+    let own = answer_to_contents(rt, graph, Position(0), contents);
     assert!(rt; own == Ok(()));
-    let other = answer_to_contents(rt, &graph, Position(1), contents);
+    let other = answer_to_contents(rt, graph, Position(1), contents);
     assert!(rt; other == Err(Mismatch::OtherContents));
 }
 
 #[test]
-fn a_commit_matches_its_own_contents_alone(rt: HostRuntime) {
-    compare_contents(&rt, rt.alloc());
+fn a_stream_that_git_wrote_matches(rt: HostRuntime) {
+    let graph = graph_of(&rt, rt.alloc(), RECORDS, EMPTY_TREE);
+    compare_reads(&rt, rt.alloc(), &graph, READS);
+    compare_short(&rt, rt.alloc(), &graph);
+    compare_contents(&rt, &graph);
 }

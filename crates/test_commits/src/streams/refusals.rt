@@ -23,78 +23,73 @@ fn answer(
     answer_to(rt, alloc, &graph, &mut reader, (0, 4))
 }
 
-/// The stream with some bytes in the place of those from a place on.
-fn changed(rt: &impl Abort, alloc: Global, place: usize, bytes: &[u8]) -> Vec<u8> {
-    let mut stream = Vec::from_slice(alloc, STREAM.as_bytes()).expect(rt, "memory for a stream");
-    for (number, byte) in bytes.iter().enumerate() {
-        if let Some(old) = stream.get_mut(place.saturating_add(number)) {
-            *old = *byte;
-        }
+/// How many bytes of the stream stay, which bytes come behind them, how many bytes stay away for
+/// them, the position of the entry of which something is said, and what.
+type Edit = (usize, &'static [u8], usize, u32, EntryError);
+
+const EDITS: &[Edit] = &[
+    // another digit of the id; upper case; another word; a size with a leading zero
+    (0, b"0", 1, 0, EntryError::OtherId),
+    (2, b"D", 1, 0, EntryError::NoEntry),
+    (41, b"cammit", 6, 0, EntryError::NoEntry),
+    (48, b"018", 3, 0, EntryError::NoEntry),
+    // another type, in as many bytes
+    (41, b"tag 18\n", 7, 0, EntryError::NotACommit),
+    // the object is missing
+    (41, b"missing\n", 8, 0, EntryError::Missing),
+    // a size that is one too large
+    (48, b"189", 3, 0, EntryError::NoEntry),
+    // one too small, where the contents end with a line feed; and another byte of the contents
+    (
+        48,
+        b"187",
+        3,
+        0,
+        EntryError::Mismatch(Mismatch::OtherContents),
+    ),
+    (
+        60,
+        b"0",
+        1,
+        0,
+        EntryError::Mismatch(Mismatch::OtherContents),
+    ),
+    // streams that end early
+    (0, b"", usize::MAX, 0, EntryError::Ends),
+    (30, b"", usize::MAX, 0, EntryError::Ends),
+    (52, b"", usize::MAX, 0, EntryError::Ends),
+    (240, b"", usize::MAX, 0, EntryError::Ends),
+    (241, b"", usize::MAX, 1, EntryError::Ends),
+    (800, b"", usize::MAX, 3, EntryError::Ends),
+];
+
+/// The stream with an edit.
+fn edited(rt: &impl Abort, alloc: Global, place: usize, bytes: &[u8], away: usize) -> Vec<u8> {
+    let text = STREAM.as_bytes();
+    let front = text.get(..place).expect(rt, "so many bytes");
+    let mut stream = Vec::from_slice(alloc, front).expect(rt, "memory for a stream");
+    stream.extend_from_slice(bytes).expect(rt, "memory");
+    let rest = text.get(place.saturating_add(away)..);
+    if let Some(rest) = rest {
+        stream.extend_from_slice(rest).expect(rt, "memory");
     }
     stream
 }
 
-/// Where a change begins, the bytes there, and what is then said of the first entry.
-const CHANGES: &[(usize, &[u8], EntryError)] = &[
-    // another digit of the id; upper case; another word; a size with a leading zero
-    (0, b"0", EntryError::OtherId),
-    (2, b"D", EntryError::NoEntry),
-    (41, b"cammit", EntryError::NoEntry),
-    (48, b"018", EntryError::NoEntry),
-    // another type, in as many bytes
-    (41, b"tag 18\n", EntryError::NotACommit),
-    // the object is missing
-    (41, b"missing\n", EntryError::Missing),
-    // a size that is one too large
-    (48, b"189", EntryError::NoEntry),
-    // one too small, where the contents end with a line feed; and another byte of the contents
-    (48, b"187", EntryError::Mismatch(Mismatch::OtherContents)),
-    (60, b"0", EntryError::Mismatch(Mismatch::OtherContents)),
-];
-
-/// Compares what is told of changed streams.
-fn compare_changes(rt: &impl Abort, alloc: Global, rows: &[(usize, &[u8], EntryError)]) {
-    for (place, bytes, error) in rows {
-        let stream = changed(rt, alloc, *place, bytes);
+/// Compares what is told of edited streams.
+fn compare_edits(rt: &impl Abort, alloc: Global, rows: &[Edit]) {
+    for row in rows {
+        let stream = edited(rt, alloc, row.0, row.1, row.2);
         let told = answer(rt, alloc, RECORDS, EMPTY_TREE, &stream);
-        assert!(rt; told == Err(ObjectsError::Entry(Position(0), *error)));
+        assert!(rt; told == Err(ObjectsError::Entry(Position(row.3), row.4)));
     }
-}
-
-#[test]
-fn the_first_wrong_byte_is_told(rt: HostRuntime) {
-    compare_changes(&rt, rt.alloc(), CHANGES);
-}
-
-/// How many bytes of the stream there are, and the position of the entry at which it ends.
-const STOPS: &[(usize, u32)] = &[(0, 0), (30, 0), (52, 0), (240, 0), (241, 1), (800, 3)];
-
-/// Compares what is told of streams that end early.
-fn compare_stops(rt: &impl Abort, alloc: Global, rows: &[(usize, u32)]) {
-    for (stop, position) in rows {
-        let stream = STREAM.as_bytes().get(..*stop).expect(rt, "so many bytes");
-        let told = answer(rt, alloc, RECORDS, EMPTY_TREE, stream);
-        let want = ObjectsError::Entry(Position(*position), EntryError::Ends);
-        assert!(rt; told == Err(want));
-    }
-}
-
-#[test]
-fn a_stream_that_ends_early_is_told_at_its_entry(rt: HostRuntime) {
-    compare_stops(&rt, rt.alloc(), STOPS);
 }
 
 /// Compares what is told of a stream with a line feed at its end.
 fn compare_left_over(rt: &impl Abort, alloc: Global) {
-    let mut stream = changed(rt, alloc, 0, b"");
-    stream.push(b'\n').expect(rt, "memory for a byte");
+    let stream = edited(rt, alloc, STREAM.len(), b"\n", 0);
     let told = answer(rt, alloc, RECORDS, EMPTY_TREE, &stream);
     assert!(rt; told == Err(ObjectsError::LeftOver));
-}
-
-#[test]
-fn bytes_that_are_left_over_are_told(rt: HostRuntime) {
-    compare_left_over(&rt, rt.alloc());
 }
 
 /// Records, the root tree of all, and of which commit they say otherwise, and how.
@@ -124,14 +119,16 @@ const CHANGED: &[Changed] = &[
 
 /// Compares what is told of the stream where records say otherwise.
 fn compare_records(rt: &impl Abort, alloc: Global, rows: &[Changed]) {
-    for (records, tree, pos, mismatch) in rows {
-        let told = answer(rt, alloc, records, tree, STREAM.as_bytes());
-        let want = ObjectsError::Entry(Position(*pos), EntryError::Mismatch(*mismatch));
-        assert!(rt; told == Err(want));
+    for row in rows {
+        let told = answer(rt, alloc, row.0, row.1, STREAM.as_bytes());
+        let error = EntryError::Mismatch(row.3);
+        assert!(rt; told == Err(ObjectsError::Entry(Position(row.2), error)));
     }
 }
 
 #[test]
-fn a_record_that_says_otherwise_is_told(rt: HostRuntime) {
+fn what_is_wrong_is_told_at_its_entry(rt: HostRuntime) {
+    compare_edits(&rt, rt.alloc(), EDITS);
+    compare_left_over(&rt, rt.alloc());
     compare_records(&rt, rt.alloc(), CHANGED);
 }

@@ -2,7 +2,7 @@
 //!
 //! The contracts of the questions are long, and here they end.
 
-use crate::folders::{copied, id_of, layer, owned, put, two_layers};
+use crate::folders::{copied, id_of, ids_of, layer, owned, put, two_layers};
 use gix_hash_core::ObjectId;
 use graph_folder::folder::{Folder, Memory};
 use graph_unchecked::question::{
@@ -32,15 +32,6 @@ pub const LOWER_FILE: &str = "i/commit-graphs/graph-a.graph";
 pub const UPPER_FILE: &str = "i/commit-graphs/graph-b.graph";
 
 const CHAIN_FILE: &str = "i/commit-graphs/commit-graph-chain";
-
-/// The ids that repeat these bytes.
-pub fn ids_of(rt: &impl Abort, alloc: Global, bytes: &[u8]) -> Vec<ObjectId> {
-    let mut ids = Vec::new(alloc);
-    for byte in bytes {
-        ids.push(id_of(*byte)).expect(rt, "memory");
-    }
-    ids
-}
 
 /// The files of the lower layer and of the upper one.
 pub fn layer_files(rt: &impl Abort, alloc: Global) -> (Vec<u8>, Vec<u8>) {
@@ -99,4 +90,70 @@ pub fn ask_bases<T: Folder>(
 ) -> Result<Among<IdComparison>, Unread> {
     let (first, others) = (id_of(first), ids_of(rt, alloc, others));
     compare(alloc, folder, path, first.as_oid(), &others)
+}
+
+/// A question about commits, each of which is given by the byte that its id repeats.
+pub enum Asked {
+    Ancestor(u8, u8),
+    Walk(u8, u8),
+    Bases(u8, &'static [u8]),
+}
+
+/// The number of the commit that is missing, or 0, and the ids that are told: of an ancestor its
+/// own, those on a walk, or those of the merge bases.
+pub type Told = Result<(u64, Vec<ObjectId>), Unread>;
+
+/// What is told of a walk.
+fn told_of_walk(alloc: Global, told: Result<Between<Option<Vec<ObjectId>>>, Unread>) -> Told {
+    match told? {
+        Between::Known(Some(ids)) => Ok((0, ids)),
+        Between::Known(None) => Ok((0, Vec::new(alloc))),
+        Between::FirstMissing => Ok((1, Vec::new(alloc))),
+        Between::SecondMissing => Ok((2, Vec::new(alloc))),
+    }
+}
+
+/// What is told of an ancestor whose id repeats this byte.
+fn told_of_ancestor(
+    rt: &impl Abort,
+    alloc: Global,
+    told: Result<Between<bool>, Unread>,
+    byte: u8,
+) -> Told {
+    match told? {
+        Between::Known(true) => Ok((0, ids_of(rt, alloc, &[byte]))),
+        Between::Known(false) => Ok((0, Vec::new(alloc))),
+        Between::FirstMissing => Ok((1, Vec::new(alloc))),
+        Between::SecondMissing => Ok((2, Vec::new(alloc))),
+    }
+}
+
+/// What is told of merge bases.
+fn told_of_bases(alloc: Global, told: Result<Among<IdComparison>, Unread>) -> Told {
+    match told? {
+        Among::Known(found) => Ok((0, found.base_ids)),
+        Among::Missing(number) => Ok((number, Vec::new(alloc))),
+    }
+}
+
+/// What is told of a question.
+pub fn ask<T: Folder>(
+    rt: &impl Abort,
+    alloc: Global,
+    folder: &mut T,
+    path: &str,
+    asked: &Asked,
+) -> Told {
+    match asked {
+        Asked::Ancestor(first, second) => {
+            let told = ask_ancestor(alloc, folder, path, (*first, *second));
+            told_of_ancestor(rt, alloc, told, *first)
+        }
+        Asked::Walk(first, second) => {
+            told_of_walk(alloc, ask_walk(alloc, folder, path, (*first, *second)))
+        }
+        Asked::Bases(first, others) => {
+            told_of_bases(alloc, ask_bases(rt, alloc, folder, path, (*first, *others)))
+        }
+    }
 }

@@ -2,18 +2,14 @@
 //!
 //! The contracts of checks and of new layers are long, and here they end.
 
-use gix_commitgraph::{File, Graph};
+use crate::folders::{id_of, ids_of};
+use crate::queries::fixtures::{checked, graph_of_one, opened};
 use gix_hash_core::ObjectId;
 use graph_encoder::{LayerPlan, PlanCommit, build, has_few_extra_words};
 use graph_history::{Checked, CheckedGraph};
 use graph_writer::{NewCommit, WriteError, write_layer};
 use std::alloc::Global;
 use std::process::Abort;
-
-/// The id whose bytes are all this one.
-pub(crate) fn id(byte: u8) -> ObjectId {
-    ObjectId::from([byte; 20])
-}
 
 /// The id that this text spells.
 pub(crate) fn spelled(rt: &impl Abort, text: &str) -> ObjectId {
@@ -22,34 +18,12 @@ pub(crate) fn spelled(rt: &impl Abort, text: &str) -> ObjectId {
 
 /// A commit with this id and these parents. Where an allocation fails, the process aborts.
 pub(crate) fn commit(rt: &impl Abort, alloc: Global, byte: u8, parents: &[u8]) -> NewCommit {
-    let mut ids = Vec::new(alloc);
-    for parent in parents {
-        ids.push(id(*parent)).expect(rt, "memory for a parent");
-    }
     NewCommit {
-        id: id(byte),
-        tree: id(0xee),
-        parents: ids,
+        id: id_of(byte),
+        tree: id_of(0xee),
+        parents: ids_of(rt, alloc, parents),
         time: 1000,
     }
-}
-
-/// The file with these bytes, of no name.
-pub(crate) fn opened(rt: &impl Abort, alloc: Global, bytes: Vec<u8>) -> File {
-    File::new(alloc, bytes, String::new(alloc)).expect(rt, "a file")
-}
-
-/// The graph of one file, checked.
-pub(crate) fn graph_of(rt: &impl Abort, alloc: Global, file: File) -> CheckedGraph {
-    let mut files = Vec::new(alloc);
-    files.push(file).expect(rt, "memory for a file");
-    let graph = Graph::new(alloc, files).expect(rt, "a graph");
-    CheckedGraph::new(alloc, graph).expect(rt, "a right graph")
-}
-
-/// Puts a file on top of a graph.
-pub(crate) fn push(rt: &impl Abort, alloc: Global, graph: &mut CheckedGraph, file: File) {
-    graph.push(alloc, file).expect(rt, "a right graph");
 }
 
 /// The bytes of a layer with these commits, or why there is none.
@@ -86,5 +60,6 @@ pub(crate) fn graph_of_root(
     assert!(rt; plan.is_buildable());
     assert!(rt; has_few_extra_words(&plan));
     let bytes = build(alloc, &plan).expect(rt, "memory for a file");
-    graph_of(rt, alloc, opened(rt, alloc, bytes))
+    let file = opened(rt, alloc, bytes, "");
+    checked(rt, alloc, graph_of_one(rt, alloc, file))
 }

@@ -1,10 +1,11 @@
 //! Why no layer is written. What is expected follows from the order of the conditions.
 
-use crate::writing::made::{commit, graph_of_root, id, opened, push, written};
+use crate::folders::id_of;
+use crate::writing::made::{commit, graph_of_root, written};
 use gix_commitgraph::Position;
 use gix_hash_core::ObjectId;
 use graph_chunks::dates::DatesError;
-use graph_history::{Checked, CheckedGraph};
+use graph_history::Checked;
 use graph_writer::{NewCommit, WriteError};
 use std::alloc::Global;
 use std::process::Abort;
@@ -50,10 +51,10 @@ const REFUSED: &[(&[Handed], WriteError)] = &[
 /// These commits.
 fn handed(rt: &impl Abort, alloc: Global, rows: &[Handed]) -> Vec<NewCommit> {
     let mut all = Vec::new(alloc);
-    for (byte, tree, parents, time) in rows {
-        let mut one = commit(rt, alloc, *byte, parents);
-        one.tree = id(*tree);
-        one.time = *time;
+    for row in rows {
+        let mut one = commit(rt, alloc, row.0, row.2);
+        one.tree = id_of(row.1);
+        one.time = row.3;
         all.push(one).expect(rt, "memory for commits");
     }
     all
@@ -77,9 +78,9 @@ fn expect_refusals(
     below: &Checked<'_>,
     rows: &[(&[Handed], WriteError)],
 ) {
-    for (handed_over, want) in rows {
-        let commits = handed(rt, alloc, handed_over);
-        expect_refusal(rt, alloc, Some(below), &commits, *want);
+    for row in rows {
+        let commits = handed(rt, alloc, row.0);
+        expect_refusal(rt, alloc, Some(below), &commits, row.1);
     }
 }
 
@@ -108,26 +109,4 @@ fn the_first_refusal_is_told(rt: HostRuntime) {
     expect_other_kind(&rt, alloc, &graph.as_checked());
     expect_refusal(&rt, alloc, None, &[], WriteError::Nothing);
     expect_wrong_date(&rt, alloc, &root);
-}
-
-/// Puts a layer of one commit on top, in whose id this is the second byte.
-fn push_one(rt: &impl Abort, alloc: Global, graph: &mut CheckedGraph, byte: u8) {
-    let mut id = [2; 20];
-    id[1] = byte;
-    let mut one = commit(rt, alloc, 2, &[1]);
-    one.id = ObjectId::from(id);
-    let bytes = written(alloc, Some(&graph.as_checked()), &[one]).expect(rt, "a layer");
-    push(rt, alloc, graph, opened(rt, alloc, bytes));
-}
-
-#[test]
-fn a_layer_lies_on_255_others_and_on_no_more(rt: HostRuntime) {
-    let alloc = rt.alloc();
-    let mut graph = graph_of_root(&rt, alloc, &commit(&rt, alloc, 1, &[]), Some(0));
-    for byte in 0..255 {
-        push_one(&rt, alloc, &mut graph, byte);
-    }
-    let more = [commit(&rt, alloc, 3, &[1])];
-    let below = graph.as_checked();
-    expect_refusal(&rt, alloc, Some(&below), &more, WriteError::TooManyLayers);
 }

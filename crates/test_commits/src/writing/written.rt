@@ -1,7 +1,8 @@
 //! Layers that were written, beside those that Git 2.39.5 wrote of the same commits, with
 //! `commitGraph.generationVersion=2`: their sizes and their checksums.
 
-use crate::writing::made::{graph_of, graph_of_root, opened, push, spelled, written};
+use crate::queries::fixtures::{checked, graph_of_one, opened};
+use crate::writing::made::{graph_of_root, spelled, written};
 use graph_history::Checked;
 use graph_writer::NewCommit;
 use std::alloc::Global;
@@ -10,10 +11,8 @@ use std::process::Abort;
 /// A commit of Git: its id, its parents by their places in the history, and its time.
 type Made = (&'static str, &'static [usize], u64);
 
-/// The root tree of all of them: the empty one, by SHA-1 and by SHA-256.
+/// The root tree of all of them: the empty one.
 const TREE: &str = "4b825dc642cb6eb9a060e54bf8d69288fbee4904";
-
-const TREE_BY_SHA256: &str = "6ef19b41225c5369f1c104d45d8d85efa9b057b53b14b4b9b939dd74decc5321";
 
 /// Merges of two to five parents, two roots and one apart, times out of order, and offsets of dates
 /// past 31 bits.
@@ -53,30 +52,6 @@ const HISTORY: &[Made] = &[
     ("3b7c0ba71f02f6968f3933e695c3116b6a34d2e9", &[], 1),
 ];
 
-/// A merge of three parents, in a repository of SHA-256.
-const HISTORY_BY_SHA256: &[Made] = &[
-    (
-        "6223a0845613c4d37067a201effecb9ebc79f969f5f706ac7a9a3d5d9027ce18",
-        &[],
-        1500000000,
-    ),
-    (
-        "14342b21b0b182b10df0658dff81feff0a272b9327770d9329774bf606480fcc",
-        &[0],
-        1400000000,
-    ),
-    (
-        "8b0f94e7f6644e3c18f52683c3e77a8b4b9ab5112b59ec71d9ea8e31cd5bd14f",
-        &[0],
-        1500000001,
-    ),
-    (
-        "17f4d323e5b02be3298c74108a4b749b76ea8447f4426a197151bfded00447cb",
-        &[0, 1, 2],
-        1500000002,
-    ),
-];
-
 /// The first commits of the history that one layer has, where there are two.
 const LOWER: usize = 8;
 
@@ -87,51 +62,34 @@ const OF_WHOLE: &str = "f72c03845ab9bc83333e27640c9c3ba248d804e1";
 
 const OF_UPPER: &str = "51a2999d19401f6e47b70a494fd0114b42ed8fa4";
 
-/// The checksum of the file of the history by SHA-256.
-const BY_SHA256: &str = "a8ab93a0104a3afcf30dfc954a50f2a5a31b0d33c43ecb7d7818067971acb200";
-
-/// The commit at a place of a history.
-fn commit(rt: &impl Abort, alloc: Global, history: &[Made], tree: &str, place: usize) -> NewCommit {
-    let (own, listed, time) = *history.get(place).expect(rt, "a commit");
+/// The commit at a place of the history.
+fn commit(rt: &impl Abort, alloc: Global, place: usize) -> NewCommit {
+    let row = HISTORY.get(place).expect(rt, "a commit");
     let mut parents = Vec::new(alloc);
-    for place in listed {
-        let (parent, _, _) = *history.get(*place).expect(rt, "a parent");
-        parents
-            .push(spelled(rt, parent))
-            .expect(rt, "memory for a parent");
+    for place in row.1 {
+        let parent = HISTORY.get(*place).expect(rt, "a parent");
+        parents.push(spelled(rt, parent.0)).expect(rt, "memory");
     }
     NewCommit {
-        id: spelled(rt, own),
-        tree: spelled(rt, tree),
+        id: spelled(rt, row.0),
+        tree: spelled(rt, TREE),
         parents,
-        time,
+        time: row.2,
     }
 }
 
-/// The commits from a place of a history up to another one, the last first.
-fn commits(
-    rt: &impl Abort,
-    alloc: Global,
-    history: &[Made],
-    tree: &str,
-    (from, to): (usize, usize),
-) -> Vec<NewCommit> {
-    let mut all = Vec::new(alloc);
-    for place in (from..to).rev() {
-        let commit = commit(rt, alloc, history, tree, place);
-        all.push(commit).expect(rt, "memory for commits");
-    }
-    all
-}
-
-/// The bytes of the layer of the commits from a place of `HISTORY` up to another one.
+/// The bytes of the layer of the commits from a place of the history up to another one, of which
+/// the last is handed over first.
 fn layer(
     rt: &impl Abort,
     alloc: Global,
     below: Option<&Checked<'_>>,
-    places: (usize, usize),
+    (from, to): (usize, usize),
 ) -> Vec<u8> {
-    let commits = commits(rt, alloc, HISTORY, TREE, places);
+    let mut commits = Vec::new(alloc);
+    for place in (from..to).rev() {
+        commits.push(commit(rt, alloc, place)).expect(rt, "memory");
+    }
     written(alloc, below, &commits).expect(rt, "a layer")
 }
 
@@ -141,29 +99,24 @@ fn expect_file(rt: &impl Abort, bytes: &[u8], size: usize, checksum: &str) {
     assert!(rt; bytes.ends_with(spelled(rt, checksum).as_oid().as_bytes()));
 }
 
+/// Compares that a layer on a graph without corrected dates has none.
+fn compare_undated(rt: &impl Abort, alloc: Global) {
+    let graph = graph_of_root(rt, alloc, &commit(rt, alloc, 0), None);
+    let bytes = layer(rt, alloc, Some(&graph.as_checked()), (1, LOWER));
+    let undated = opened(rt, alloc, bytes, "");
+    assert!(rt; undated.chunk(*b"GDA2").is_none() && undated.chunk(*b"EDGE").is_some());
+}
+
 #[test]
-fn a_file_is_as_git_writes_it(rt: HostRuntime) {
+fn layers_are_as_git_writes_them(rt: HostRuntime) {
     let alloc = rt.alloc();
-    let lower = layer(&rt, alloc, None, (0, LOWER));
-    expect_file(&rt, &lower, 1652, OF_LOWER);
     let whole = layer(&rt, alloc, None, (0, HISTORY.len()));
     expect_file(&rt, &whole, 2000, OF_WHOLE);
-}
-
-#[test]
-fn a_file_of_sha256_is_as_git_writes_it(rt: HostRuntime) {
-    let alloc = rt.alloc();
-    let places = (0, HISTORY_BY_SHA256.len());
-    let commits = commits(&rt, alloc, HISTORY_BY_SHA256, TREE_BY_SHA256, places);
-    let bytes = written(alloc, None, &commits).expect(&rt, "a layer");
-    expect_file(&rt, &bytes, 1480, BY_SHA256);
-}
-
-#[test]
-fn a_layer_of_a_chain_is_as_git_writes_it(rt: HostRuntime) {
-    let alloc = rt.alloc();
     let lower = layer(&rt, alloc, None, (0, LOWER));
-    let mut graph = graph_of(&rt, alloc, opened(&rt, alloc, lower));
+    expect_file(&rt, &lower, 1652, OF_LOWER);
+    let lower = opened(&rt, alloc, lower, "");
+    assert!(&rt; lower.chunk(*b"GDO2").is_some());
+    let graph = checked(&rt, alloc, graph_of_one(&rt, alloc, lower));
     let upper = layer(
         &rt,
         alloc,
@@ -171,19 +124,5 @@ fn a_layer_of_a_chain_is_as_git_writes_it(rt: HostRuntime) {
         (LOWER, HISTORY.len()),
     );
     expect_file(&rt, &upper, 1516, OF_UPPER);
-    push(&rt, alloc, &mut graph, opened(&rt, alloc, upper));
-    assert!(&rt; graph.as_checked().num_commits() as usize == HISTORY.len());
-}
-
-#[test]
-fn dates_follow_those_below(rt: HostRuntime) {
-    let alloc = rt.alloc();
-    let root = commit(&rt, alloc, HISTORY, TREE, 0);
-    let graph = graph_of_root(&rt, alloc, &root, None);
-    let bytes = layer(&rt, alloc, Some(&graph.as_checked()), (1, LOWER));
-    let undated = opened(&rt, alloc, bytes);
-    assert!(&rt; undated.chunk(*b"GDA2").is_none());
-    assert!(&rt; undated.chunk(*b"EDGE").is_some());
-    let dated = opened(&rt, alloc, layer(&rt, alloc, None, (0, LOWER)));
-    assert!(&rt; dated.chunk(*b"GDO2").is_some());
+    compare_undated(&rt, alloc);
 }

@@ -7,11 +7,15 @@
 use gix_commitgraph::verify::{VerifyError, VerifyOptions};
 use gix_commitgraph::{File, Graph, Position};
 use gix_hash_core::ObjectId;
-use graph_history::{Checked, CheckedGraph, Comparer, Comparison, NoFault, Reached, Searcher};
+use graph_history::{
+    Checked, CheckedGraph, Comparer, Comparison, Divergence, NoFault, Reached, Searcher,
+};
 use graph_vectors::refused::ENTRIES;
 use graph_vectors::{Row, file_of_rows, file_of_zeros};
 use std::alloc::Global;
 use std::process::Abort;
+use std::rt::Clock;
+use std::time::Instant;
 
 /// The layer of these bytes, whose file has this path.
 pub fn opened(rt: &impl Abort, alloc: Global, bytes: Vec<u8>, path: &str) -> File {
@@ -115,18 +119,12 @@ pub fn walk_of(
     checked.ancestor_walk(alloc, from, to).expect(rt, "memory")
 }
 
-/// What a searcher answers of such a walk, and whether it finds that there is one.
-pub fn asked_by(
-    rt: &impl Abort,
-    searcher: &mut Searcher<'_>,
-    from: u32,
-    to: u32,
-) -> (Reached, bool) {
+/// What a searcher answers of such a walk.
+pub fn walk_by(rt: &impl Abort, searcher: &mut Searcher<'_>, from: u32, to: u32) -> Reached {
     let commits = searcher.graph().num_commits();
     assert!(rt; from < commits && to < commits);
     let answer = searcher.ancestor_walk(Position(from), Position(to));
-    let leads = searcher.is_ancestor(Position(to), Position(from));
-    (answer.expect(rt, "memory"), leads.expect(rt, "memory"))
+    answer.expect(rt, "memory")
 }
 
 /// Whether the second of these commits is an ancestor of the first.
@@ -147,4 +145,28 @@ pub fn compared(
     let first = graph.position(first).expect(rt, "a commit");
     let other = graph.position(other).expect(rt, "a commit");
     comparer.compare(first, &[other]).expect(rt, "memory")
+}
+
+/// How far two commits have come apart.
+pub fn divergence_of(
+    rt: &impl Abort,
+    alloc: Global,
+    checked: &Checked<'_>,
+    first: u32,
+    other: u32,
+) -> Divergence {
+    let first = checked.position(first).expect(rt, "a commit");
+    let other = checked.position(other).expect(rt, "a commit");
+    let apart = checked.divergence(alloc, first, &[other]);
+    apart.expect(rt, "memory")
+}
+
+/// The time.
+pub fn now<R: Clock + Abort>(rt: &R) -> Instant {
+    Instant::now(rt).expect(rt, "a clock")
+}
+
+/// How many microseconds have passed since then.
+pub fn micros<R: Clock + Abort>(rt: &R, start: Instant) -> u128 {
+    start.elapsed(rt).expect(rt, "a clock").as_micros()
 }

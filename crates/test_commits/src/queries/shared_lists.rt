@@ -1,10 +1,11 @@
 //! Two lines of commits that share one long extra edge list. A check or a question that goes over
 //! the list once for each of them takes longer than a test may.
 
-use crate::fixtures::{
-    checked, compared, graph_of_one, graph_of_two, layer as layer_of_rows, leads, opened, walk_of,
+use crate::queries::fixtures::{
+    checked, compared, graph_of_one, graph_of_two, layer as layer_of_rows, leads, micros, now,
+    opened, walk_of,
 };
-use crate::reloading::reloaded;
+use crate::queries::pushing::reloaded;
 use gix_commitgraph::file::Commit;
 use gix_commitgraph::{File, Graph, Position};
 use gix_hash_core::Kind;
@@ -13,7 +14,7 @@ use graph_vectors::{END, file_of_parts, reseal, words};
 use std::alloc::Global;
 use std::convert::Infallible;
 use std::process::Abort;
-use std::time::Instant;
+use std::rt::Clock;
 
 /// How many commits have no parent. They come first.
 const ROOTS: u32 = 100;
@@ -157,9 +158,8 @@ fn a_shared_list_is_gone_over_once(rt: HostRuntime) {
     compare_traversed(&rt, rt.alloc(), &file);
     let graph = graph_of_one(&rt, rt.alloc(), file);
     let graph = checked(&rt, rt.alloc(), graph);
-    let checked = graph.as_checked();
-    compare_walk(&rt, rt.alloc(), &checked);
-    compare_bases(&rt, rt.alloc(), &checked);
+    compare_walk(&rt, rt.alloc(), &graph.as_checked());
+    compare_bases(&rt, rt.alloc(), &graph.as_checked());
 }
 
 /// The graph of the layer and of one above it, with one commit, whose id repeats this byte.
@@ -170,19 +170,22 @@ fn with_one_above(rt: &impl Abort, alloc: Global, byte: u8) -> Graph {
     graph_of_two(rt, alloc, lower, upper)
 }
 
-// The commits of the layer below are compared and counted, and not checked. A check takes ten times
-// as long.
+/// Compares how long a check and a reload take. The commits of the layer below are compared and
+/// counted then, and not checked. A check takes ten times as long.
+fn compare_times<R: Clock + Abort>(rt: &R, alloc: Global) {
+    let graph = with_one_above(rt, alloc, 0x33);
+    let start = now(rt);
+    let old = checked(rt, alloc, graph);
+    let check = micros(rt, start);
+    let next = with_one_above(rt, alloc, 0x44);
+    let start = now(rt);
+    let answer = reloaded(alloc, &old, next);
+    let reloading = micros(rt, start);
+    assert!(rt; answer == Ok(1));
+    assert!(rt; reloading < check);
+}
+
 #[test]
 fn a_shared_list_is_reloaded_in_less_time_than_a_check_takes(rt: HostRuntime) {
-    let alloc = rt.alloc();
-    let graph = with_one_above(&rt, alloc, 0x33);
-    let start = Instant::now(&rt).expect(&rt, "a clock");
-    let old = checked(&rt, alloc, graph);
-    let check = start.elapsed(&rt).expect(&rt, "a clock").as_micros();
-    let next = with_one_above(&rt, alloc, 0x44);
-    let start = Instant::now(&rt).expect(&rt, "a clock");
-    let answer = reloaded(alloc, &old, next);
-    let reloading = start.elapsed(&rt).expect(&rt, "a clock").as_micros();
-    assert!(&rt; answer == Ok(1));
-    assert!(&rt; reloading < check);
+    compare_times(&rt, rt.alloc());
 }

@@ -1,6 +1,7 @@
 //! The examples of calls of `graph_uses`, on the diamond.
 
-use crate::fixtures::checked_with;
+use crate::folders::{id_of, ids_of};
+use crate::queries::fixtures::{checked_with, divergence_of};
 use gix_commitgraph::opening::OpenError;
 use gix_commitgraph::verify::VerifyOptions;
 use gix_commitgraph::{FileError, Position};
@@ -41,20 +42,6 @@ fn diamond(rt: &impl Abort, alloc: Global, distinct_ids: bool) -> CheckedGraph {
     checked_with(rt, alloc, VerifyOptions { distinct_ids }, graph)
 }
 
-/// The id that repeats this byte.
-fn id(byte: u8) -> ObjectId {
-    ObjectId::from([byte; 20])
-}
-
-/// The ids that repeat these bytes.
-fn ids(rt: &impl Abort, alloc: Global, bytes: &[u8]) -> Vec<ObjectId> {
-    let mut ids = Vec::new(alloc);
-    for byte in bytes {
-        ids.push(id(*byte)).expect(rt, "memory");
-    }
-    ids
-}
-
 /// Asserts the refusal of bytes that are no file.
 fn compare_bytes(rt: &impl Abort, alloc: Global) {
     let (layer, error) = (0, FileError::TooSmall);
@@ -67,8 +54,8 @@ fn compare_found(rt: &impl Abort, checked: &Checked<'_>) {
     assert!(rt; find(checked, THREES) == Ok(Some(Position(2))));
     assert!(rt; find(checked, FIVES) == Ok(None));
     assert!(rt; find(checked, "33") == Err(IdError::Length));
-    assert!(rt; time_of(checked, id(0x33).as_oid()) == Some(7));
-    assert!(rt; time_of(checked, id(0x55).as_oid()).is_none());
+    assert!(rt; time_of(checked, id_of(0x33).as_oid()) == Some(7));
+    assert!(rt; time_of(checked, id_of(0x55).as_oid()).is_none());
 }
 
 /// Positions of the diamond's commits, with those of their parents.
@@ -107,20 +94,22 @@ fn compare_leads(rt: &impl Abort, alloc: Global, checked: &Checked<'_>, rows: &[
 /// Asserts which commits are merged into the second, all ancestors of the last, and the merge base
 /// of the two between.
 fn compare_ancestors(rt: &impl Abort, alloc: Global, checked: &Checked<'_>) {
-    let commits = ids(rt, alloc, &[0x11, 0x33, 0x22, 0x55]);
-    let found = merged(alloc, checked, id(0x22).as_oid(), &commits);
-    assert!(rt; found.expect(rt, "an answer") == ids(rt, alloc, &[0x11, 0x22]));
-    let all = ancestors(alloc, checked, id(0x44).as_oid());
-    assert!(rt; all.expect(rt, "an answer") == ids(rt, alloc, &[0x44, 0x33, 0x22, 0x11]));
-    let bases = merge_bases(alloc, checked, id(0x22).as_oid(), id(0x33).as_oid());
-    assert!(rt; bases.expect(rt, "an answer") == ids(rt, alloc, &[0x11]));
+    let commits = ids_of(rt, alloc, &[0x11, 0x33, 0x22, 0x55]);
+    let found = merged(alloc, checked, id_of(0x22).as_oid(), &commits);
+    assert!(rt; found.expect(rt, "an answer") == ids_of(rt, alloc, &[0x11, 0x22]));
+    let all = ancestors(alloc, checked, id_of(0x44).as_oid());
+    assert!(rt; all.expect(rt, "an answer") == ids_of(rt, alloc, &[0x44, 0x33, 0x22, 0x11]));
+    let apart = divergence_of(rt, alloc, checked, 3, 1);
+    assert!(rt; apart.ahead == 2 && apart.behind == 0);
+    let bases = merge_bases(alloc, checked, id_of(0x22).as_oid(), id_of(0x33).as_oid());
+    assert!(rt; bases.expect(rt, "an answer") == ids_of(rt, alloc, &[0x11]));
 }
 
 /// Asserts where the only commits with some ids stand, the first of which is told where ids were
 /// asked to be distinct.
 fn compare_only(rt: &impl Abort, checked: &Checked<'_>, want: Option<Position>) {
-    assert!(rt; only_position(checked, id(0x33).as_oid()) == want);
-    assert!(rt; only_position(checked, id(0x55).as_oid()).is_none());
+    assert!(rt; only_position(checked, id_of(0x33).as_oid()) == want);
+    assert!(rt; only_position(checked, id_of(0x55).as_oid()).is_none());
 }
 
 /// Asserts what is answered of the diamond, whose ids are asked to be distinct or not.
@@ -165,7 +154,7 @@ fn refusal_at<R: Files + Abort>(rt: &R, alloc: Global, path: &str, id: &str) -> 
 /// Asserts the parents of commits of a graph on disk.
 fn compare_at_path<R: Files + Abort>(rt: &R, alloc: Global, rows: &[(&str, &[u8])]) {
     for row in rows {
-        assert!(rt; parents_at(rt, alloc, RIGHT, row.0) == ids(rt, alloc, row.1));
+        assert!(rt; parents_at(rt, alloc, RIGHT, row.0) == ids_of(rt, alloc, row.1));
     }
 }
 
