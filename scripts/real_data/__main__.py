@@ -28,7 +28,8 @@ NAME is a file of the folder `checks`, such as show_checks; without one, all are
 - the filters of these graphs, asked by the program of `test_filters`: each path that a commit changes is possible, and
   all other answers are those of a plain reading; also of version 2, and where bytes were read as unsigned numbers.
 - `ids` and `objects`: right graphs and damaged ones beside the commits as Git writes them, by a plain reading, and beside
-  Git's verdict; streams that are cut or changed at each byte; and commits that Git's own commands do not make.
+  Git's verdict; streams that are cut or changed at each byte; and commits that Git's own commands do not make. Also commits of all
+  shapes and times, one at a time, each beside graphs that say what Git reads of it, and others.
 - `show`: graphs that Git writes, with dates and filters or without, and damaged ones, by a plain reading; and what
   `git cgraph show` says that they cover, beside Git's own lists, in repositories of every kind.
 - `write`: files and layers of the commits that Git lists, in any order: they are those that Git writes, bit by bit, also of
@@ -50,7 +51,8 @@ NAME is a file of the folder `checks`, such as show_checks; without one, all are
   system call that changes a file, by killing.c: the old commit-graph or the new one is there.
 - a file of 300,000 commits, asked by each command, and with one fault late in it, which is named at its position.
 - the tables of the folder `tables`: what every command writes for a command line, over small files, to the letter; also byte by byte,
-  and where reads of standard input and writes fail. And dates and filters of 600 commits, with a fault late in them.
+  and where reads of standard input and writes fail. And graphs of every size up to ten, and of 600 commits; dates and filters of as
+  many, with a fault late in them.
 - surroundings that are hostile: streams, paths, chain files, and every amount of memory.
 
 What an answer has to be is made from Git's own words, `git rev-list --parents` and `git cat-file`,

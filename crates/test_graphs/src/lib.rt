@@ -1,24 +1,22 @@
-//! Tests of graphs: of opening them in folders, in memory and on disk, and of reading and checking
-//! them, on files that are built for them.
+//! Tests of what no contract says of ids, folders, commits' bytes, layers and graphs: texts, calls
+//! on a disk, reads that fail, a processor that refuses, and how many steps a call takes.
 //!
 //! The module `fixtures` has what several tests share.
 #![tactic(auto)]
 
 #[cfg(test)]
-mod by_path;
+mod checking;
 #[cfg(test)]
-mod distinct;
+mod comparisons;
+#[cfg(test)]
+mod digests;
+#[cfg(test)]
+mod disk;
 #[cfg(test)]
 mod fixtures;
 #[cfg(test)]
-mod folders;
+mod host;
 #[cfg(test)]
-mod graphs;
-#[cfg(test)]
-mod large;
-#[cfg(test)]
-mod sizes;
+mod opening;
 #[cfg(test)]
 mod texts;
-#[cfg(test)]
-mod verifying;

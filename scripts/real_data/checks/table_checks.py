@@ -1,7 +1,8 @@
 """Checks the tables of cases: what the programs answer to a command line in a folder of small files, to the letter.
 
 Beside its plain run, each case is run with output that takes so many bytes, for each number that is too few; with input that
-comes byte by byte; and with input whose reading fails. Last, long answers, which are written in blocks.
+comes byte by byte; and with input whose reading fails. Of some tables there are the plain runs alone. Last, long answers, which are
+written in blocks, and graphs of every size up to ten and of more commits than are looked at in one go.
 """
 
 import os
@@ -11,17 +12,21 @@ import signal
 import socket
 import threading
 import tty
+from functools import partial
 
 from checks import question_checks, word_checks
 from checks.program import SECONDS, AnyProgram
-from damage import examples
+from checks.runs import check_runs
+from damage import built, examples
 from damage.layer import big_endian
-from expected import cases, judge
+from expected import cases, facts, judge
 from histories.repository import write_bytes
 
 TABLES = {
     "graphtool.txt": examples.graphtool,
+    "graphs.txt": examples.graphs,
     "list.txt": examples.listed,
+    "files.txt": examples.layers,
     "histories.txt": examples.histories,
     "check.txt": examples.checked,
     "filters.txt": examples.filtered,
@@ -30,6 +35,9 @@ TABLES = {
     "historytool.txt": examples.worded,
 }
 """The tables, each with the files in whose folder it is run."""
+
+PLAIN = ("graphs.txt", "files.txt")
+"""Tables of which each answer is like one of another table: only the plain runs are made."""
 
 TEXTS = {
     "graphtool": (word_checks.USAGE, word_checks.FAILED_WRITE),
@@ -46,6 +54,12 @@ SOME = 20
 LONG = 2000
 """So many commits have a long answer."""
 
+COMPLETE = range(1, 11)
+"""The sizes of graphs in which each commit has all before it as its parents."""
+
+JOINED = 600
+"""So many commits are more than a check takes in one go."""
+
 
 def check_all(programs, asker, results, folder):
     """The checks of all tables, and of long answers."""
@@ -55,6 +69,7 @@ def check_all(programs, asker, results, folder):
     sizes = {path: len(content) for path, content in examples.listed().items() if path in examples.SIZES}
     results.check("list.txt, the sizes of its files", None if sizes == examples.SIZES else "they are %r" % sizes)
     check_long(results, Place(os.path.join(folder, "long"), long_files(), paths))
+    check_joined(results, Place(os.path.join(folder, "joined"), joined_files(), paths))
 
 
 class Place:
@@ -173,7 +188,7 @@ def check_table(results, name, place):
     for case in cases.read(name):
         found.setdefault(case.text, []).append(case)
     for text, several in found.items():
-        for kind, judged in KINDS.items():
+        for kind, judged in list(KINDS.items())[: 1 if name in PLAIN else None]:
             complaints = [judged(place, case) for case in several]
             if complaints.count(LEFT_OUT) < len(complaints):
                 wrong = [it for it in complaints if it not in (None, LEFT_OUT)]
@@ -270,3 +285,55 @@ def check_long(results, place):
         counts = [0, len(found[0])] if found else []
         wrong = [it for it in counts if place.bounded(case, it) != (2, text[:it], TEXTS[program][1])]
         results.check(title + ", writes that fail", "after %d bytes" % wrong[0] if wrong else None)
+
+
+def joined_files():
+    """Right graphs: complete ones, in one layer and in one for each commit; and of many commits with up to three parents, in one layer
+    and in three."""
+    tree = {}
+    for size in COMPLETE:
+        rows = [complete(place) for place in range(size)]
+        tree["complete-%d" % size] = examples.file(*rows)
+        tree.update(examples.chain("complete-%d-in-layers" % size, *[[row] for row in rows]))
+    commits = [joined(place) for place in range(JOINED)]
+    files = []
+    for start, stop in ((0, 300), (300, 590), (590, JOINED)):
+        files.append(built.file_of("sha1", commits[start:stop], [below[-20:] for below in files]))
+    return {**tree, "joined": built.file_of("sha1", commits), **examples.chain_of("joined-in-layers", files)}
+
+
+def complete(place):
+    """The row of a commit with all before it as its parents."""
+    return 0x11 * (place + 1), tuple(range(place)), place + 1
+
+
+def joined(place):
+    """A commit on the one before, on the one at half of its place, and at a multiple of three also on the one at a third of it."""
+    parents = (place - 1, place // 2, place // 3)[: 2 + (place % 3 == 0)] if place else ()
+    return built.Commit(big_endian(6_000_000 * (place + 1), 4) + bytes(16), parents, place + 1)
+
+
+def check_joined(results, place):
+    """What `verify` counts there; where `find` finds each of many commits, and none beyond; and what `list` tells of them."""
+    graphtool = place.programs["graphtool"]
+    for size in COMPLETE:
+        text = facts.summary(list(range(size)), list(range(1, size + 1)))
+        for name in ("complete-%d" % size, "complete-%d-in-layers" % size):
+            answer = graphtool.run("verify", name, cwd=place.folder)
+            results.check("graphtool verify, %s" % name, judge.verdict(text, answer))
+    commits = [joined(at) for at in range(JOINED)]
+    text = "ok commits 600 longest 599\nparents 0 commits 1\nparents 2 commits 400\nparents 3 commits 199\n"
+    for name in ("joined", "joined-in-layers"):
+        results.check("graphtool verify, %s" % name, judge.verdict(text, graphtool.run("verify", name, cwd=place.folder)))
+        runs = []
+        for at, commit in enumerate([*commits, joined(JOINED)]):
+            told = (0, "position %d generation %d time 7\n" % (at, at + 1)) if at < JOINED else (1, "none\n")
+            run = partial(graphtool.run, "find", name, commit.id.hex(), cwd=place.folder)
+            runs.append((run, partial(judge.exactly, *told, "")))
+        check_runs(results, "graphtool find, %s" % name, runs)
+    lines = ["layer sha1 bases 0 commits %d" % JOINED]
+    for at, commit in enumerate(commits):
+        parents = ",".join(map(str, commit.parents)) or "-"
+        lines.append("%d %s %s %d 7 %s" % (at, commit.id.hex(), "9" * 40, at + 1, parents))
+    answer = graphtool.run("list", input=place.tree["joined"])
+    results.check("graphtool list, joined", judge.same("".join(line + "\n" for line in lines), answer))

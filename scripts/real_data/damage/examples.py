@@ -8,7 +8,7 @@ positions of its parents, and its generation number. Its time is 7.
 import os
 
 from damage import built
-from damage.built import TOP_BIT, Commit
+from damage.built import NO_PARENT, TOP_BIT, Commit
 from damage.layer import big_endian, contents, sealed, with_chunks
 from expected.listing import GREATEST_GENERATION
 from histories.repository import ID_LENGTH, write_bytes
@@ -53,12 +53,17 @@ def file(*rows, kind="sha1", bases=()):
     return built.file_of(kind, [built.row(byte, ID_LENGTH[kind], *said) for byte, *said in rows], bases)
 
 
-def chain(folder, *layers):
-    """The files of a folder with a chain of these layers."""
+def layers_of(layers):
+    """The files of layers with these rows, the lowest first."""
     files = []
     for rows in layers:
         files.append(file(*rows, bases=[below[-20:] for below in files]))
-    return chain_of(folder, files)
+    return files
+
+
+def chain(folder, *layers):
+    """The files of a folder with a chain of these layers."""
+    return chain_of(folder, layers_of(layers))
 
 
 def chain_of(folder, files):
@@ -94,6 +99,139 @@ def graphtool():
         "missing/commit-graph-chain": b"ab",
         "no-text/commit-graph-chain": b"\xff\n",
     }
+
+
+def graphs():
+    """For `verify`, `distinct` and `find`: graphs that show one thing each."""
+    return {**right_files(), **wrong_files(), **layered(), **named_lines()}
+
+
+LINE_WITH_A_LIST = ((0x11, (), 1), (0x22, (0,), 2), (0x33, (1, 0, 1), 3), (0x44, (2,), 4))
+"""Four commits, each on the one before. The third has two words in the extra edge list: the parent 0, and the last parent 1."""
+
+THIRD_FIELD, FOURTH_FIELD, LIST_AT = 1268, 1304, 1316
+"""Where the second parent fields of the last two of them stand, and the list."""
+
+
+def with_list(third, fourth, *numbers):
+    """The file of these four with other words in the second parent fields of the last two, and in the list."""
+    return changed(file(*LINE_WITH_A_LIST), (THIRD_FIELD, words([third])), (FOURTH_FIELD, words([fourth])), (LIST_AT, words(numbers)))
+
+
+def right_files():
+    """Files that are right, one after another in the names that Git gives and in others."""
+    greatest, checksum = GREATEST_GENERATION, file(*DIAMOND)[-20:].hex()
+    return {
+        "parent-above": file((0x11, (1,), 2), (0x22, (), 1)),
+        "line-of-ten": file(*[(0x11 * place, (place - 2,) if place > 1 else (), place) for place in range(1, 11)]),
+        "cycle-of-two": file((0x11, (1,), greatest), (0x22, (0,), greatest)),
+        "cycle-and-root": file((0x11, (0,), greatest), (0x22, (0,), greatest), (0x33, (), 1)),
+        # Two commits share the list: all of it, and its second word, by either of them.
+        "shared-list": with_list(TOP_BIT, TOP_BIT, 0, TOP_BIT + 1),
+        "shared-end": with_list(TOP_BIT, TOP_BIT + 1, 0, TOP_BIT + 1),
+        "shared-end-first": with_list(TOP_BIT + 1, TOP_BIT, 0, TOP_BIT + 1),
+        "graph-ab": file(*DIAMOND),
+        "graph-%s.graph" % checksum: file(*DIAMOND),
+        "graph-%s.graph" % checksum.upper(): file(*DIAMOND),
+    }
+
+
+def wrong_files():
+    """Files that a check refuses."""
+    diamond, greatest = file(*DIAMOND), GREATEST_GENERATION
+    return {
+        "graph-.graph": diamond,
+        "wrong-checksum": diamond[:-1] + bytes([diamond[-1] ^ 1]),
+        "base-in-a-file": file((0x11, (), 1), bases=[b"\x33" * 20]),
+        "fan-without-0x11": changed(diamond, (124, bytes(4))),
+        "fan-of-the-last-byte": changed(diamond, (124, bytes(952))),
+        "null-id": file((0, (), 1)),
+        "second-null-id": file((0x11, (), 1), (0, (), 1)),
+        "id-twice": file((0x11, (), 1), (0x11, (), 1)),
+        "null-tree": changed(diamond, (1232, bytes(20))),
+        "root-with-a-second": changed(diamond, (1180, b"\x70\0\0\0\0\0\0\x07")),
+        "merge-without-a-first": changed(diamond, (1288, b"\x70\0\0\0\0\0\0\x02")),
+        "merge-by-an-index": changed(diamond, (1288, b"\x80\0\0\0\x70\0\0\0")),
+        "merge-without-a-list": changed(diamond, (1288, b"\0\0\0\x01\x80\0\0\0")),
+        # Lists that two commits share. A position is too great, the list runs out, or both.
+        "outside-at-the-end": with_list(TOP_BIT, TOP_BIT, 0, TOP_BIT + 9),
+        "outside-before-the-end": with_list(TOP_BIT + 1, TOP_BIT, 9, TOP_BIT + 1),
+        "outside-and-endless": with_list(TOP_BIT, TOP_BIT, 9, 1),
+        "endless-and-outside": with_list(TOP_BIT, TOP_BIT, 1, 9),
+        "endless": with_list(TOP_BIT, TOP_BIT, 0, 1),
+        "endless-end": with_list(TOP_BIT, TOP_BIT + 1, TOP_BIT, 1),
+        "past-the-list": with_list(TOP_BIT, TOP_BIT + 2, 0, TOP_BIT + 1),
+        # Its parent is itself.
+        "word-of-its-own": with_list(TOP_BIT + 1, TOP_BIT, 3, TOP_BIT + 1),
+        # Generation numbers that are too low, none, that of a cycle, and too high.
+        "octopus-too-low": file(*OCTOPUS[:3], (0x44, (0, 0, 2), 2)),
+        "root-of-0": file((0x11, (), 0)),
+        "cycle-of-1": file((0x11, (0,), 1)),
+        "cycle-below-the-greatest": file((0x11, (1,), greatest), (0x22, (0,), greatest - 1)),
+        "cycle-of-5": file((0x11, (1,), 5), (0x22, (0,), 5)),
+        "root-of-the-greatest": file((0x11, (), greatest)),
+    }
+
+
+def layered():
+    """Chains of layers, in which ids, parents and layers stand in every way."""
+    ends = ((), ((0x11, 0), (0x11, 2)), (), ((0x11, 2), (0x11, 3), (0x33, 4)))
+    lower = file((0x11, (), 1), (0x22, (0,), 2))
+    again = file((0x22, (), 1), (0x33, (2,), 2), (0x44, (), 1), bases=[lower[-20:]])
+    return {
+        # An id begins with the first byte and ends with the second. Two layers have no commits, and one id stands twice.
+        **of_ends("ends", ends),
+        **of_ends("two-empty-layers", ((), ())),
+        **chain("256-layers", *[()] * 256),
+        **chain_of("257-layers", [*layers_of([()] * 256), file()]),
+        **chain("parent-in-a-later-layer", ((0x11, (1,), 2),), ((0x22, (), 1),)),
+        **chain("in-any-order", ((0x33, (1,), 2), (0x44, (), 1)), ((0x11, (4,), 4), (0x22, (0, 2, 4), 5), (0x55, (0,), 3))),
+        **chain_of("another-base", [file(), file(bases=[b"\x33" * 20])]),
+        # The id of the second position stands once more: in the next layer, with a null tree, and in the last of five layers.
+        **chain_of("again", [lower, again]),
+        **chain_of("again-and-null-tree", [lower, changed(again, (RECORDS_OF_THREE_ON_A_BASE, bytes(20)))]),
+        **chain("far-apart", ((0x11, (), 1), (0x22, (0,), 2)), ((0x33, (), 1),), (), ((0x44, (), 1),), ((0x22, (), 1),)),
+    }
+
+
+RECORDS_OF_THREE_ON_A_BASE = 8 + 5 * 12 + 1024 + 3 * 20
+"""Where the records of a file of three commits with bases and without an extra edge list begin."""
+
+
+def of_ends(folder, layers):
+    """The files of a folder with a chain of layers of roots, whose ids begin and end with these bytes."""
+    files = []
+    for ends in layers:
+        commits = [Commit(bytes([first]) * 19 + bytes([last]), (), 1) for first, last in ends]
+        files.append(built.file_of("sha1", commits, [below[-20:] for below in files]))
+    return chain_of(folder, files)
+
+
+def named_lines():
+    """Folders with chain files, beside the same layers: of one commit each, an empty one of the other kind of hash, and one that is
+    too short. Their names are no checksums."""
+    layers = {"aa": file((0x33, (), 1)), "": file((0x22, (), 1)), "bb": file((0x11, (), 1)), "a\r": file((0x44, (), 1))}
+    layers.update({"sha256": file(kind="sha256"), "short": SMALL})
+    tree = {}
+    for folder, lines in LINES.items():
+        tree[folder + "/commit-graph-chain"] = lines
+        tree.update({"%s/graph-%s.graph" % (folder, name): content for name, content in layers.items()})
+    return tree
+
+
+LINES = {
+    "line-ends": b"aa\r\n\nbb",
+    "last-carriage-return": b"a\r",
+    "other-order": b"bb\naa\n",
+    "no-lines": b"",
+    "short-first": b"short\naa\n",
+    "short-last": b"aa\nbb\nshort",
+    "missing-last": b"aa\nmissing\n",
+    "no-text-last": b"aa\nbb\n\xff\n",
+    "other-kind-second": b"aa\nsha256\n",
+    "other-kind-third": b"aa\nbb\nsha256\naa\n",
+}
+"""Chain files."""
 
 
 def histories():
@@ -166,6 +304,103 @@ def listed():
             *(b"\0\0\0\x05\x80\0\0\x0f\0\0\0\x04\0\0\0\0", bytes(20)),
         ),
     }
+
+
+def layers():
+    """For `list`: files that show one thing each."""
+    unknown = of_parts((1, 4, 0), (*WITH_EDGES[:3], (b"XTRA", 1092), (END, 1100)), bytes(1052))
+    return {"unknown-chunk": unknown, **{name: of_one(*said) for name, said in FIELDS.items()}, **unopened()}
+
+
+def of_one(first, second, date, edges=None):
+    """The file of one commit with these parent fields and these last eight bytes, and an extra edge list or a chunk of another name."""
+    edges_at, name = 1148, b"XTRA" if edges is None else b"EDGE"
+    entries = (*EDGES_FROM_THE_HEADER_ON[1:4], (name, edges_at), (END, edges_at + len(edges or b"")))
+    fields = words([first, second]) + date
+    return of_parts((1, 4, 0), entries, FAN_OF_0X11, b"\x11" * 20, b"\x22" * 20, fields, edges or b"", bytes(20))
+
+
+DATE = b"\0\0\0\x04\0\0\0\0"
+"""The last bytes of a commit with the generation number 1 and the time 0."""
+
+FIELDS = {
+    "greatest-time": (NO_PARENT, NO_PARENT, b"\0\0\0\x07\xff\xff\xff\xff"),
+    "second-generation": (NO_PARENT, NO_PARENT, b"\0\0\0\x08\0\0\0\0"),
+    "greatest-date": (NO_PARENT, NO_PARENT, b"\xff" * 8),
+    "neither": (NO_PARENT, NO_PARENT, DATE),
+    "first-alone": (5, NO_PARENT, DATE),
+    "both": (5, 7, DATE),
+    "second-alone": (NO_PARENT, 7, DATE),
+    "index-alone": (NO_PARENT, TOP_BIT, DATE, b""),
+    "index-first": (TOP_BIT, NO_PARENT, DATE),
+    "two-words": (5, TOP_BIT, DATE, b"\0\0\0\x03\x80\0\0\x02"),
+    # The word that stands for no parent in a record is a position in the list.
+    "word-of-no-parent": (5, TOP_BIT, DATE, b"\x70\0\0\0\x80\0\0\x01"),
+    "no-list": (5, TOP_BIT, DATE),
+    "past-two-words": (5, TOP_BIT + 2, DATE, b"\0\0\0\x03\x80\0\0\x02"),
+    "three-bytes": (5, TOP_BIT, DATE, b"\0\0\0"),
+    "no-words": (5, TOP_BIT, DATE, b""),
+}
+"""Of commits the parent fields and the last bytes of their records, and the extra edge lists of their files."""
+
+
+def unopened():
+    """Files that are refused, each for the first condition that holds."""
+    empty = of_parts((1, 3, 0), THREE_CHUNKS, bytes(1044))
+    tree = {
+        "another-signature": b"CGPX" + empty[4:],
+        "version-2": empty[:4] + b"\2" + empty[5:],
+        "falling-fan": changed(file(*DIAMOND), (72, b"\0\0\0\2")),
+    }
+    tree.update({name: of_parts(header, entries, bytes(zeros)) for name, (header, entries, zeros) in UNOPENED.items()})
+    return tree
+
+
+def entries(*places, names=(b"OIDF", b"OIDL", b"CDAT", END)):
+    """A table of chunks: each name and its place."""
+    return tuple(zip(names, places))
+
+
+BASES = (b"OIDF", b"OIDL", b"CDAT", b"BASE", END)
+PLAIN = (1, 3, 0)
+
+UNOPENED = {
+    "hash-3": ((3, 3, 0), THREE_CHUNKS, 1044),
+    "base-without-its-id": ((1, 3, 1), THREE_CHUNKS, 1044),
+    "trailer-of-the-other-kind": ((2, 3, 0), THREE_CHUNKS, 1044),
+    # The table: no chunks, more than there is room for, and what is wrong in an entry, or in two, of which the first is told.
+    "no-chunks": ((1, 0, 0), THREE_CHUNKS, 1044),
+    "table-too-long": ((1, 255, 0), THREE_CHUNKS, 1044),
+    "end-first": (PLAIN, entries(56, 1080, 1080, 1080, names=(END, b"OIDL", b"CDAT", END)), 1044),
+    "end-second": (PLAIN, entries(56, 1080, 1080, 1080, names=(b"OIDF", END, b"CDAT", END)), 1044),
+    "chunk-twice": (PLAIN, entries(56, 1080, 1080, 1080, names=(b"OIDF", b"OIDL", b"OIDL", END)), 1044),
+    "chunk-twice-and-falling": (PLAIN, entries(56, 0, 1080, 1080, names=(b"OIDF", b"OIDF", b"CDAT", END)), 1044),
+    "first-past-the-end": (PLAIN, entries(1101, 1080, 1080, 1080), 1044),
+    "first-far-past-the-end": (PLAIN, entries(2**56, 1080, 1080, 1080), 1044),
+    "last-past-the-end": (PLAIN, entries(56, 1080, 1080, 1101), 1044),
+    "chunks-that-fall": (PLAIN, entries(56, 1080, 1079, 1080), 1044),
+    "end-that-falls": (PLAIN, entries(56, 1080, 1080, 1079), 1044),
+    "no-end": (PLAIN, entries(56, 1080, 1080, 1080, names=(b"OIDF", b"OIDL", b"CDAT", b"XTRA")), 1044),
+    "no-end-but-1": (PLAIN, entries(56, 1080, 1080, 1080, names=(b"OIDF", b"OIDL", b"CDAT", b"\0\0\0\1")), 1044),
+    "chunk-twice-at-the-end": (PLAIN, entries(56, 1080, 1080, 1080, names=(b"OIDF", b"OIDL", b"CDAT", b"OIDF")), 1044),
+    "no-end-past-the-end": (PLAIN, entries(56, 1080, 1080, 1101, names=(b"OIDF", b"OIDL", b"CDAT", b"OIDF")), 1044),
+    # Chunks that are missing.
+    "no-commit-data": (PLAIN, entries(56, 1080, 1080, 1080, names=(b"OIDF", b"OIDL", b"XTRA", END)), 1044),
+    "no-fan": (PLAIN, entries(56, 1080, 1080, 1080, names=(b"XTRA", b"OIDL", b"CDAT", END)), 1044),
+    "no-ids": (PLAIN, entries(56, 1080, 1080, 1080, names=(b"OIDF", b"XTRA", b"CDAT", END)), 1044),
+    # Chunks and a trailer of wrong sizes, and base ids that are too few.
+    "35-bytes-of-commit-data": (PLAIN, entries(56, 1080, 1080, 1115), 1079),
+    "1025-bytes-of-fan": (PLAIN, entries(56, 1081, 1081, 1081), 1045),
+    "19-bytes-of-ids": (PLAIN, entries(56, 1080, 1099, 1099), 1063),
+    "21-bytes-of-trailer": (PLAIN, THREE_CHUNKS, 1045),
+    "an-id-too-many": (PLAIN, entries(56, 1080, 1100, 1100), 1064),
+    "a-record-too-many": (PLAIN, entries(56, 1080, 1080, 1116), 1080),
+    "19-bytes-of-base-ids": ((1, 4, 1), entries(68, 1092, 1092, 1092, 1111, names=BASES), 1063),
+    "a-base-id-too-few": ((1, 4, 2), entries(68, 1092, 1092, 1092, 1112, names=BASES), 1064),
+    # The fan is the table, whose numbers fall at once.
+    "fan-over-the-table": (PLAIN, entries(8, 1032, 1092, 1092), 1056),
+}
+"""Headers, tables of chunks, and how many zeros follow."""
 
 
 SIZES = {"one": 1156, "second-without-first": 1156, "no-edge-list": 1156, "six": 1456, "empty-sha256": 1112}
