@@ -3,7 +3,7 @@ use Rattle.graph_walks.specs.Walks.{IsWalkBetween}
 use Rattle.commit_search.specs.WalkAnswer.{IsShortestWalk, IsAtOrAbove}
 use Rattle.commit_search.specs.Positions.{numbers_of}
 use Rattle.commit_search.proofs.KnownAnswerLemmas.{one_walk, one_is_shortest, one_is_visited, none_is_visited, none_is_above}
-use Rattle.commit_search.proofs.any.AnySearcher.ancestor_walk.Goals as goal
+use Rattle.commit_search.proofs.any.MarkSearcher.ancestor_walk.Goals as goal
 
 pub returns-then-eq-clause-answer : goal.returns-then-eq-clause-answer
 returns-then-eq-clause-answer g c = λ t said.

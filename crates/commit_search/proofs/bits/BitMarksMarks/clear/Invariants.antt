@@ -1,6 +1,6 @@
 use Rattle.std.proofs.Common.{◌≡◌, ◌*◌, length}
 use Rattle.commit_search.proofs.MarkLemmas.{AreLeft}
-use Rattle.commit_search.proofs.marks.Marks.clear.Given as goal
+use Rattle.commit_search.proofs.bits.BitMarksMarks.clear.Given as goal
 
 abbrev pub invariant-loop-marked : goal.invariant-loop-marked
 invariant-loop-marked l = record {

@@ -2,7 +2,7 @@ use Rattle.std.proofs.Common.{◌<◌, ◌*◌, ◌/◌, List, length, set, ap, 
 use Rattle.std.proofs.lemmas.List.{get_or_read}
 use Rattle.commit_search.specs.Marks.{Marking, Marked, AreMarks}
 use Rattle.commit_search.proofs.MarkLemmas.{with_bit, are_marks-set}
-use Rattle.commit_search.proofs.marks.Marks.set.Goals as goal
+use Rattle.commit_search.proofs.bits.BitMarksMarks.set.Goals as goal
 
 pub invariant_of-self-2 : goal.invariant_of-self-2
 invariant_of-self-2 c =

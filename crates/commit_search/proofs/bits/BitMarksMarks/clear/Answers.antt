@@ -1,7 +1,7 @@
 use Rattle.std.proofs.Common.{◌/◌, subst, arith}
 use Rattle.std.proofs.lemmas.List.{length-set}
 use Rattle.commit_search.proofs.MarkLemmas.{AreLeft, are_left-clear, inside_left}
-use Rattle.commit_search.proofs.marks.Marks.clear.Goals as goal
+use Rattle.commit_search.proofs.bits.BitMarksMarks.clear.Goals as goal
 
 pub index_mut-requires : goal.index_mut-requires
 index_mut-requires c =

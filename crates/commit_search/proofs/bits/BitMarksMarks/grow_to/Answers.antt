@@ -1,6 +1,6 @@
 use Rattle.std.proofs.Common.{◌+◌, ◌/◌, rules, arith}
 use Rattle.commit_search.proofs.MarkLemmas.{are_marks-grown}
-use Rattle.commit_search.proofs.marks.Marks.grow_to.Goals as goal
+use Rattle.commit_search.proofs.bits.BitMarksMarks.grow_to.Goals as goal
 
 pub invariant_of-self : goal.invariant_of-self
 invariant_of-self c =

@@ -1,6 +1,6 @@
 use Rattle.std.proofs.Common.{sym, eqb-true, arith}
 use Rattle.commit_search.proofs.KnownAnswerLemmas.{reaches_itself}
-use Rattle.commit_search.proofs.any.AnySearcher.is_ancestor.Goals as goal
+use Rattle.commit_search.proofs.any.MarkSearcher.is_ancestor.Goals as goal
 
 pub returns-then-eq-clause-yes : goal.returns-then-eq-clause-yes
 returns-then-eq-clause-yes g c = λ t said found.
