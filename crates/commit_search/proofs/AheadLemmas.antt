@@ -8,7 +8,7 @@ use Rattle.commit_search.specs.Queue.{commit_in}
 use Rattle.commit_search.specs.Search.{queued_by, GoesOn, IsParentNumber, AreFieldsAhead, AreParentNumbers, AreAhead}
 use Rattle.commit_search.specs.Source.{Told, AreFieldsRead}
 use Rattle.commit_search.specs.declared.ahead.Ahead.{Ahead}
-use Rattle.commit_search.specs.declared.search.Search.{Search}
+use Rattle.commit_search.specs.SearchState.{SearchState}
 use Rattle.commit_search.proofs.QueueLemmas.{commit_extends}
 
 -- what stands at a place of a list with one element more
@@ -46,12 +46,12 @@ module _ (count : ℕ) (listed lies : ℕ → ℕ → Type 0) where
     told = λ t said. are.told t (kept t said);
   }
 
-  pub fields_kept : (more less : Told → Type 0) → ((t : Told) → less t → more t) → (s : Search) (ahead : Ahead)
+  pub fields_kept : (more less : Told → Type 0) → ((t : Told) → less t → more t) → (s : SearchState) (ahead : Ahead)
       → AreFieldsAhead count listed lies more s ahead → AreFieldsAhead count listed lies less s ahead
   fields_kept more less kept s ahead are i fields at =
       let was = are i fields at in (was.0, fields_read_kept more less kept _ fields was.1)
 
-  pub nothing_ahead : (says : Told → Type 0) (s : Search) (ahead : Ahead) → length ahead.fields.items ≡ 0
+  pub nothing_ahead : (says : Told → Type 0) (s : SearchState) (ahead : Ahead) → length ahead.fields.items ≡ 0
       → length ahead.numbers.items ≡ 0 → AreAhead count listed lies says s ahead
   nothing_ahead says s ahead none numbers = record {
     fields = λ i fields at. absurd (omega (arith, none, slice_get_within ahead.fields.items i fields at));
@@ -59,7 +59,7 @@ module _ (count : ℕ) (listed lies : ℕ → ℕ → Type 0) where
     numbers = λ i fields number at there. absurd (omega (arith, none, slice_get_within ahead.fields.items i fields at));
   }
 
-  fields_extend : (says : Told → Type 0) (a b : Search) (c : ℕ) (ahead : Ahead) → GoesOn a b c
+  fields_extend : (says : Told → Type 0) (a b : SearchState) (c : ℕ) (ahead : Ahead) → GoesOn a b c
       → AreFieldsAhead count listed lies says a ahead → AreFieldsAhead count listed lies says b ahead
   fields_extend says a b c ahead on are i fields at =
       let was = are i fields at in
@@ -70,7 +70,7 @@ module _ (count : ℕ) (listed lies : ℕ → ℕ → Type 0) where
       )
 
   -- the queue grows, and the source says less
-  pub ahead_extends : (more less : Told → Type 0) → ((t : Told) → less t → more t) → (a b : Search) (c : ℕ) (ahead : Ahead)
+  pub ahead_extends : (more less : Told → Type 0) → ((t : Told) → less t → more t) → (a b : SearchState) (c : ℕ) (ahead : Ahead)
       → GoesOn a b c → AreAhead count listed lies more a ahead → AreAhead count listed lies less b ahead
   ahead_extends more less kept a b c ahead on are = record {
     fields = fields_extend less a b c ahead on (fields_kept more less kept a ahead are.fields);
@@ -79,7 +79,7 @@ module _ (count : ℕ) (listed lies : ℕ → ℕ → Type 0) where
   }
 
   -- the fields of one more commit are read
-  pub fields_push : (says : Told → Type 0) (s : Search) (ahead after : Ahead) (x : Fields) (place : ℕ)
+  pub fields_push : (says : Told → Type 0) (s : SearchState) (ahead after : Ahead) (x : Fields) (place : ℕ)
       → after.first ≡ ahead.first → after.fields.items ≡ ahead.fields.items ++ x ∷ []
       → place ≡ ahead.first + length ahead.fields.items → place < length (queued_by s)
       → AreFieldsRead count listed lies says (commit_in (queued_by s) place) x
@@ -98,7 +98,7 @@ module _ (count : ℕ) (listed lies : ℕ → ℕ → Type 0) where
       (pushed ahead.fields.items x fields i (subst (λ (xs : List Fields). slice_get xs i ≡ Some fields) items at)))
 
   -- and the numbers of all of them
-  pub ahead_read : (more less : Told → Type 0) → ((t : Told) → less t → more t) → (s : Search) (ahead : Ahead)
+  pub ahead_read : (more less : Told → Type 0) → ((t : Told) → less t → more t) → (s : SearchState) (ahead : Ahead)
       (fields : List Fields) → fields ≡ ahead.fields.items → AreFieldsAhead count listed lies more s ahead
       → length ahead.numbers.items ≡ length fields → AreParentNumbers less fields ahead.numbers.items
       → AreAhead count listed lies less s ahead
@@ -110,7 +110,7 @@ module _ (count : ℕ) (listed lies : ℕ → ℕ → Type 0) where
 
   module _ (says : Told → Type 0) where
     -- the fields that are read again are those of the commit at their place
-    pub fields_ahead : (s : Search) (ahead : Ahead) (i place : ℕ) (x : Fields) → AreAhead count listed lies says s ahead
+    pub fields_ahead : (s : SearchState) (ahead : Ahead) (i place : ℕ) (x : Fields) → AreAhead count listed lies says s ahead
         → i < length ahead.fields.items → x ≡ get_or ahead.fields.items i x → ahead.first + i ≡ place
         → AreFieldsRead count listed lies says (commit_in (queued_by s) place) x
     fields_ahead s ahead i place x are lt read same =
@@ -118,7 +118,7 @@ module _ (count : ℕ) (listed lies : ℕ → ℕ → Type 0) where
         (are.fields i x (slice_get_read ahead.fields.items (length ahead.fields.items) i x refl lt read)).1
 
     -- and so the number of the first parent
-    pub number_ahead : (s : Search) (ahead : Ahead) (i n : ℕ) (x : Fields) → AreAhead count listed lies says s ahead
+    pub number_ahead : (s : SearchState) (ahead : Ahead) (i n : ℕ) (x : Fields) → AreAhead count listed lies says s ahead
         → i < length ahead.fields.items → x ≡ get_or ahead.fields.items i x → n ≡ get_or ahead.numbers.items i n
         → IsParentNumber says x.0 n
     number_ahead s ahead i n x are lt read number =

@@ -2,6 +2,7 @@ pub mod CardinalityLemmas
 pub mod EdgeListLemmas
 pub mod MarkLemmas
 pub mod QueueLemmas
+pub mod HashTableLemmas
 pub mod ListLemmas
 pub mod SearchLemmas
 pub mod AheadLemmas

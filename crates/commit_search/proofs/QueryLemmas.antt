@@ -3,7 +3,7 @@ use Rattle.std.proofs.Common.{◌≡◌, ◌≢◌, ℕ, ◌+◌, ◌<◌, ◌�
 use Rattle.std.proofs.lemmas.Bool.{cases_lt}
 use Rattle.graph_walks.specs.History.{Node, IsParent, generation_at}
 use Rattle.graph_walks.specs.Walks.{IsWalkBetween, Reaches}
-use Rattle.commit_search.specs.declared.search.Search.{Search}
+use Rattle.commit_search.specs.SearchState.{SearchState}
 use Rattle.commit_search.specs.WalkAnswer.{IsShortestWalk, IsAtOrAbove, IsAbove}
 use Rattle.commit_search.specs.BreadthFirst.{AreInOrder, ChildrenUpTo, QueuedFrom, QueuesParentsFrom}
 use Rattle.commit_search.specs.Cardinality.{AtLeast, AtMost}
@@ -66,7 +66,7 @@ module _ (a b : List Marked) (c : ℕ) (extends : Extends a b c) where
       (cases_lt j (length a))
 
 -- The state of the query when visits commits were taken from the queue, by one history.
-pub record IsQuery (h : List Node) (from to : ℕ) (s : Search) (visits : ℕ) : Type 0 where
+pub record IsQuery (h : List Node) (from to : ℕ) (s : SearchState) (visits : ℕ) : Type 0 where
   pub least : s.least ≡ generation_at h to
   pub kept : IsQueue h s.least (queued_by s)
   pub some : 0 < length (queued_by s)
@@ -77,7 +77,7 @@ pub record IsQuery (h : List Node) (from to : ℕ) (s : Search) (visits : ℕ) :
   pub others : (i : ℕ) → i < visits → commit_in (queued_by s) i ≢ to
 
 -- That state, by what a source of so many commits says.
-pub record IsQuerying (count : ℕ) (says : Told → Type 0) (from to : ℕ) (s : Search) (visits : ℕ) : Type 0 where
+pub record IsQuerying (count : ℕ) (says : Told → Type 0) (from to : ℕ) (s : SearchState) (visits : ℕ) : Type 0 where
   pub search : IsSearching count says s
   pub read : AreRead says s
   pub least : (t : Told) → says t → s.least ≡ generation_at t.history to
@@ -91,7 +91,7 @@ pub record IsQuerying (count : ℕ) (says : Told → Type 0) (from to : ℕ) (s 
   pub others : (i : ℕ) → i < visits → commit_in (queued_by s) i ≢ to
 
 -- before the first visit
-pub query_begins : (count : ℕ) (says : Told → Type 0) (from to : ℕ) (s : Search) → IsSearching count says s → AreRead says s
+pub query_begins : (count : ℕ) (says : Told → Type 0) (from to : ℕ) (s : SearchState) → IsSearching count says s → AreRead says s
     → queued_by s ≡ record { number = from; mark = 0 } ∷ []
     → ((t : Told) → says t → s.least ≡ generation_at t.history to) → IsQuerying count says from to s 0
 query_begins count says from to s going read one least =
@@ -112,7 +112,7 @@ query_begins count says from to s going read one least =
       others = λ i below at. absurd (omega arith);
     }
 
-module _ (count : ℕ) (says : Told → Type 0) (from to : ℕ) (s : Search) (visits : ℕ)
+module _ (count : ℕ) (says : Told → Type 0) (from to : ℕ) (s : SearchState) (visits : ℕ)
     (query : IsQuerying count says from to s visits) where
   pub queued_within : length (queued_by s) ≤ count
   queued_within = length-queued _ _ _ (queued_by s) query.search.queue
@@ -130,7 +130,7 @@ module _ (count : ℕ) (says : Told → Type 0) (from to : ℕ) (s : Search) (vi
   }
 
   -- a visit of the next commit, where it is not the one that is looked for
-  pub query_goes_on : (less : Told → Type 0) → ((t : Told) → less t → says t) → (after : Search)
+  pub query_goes_on : (less : Told → Type 0) → ((t : Told) → less t → says t) → (after : SearchState)
       → visits < length (queued_by s) → commit_in (queued_by s) visits ≢ to
       → GoesOn s after visits → IsSearching count less after → AreRead less after
       → ((t : Told) → less t → QueuesParents t.history s.least (queued_by after) visits)
@@ -157,7 +157,7 @@ module _ (count : ℕ) (says : Told → Type 0) (from to : ℕ) (s : Search) (vi
         others = others_more (queued_by s) (queued_by after) visits goes_on.extends to lt query.others other;
       }
 
-module _ (h : List Node) (from to : ℕ) (s : Search) (visits : ℕ) (query : IsQuery h from to s visits) where
+module _ (h : List Node) (from to : ℕ) (s : SearchState) (visits : ℕ) (query : IsQuery h from to s visits) where
   queue : IsQueue h (generation_at h to) (queued_by s)
   queue = subst (λ (n : ℕ). IsQueue h n (queued_by s)) query.least query.kept
 

@@ -21,17 +21,17 @@ leads_same Leads p q r s e f leads = subst (λ (x : ℕ). Leads x q) (sym e) (su
 
 -- the places of a list and one more
 module _ (queued : List Marked) (f : Marked) where
-  cases_pushed : (i : ℕ) → i < length (queued ++ f ∷ []) → (i < length queued) ⊎ (i ≡ length queued)
+  pub cases_pushed : (i : ℕ) → i < length (queued ++ f ∷ []) → (i < length queued) ⊎ (i ≡ length queued)
   cases_pushed i lt = let len = length_push queued f in
       ⊎_elim (λ (lo : i < length queued). inl lo) (λ (hi : length queued ≤ i). inr (omega arith)) (cases_lt i (length queued))
 
-  commit_old : (i : ℕ) → i < length queued → commit_in (queued ++ f ∷ []) i ≡ commit_in queued i
+  pub commit_old : (i : ℕ) → i < length queued → commit_in (queued ++ f ∷ []) i ≡ commit_in queued i
   commit_old i lt = ap (λ o. option_map_or (λ (x : Marked). x.number) o 0) (slice_get_push_old queued f i lt)
 
   child_old : (i : ℕ) → i < length queued → child_in (queued ++ f ∷ []) i ≡ child_in queued i
   child_old i lt = ap (λ o. option_map_or (λ (x : Marked). x.mark) o 0) (slice_get_push_old queued f i lt)
 
-  commit_new : (i : ℕ) → i ≡ length queued → commit_in (queued ++ f ∷ []) i ≡ f.number
+  pub commit_new : (i : ℕ) → i ≡ length queued → commit_in (queued ++ f ∷ []) i ≡ f.number
   commit_new i e = ap (commit_in (queued ++ f ∷ [])) e
       ∙ ap (λ o. option_map_or (λ (x : Marked). x.number) o 0) (slice_get_push_new queued f)
 

@@ -4,6 +4,8 @@ pub mod EdgeLists
 pub mod Source
 pub mod WalkAnswer
 pub mod Marks
+pub mod HashTable
 pub mod Queue
 pub mod BreadthFirst
+pub mod SearchState
 pub mod Search

@@ -13,16 +13,16 @@ use Rattle.commit_search.specs.Queue.{IsQueueOf, IsQueued, Extends, commit_in}
 use Rattle.commit_search.specs.EdgeLists.{named_by}
 use Rattle.commit_search.specs.Source.{Told, AreFieldsRead}
 use Rattle.commit_search.specs.declared.ahead.Ahead.{Ahead}
-use Rattle.commit_search.specs.declared.search.Search.{Search}
+use Rattle.commit_search.specs.SearchState.{SearchState}
 
 -- the commits that a search has reached
-abbrev pub queued_by : Search → List Marked
+abbrev pub queued_by : SearchState → List Marked
 queued_by s = s.reached.marked
 
 -- Nothing is marked.
-pub record IsIdle (s : Search) : Type 0 where
+pub record IsIdle (s : SearchState) : Type 0 where
   pub reached : queued_by s ≡ []
-  pub words : (l : ℕ) → marked_at s.words.layers.items l ≡ []
+  pub words : (l : ℕ) → marked_at s.words l ≡ []
 
 -- p may be of use, as far as a source says its generation number
 abbrev pub Keeps : (Told → Type 0) → ℕ → ℕ → Type 0
@@ -37,7 +37,7 @@ abbrev pub AreSoMany : ℕ → (Told → Type 0) → Type 0
 AreSoMany count says = (t : Told) → says t → length t.history ≡ count
 
 -- A search goes on, over a source of so many commits that says what it tells.
-pub record IsSearching (count : ℕ) (says : Told → Type 0) (s : Search) : Type 0 where
+pub record IsSearching (count : ℕ) (says : Told → Type 0) (s : SearchState) : Type 0 where
   pub few : count < 2 ^ 32
   pub room : count ≤ s.reached.bound
   pub counted : AreSoMany count says
@@ -53,24 +53,22 @@ pub record IsRead (history : List Node) (least : ℕ) (queued : List Marked) (li
       → IsMarked marked (w + 1) ⊎ (next ≡ Some (w + 1))
 
 -- so of the list of a layer
-abbrev pub IsListRead : Told → Search → ℕ → Option ℕ → Type 0
-IsListRead t s l next = IsRead t.history s.least (queued_by s) (t.lists l) (marked_at s.words.layers.items l) next
+abbrev pub IsListRead : Told → SearchState → ℕ → Option ℕ → Type 0
+IsListRead t s l next = IsRead t.history s.least (queued_by s) (t.lists l) (marked_at s.words l) next
 
 -- and of the lists of all layers
-abbrev pub AreRead : (Told → Type 0) → Search → Type 0
+abbrev pub AreRead : (Told → Type 0) → SearchState → Type 0
 AreRead says s = (t : Told) → says t → (l : ℕ) → IsListRead t s l None
 
 -- The search went on from the commit at place c.
-pub record GoesOn (old new : Search) (c : ℕ) : Type 0 where
+pub record GoesOn (old new : SearchState) (c : ℕ) : Type 0 where
   pub least : new.least ≡ old.least
-  pub stack : new.stack.items ≡ old.stack.items
   pub extends : Extends (queued_by old) (queued_by new) c
 
 -- A commit with this generation number was put at the end of the queue, reached from place c, unless it was there before or is
 -- of no use.
-pub record IsEnqueued (old new : Search) (p c number : ℕ) : Type 0 where
+pub record IsEnqueued (old new : SearchState) (p c number : ℕ) : Type 0 where
   pub least : new.least ≡ old.least
-  pub stack : new.stack.items ≡ old.stack.items
   pub bound : new.reached.bound ≡ old.reached.bound
   pub queue : ((queued_by new ≡ queued_by old) × (old.least ≤ number → IsQueued (queued_by old) p))
       ⊎ ((queued_by new ≡ queued_by old ++ record { number = p; mark = c } ∷ []) × (old.least ≤ number)
@@ -83,7 +81,7 @@ IsParentNumber says (edge.GraphPosition pos) number = (t : Told) → says t → 
 IsParentNumber says (edge.ExtraEdgeIndex index) number = Unit {0}
 
 -- The fields that were read ahead are the parent fields of commits that stand one after another in the queue.
-abbrev pub AreFieldsAhead : ℕ → (ℕ → ℕ → Type 0) → (ℕ → ℕ → Type 0) → (Told → Type 0) → Search → Ahead → Type 0
+abbrev pub AreFieldsAhead : ℕ → (ℕ → ℕ → Type 0) → (ℕ → ℕ → Type 0) → (Told → Type 0) → SearchState → Ahead → Type 0
 AreFieldsAhead count listed lies says s ahead = (i : ℕ) (fields : ParentEdge × ParentEdge)
     → slice_get ahead.fields.items i ≡ Some fields
     → (ahead.first + i < length (queued_by s))
@@ -95,7 +93,7 @@ AreParentNumbers says fields numbers = (i : ℕ) (both : ParentEdge × ParentEdg
     → slice_get fields i ≡ Some both → slice_get numbers i ≡ Some number → IsParentNumber says both.0 number
 
 -- what was read ahead
-pub record AreAhead (count : ℕ) (listed lies : ℕ → ℕ → Type 0) (says : Told → Type 0) (s : Search) (ahead : Ahead)
+pub record AreAhead (count : ℕ) (listed lies : ℕ → ℕ → Type 0) (says : Told → Type 0) (s : SearchState) (ahead : Ahead)
     : Type 0 where
   pub fields : AreFieldsAhead count listed lies says s ahead
   pub as_many : length ahead.numbers.items ≡ length ahead.fields.items

@@ -7,6 +7,7 @@ ghost use Rattle.commit_search.specs.Search.{queued_by, IsSearching, AreAhead};
 ghost use Rattle.commit_search.specs.Search.{IsParentNumber, AreParentNumbers};
 ghost use Rattle.commit_search.specs.Source.{Told, AreFieldsRead, IsFieldWithin};
 
+use crate::marks::Marks;
 use crate::search::Search;
 use crate::source::CommitSource;
 use graph_format::parents::ParentEdge;
@@ -51,7 +52,7 @@ impl Ahead {
     }
 }
 
-impl Search {
+impl<M: Marks> Search<M> {
     /// What both parent fields of the commit at a place of the queue say, and the generation number
     /// of the parent that the first of them names. Where they were not read yet, those of the
     /// commits after it are read too.

@@ -7,18 +7,21 @@ ghost use Rattle.graph_walks.specs.Walks.{CountWalks, Reaches};
 ghost use Rattle.commit_search.specs.Search.{IsIdle, Keeps};
 ghost use Rattle.commit_search.specs.Source.{Told};
 
+use crate::marks::Marks;
 use crate::search::Search;
 use crate::source::CommitSource;
 use graph_format::Position;
 use graph_walks::law::generations_never_rise_along_walks;
 use std::alloc::AllocError;
 
-impl Search {
+impl<M: Marks> Search<M> {
     /// Whether a walk leads from one commit to another, whose generation number is not above that
-    /// of the first. First parents are followed first.
+    /// of the first. First parents are followed first. The stack has the places of the queue that
+    /// are yet to be visited; what it held before is of no use.
     pub(crate) fn reaches<S: CommitSource>(
         &mut self,
         commits: &mut S,
+        stack: &mut Vec<u32>,
         from: Position,
         to: Position,
         least: u32,
@@ -39,16 +42,16 @@ impl Search {
     {
         generations_never_rise_along_walks();
         self.begin(commits.num_commits(), from, least)?;
-        self.stack.clear();
-        push_places(&mut self.stack, 0, 1)?;
-        while let Some(place) = self.stack.pop() {
+        stack.clear();
+        push_places(stack, 0, 1)?;
+        while let Some(place) = stack.pop() {
             if self.commit_at(place) == to {
                 return Ok(true);
             }
             let reached = self.len() as u32;
             self.visit(commits, place)?;
             let end = self.len() as u32;
-            push_places(&mut self.stack, reached, end)?;
+            push_places(stack, reached, end)?;
         }
         Ok(false)
     }

@@ -9,6 +9,9 @@ ghost use Rattle.commit_search.specs.Search.{IsIdle};
 ghost use Rattle.commit_search.specs.Source.{Told};
 
 use crate::Reached;
+use crate::bits::BitMarks;
+use crate::few::FewMarks;
+use crate::marks::Marks;
 use crate::search::Search;
 use crate::source::CommitSource;
 use graph_format::Position;
@@ -17,20 +20,23 @@ use graph_walks::law::{generations_fall_along_walks, generations_never_rise_alon
 use std::alloc::{AllocError, Global};
 use std::marker::Model;
 
-/// Answers queries over the commits of any source, and keeps its memory from one to the next: a bit
-/// for each commit of the source, asked for at the first query that needs them, and eight bytes for
-/// each commit that a query reaches. What a query marks there is cleared after it, and no more.
+/// Answers queries over the commits of any source, and keeps its memory from one to the next: that
+/// of its marks, asked for at the first query that needs them, which are a bit for each commit of
+/// the source and eight bytes for each commit that a query reaches, or for those some twenty bytes
+/// alone. What a query marks there is cleared after it, and no more.
 ///
 /// Where the generation numbers that a source says are right, the answers are exact. Where they are
 /// not, a query ends all the same, and a walk or a yes that it answers is there. A contract speaks
 /// of all that the source may say once the query is over: of each history with which all agrees
 /// that was read of it.
 #[derive(Drop)]
-pub struct AnySearcher {
-    search: Search,
+pub struct MarkSearcher<M: Marks> {
+    search: Search<M>,
+    /// The places of the queue that a search depth first has yet to visit.
+    stack: Vec<u32>,
 }
 
-impl Model for AnySearcher {
+impl<M: Marks> Model for MarkSearcher<M> {
     ghost use Rattle.commit_search.specs.Search.{IsIdle};
 
     ghost Value = { Unit {0} };
@@ -40,11 +46,19 @@ impl Model for AnySearcher {
     ghost invariant = { λ a. IsIdle a.search };
 }
 
-impl AnySearcher {
+/// Answers queries over the commits of any source, with a bit for each of them.
+pub type AnySearcher = MarkSearcher<BitMarks>;
+
+/// Answers queries over the commits of any source where a query reaches few of them: it takes no
+/// memory for the others.
+pub type FewSearcher = MarkSearcher<FewMarks>;
+
+impl<M: Marks> MarkSearcher<M> {
     /// A searcher. Nothing is allocated.
-    pub fn new(alloc: Global) -> AnySearcher {
-        AnySearcher {
+    pub fn new(alloc: Global) -> MarkSearcher<M> {
+        MarkSearcher {
             search: Search::new(alloc),
+            stack: Vec::new(alloc),
         }
     }
 
@@ -86,7 +100,7 @@ impl AnySearcher {
         // The contract of `num_commits` says how many commits the source tells of.
         let _commits = commits.num_commits();
         if from == to {
-            let walk = walk_of(self.search.alloc, from)?;
+            let walk = walk_of(self.search.alloc(), from)?;
             return Ok(Reached {
                 walk: Some(walk),
                 visits: 1,
@@ -108,7 +122,7 @@ impl AnySearcher {
     /// `ancestor`. They have the order of `git merge-base --is-ancestor`.
     ///
     /// The search goes depth first, first parents first. It visits and leaves out commits as
-    /// [`AnySearcher::ancestor_walk`] does, and goes over no word of an extra edge list twice.
+    /// [`MarkSearcher::ancestor_walk`] does, and goes over no word of an extra edge list twice.
     ///
     /// # Errors
     ///
@@ -141,7 +155,10 @@ impl AnySearcher {
         let Some(least) = least_number(commits, descendant, ancestor)? else {
             return Ok(false);
         };
-        let found = self.search.reaches(commits, descendant, ancestor, least);
+        let stack = &mut self.stack;
+        let found = self
+            .search
+            .reaches(commits, stack, descendant, ancestor, least);
         self.search.clear();
         found
     }

@@ -13,7 +13,9 @@
 mod ahead;
 mod ancestor;
 mod any;
+mod bits;
 pub mod edges;
+mod few;
 pub mod law;
 mod lists;
 mod marks;
@@ -22,8 +24,11 @@ mod source;
 mod walk;
 mod words;
 
-pub use any::AnySearcher;
+pub use any::{AnySearcher, FewSearcher, MarkSearcher};
+pub use bits::BitMarks;
+pub use few::FewMarks;
 use graph_format::Position;
+pub use marks::{Marked, Marks};
 pub use source::CommitSource;
 
 /// The answer of a query for a walk from one commit to another.

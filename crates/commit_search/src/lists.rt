@@ -9,11 +9,12 @@ ghost use Rattle.commit_search.specs.Search.{queued_by, IsSearching, AreRead, Go
 ghost use Rattle.commit_search.specs.Source.{Told, IsListTrue};
 
 use crate::edges::parent_of;
+use crate::marks::Marks;
 use crate::search::Search;
 use crate::source::CommitSource;
 use graph_format::parents::ExtraEdge;
 
-impl Search {
+impl<M: Marks> Search<M> {
     /// Goes over the words of the extra edge list in whose layer the commit at a place lies, from
     /// this index on to the last parent of the commit, or to a word that was gone over before.
     ///
@@ -51,12 +52,12 @@ impl Search {
         let pos = self.commit_at(place);
         let layer = commits.layer_of(pos);
         let count = commits.words_of(pos, layer, index);
-        self.words.grow_to(layer, count as usize)?;
+        self.grow_words(layer, count)?;
         let mut next = index;
-        while !self.words.is_marked(layer, next) {
+        while !self.is_word_marked(layer, next) {
             let word = commits.listed_parent(pos, layer, next)?;
             self.enqueue(commits, parent_of(word), place)?;
-            self.words.set(layer, next)?;
+            self.mark_word(layer, next)?;
             match word {
                 ExtraEdge::Internal(_) => next += 1,
                 ExtraEdge::Last(_) => return Ok(()),

@@ -1,9 +1,9 @@
 //! A search along parents: which commits it has reached, and from where.
 
-ghost use Rattle.std.specs.Prelude.{◌≡◌, ◌⊎◌, ◌<◌, ◌≤◌, ◌∷◌, [], ℕ, length, OnOk, IfErr};
-ghost use Rattle.std.specs.Prelude.{alloc_error};
+ghost use Rattle.std.specs.Prelude.{◌≡◌, ◌≢◌, ◌⊎◌, ◌↔◌, ◌<◌, ◌≤◌, ◌++◌, ◌∷◌, [], ℕ, length};
+ghost use Rattle.std.specs.Prelude.{IsTrue, OnOk, IfErr, alloc_error};
 ghost use Rattle.graph_walks.specs.History.{generation_at};
-ghost use Rattle.commit_search.specs.Marks.{marked_at};
+ghost use Rattle.commit_search.specs.Marks.{IsMarked, marked_at, bound_at};
 ghost use Rattle.commit_search.specs.Queue.{commit_in, child_in, IsQueued, QueuesParents};
 ghost use Rattle.commit_search.specs.Search.{queued_by, IsIdle, IsSearching, AreRead, GoesOn};
 ghost use Rattle.commit_search.specs.Search.{IsEnqueued, IsParentNumber, Leads};
@@ -15,36 +15,48 @@ use crate::words::WordMarks;
 use graph_format::Position;
 use graph_format::parents::ParentEdge;
 use std::alloc::{AllocError, Global};
+use std::marker::Model;
 
 /// A search along parents. The commits that it has reached are its queue, in the order in which
 /// they were.
+///
+/// A contract sees its state: what it looks for, and what it has reached.
 #[derive(Drop)]
-pub(crate) struct Search {
-    pub(crate) alloc: Global,
+pub(crate) struct Search<M: Marks> {
+    alloc: Global,
     /// The generation number of the commit that is looked for. No walk to it goes through a commit
     /// with a lower one, since the numbers never rise along a walk.
-    pub(crate) least: u32,
+    least: u32,
     /// The commits that were reached. The mark of each is the place in the queue of a commit whose
     /// parent it is, and of the first one its own place.
-    pub(crate) reached: Marks,
+    reached: M,
     /// The words of extra edge lists that were gone over. All that is named from one of them on to
     /// the last parent was reached then, so no word is gone over twice.
-    pub(crate) words: WordMarks,
-    /// The places of the queue that a search depth first has yet to visit.
-    pub(crate) stack: Vec<u32>,
+    words: WordMarks,
 }
 
-impl Search {
+impl<M: Marks> Model for Search<M> {
+    ghost use Rattle.commit_search.specs.SearchState.{SearchState};
+
+    ghost Value = { SearchState };
+
+    ghost view = { λ a. record {
+      least = a.least;
+      reached = M.marking a.reached;
+      words = a.words.layers.items;
+    } };
+}
+
+impl<M: Marks> Search<M> {
     /// A search that has reached nothing. Nothing is allocated.
-    pub(crate) fn new(alloc: Global) -> Search
+    pub(crate) fn new(alloc: Global) -> Search<M>
         ensures { IsIdle result }
     {
         Search {
             alloc,
             least: 0,
-            reached: Marks::new(alloc),
+            reached: M::new(alloc),
             words: WordMarks::new(alloc),
-            stack: Vec::new(alloc),
         }
     }
 
@@ -56,10 +68,10 @@ impl Search {
         ensures room { OnOk result (count ≤ self.new.reached.bound) }
         ensures first { OnOk result
             (queued_by self.new ≡ record { number = from.0; mark = 0 } ∷ []) }
-        ensures words { (l : ℕ) → marked_at self.new.words.layers.items l ≡ [] }
+        ensures words { (l : ℕ) → marked_at self.new.words l ≡ [] }
     {
         self.least = least;
-        self.reached.grow_to(count as usize)?;
+        self.reached.grow_to(count)?;
         self.reached.set(from.0, 0)
     }
 
@@ -69,6 +81,11 @@ impl Search {
     {
         self.reached.clear();
         self.words.clear();
+    }
+
+    /// Where its memory comes from.
+    pub(crate) fn alloc(&self) -> Global {
+        self.alloc
     }
 
     /// How many commits were reached.
@@ -92,6 +109,39 @@ impl Search {
         ensures { result ≡ child_in (queued_by self.now) place }
     {
         self.reached.mark_at(place as usize)
+    }
+
+    /// Makes room for marks of all words of a layer's list.
+    pub(crate) fn grow_words(&mut self, layer: usize, words: u32) -> Result<(), AllocError>
+        ensures least { self.new.least ≡ self.old.least }
+        ensures reached { self.new.reached ≡ self.old.reached }
+        ensures room { OnOk result (words ≤ bound_at self.new.words layer) }
+        ensures marked { (l : ℕ) → marked_at self.new.words l ≡ marked_at self.old.words l }
+    {
+        self.words.grow_to(layer, words)
+    }
+
+    /// Whether a word of a layer's list was gone over.
+    pub(crate) fn is_word_marked(&self, layer: usize, word: u32) -> bool
+        requires { word < bound_at self.now.words layer }
+        ensures { IsTrue result ↔ IsMarked (marked_at self.now.words layer) word }
+    {
+        self.words.is_marked(layer, word)
+    }
+
+    /// Marks a word that was not gone over before.
+    pub(crate) fn mark_word(&mut self, layer: usize, word: u32) -> Result<(), AllocError>
+        requires bound { word < bound_at self.old.words layer }
+        requires clear { ¬ IsMarked (marked_at self.old.words layer) word }
+        ensures least { self.new.least ≡ self.old.least }
+        ensures reached { self.new.reached ≡ self.old.reached }
+        ensures bounds { (l : ℕ) → bound_at self.new.words l ≡ bound_at self.old.words l }
+        ensures marked { OnOk result (marked_at self.new.words layer
+            ≡ marked_at self.old.words layer ++ record { number = word; mark = 0 } ∷ []) }
+        ensures others { (l : ℕ) → l ≢ layer
+            → marked_at self.new.words l ≡ marked_at self.old.words l }
+    {
+        self.words.set(layer, word)
     }
 
     /// Puts a parent of the commit at a place at the end of the queue, unless it was reached before

@@ -12,13 +12,14 @@ ghost use Rattle.commit_search.specs.Source.{Told};
 
 use crate::Reached;
 use crate::ahead::Ahead;
+use crate::marks::Marks;
 use crate::search::Search;
 use crate::source::CommitSource;
 use graph_format::Position;
 use graph_walks::law::generations_never_rise_along_walks;
 use std::alloc::AllocError;
 
-impl Search {
+impl<M: Marks> Search<M> {
     /// A shortest walk from one commit to another, whose generation number is below that of the
     /// first, or at the cap as that is.
     pub(crate) fn shortest_walk<S: CommitSource>(
@@ -47,7 +48,7 @@ impl Search {
     {
         generations_never_rise_along_walks();
         self.begin(commits.num_commits(), from, least)?;
-        let mut ahead = Ahead::new(self.alloc);
+        let mut ahead = Ahead::new(self.alloc());
         let mut visits: u32 = 0;
         while (visits as usize) < self.len() {
             let place = visits;
@@ -77,7 +78,7 @@ impl Search {
         ensures steps { IfOk result (λ w.
             (d : ℕ) × Depth (queued_by self.now) place d × (length w.items ≡ d + 1)) }
     {
-        let mut walk = vec![in self.alloc; self.commit_at(place)]?;
+        let mut walk = vec![in self.alloc(); self.commit_at(place)]?;
         let mut reached = place;
         while reached > 0 {
             reached = self.child_at(reached);

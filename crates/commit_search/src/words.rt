@@ -3,6 +3,7 @@
 ghost use Rattle.std.specs.Prelude.{◌≡◌, ◌≢◌, ◌↔◌, ◌<◌, ◌≤◌, ◌++◌, ◌∷◌, [], ℕ, IsTrue, OnOk};
 ghost use Rattle.commit_search.specs.Marks.{IsMarked, marked_at, bound_at};
 
+use crate::bits::BitMarks;
 use crate::marks::Marks;
 use std::alloc::{AllocError, Global};
 
@@ -11,7 +12,7 @@ use std::alloc::{AllocError, Global};
 pub(crate) struct WordMarks {
     alloc: Global,
     /// Those of each layer up to the last one where there are any.
-    layers: Vec<Marks>,
+    layers: Vec<BitMarks>,
 }
 
 impl WordMarks {
@@ -26,13 +27,13 @@ impl WordMarks {
     }
 
     /// Makes room for marks of all words of a layer's list.
-    pub(crate) fn grow_to(&mut self, layer: usize, words: usize) -> Result<(), AllocError>
+    pub(crate) fn grow_to(&mut self, layer: usize, words: u32) -> Result<(), AllocError>
         ensures room { OnOk result (words ≤ bound_at self.new.layers.items layer) }
         ensures marked { (l : ℕ)
             → marked_at self.new.layers.items l ≡ marked_at self.old.layers.items l }
     {
         while self.layers.len() <= layer {
-            self.layers.push(Marks::new(self.alloc))?;
+            self.layers.push(BitMarks::new(self.alloc))?;
         }
         self.layers[layer].grow_to(words)
     }

@@ -236,7 +236,7 @@ module _ (trail after : List Paint) (next : ℕ) (x : Paint) (here : trail_at af
       (cases_eq index next)
 
 -- Words were passed, and nothing else has changed.
-pub passes_with : (count : ℕ) (says : Told → Type 0) (s : Painting) (t : Trails) (p : ℕ) (x : Paint)
+pub passes_with : {T : Type 0} (count : ℕ) (says : Told → Type 0) (s : Painting T) (t : Trails) (p : ℕ) (x : Paint)
     → PassesPaint count says s p x → PassesPaint count says (record s { coats = record s.coats { trails = t } }) p x
 passes_with count says s t p x r = record {
   painting = record {
@@ -271,7 +271,7 @@ passes_with count says s t p x r = record {
 }
 
 -- More of the source was read.
-pub passes_kept : (count : ℕ) (says more : Told → Type 0) (s : Painting) (p : ℕ) (x : Paint)
+pub passes_kept : {T : Type 0} (count : ℕ) (says more : Told → Type 0) (s : Painting T) (p : ℕ) (x : Paint)
     → ((t : Told) → more t → says t) → PassesPaint count says s p x → PassesPaint count more s p x
 passes_kept count says more s p x kept r = record {
   painting = r.painting;
@@ -291,7 +291,7 @@ are_passed_from coats lists trails layer others here i =
     (λ (apart : i ≢ layer). others i apart)
     (cases_eq i layer)
 
-pub passes_on_trans : (a b d : Painting) → PassesOn a b → PassesOn b d → PassesOn a d
+pub passes_on_trans : {T : Type 0} (a b d : Painting T) → PassesOn a b → PassesOn b d → PassesOn a d
 passes_on_trans a b d x y = record {
   grows = λ q. grows_trans _ _ _ (x.grows q) (y.grows q);
   work = (let first = x.work in let second = y.work in omega arith);

@@ -1,6 +1,6 @@
 -- What is known of the ways to a commit from a commit and some others: its paint, which it passes on to its parents. For
 -- private contracts alone.
-use Rattle.std.specs.Prelude.{◌≡◌, ℕ, Bool, true, false, not, ◌&&◌, ◌||◌, if◌then◌else◌, List, length, slice_index_or, count_by}
+use Rattle.std.specs.Prelude.{◌≡◌, ℕ, Bool, true, false, not, ◌&&◌, ◌||◌, if◌then◌else◌, List, length, count_by}
 use Rattle.graph_walks.specs.History.{Node}
 use Rattle.graph_walks.specs.Walks.{Reaches, IsProperAncestor}
 use Rattle.graph_bases.specs.Bases.{IsReachedFromSome, IsCommonAncestor}
@@ -8,6 +8,7 @@ use Rattle.graph_bases.specs.declared.paint.Paint.{Paint}
 use Rattle.graph_bases.specs.declared.paint.Paint.TheVariants.{Bare, First, Others, Both, Stale}
 use Rattle.graph_bases.specs.declared.paint.Coat.{Coat}
 use Rattle.graph_bases.specs.declared.paint.Coats.{Coats}
+pub use Rattle.graph_bases.specs.Sheet.{bare, coat_at}
 use Rattle.graph_bases.specs.Trails.{trail_at, trail_in}
 
 -- the first leads to the commit
@@ -104,13 +105,6 @@ is_fresh coat = coat.queued && not (is_stale coat.paint)
 abbrev pub is_visited : Coat → Bool
 is_visited coat = is_painted coat.paint && not coat.queued
 
--- the coat of a commit of which nothing is known
-abbrev pub bare : Coat
-bare = record { paint = Bare; queued = false }
-
-abbrev pub coat_at : List Coat → ℕ → Coat
-coat_at coats p = slice_index_or coats p bare
-
 abbrev pub paint_at : List Coat → ℕ → Paint
 paint_at coats p = (coat_at coats p).paint
 
@@ -118,10 +112,10 @@ abbrev pub is_queued : List Coat → ℕ → Bool
 is_queued coats p = (coat_at coats p).queued
 
 -- The counts of coats are right.
-pub record IsCounted (coats : Coats) : Type 0 where
-  pub fresh : coats.fresh ≡ count_by is_fresh coats.all.items
-  pub ahead : coats.ahead ≡ count_by (λ coat. is_ahead coat.paint) coats.all.items
-  pub behind : coats.behind ≡ count_by (λ coat. is_behind coat.paint) coats.all.items
+pub record IsCounted {T : Type 0} (coats : Coats T) : Type 0 where
+  pub fresh : coats.fresh ≡ count_by is_fresh coats.all
+  pub ahead : coats.ahead ≡ count_by (λ coat. is_ahead coat.paint) coats.all
+  pub behind : coats.behind ≡ count_by (λ coat. is_behind coat.paint) coats.all
 
 -- What all coats say is so.
 pub record IsPaint (history : List Node) (start : ℕ) (starts : List ℕ) (coats : List Coat) : Type 0 where
@@ -129,8 +123,8 @@ pub record IsPaint (history : List Node) (start : ℕ) (starts : List ℕ) (coat
   pub each : (p : ℕ) → IsSo history start starts p (paint_at coats p)
 
 -- Nothing is known of any of n commits, and no word of an extra edge list was passed.
-pub record AreIdle (n : ℕ) (coats : Coats) : Type 0 where
-  pub coats_len : length coats.all.items ≡ n
-  pub bare : (p : ℕ) → coat_at coats.all.items p ≡ bare
+pub record AreIdle {T : Type 0} (n : ℕ) (coats : Coats T) : Type 0 where
+  pub coats_len : length coats.all ≡ n
+  pub bare : (p : ℕ) → coat_at coats.all p ≡ bare
   pub trails : (l w : ℕ) → trail_at (trail_in coats.trails.layers.items l) w ≡ Bare
   pub counted : IsCounted coats

@@ -129,30 +129,30 @@ abbrev pub work : List Coat → List (ℕ × ℕ) → ℕ
 work coats queue = 2 * sum_by (λ coat. unknown coat.paint) coats + length queue
 
 -- The state of a painting among so many commits.
-pub record IsPainting (count : ℕ) (s : Painting) : Type 0 where
+pub record IsPainting {T : Type 0} (count : ℕ) (s : Painting T) : Type 0 where
   pub few : count < 2 ^ 32
-  pub coats_len : length s.coats.all.items ≡ count
+  pub coats_len : length s.coats.all ≡ count
   pub counted : IsCounted s.coats
-  pub waiting : IsWaiting count s.coats.all.items (heap_items s.queue)
-  pub candidates : AreCandidates s.coats.all.items s.candidates.items
-  pub touched : AreTouched s.coats.all.items s.taken.items (heap_items s.queue)
-  pub visits : IsVisitCount s.coats.all.items s.visits
+  pub waiting : IsWaiting count s.coats.all (heap_items s.queue)
+  pub candidates : AreCandidates s.coats.all s.candidates.items
+  pub touched : AreTouched s.coats.all s.taken.items (heap_items s.queue)
+  pub visits : IsVisitCount s.coats.all s.visits
 
 -- What it knows is so in this history.
-pub record IsPaintingOf (history : List Node) (s : Painting) : Type 0 where
-  pub paint : IsPaint history s.first.0 (numbers_of s.others.now) s.coats.all.items
+pub record IsPaintingOf {T : Type 0} (history : List Node) (s : Painting T) : Type 0 where
+  pub paint : IsPaint history s.first.0 (numbers_of s.others.now) s.coats.all
   pub numbered : All (IsNumbered history) (heap_items s.queue)
   pub visiting : CountWalks history → AreBelowCap history s.first.0 (numbers_of s.others.now)
-      → IsVisiting history s.first.0 (numbers_of s.others.now) s.coats.all.items s.visits
+      → IsVisiting history s.first.0 (numbers_of s.others.now) s.coats.all s.visits
 
 -- Paint that may be added to a commit.
-pub record MayAdd (history : List Node) (s : Painting) (p : ℕ) (paint : Paint) : Type 0 where
+pub record MayAdd {T : Type 0} (history : List Node) (s : Painting T) (p : ℕ) (paint : Paint) : Type 0 where
   pub painting : IsPaintingOf history s
   pub so : IsSo history s.first.0 (numbers_of s.others.now) p paint
   pub waits : CountWalks history → AreBelowCap history s.first.0 (numbers_of s.others.now)
-      → is_painted (paint_at s.coats.all.items p) ≡ true → is_queued s.coats.all.items p ≡ true
+      → is_painted (paint_at s.coats.all p) ≡ true → is_queued s.coats.all p ≡ true
   pub edge : CountWalks history → AreBelowCap history s.first.0 (numbers_of s.others.now) → is_stale paint ≡ false
-      → IsKnownEdge history s.first.0 (numbers_of s.others.now) s.coats.all.items p
+      → IsKnownEdge history s.first.0 (numbers_of s.others.now) s.coats.all p
 
 -- Of an extra edge list: each word was passed with no more paint than the commit that it names has, and, unless it names the
 -- last parent, than the word after it.
@@ -162,35 +162,36 @@ pub record IsPassed (coats : List Coat) (list : List ℕ) (trail : List Paint) :
       → Grows (trail_at trail w) (trail_at trail (w + 1))
 
 -- so of the lists of all layers, as far as a source says them
-abbrev pub ArePassed : (Told → Type 0) → Painting → Type 0
-ArePassed says s = (t : Told) → says t → (l : ℕ) → IsPassed s.coats.all.items (t.lists l) (trail_in s.coats.trails.layers.items l)
+abbrev pub ArePassed : {T : Type 0} → (Told → Type 0) → Painting T → Type 0
+ArePassed says s = (t : Told) → says t → (l : ℕ) → IsPassed s.coats.all (t.lists l) (trail_in s.coats.trails.layers.items l)
 
 -- The order in which commits are visited is that of the generation numbers: where these are right, a commit that was taken from
 -- the queue stands above all that are there, and its parents are below it, or at the cap as it is.
-pub record PassesInOrder (history : List Node) (s : Painting) (commit : ℕ) (paint : Paint) : Type 0 where
+pub record PassesInOrder {T : Type 0} (history : List Node) (s : Painting T) (commit : ℕ) (paint : Paint) : Type 0 where
   pub uncapped : AreBelowCap history s.first.0 (numbers_of s.others.now) → generation_at history commit < GENERATION_NUMBER_MAX
   pub painted : AreBelowCap history s.first.0 (numbers_of s.others.now) → is_painted paint ≡ true
-  pub own : AreBelowCap history s.first.0 (numbers_of s.others.now) → is_queued s.coats.all.items commit ≡ false
-  pub level : IsLevel history s.coats.all.items (heap_items s.queue) (generation_at history commit)
+  pub own : AreBelowCap history s.first.0 (numbers_of s.others.now) → is_queued s.coats.all commit ≡ false
+  pub level : IsLevel history s.coats.all (heap_items s.queue) (generation_at history commit)
 
 -- A commit that was taken from the queue passes on what this paint says of it in a history.
-pub record PassesPaintOf (history : List Node) (s : Painting) (commit : ℕ) (paint : Paint) : Type 0 where
+pub record PassesPaintOf {T : Type 0} (history : List Node) (s : Painting T) (commit : ℕ) (paint : Paint) : Type 0 where
   pub painting : IsPaintingOf history s
   pub so : IsSo history s.first.0 (numbers_of s.others.now) commit paint
-  pub spread : IsSpreadBut history s.first.0 (numbers_of s.others.now) s.coats.all.items commit
+  pub spread : IsSpreadBut history s.first.0 (numbers_of s.others.now) s.coats.all commit
   pub in_order : CountWalks history → PassesInOrder history s commit paint
 
 -- so in each that a source of so many commits says
-pub record PassesPaint (count : ℕ) (says : Told → Type 0) (s : Painting) (commit : ℕ) (paint : Paint) : Type 0 where
+pub record PassesPaint {T : Type 0} (count : ℕ) (says : Told → Type 0) (s : Painting T) (commit : ℕ) (paint : Paint)
+    : Type 0 where
   pub painting : IsPainting count s
   pub within : commit < count
-  pub same : is_queued s.coats.all.items commit ≡ false → paint_at s.coats.all.items commit ≡ paint
+  pub same : is_queued s.coats.all commit ≡ false → paint_at s.coats.all commit ≡ paint
   pub told : (t : Told) → says t → PassesPaintOf t.history s commit paint
 
 -- Paint was passed on.
-pub record PassesOn (old new : Painting) : Type 0 where
-  pub grows : (q : ℕ) → Grows (paint_at old.coats.all.items q) (paint_at new.coats.all.items q)
-  pub work : work new.coats.all.items (heap_items new.queue) ≤ work old.coats.all.items (heap_items old.queue)
+pub record PassesOn {T : Type 0} (old new : Painting T) : Type 0 where
+  pub grows : (q : ℕ) → Grows (paint_at old.coats.all q) (paint_at new.coats.all q)
+  pub work : work new.coats.all (heap_items new.queue) ≤ work old.coats.all (heap_items old.queue)
 
 -- What the paint says when all is done.
 pub record IsPainted (history : List Node) (first : ℕ) (others : List ℕ) (coats : List Coat) : Type 0 where

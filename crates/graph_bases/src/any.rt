@@ -11,29 +11,31 @@ ghost use Rattle.graph_bases.specs.Paint.{AreIdle};
 use crate::bases::{Bases, Comparison};
 use crate::paint::Coats;
 use crate::painting::paint_from;
+use crate::sheet::CoatTable;
+use crate::tables::{AllCoats, FewCoats};
 use commit_search::CommitSource;
 use graph_format::Position;
 use std::alloc::{AllocError, Global};
 use std::marker::Model;
 
 /// Compares commits of any source, and keeps its memory from one call to the next, where the source
-/// has as many commits: two bytes for each of them, asked for at the first call; and, of the layers
-/// whose extra edge lists a call has read, a byte for each word of the list and a few for each
-/// commit with more than two parents. What a call marks there is cleared after it, and no more than
-/// that.
+/// has as many commits: two bytes for each of them, asked for at the first call, or some twenty for
+/// each that a call reaches; and, of the layers whose extra edge lists a call has read, a byte for
+/// each word of the list and a few for each commit with more than two parents. What a call marks
+/// there is cleared after it, and no more than that.
 ///
 /// Where the generation numbers that a source says are right, the answers are exact. Where they are
 /// not, a call ends all the same, and each merge base that it answers is a common ancestor. A
 /// contract speaks of all that the source may say once the call is over: of each history with which
 /// all agrees that was read of it.
 #[derive(Drop)]
-pub struct AnyComparer {
+pub struct CoatComparer<T: CoatTable> {
     alloc: Global,
     /// The coats of all commits, idle between calls.
-    coats: Option<Coats>,
+    coats: Option<Coats<T>>,
 }
 
-impl Model for AnyComparer {
+impl<T: CoatTable> Model for CoatComparer<T> {
     ghost use Rattle.std.specs.Prelude.{IfSome, length};
     ghost use Rattle.graph_bases.specs.Paint.{AreIdle};
 
@@ -41,13 +43,20 @@ impl Model for AnyComparer {
 
     ghost view = { λ _. tt };
 
-    ghost invariant = { λ a. IfSome a.coats (λ c. AreIdle (length c.all.items) c) };
+    ghost invariant = { λ a. IfSome a.coats (λ c. AreIdle (length c.all) c) };
 }
 
-impl AnyComparer {
+/// Compares commits of any source, with two bytes for each of its commits.
+pub type AnyComparer = CoatComparer<AllCoats>;
+
+/// Compares commits of any source where a call reaches few of its commits: it takes no memory for
+/// the others.
+pub type FewComparer = CoatComparer<FewCoats>;
+
+impl<T: CoatTable> CoatComparer<T> {
     /// A comparer. Nothing is allocated yet.
-    pub fn new(alloc: Global) -> AnyComparer {
-        AnyComparer { alloc, coats: None }
+    pub fn new(alloc: Global) -> CoatComparer<T> {
+        CoatComparer { alloc, coats: None }
     }
 
     /// The merge bases of a commit and some others, and how far they have come apart, at positions
@@ -90,7 +99,7 @@ impl AnyComparer {
     }
 
     /// Idle coats of so many commits, which are no longer kept.
-    fn coats_for(&mut self, commits: u32) -> Result<Coats, AllocError>
+    fn coats_for(&mut self, commits: u32) -> Result<Coats<T>, AllocError>
         ensures { IfOk result (AreIdle commits) }
     {
         if let Some(coats) = self.coats.take() {
@@ -104,13 +113,13 @@ impl AnyComparer {
 
 /// What a commit and some others have in common, and how far they have come apart; and the coats,
 /// which are idle before and after.
-fn compared<S: CommitSource>(
+fn compared<T: CoatTable, S: CommitSource>(
     alloc: Global,
-    coats: Coats,
+    coats: Coats<T>,
     commits: &mut S,
     first: Position,
     others: &[Position],
-) -> Result<(Comparison, Coats), S::Error>
+) -> Result<(Comparison, Coats<T>), S::Error>
     requires idle { AreIdle (S.count (S.known commits.old)) coats }
     requires first { first.0 < S.count (S.known commits.old) }
     requires others { All (λ other. other.0 < S.count (S.known commits.old)) others.now }
@@ -126,7 +135,7 @@ fn compared<S: CommitSource>(
     ensures exact { IfOk result (λ answer. (t : Told) → S.says commits.new t
         → CountWalks t.history
         → IsComparisonIn t.history first.0 (numbers_of others.now) answer.0) }
-    ensures idle { IfOk result (λ answer. AreIdle (length answer.1.all.items) answer.1) }
+    ensures idle { IfOk result (λ answer. AreIdle (length answer.1.all) answer.1) }
     ensures refused { IfErr result (λ e. S.may_fail (S.known commits.old) e
         ⊎ S.Error.from_gives alloc_error e) }
 {

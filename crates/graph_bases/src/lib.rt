@@ -12,7 +12,12 @@ pub mod law;
 mod paint;
 mod painting;
 mod passing;
+mod sheet;
+mod tables;
 mod trails;
 
-pub use any::AnyComparer;
+pub use any::{AnyComparer, CoatComparer, FewComparer};
 pub use bases::{Bases, Comparison, Divergence};
+pub use paint::{Coat, Paint};
+pub use sheet::CoatTable;
+pub use tables::{AllCoats, FewCoats};

@@ -1,19 +1,20 @@
 //! What is known of the ways to the commits of a graph from a commit and some others.
 
 ghost use Rattle.std.specs.Prelude.{◌≡◌, ◌≢◌, ◌↔◌, ◌+◌, ◌<◌, ◌≤◌, ◌^◌, ℕ, cond, length, slice_set};
-ghost use Rattle.std.specs.Prelude.{IfOk, IsTrue};
+ghost use Rattle.std.specs.Prelude.{IfOk, IsTrue, OnOk};
 ghost use Rattle.graph_bases.specs.Paint.{first_leads, others_lead, is_stale, is_ahead};
 ghost use Rattle.graph_bases.specs.Paint.{is_behind, is_base, covers, joined, passed};
 ghost use Rattle.graph_bases.specs.Paint.{is_fresh, bare, coat_at, AreIdle, IsCounted};
 ghost use Rattle.graph_bases.specs.declared.paint.Paint.TheVariants.{Bare};
 
+use crate::sheet::{CoatTable, Sheet};
 use crate::trails::Trails;
 use graph_format::Position;
 use std::alloc::{AllocError, Global};
 
 /// What is known of the ways to a commit from a commit and some others.
 #[derive(Clone, Copy)]
-pub(crate) enum Paint {
+pub enum Paint {
     /// Nothing.
     Bare,
     /// The first leads to it.
@@ -113,14 +114,15 @@ impl Paint {
 
 /// The paint of a commit.
 #[derive(Clone, Copy)]
-pub(crate) struct Coat {
-    pub(crate) paint: Paint,
+pub struct Coat {
+    /// The paint.
+    pub paint: Paint,
     /// Whether the commit is in the queue, since its parents have not heard of that paint.
-    pub(crate) queued: bool,
+    pub queued: bool,
 }
 
 /// The coat of a commit of which nothing is known.
-const BARE: Coat = Coat {
+pub(crate) const BARE: Coat = Coat {
     paint: Paint::Bare,
     queued: false,
 };
@@ -136,8 +138,8 @@ impl Coat {
 
 /// The coats of all commits of a graph.
 #[derive(Drop)]
-pub(crate) struct Coats {
-    all: Vec<Coat>,
+pub(crate) struct Coats<T: CoatTable> {
+    all: Sheet<T>,
     /// With which paint words of the extra edge lists were passed. All that is named from a word on
     /// to the last parent has heard of its paint, so no word is passed twice with the same.
     pub(crate) trails: Trails,
@@ -149,12 +151,12 @@ pub(crate) struct Coats {
     pub(crate) behind: u32,
 }
 
-impl Coats {
+impl<T: CoatTable> Coats<T> {
     /// Those of so many commits, of which nothing is known.
-    pub(crate) fn new(alloc: Global, commits: u32) -> Result<Coats, AllocError>
+    pub(crate) fn new(alloc: Global, commits: u32) -> Result<Coats<T>, AllocError>
         ensures { IfOk result (AreIdle commits) }
     {
-        let all = vec![in alloc; BARE; commits as usize]?;
+        let all = Sheet::new(alloc, commits)?;
         Ok(Coats {
             all,
             trails: Trails::new(alloc),
@@ -166,52 +168,51 @@ impl Coats {
 
     /// How many there are.
     pub(crate) fn len(&self) -> usize
-        ensures { result ≡ length self.now.all.items }
+        ensures { result ≡ length self.now.all }
     {
         self.all.len()
     }
 
     /// The coat of a commit.
     pub(crate) fn at(&self, commit: Position) -> Coat
-        requires { commit.0 < length self.now.all.items }
-        ensures { result ≡ coat_at self.now.all.items commit.0 }
+        requires { commit.0 < length self.now.all }
+        ensures { result ≡ coat_at self.now.all commit.0 }
     {
-        self.all[commit.0 as usize]
+        self.all.at(commit.0)
     }
 
     /// Changes the coat of a commit.
-    pub(crate) fn set(&mut self, commit: Position, coat: Coat)
+    pub(crate) fn set(&mut self, commit: Position, coat: Coat) -> Result<(), AllocError>
         requires counted { IsCounted self.old }
-        requires within { commit.0 < length self.old.all.items }
-        requires few { length self.old.all.items < 2 ^ 32 }
-        ensures coats { self.new.all.items ≡ slice_set self.old.all.items commit.0 coat }
+        requires within { commit.0 < length self.old.all }
+        requires few { length self.old.all < 2 ^ 32 }
+        ensures coats { OnOk result (self.new.all ≡ slice_set self.old.all commit.0 coat) }
         ensures trails { self.new.trails ≡ self.old.trails }
-        ensures counted { IsCounted self.new }
+        ensures counted { OnOk result (IsCounted self.new) }
     {
         let old = self.at(commit);
         self.fresh = recounted(self.fresh, old.is_fresh(), coat.is_fresh());
         self.ahead = recounted(self.ahead, old.paint.is_ahead(), coat.paint.is_ahead());
         self.behind = recounted(self.behind, old.paint.is_behind(), coat.paint.is_behind());
-        self.all[commit.0 as usize] = coat;
+        self.all.set(commit.0, coat)
     }
 
     /// Makes the coat of a commit bare, where there is one. The counts stay.
     pub(crate) fn uncover(&mut self, number: u32)
-        ensures len { length self.new.all.items ≡ length self.old.all.items }
-        ensures here { coat_at self.new.all.items number ≡ bare }
+        ensures len { length self.new.all ≡ length self.old.all }
+        ensures here { coat_at self.new.all number ≡ bare }
         ensures there { (p : ℕ) → p ≢ number
-            → coat_at self.new.all.items p ≡ coat_at self.old.all.items p }
+            → coat_at self.new.all p ≡ coat_at self.old.all p }
     {
-        let at = number as usize;
-        if at < self.all.len() {
-            self.all[at] = BARE;
+        if (number as usize) < self.all.len() {
+            self.all.uncover(number);
         }
     }
 
     /// The same coats, where all of them are bare, with right counts. Words are bare again.
-    pub(crate) fn into_idle(self) -> Coats
-        requires { (p : ℕ) → coat_at self.all.items p ≡ bare }
-        ensures { AreIdle (length self.all.items) result }
+    pub(crate) fn into_idle(self) -> Coats<T>
+        requires { (p : ℕ) → coat_at self.all p ≡ bare }
+        ensures { AreIdle (length self.all) result }
     {
         let Coats {
             all,

@@ -21,6 +21,7 @@ ghost use Rattle.graph_bases.specs.Trails.{trail_in};
 
 use crate::bases::Divergence;
 use crate::paint::{Coat, Coats, Paint};
+use crate::sheet::CoatTable;
 use commit_search::CommitSource;
 use graph_format::Position;
 use graph_walks::GENERATION_NUMBER_MAX;
@@ -30,10 +31,10 @@ use std::collections::BinaryHeap;
 
 /// The painting of commits from one of them and some others.
 #[derive(Drop)]
-pub(crate) struct Painting<'p> {
+pub(crate) struct Painting<'p, T: CoatTable> {
     first: Position,
     others: &'p [Position],
-    pub(crate) coats: Coats,
+    pub(crate) coats: Coats<T>,
     /// The commits whose parents have not heard all that is known of them: of each its generation
     /// number and its position.
     queue: BinaryHeap<(u32, u32)>,
@@ -46,19 +47,24 @@ pub(crate) struct Painting<'p> {
     visits: u64,
 }
 
-impl<'p> Painting<'p> {
+impl<'p, T: CoatTable> Painting<'p, T> {
     /// A painting that knows nothing.
-    fn new(alloc: Global, coats: Coats, first: Position, others: &'p [Position]) -> Painting<'p>
-        requires idle { AreIdle (length coats.all.items) coats }
-        requires few { length coats.all.items < 2 ^ 32 }
+    fn new(
+        alloc: Global,
+        coats: Coats<T>,
+        first: Position,
+        others: &'p [Position],
+    ) -> Painting<'p, T>
+        requires idle { AreIdle (length coats.all) coats }
+        requires few { length coats.all < 2 ^ 32 }
         ensures first { result.first ≡ first }
         ensures others { result.others.now ≡ others.now }
-        ensures painting { IsPainting (length coats.all.items) result }
-        ensures told { (history : List Node) → length history ≡ length coats.all.items
+        ensures painting { IsPainting (length coats.all) result }
+        ensures told { (history : List Node) → length history ≡ length coats.all
             → IsPaintingOf history result }
-        ensures lists { (t : Told) (l : ℕ) → IsPassed result.coats.all.items (t.lists l)
+        ensures lists { (t : Told) (l : ℕ) → IsPassed result.coats.all (t.lists l)
             (trail_in result.coats.trails.layers.items l) }
-        ensures bare { (p : ℕ) → coat_at result.coats.all.items p ≡ bare }
+        ensures bare { (p : ℕ) → coat_at result.coats.all p ≡ bare }
         ensures empty { heap_items result.queue ≡ [] }
     {
         Painting {
@@ -90,7 +96,7 @@ impl<'p> Painting<'p> {
         ensures visits { self.new.visits ≡ self.old.visits }
         ensures len { OnOk result (length (heap_items self.new.queue)
             ≡ length (heap_items self.old.queue)
-            + cond (is_queued self.old.coats.all.items commit.0) 0 1) }
+            + cond (is_queued self.old.coats.all commit.0) 0 1) }
         ensures joins { OnOk result
             (Joins commit.0 (heap_items self.old.queue) (heap_items self.new.queue)) }
         ensures numbered { OnOk result ((t : Told) → S.says commits.new t
@@ -144,14 +150,14 @@ impl<'p> Painting<'p> {
         ensures painting { OnOk result (IsPainting (S.count (S.known commits.old)) self.new) }
         ensures told { OnOk result ((t : Told) → S.says commits.new t
             → IsPaintingOf t.history self.new) }
-        ensures adds { OnOk result (Adds commit.0 paint self.old.coats.all.items
-            self.new.coats.all.items) }
+        ensures adds { OnOk result (Adds commit.0 paint self.old.coats.all
+            self.new.coats.all) }
         ensures level { OnOk result ((t : Told) (level : ℕ) → S.says commits.new t
             → generation_at t.history commit.0 ≤ level
-            → IsLevel t.history self.old.coats.all.items (heap_items self.old.queue) level
-            → IsLevel t.history self.new.coats.all.items (heap_items self.new.queue) level) }
-        ensures work { OnOk result (work self.new.coats.all.items (heap_items self.new.queue)
-            ≤ work self.old.coats.all.items (heap_items self.old.queue)) }
+            → IsLevel t.history self.old.coats.all (heap_items self.old.queue) level
+            → IsLevel t.history self.new.coats.all (heap_items self.new.queue) level) }
+        ensures work { OnOk result (work self.new.coats.all (heap_items self.new.queue)
+            ≤ work self.old.coats.all (heap_items self.old.queue)) }
         ensures failed { IfErr result (λ e. S.may_fail (S.known commits.old) e
             ⊎ S.Error.from_gives alloc_error e) }
     {
@@ -163,7 +169,7 @@ impl<'p> Painting<'p> {
         self.enqueue(commits, commit)?;
         self.add_candidate(commit, paint)?;
         let queued = true;
-        self.coats.set(commit, Coat { paint, queued });
+        self.coats.set(commit, Coat { paint, queued })?;
         Ok(())
     }
 
@@ -173,34 +179,34 @@ impl<'p> Painting<'p> {
         requires painting { IsPainting (S.count (S.known commits.old)) self.old }
         requires told { (t : Told) → S.says commits.old t → IsPaintingOf t.history self.old }
         requires spread { (t : Told) → S.says commits.old t → IsSpread t.history self.old.first.0
-            (numbers_of self.old.others.now) self.old.coats.all.items }
+            (numbers_of self.old.others.now) self.old.coats.all }
         requires level { (t : Told) → S.says commits.old t → CountWalks t.history → (level : ℕ)
-            × IsLevel t.history self.old.coats.all.items (heap_items self.old.queue) level }
+            × IsLevel t.history self.old.coats.all (heap_items self.old.queue) level }
         requires lists { ArePassed (S.says commits.old) self.old }
         ensures known { S.known commits.new ≡ S.known commits.old }
         ensures kept { (t : Told) → S.says commits.new t → S.says commits.old t }
         ensures first { self.new.first ≡ self.old.first }
         ensures others { self.new.others.now ≡ self.old.others.now }
         ensures len { OnOk result
-            (length self.new.coats.all.items ≡ S.count (S.known commits.old)) }
+            (length self.new.coats.all ≡ S.count (S.known commits.old)) }
         ensures counted { OnOk result (IsCounted self.new.coats) }
-        ensures touched { OnOk result (AreTouched self.new.coats.all.items self.new.taken.items
+        ensures touched { OnOk result (AreTouched self.new.coats.all self.new.taken.items
             (heap_items self.new.queue)) }
-        ensures candidates { OnOk result (AreCandidates self.new.coats.all.items
+        ensures candidates { OnOk result (AreCandidates self.new.coats.all
             self.new.candidates.items) }
         ensures paint { OnOk result ((t : Told) → S.says commits.new t
             → IsPaint t.history self.old.first.0 (numbers_of self.old.others.now)
-            self.new.coats.all.items) }
+            self.new.coats.all) }
         ensures spread { OnOk result ((t : Told) → S.says commits.new t
             → IsSpread t.history self.old.first.0 (numbers_of self.old.others.now)
-            self.new.coats.all.items) }
-        ensures count { OnOk result (IsVisitCount self.new.coats.all.items self.new.visits) }
+            self.new.coats.all) }
+        ensures count { OnOk result (IsVisitCount self.new.coats.all self.new.visits) }
         ensures visiting { OnOk result ((t : Told) → S.says commits.new t → CountWalks t.history
             → AreBelowCap t.history self.old.first.0 (numbers_of self.old.others.now)
             → IsVisiting t.history self.old.first.0 (numbers_of self.old.others.now)
-            self.new.coats.all.items self.new.visits) }
+            self.new.coats.all self.new.visits) }
         ensures done { OnOk result ((t : Told) → S.says commits.new t → CountWalks t.history
-            → IsDone t.history self.new.coats.all.items) }
+            → IsDone t.history self.new.coats.all) }
         ensures failed { IfErr result (λ e. S.may_fail (S.known commits.old) e
             ⊎ S.Error.from_gives alloc_error e) }
     {
@@ -214,7 +220,7 @@ impl<'p> Painting<'p> {
             let commit = Position(next.1);
             let paint = self.coats.at(commit).paint;
             let queued = false;
-            self.coats.set(commit, Coat { paint, queued });
+            self.coats.set(commit, Coat { paint, queued })?;
             self.visits = self.visits.saturating_add(1);
             self.visit(commits, commit, paint)?;
         }
@@ -225,9 +231,9 @@ impl<'p> Painting<'p> {
     pub(crate) fn divergence(&self) -> Divergence
         requires { IsCounted self.now.coats }
         ensures ahead { result.ahead
-            ≡ count_by (λ coat. is_ahead coat.paint) self.now.coats.all.items }
+            ≡ count_by (λ coat. is_ahead coat.paint) self.now.coats.all }
         ensures behind { result.behind
-            ≡ count_by (λ coat. is_behind coat.paint) self.now.coats.all.items }
+            ≡ count_by (λ coat. is_behind coat.paint) self.now.coats.all }
     {
         Divergence {
             ahead: self.coats.ahead,
@@ -244,12 +250,12 @@ impl<'p> Painting<'p> {
 
     /// The commits that are merge bases as far as is known, in the order of their positions.
     pub(crate) fn bases(&mut self, alloc: Global) -> Result<Vec<Position>, AllocError>
-        requires { AreCandidates self.old.coats.all.items self.old.candidates.items }
+        requires { AreCandidates self.old.coats.all self.old.candidates.items }
         ensures coats { self.new.coats ≡ self.old.coats }
         ensures queue { heap_items self.new.queue ≡ heap_items self.old.queue }
         ensures taken { self.new.taken.items ≡ self.old.taken.items }
         ensures visits { self.new.visits ≡ self.old.visits }
-        ensures bases { IfOk result (λ bases. AreBases self.old.coats.all.items
+        ensures bases { IfOk result (λ bases. AreBases self.old.coats.all
             (numbers_of bases.items)) }
     {
         self.candidates.sort_unstable();
@@ -264,9 +270,9 @@ impl<'p> Painting<'p> {
     }
 
     /// The coats, all of them bare again. Only the commits that were painted are gone over.
-    pub(crate) fn into_coats(self) -> Coats
-        requires { AreTouched self.coats.all.items self.taken.items (heap_items self.queue) }
-        ensures { AreIdle (length self.entry.coats.all.items) result }
+    pub(crate) fn into_coats(self) -> Coats<T>
+        requires { AreTouched self.coats.all self.taken.items (heap_items self.queue) }
+        ensures { AreIdle (length self.entry.coats.all) result }
     {
         let Painting {
             mut coats,
@@ -285,28 +291,28 @@ impl<'p> Painting<'p> {
 }
 
 /// Paints commits from one of them and some others.
-pub(crate) fn paint_from<'p, S: CommitSource>(
+pub(crate) fn paint_from<'p, T: CoatTable, S: CommitSource>(
     alloc: Global,
-    coats: Coats,
+    coats: Coats<T>,
     commits: &mut S,
     first: Position,
     others: &'p [Position],
-) -> Result<Painting<'p>, S::Error>
+) -> Result<Painting<'p, T>, S::Error>
     requires idle { AreIdle (S.count (S.known commits.old)) coats }
     requires first { first.0 < S.count (S.known commits.old) }
     requires others { All (λ other. other.0 < S.count (S.known commits.old)) others.now }
     ensures known { S.known commits.new ≡ S.known commits.old }
     ensures kept { (t : Told) → S.says commits.new t → S.says commits.old t }
-    ensures len { IfOk result (λ s. length s.coats.all.items ≡ S.count (S.known commits.old)) }
+    ensures len { IfOk result (λ s. length s.coats.all ≡ S.count (S.known commits.old)) }
     ensures counted { IfOk result (λ s. IsCounted s.coats) }
-    ensures touched { IfOk result (λ s. AreTouched s.coats.all.items s.taken.items
+    ensures touched { IfOk result (λ s. AreTouched s.coats.all s.taken.items
         (heap_items s.queue)) }
-    ensures candidates { IfOk result (λ s. AreCandidates s.coats.all.items s.candidates.items) }
+    ensures candidates { IfOk result (λ s. AreCandidates s.coats.all s.candidates.items) }
     ensures paint { IfOk result (λ s. (t : Told) → S.says commits.new t
-        → IsPaint t.history first.0 (numbers_of others.now) s.coats.all.items) }
+        → IsPaint t.history first.0 (numbers_of others.now) s.coats.all) }
     ensures most { IfOk result (λ s. s.visits ≤ 3 * S.count (S.known commits.old)) }
     ensures painted { IfOk result (λ s. (t : Told) → S.says commits.new t → CountWalks t.history
-        → IsPainted t.history first.0 (numbers_of others.now) s.coats.all.items) }
+        → IsPainted t.history first.0 (numbers_of others.now) s.coats.all) }
     ensures visits { IfOk result (λ s. (t : Told) → S.says commits.new t → CountWalks t.history
         → AreVisits t.history first.0 (numbers_of others.now) s.visits) }
     ensures failed { IfErr result (λ e. S.may_fail (S.known commits.old) e

@@ -14,6 +14,7 @@ ghost use Rattle.graph_bases.specs.Painting.{ArePassed, PassesPaint, PassesOn};
 
 use crate::paint::Paint;
 use crate::painting::Painting;
+use crate::sheet::CoatTable;
 use commit_search::CommitSource;
 use commit_search::edges::parent_of;
 use graph_format::Position;
@@ -21,7 +22,7 @@ use graph_format::parents::{ExtraEdge, ParentEdge};
 use graph_walks::GENERATION_NUMBER_MAX;
 use graph_walks::law::{generations_fall_along_walks, generations_never_rise_along_walks};
 
-impl<'p> Painting<'p> {
+impl<'p, T: CoatTable> Painting<'p, T> {
     /// Passes on what is known of a commit that was taken from the queue.
     pub(crate) fn visit<S: CommitSource>(
         &mut self,
@@ -42,12 +43,12 @@ impl<'p> Painting<'p> {
         ensures lists { OnOk result (ArePassed (S.says commits.new) self.new) }
         ensures spread { OnOk result ((t : Told) → S.says commits.new t
             → IsSpread t.history self.old.first.0 (numbers_of self.old.others.now)
-            self.new.coats.all.items) }
+            self.new.coats.all) }
         ensures level { OnOk result ((t : Told) → S.says commits.new t → CountWalks t.history
-            → IsLevel t.history self.new.coats.all.items (heap_items self.new.queue)
+            → IsLevel t.history self.new.coats.all (heap_items self.new.queue)
             (generation_at t.history commit.0)) }
-        ensures work { OnOk result (work self.new.coats.all.items (heap_items self.new.queue)
-            ≤ work self.old.coats.all.items (heap_items self.old.queue)) }
+        ensures work { OnOk result (work self.new.coats.all (heap_items self.new.queue)
+            ≤ work self.old.coats.all (heap_items self.old.queue)) }
         ensures failed { IfErr result (λ e. S.may_fail (S.known commits.old) e
             ⊎ S.Error.from_gives alloc_error e) }
     {
@@ -81,7 +82,7 @@ impl<'p> Painting<'p> {
         ensures on { OnOk result (PassesOn self.old self.new) }
         ensures named { OnOk result ((t : Told) (q : ℕ) → S.says commits.new t
             → FieldNames t.lists (S.lies (S.known commits.old) commit.0) field q
-            → Grows (passed paint) (paint_at self.new.coats.all.items q)) }
+            → Grows (passed paint) (paint_at self.new.coats.all q)) }
         ensures failed { IfErr result (λ e. S.may_fail (S.known commits.old) e
             ⊎ S.Error.from_gives alloc_error e) }
     {
@@ -129,7 +130,7 @@ impl<'p> Painting<'p> {
         ensures named { OnOk result ((t : Told) (q : ℕ) → S.says commits.new t
             → ((l : ℕ) → S.lies (S.known commits.old) commit.0 l
             → Contains (named_from (t.lists l) index) q)
-            → Grows (passed paint) (paint_at self.new.coats.all.items q)) }
+            → Grows (passed paint) (paint_at self.new.coats.all q)) }
         ensures failed { IfErr result (λ e. S.may_fail (S.known commits.old) e
             ⊎ S.Error.from_gives alloc_error e) }
     {
@@ -172,7 +173,7 @@ impl<'p> Painting<'p> {
             (S.says commits.new) self.new commit.0 paint) }
         ensures on { OnOk result (PassesOn self.old self.new) }
         ensures heard { OnOk result
-            (Grows (passed paint) (paint_at self.new.coats.all.items parent.0)) }
+            (Grows (passed paint) (paint_at self.new.coats.all parent.0)) }
         ensures failed { IfErr result (λ e. S.may_fail (S.known commits.old) e
             ⊎ S.Error.from_gives alloc_error e) }
     {

@@ -5,12 +5,12 @@ use Rattle.graph_bases.proofs.any.compared.Goals as goal
 
 pub returns-clause-within : goal.returns-clause-within
 returns-clause-within g c =
-    bases_below c.in_ok-painting.painting.coats.all.items c.in_ok-positions.positions.items c.in_ok-positions.ensures.bases _
+    bases_below c.in_ok-painting.painting.coats.all c.in_ok-positions.positions.items c.in_ok-positions.ensures.bases _
     c.in_ok-painting.ensures.len
 
 pub returns-clause-common : goal.returns-clause-common
 returns-clause-common g c = λ t said.
-    bases_common c.in_ok-painting.painting.coats.all.items c.in_ok-positions.positions.items c.in_ok-positions.ensures.bases
+    bases_common c.in_ok-painting.painting.coats.all c.in_ok-positions.positions.items c.in_ok-positions.ensures.bases
     t.history c.args.first.0 (numbers_of c.args.others.now) (c.in_ok-painting.ensures.paint t said)
 
 pub returns-clause-exact : goal.returns-clause-exact
@@ -20,7 +20,7 @@ returns-clause-exact g c = λ t said right.
     let bs = numbers_of c.args.others.now in
     let p = c.in_ok-painting.ensures in
     let painted = p.painted t said right in
-    let coats = c.in_ok-painting.painting.coats.all.items in
+    let coats = c.in_ok-painting.painting.coats.all in
     record {
       bases = bases_are h a bs coats painted (numbers_of c.in_ok-positions.positions.items) c.in_ok-positions.ensures.bases;
       visits = rw c.visits-visits.ensures (p.visits t said right);

@@ -33,7 +33,7 @@ pub add-requires-clause-told : goal.add-requires-clause-told
 add-requires-clause-told g c = λ t said.
     let p = c.new-painting.ensures in
     let s = c.new-painting.result in
-    let len : length t.history ≡ length c.args.coats.all.items =
+    let len : length t.history ≡ length c.args.coats.all =
     c.num_commits-commits.ensures.told t said ∙ c.num_commits-commits.ensures.count ∙ sym c.requires.idle.coats_len in
     let within : c.args.first.0 < length t.history = omega (arith, len, c.requires.idle.coats_len, c.requires.first) in
     record {
@@ -57,18 +57,18 @@ loop-other-init g c =
       told = c.in_ok-add.ensures.told;
       lists = λ t said l.
           rw c.add.ensures.trails
-          (passed_kept s.coats.all.items _ _ c.add.new.self.coats.all.items c.in_ok-add.ensures.adds.grows (p.lists t l));
+          (passed_kept s.coats.all _ _ c.add.new.self.coats.all c.in_ok-add.ensures.adds.grows (p.lists t l));
       begun = λ t said.
-          begun_first t.history s.coats.all.items (heap_items s.queue) p.bare p.empty c.args.first.0
-          (numbers_of c.args.others.now) c.add.new.self.coats.all.items c.in_ok-add.ensures.adds;
+          begun_first t.history s.coats.all (heap_items s.queue) p.bare p.empty c.args.first.0
+          (numbers_of c.args.others.now) c.add.new.self.coats.all c.in_ok-add.ensures.adds;
       level = λ t said right.
-          (let len : length t.history ≡ length c.args.coats.all.items =
+          (let len : length t.history ≡ length c.args.coats.all =
           c.num_commits-commits.ensures.told t (c.add.ensures.kept t said) ∙ c.num_commits-commits.ensures.count
           ∙ sym c.requires.idle.coats_len in
           let within : c.args.first.0 < length t.history = omega (arith, len, c.requires.idle.coats_len, c.requires.first) in
           let capped = (right c.args.first.0 within).capped in
           c.in_ok-add.ensures.level t GENERATION_NUMBER_MAX said capped
-          (bare_level t.history s.coats.all.items (heap_items s.queue) p.bare p.empty GENERATION_NUMBER_MAX));
+          (bare_level t.history s.coats.all (heap_items s.queue) p.bare p.empty GENERATION_NUMBER_MAX));
     }
 
 -- the other that is next is a commit of what the source tells
@@ -103,7 +103,7 @@ add-requires-in-loop-other-clause-told g c = λ t said.
           (within g (goal.at.add-requires-in-loop-other-clause-told g c).In-loop-other t said));
       waits = rw (i.first, i.others)
           (λ right below painted.
-          painted_queued h l.painting.coats.all.items (heap_items l.painting.queue) GENERATION_NUMBER_MAX other.0
+          painted_queued h l.painting.coats.all (heap_items l.painting.queue) GENERATION_NUMBER_MAX other.0
           (i.level t said right) (below other.0 (inr start)) painted);
       edge = rw (i.first, i.others) (λ right below live. inl (inr start));
     }
@@ -123,11 +123,11 @@ loop-other-preserved g c =
       told = c.in_ok-add-2.ensures.told;
       lists = λ t said k.
           rw add.trails
-          (passed_kept l.painting.coats.all.items _ _ c.add-in-loop-other.new.self.coats.all.items
+          (passed_kept l.painting.coats.all _ _ c.add-in-loop-other.new.self.coats.all
           c.in_ok-add-2.ensures.adds.grows (i.lists t (add.kept t said) k));
       begun = λ t said.
-          begun_more t.history c.args.first.0 (numbers_of c.args.others.now) l.other-index other.0 l.painting.coats.all.items
-          c.add-in-loop-other.new.self.coats.all.items (i.begun t (add.kept t said))
+          begun_more t.history c.args.first.0 (numbers_of c.args.others.now) l.other-index other.0 l.painting.coats.all
+          c.add-in-loop-other.new.self.coats.all (i.begun t (add.kept t said))
           (number_at c.args.others.now l.other-index) c.in_ok-add-2.ensures.adds;
       level = λ t said right.
           (let before = add.kept t said in
@@ -140,7 +140,7 @@ run-requires-clause-spread g c = λ t said.
     let l = c.loop-other in
     let i = l.invariant in
     rw (i.first, i.others)
-    (begun_all t.history c.args.first.0 (numbers_of c.args.others.now) l.other-index l.painting.coats.all.items
+    (begun_all t.history c.args.first.0 (numbers_of c.args.others.now) l.other-index l.painting.coats.all
     (i.begun t said)
     (omega (arith, c.loop-other-test.false, c.loop-other.auto, length-map c.args.others.now (λ (p : Position). p.0))))
 
@@ -149,7 +149,7 @@ run-requires-clause-level g c = λ t said right. (GENERATION_NUMBER_MAX, c.loop-
 
 -- all is painted
 ended : (g : Over) (c : In_ok-run g) (t : Told) → g.S.CommitSource.says c.run.new.commits t → CountWalks t.history
-    → HasEnded t.history c.args.first.0 (numbers_of c.args.others.now) c.run.new.self.coats.all.items
+    → HasEnded t.history c.args.first.0 (numbers_of c.args.others.now) c.run.new.self.coats.all
 ended g c t said right =
     let h = t.history in
     let i = c.loop-other.invariant in
@@ -170,7 +170,7 @@ returns-clause-paint g c = λ t said.
 pub returns-clause-most : goal.returns-clause-most
 returns-clause-most g c =
     let len = rw c.loop-other.invariant.known at c.in_ok-run.ensures.len in
-    omega (arith, visits_bound c.run.new.self.coats.all.items c.run.new.self.visits c.in_ok-run.ensures.count, len)
+    omega (arith, visits_bound c.run.new.self.coats.all c.run.new.self.visits c.in_ok-run.ensures.count, len)
 
 pub returns-clause-painted : goal.returns-clause-painted
 returns-clause-painted g c = λ t said right.

@@ -21,7 +21,7 @@ invariant-loop-other g l =
       told : (t : Told) → says t → IsPaintingOf t.history l.painting;
       lists : ArePassed says l.painting;
       begun : (t : Told) → says t
-          → IsBegun t.history l.fn.first.0 (numbers_of l.fn.others) l.other-index l.painting.coats.all.items;
+          → IsBegun t.history l.fn.first.0 (numbers_of l.fn.others) l.other-index l.painting.coats.all;
       level : (t : Told) → says t → CountWalks t.history
-          → IsLevel t.history l.painting.coats.all.items (heap_items l.painting.queue) GENERATION_NUMBER_MAX;
+          → IsLevel t.history l.painting.coats.all (heap_items l.painting.queue) GENERATION_NUMBER_MAX;
     }

@@ -48,7 +48,7 @@ loop-place-init g c =
 pub commit_at-requires : goal.commit_at-requires
 commit_at-requires g c =
     let l = c.loop-place in
-    taken_within (queued_by l.self) l.self.stack.items c.pop.new.self.items c.in-Some.place c.in-Some.ensures.items
+    taken_within (queued_by l.self) l.stack.items c.pop.new.self.items c.in-Some.place c.in-Some.ensures.items
     l.invariant.places
 
 pub returns-then-eq-clause-yes : goal.returns-then-eq-clause-yes
@@ -57,7 +57,7 @@ returns-then-eq-clause-yes g c = λ t said found.
     let inv = l.invariant in
     let at = sym c.commit_at.ensures ∙ eqb-true c.commit_at.result.0 c.args.to.0 (sym c.if-eq.ensures) in
     let lt =
-    taken_within (queued_by l.self) l.self.stack.items c.pop.new.self.items c.in-Some.place c.in-Some.ensures.items inv.places in
+    taken_within (queued_by l.self) l.stack.items c.pop.new.self.items c.in-Some.place c.in-Some.ensures.items inv.places in
     let reached =
     queued_is_reached t.history l.self.least (queued_by l.self) (queue_told _ _ l.self t said inv.search) c.in-Some.place lt in
     subst₂ (λ (p q : ℕ). Reaches t.history p q) inv.first at reached
@@ -80,7 +80,7 @@ visit-requires-clause-read g c = c.loop-place.invariant.read
 pub visit-requires-clause-place : goal.visit-requires-clause-place
 visit-requires-clause-place g c =
     let l = c.loop-place in
-    taken_within (queued_by l.self) l.self.stack.items c.pop.new.self.items c.in-Some.place c.in-Some.ensures.items
+    taken_within (queued_by l.self) l.stack.items c.pop.new.self.items c.in-Some.place c.in-Some.ensures.items
     l.invariant.places
 
 pub overflow_cast-end : goal.overflow_cast-end
@@ -107,7 +107,6 @@ loop-place-smaller g c =
       c.len-reached.ensures,
       c.len-end.ensures,
       c.in_ok-push_places-2.ensures.len,
-      ap length e.goes_on.stack,
       ap length c.in-Some.ensures.items,
       length_push c.pop.new.self.items c.in-Some.place,
     )
@@ -127,7 +126,7 @@ loop-place-preserved g c =
     let only : (i : ℕ) → Contains c.push_places-in-Some.new.stack.items i
     → Contains c.pop.new.self.items i ⊎ (i < length (queued_by s)) = λ i there.
     ⊎_elim
-    (λ (left : Contains s.stack.items i). inl (subst (λ (xs : List ℕ). Contains xs i) on.stack left))
+    (λ (left : Contains c.pop.new.self.items i). inl left)
     (λ (lt : i < c.len-end.result). inr (omega (arith, lt, c.len-end.ensures)))
     (pushed.only i there) in
     record {
@@ -138,13 +137,13 @@ loop-place-preserved g c =
       least = on.least ∙ inv.least;
       some = omega (arith, inv.some, on.extends.longer);
       first = commit_extends (queued_by l.self) (queued_by s) c.in-Some.place 0 on.extends inv.some ∙ inv.first;
-      places = places_go_on (queued_by l.self) (queued_by s) l.self.stack.items c.pop.new.self.items
+      places = places_go_on (queued_by l.self) (queued_by s) l.stack.items c.pop.new.self.items
           c.push_places-in-Some.new.stack.items c.in-Some.place c.in-Some.ensures.items inv.places on.extends only;
       descent = λ t said. rw on.least
           (descent_goes_on t.history l.self.least c.args.to.0 (queued_by l.self) (queued_by s)
-          l.self.stack.items c.pop.new.self.items c.push_places-in-Some.new.stack.items c.in-Some.place c.in-Some.ensures.items
+          l.stack.items c.pop.new.self.items c.push_places-in-Some.new.stack.items c.in-Some.place c.in-Some.ensures.items
           (inv.descent t (c.visit.ensures.kept t said)) on.extends (e.parents t said) other
-          (λ i left. pushed.old i (subst (λ (xs : List ℕ). Contains xs i) (sym on.stack) left))
+          pushed.old
           (λ i from lt. pushed.new i (omega (arith, from, c.len-reached.ensures)) (omega (arith, lt, c.len-end.ensures))));
     }
 
@@ -155,6 +154,6 @@ returns-clause-no g c = λ t said right reaches.
     let never_rises = λ (p q : ℕ). c.generations_never_rise_along_walks.ensures t.history p q right in
     let high : l.self.least ≤ generation_at t.history c.args.to.0 =
     omega (arith, inv.least, c.requires.least t (inv.kept t said)) in
-    let empty : length l.self.stack.items ≡ 0 = omega (arith, c.in_default.ensures.cases.0) in
-    absurd (descent_ends t.history l.self.least c.args.from.0 c.args.to.0 (queued_by l.self) l.self.stack.items
+    let empty : length l.stack.items ≡ 0 = omega (arith, c.in_default.ensures.cases.0) in
+    absurd (descent_ends t.history l.self.least c.args.from.0 c.args.to.0 (queued_by l.self) l.stack.items
     (queue_told _ _ l.self t said inv.search) never_rises inv.some inv.first high (inv.descent t said) empty reaches)

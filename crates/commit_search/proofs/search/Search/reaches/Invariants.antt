@@ -17,10 +17,10 @@ invariant-loop-place g l =
       least : l.self.least ≡ l.fn.least;
       some : 0 < length (queued_by l.self);
       first : commit_in (queued_by l.self) 0 ≡ l.fn.from.0;
-      places : ArePlaces (queued_by l.self) l.self.stack.items;
-      descent : (t : Told) → says t → IsDescent t.history l.self.least l.to.0 (queued_by l.self) l.self.stack.items;
+      places : ArePlaces (queued_by l.self) l.stack.items;
+      descent : (t : Told) → says t → IsDescent t.history l.self.least l.to.0 (queued_by l.self) l.stack.items;
     }
 
 abbrev pub decreases-loop-place : goal.decreases-loop-place
 decreases-loop-place g l =
-    (g.S.CommitSource.count (g.S.CommitSource.known l.fn.commits) + length l.self.stack.items) - length (queued_by l.self)
+    (g.S.CommitSource.count (g.S.CommitSource.known l.fn.commits) + length l.stack.items) - length (queued_by l.self)

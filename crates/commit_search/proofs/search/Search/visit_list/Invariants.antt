@@ -15,13 +15,13 @@ invariant-loop-pos g l =
       kept : (t : Told) → says t → g.S.CommitSource.says l.fn.commits t;
       search : IsSearching (g.S.CommitSource.count k) says l.self;
       goes_on : GoesOn l.fn.self l.self l.place;
-      room : l.count ≤ bound_at l.self.words.layers.items l.layer;
+      room : l.count ≤ bound_at l.self.words l.layer;
       within : l.next < l.count;
       listed : g.S.CommitSource.is_listed k (commit_in (queued_by l.fn.self) l.place) l.next;
       told : (t : Told) → says t → IsListTrue t (commit_in (queued_by l.fn.self) l.place) l.layer l.next;
       others : (t : Told) (i : ℕ) → says t → i ≢ l.layer → IsListRead t l.self i None;
       read : (t : Told) → says t → IsListRead t l.self l.layer (Some l.next);
-      begun : IsMarked (marked_at l.self.words.layers.items l.layer) l.index ⊎ (l.index ≡ l.next);
+      begun : IsMarked (marked_at l.self.words l.layer) l.index ⊎ (l.index ≡ l.next);
     }
 
 abbrev pub decreases-loop-pos : goal.decreases-loop-pos

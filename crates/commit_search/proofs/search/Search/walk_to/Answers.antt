@@ -9,7 +9,7 @@ use Rattle.commit_search.proofs.StepLemmas.{one_back, one_step_more}
 use Rattle.commit_search.proofs.search.Search.walk_to.Goals as goal
 
 pub loop-reached-preserved : goal.loop-reached-preserved
-loop-reached-preserved c =
+loop-reached-preserved g c =
     let s = c.args.self.now in
     let l = c.loop-reached in
     let pushed = c.in_ok-push.ensures.items in
@@ -29,7 +29,7 @@ loop-reached-preserved c =
     }
 
 pub returns-clause-walk : goal.returns-clause-walk
-returns-clause-walk c = λ h least queue.
+returns-clause-walk g c = λ h least queue.
     let s = c.args.self.now in
     let l = c.loop-reached in
     let first : l.reached ≡ 0 = omega (arith, c.loop-reached-test.false) in
@@ -40,7 +40,7 @@ returns-clause-walk c = λ h least queue.
     (sym whole) between
 
 pub returns-clause-steps : goal.returns-clause-steps
-returns-clause-steps c =
+returns-clause-steps g c =
     let l = c.loop-reached in
     let first : l.reached ≡ 0 = omega (arith, c.loop-reached-test.false) in
     let steps = l.invariant.steps 0 first in

@@ -7,7 +7,7 @@ use Rattle.commit_search.proofs.search.Search.walk_to.Given as goal
 
 -- what was gathered, turned round, is a walk to the end, and as long as the steps taken
 abbrev pub invariant-loop-reached : goal.invariant-loop-reached
-invariant-loop-reached l = record {
+invariant-loop-reached g l = record {
   within : l.reached < length (queued_by l.self);
   walk : (history : List Node) (least : ℕ) → IsQueue history least (queued_by l.self)
       → Gathers history (queued_by l.self) l.reached l.place l.walk.items;
@@ -16,4 +16,4 @@ invariant-loop-reached l = record {
 }
 
 abbrev pub decreases-loop-reached : goal.decreases-loop-reached
-decreases-loop-reached l = l.reached
+decreases-loop-reached g l = l.reached

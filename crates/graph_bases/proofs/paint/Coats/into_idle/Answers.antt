@@ -5,8 +5,8 @@ use Rattle.graph_bases.proofs.EdgeLemmas.{none_counted}
 use Rattle.graph_bases.proofs.paint.Coats.into_idle.Goals as goal
 
 pub returns : goal.returns
-returns c =
-    let coats = c.args.self.all.items in
+returns g c =
+    let coats = c.args.self.all in
     let none : (t : Coat → Bool) → t bare ≡ false → 0 ≡ count_by t coats = λ t unmet.
     sym (none_counted [] 0 [] coats c.requires t unmet) in
     record {

@@ -17,7 +17,7 @@ set-requires-clause-few g c =
       arith,
       c.requires.painting.few,
       c.requires.painting.coats_len,
-      ap (λ (m : Coats). length m.all.items) same,
+      ap (λ (m : Coats _). length m.all) same,
     )
 
 pub returns : goal.returns
@@ -26,14 +26,14 @@ returns g c =
     let r = c.requires in
     let a = s.first.0 in
     let bs = numbers_of s.others.now in
-    let coats = s.coats.all.items in
+    let coats = s.coats.all in
     let x = c.args.paint in
     let p = c.args.commit.0 in
     let new = coat_with c.join-paint.result true in
     let known = c.at-known.ensures in
     let is_new = ap (λ (y : Paint). coat_with y true) (c.join-paint.ensures ∙ ap (λ (m : Coat). joined m.paint x) known) in
     let same = c.add_candidate.ensures.coats ∙ c.enqueue.ensures.coats in
-    let is_after = c.set.ensures.coats ∙ ap (λ (ms : Coats). set ms.all.items p new) same in
+    let is_after = c.in_ok-set.ensures.coats ∙ ap (λ (ms : Coats _). set ms.all p new) same in
     let uncovered = ap (λ (m : Coat). covers m.paint x) (sym known) ∙ sym c.covers.ensures ∙ c.if-covers.false in
     let taken = c.add_candidate.ensures.taken ∙ c.enqueue.ensures.taken in
     let visits = c.add_candidate.ensures.visits ∙ c.enqueue.ensures.visits in
@@ -43,29 +43,29 @@ returns g c =
     let joins = c.in_ok-enqueue.ensures.joins in
     let after =
     added_by _ coats (heap_items s.queue) (heap_items c.enqueue.new.self.queue) p x r.painting.coats_len r.painting.waiting
-    r.within joins new is_new c.set.new.self.all.items is_after c.in_ok-enqueue.ensures.len s.candidates.items
+    r.within joins new is_new c.set.new.self.all is_after c.in_ok-enqueue.ensures.len s.candidates.items
     r.painting.candidates uncovered in
     record {
       known = c.enqueue.ensures.known;
       kept = c.enqueue.ensures.kept;
       first = first;
       others = others;
-      trails = c.set.ensures.trails ∙ ap (λ (ms : Coats). ms.trails) same;
+      trails = c.set.ensures.trails ∙ ap (λ (ms : Coats _). ms.trails) same;
       painting = record {
         few = r.painting.few;
         coats_len = after.len ∙ r.painting.coats_len;
-        counted = c.set.ensures.counted;
+        counted = c.in_ok-set.ensures.counted;
         waiting = rw c.add_candidate.ensures.queue after.waiting;
         candidates =
             rw (c.in_ok-add_candidate.ensures.candidates, c.enqueue.ensures.candidates, c.join-paint.ensures, known)
             after.candidates;
         touched =
             rw (taken, c.add_candidate.ensures.queue)
-            (touched_added coats c.set.new.self.all.items s.taken.items (heap_items s.queue)
+            (touched_added coats c.set.new.self.all s.taken.items (heap_items s.queue)
             (heap_items c.enqueue.new.self.queue) p joins after.adds.others r.painting.touched);
         visits =
             rw visits
-            (count_added coats c.set.new.self.all.items p x s.visits new inside is_new is_after uncovered r.painting.visits);
+            (count_added coats c.set.new.self.all p x s.visits new inside is_new is_after uncovered r.painting.visits);
       };
       told = λ t said.
           (let may = r.told t (c.enqueue.ensures.kept t said) in
@@ -76,7 +76,7 @@ returns g c =
             visiting =
                 rw (first, others, visits)
                 (λ right below.
-                visiting_added t.history a bs coats c.set.new.self.all.items p x s.visits new inside is_new is_after after.here
+                visiting_added t.history a bs coats c.set.new.self.all p x s.visits new inside is_new is_after after.here
                 after.adds.others (may.waits right below) (may.edge right below) uncovered
                 (may.painting.visiting right below));
           });

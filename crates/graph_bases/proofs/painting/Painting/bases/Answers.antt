@@ -11,7 +11,7 @@ use Rattle.graph_bases.proofs.painting.Painting.bases.Goals as goal
 use Rattle.graph_bases.proofs.painting.Painting.bases.Goals.{then-is_base+in_ok-push, else-is_base}
 
 pub at-requires : goal.at-requires
-at-requires c =
+at-requires g c =
     let s = c.args.self.now in
     let xs = c.deref-number-items.result.now in
     let i = c.loop-number.number-index in
@@ -21,11 +21,11 @@ at-requires c =
     let candidates =
     Contains-permutation c.sort_unstable.new.self.items s.candidates.items (get_or xs i 0)
     (IsPermutation-sym s.candidates.items c.sort_unstable.new.self.items c.sort_unstable.ensures.permutation) sorted in
-    known_within s.coats.all.items (get_or xs i 0) (c.requires.first (get_or xs i 0) candidates)
+    known_within s.coats.all (get_or xs i 0) (c.requires.first (get_or xs i 0) candidates)
 
 pub loop-number-preserved : goal.loop-number-preserved
-loop-number-preserved c =
-    let coats = c.args.self.now.coats.all.items in
+loop-number-preserved g c =
+    let coats = c.args.self.now.coats.all in
     let l = c.loop-number in
     let i = l.number-index in
     let xs = c.deref-number-items.result.now in
@@ -40,14 +40,14 @@ loop-number-preserved c =
     ]
 
 pub returns-clause-bases : goal.returns-clause-bases
-returns-clause-bases c =
+returns-clause-bases g c =
     let s = c.args.self.now in
     let l = c.loop-number in
     let xs = c.deref-number-items.result.now in
-    let t : ℕ → Bool = λ p. is_base (paint_at s.coats.all.items p) in
+    let t : ℕ → Bool = λ p. is_base (paint_at s.coats.all p) in
     let all =
     l.invariant
     ∙ ap (filter t) (take_all l.number-index xs c.loop-number-test.false ∙ c.deref-number-items.ensures.value) in
-    subst (AreBases s.coats.all.items) (sym all)
-    (sorted_bases s.coats.all.items s.candidates.items c.sort_unstable.new.self.items c.requires
+    subst (AreBases s.coats.all) (sym all)
+    (sorted_bases s.coats.all s.candidates.items c.sort_unstable.new.self.items c.requires
     c.sort_unstable.ensures.permutation c.sort_unstable.ensures.sorted)

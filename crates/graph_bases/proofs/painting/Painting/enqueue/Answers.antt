@@ -18,7 +18,7 @@ returns-clause-numbered g c = λ t said.
 pub returns-clause-len : goal.returns-clause-len
 returns-clause-len g c =
     let p = c.args.commit.0 in
-    let coats = c.args.self.now.coats.all.items in
+    let coats = c.args.self.now.coats.all in
     let settled : is_queued coats p ≡ false = ap (λ (m : Coat). m.queued) (sym c.at.ensures) ∙ c.if-at.false in
     let one : cond {A = ℕ} (is_queued coats p) 0 1 ≡ 1 = ap (λ (b : Bool). cond {A = ℕ} b 0 1) settled in
     let len =

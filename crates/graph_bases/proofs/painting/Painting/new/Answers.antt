@@ -8,8 +8,8 @@ use Rattle.graph_bases.proofs.VisitCountLemmas.{count_none}
 use Rattle.graph_bases.proofs.painting.Painting.new.Goals as goal
 
 pub returns-clause-painting : goal.returns-clause-painting
-returns-clause-painting c =
-    let coats = c.args.coats.all.items in
+returns-clause-painting g c =
+    let coats = c.args.coats.all in
     let e = c.requires.idle in
     record {
       few = c.requires.few;
@@ -22,10 +22,10 @@ returns-clause-painting c =
     }
 
 pub returns-clause-told : goal.returns-clause-told
-returns-clause-told c = λ h len.
+returns-clause-told g c = λ h len.
     let a = c.args.first.0 in
     let bs = numbers_of c.args.others.now in
-    let coats = c.args.coats.all.items in
+    let coats = c.args.coats.all in
     let e = c.requires.idle in
     record {
       paint = paint_none h a bs coats e.bare (sym len);
@@ -34,4 +34,4 @@ returns-clause-told c = λ h len.
     }
 
 pub returns-clause-lists : goal.returns-clause-lists
-returns-clause-lists c = λ t l. passed_none _ _ _ (c.requires.idle.trails l)
+returns-clause-lists g c = λ t l. passed_none _ _ _ (c.requires.idle.trails l)

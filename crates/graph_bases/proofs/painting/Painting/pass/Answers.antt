@@ -28,7 +28,7 @@ add-requires-clause-told g c = λ t said.
           let fall =
           falls_to_parent h p q low (order.uncapped below)
           (λ x y. c.generations_fall_along_walks.ensures h x y right) parent in
-          painted_queued h s.coats.all.items _ (generation_at h p) q order.level fall painted);
+          painted_queued h s.coats.all _ (generation_at h p) q order.level fall painted);
       edge = rw c.passed.ensures
           (λ right below live.
           let order = r.in_order right in
@@ -65,7 +65,7 @@ returns-clause-passes g c =
             painting = e.told t said;
             so = rw (f, o) told.so;
             spread = rw (f, o)
-                (but_added h s.first.0 (numbers_of s.others.now) q _ s.coats.all.items c.add.new.self.coats.all.items e.adds p
+                (but_added h s.first.0 (numbers_of s.others.now) q _ s.coats.all c.add.new.self.coats.all e.adds p
                 told.spread);
             in_order = λ right.
                 (let order = told.in_order right in

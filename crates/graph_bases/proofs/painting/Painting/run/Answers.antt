@@ -22,7 +22,7 @@ use Rattle.graph_bases.proofs.painting.Painting.run.Goals.{else-self-eq0-via-els
 
 -- what the queue gives next
 next : (g : Over) (c : In-Some g)
-    → IsNext (g.S.CommitSource.count (g.S.CommitSource.known c.args.commits.now)) c.loop-next.self.coats.all.items
+    → IsNext (g.S.CommitSource.count (g.S.CommitSource.known c.args.commits.now)) c.loop-next.self.coats.all
     (heap_items c.loop-next.self.queue) (heap_items c.pop.new.self) c.in-Some.next
 next g c =
     let i = c.loop-next.invariant in
@@ -48,12 +48,12 @@ set-requires-clause-few g c =
 pub visit-requires-clause-lists : goal.visit-requires-clause-lists
 visit-requires-clause-lists g c =
     let s = c.loop-next.self in
-    let coats = s.coats.all.items in
-    let now = c.set.new.self.all.items in
+    let coats = s.coats.all in
+    let now = c.set.new.self.all in
     let i = c.loop-next.invariant in
     let first = next g (goal.at.visit-requires-clause-lists g c).In-Some in
     let is_coat = ap (λ (m : Coat). coat_with m.paint false) c.at-paint.ensures in
-    let after = taken_by first is_coat c.set.ensures.coats (next_queued first) in
+    let after = taken_by first is_coat c.in_ok-set.ensures.coats (next_queued first) in
     λ t said l.
     rw c.set.ensures.trails
     (passed_kept coats _ _ now (λ q. subst (Grows (paint_at coats q)) (sym (after.same q)) (grows_refl (paint_at coats q)))
@@ -64,8 +64,8 @@ visit-requires-clause-passes g c =
     let s = c.loop-next.self in
     let a = s.first.0 in
     let bs = numbers_of s.others.now in
-    let coats = s.coats.all.items in
-    let now = c.set.new.self.all.items in
+    let coats = s.coats.all in
+    let now = c.set.new.self.all in
     let i = c.loop-next.invariant in
     let p = c.in-Some.next.1 in
     let first = next g (goal.at.visit-requires-clause-passes g c).In-Some in
@@ -73,14 +73,14 @@ visit-requires-clause-passes g c =
     let queued = next_queued first in
     let new = coat_with c.at-paint.result.paint false in
     let is_coat = ap (λ (m : Coat). coat_with m.paint false) c.at-paint.ensures in
-    let after = taken_by first is_coat c.set.ensures.coats queued in
+    let after = taken_by first is_coat c.in_ok-set.ensures.coats queued in
     let few = count_by-le-length is_visited coats in
     rw i.known
     (record {
       painting = record {
         few = i.painting.few;
         coats_len = after.len ∙ i.painting.coats_len;
-        counted = c.set.ensures.counted;
+        counted = c.in_ok-set.ensures.counted;
         waiting = after.waiting;
         candidates = candidates_same coats now s.candidates.items after.same i.painting.candidates;
         touched =
@@ -88,7 +88,7 @@ visit-requires-clause-passes g c =
             c.in-Some.next c.in-Some.ensures.permutation after.there i.painting.touched c.in_ok-push_number.ensures;
         visits =
             (let old = i.painting.visits.least in
-            count_taken coats now p s.visits c.saturating_add-self.result new inside is_coat c.set.ensures.coats queued
+            count_taken coats now p s.visits c.saturating_add-self.result new inside is_coat c.in_ok-set.ensures.coats queued
             (omega (arith, c.saturating_add-self.ensures))
             (omega (arith, c.saturating_add-self.ensures, old, few, i.painting.few, i.painting.coats_len)) i.painting.visits);
       };
@@ -116,7 +116,7 @@ visit-requires-clause-passes g c =
                   ] in
                   let visits : c.saturating_add-self.result ≡ s.visits + 1 =
                   omega (arith, c.saturating_add-self.ensures, old.count, few, i.painting.few, i.painting.coats_len) in
-                  rw visits (visiting_taken first of.numbered is_coat c.set.ensures.coats after queued some old));
+                  rw visits (visiting_taken first of.numbered is_coat c.in_ok-set.ensures.coats after queued some old));
             };
             so = subst (IsSo h a bs p) (sym (ap (λ (m : Coat). m.paint) c.at-paint.ensures)) (of.paint.each p);
             spread = taken_spread after h a bs spread;
@@ -138,7 +138,7 @@ pub loop-next-smaller : goal.loop-next-smaller
 loop-next-smaller g c =
     let first = next g (goal.at.loop-next-smaller g c).In-Some in
     let is_coat = ap (λ (m : Coat). coat_with m.paint false) c.at-paint.ensures in
-    lt_of_le_of_lt c.in_ok-visit.ensures.work (taken_by first is_coat c.set.ensures.coats (next_queued first)).work
+    lt_of_le_of_lt c.in_ok-visit.ensures.work (taken_by first is_coat c.in_ok-set.ensures.coats (next_queued first)).work
 
 pub loop-next-preserved : goal.loop-next-preserved
 loop-next-preserved g c =
@@ -159,7 +159,7 @@ loop-next-preserved g c =
 pub returns-then-is_below_cap-clause-done : goal.returns-then-is_below_cap-clause-done
 returns-then-is_below_cap-clause-done g c = λ t said right.
     let s = c.loop-next.self in
-    let coats = s.coats.all.items in
+    let coats = s.coats.all in
     let i = c.loop-next.invariant in
     let below : c.in-Some.next.0 < GENERATION_NUMBER_MAX = omega arith in
     let stale =
@@ -172,7 +172,7 @@ returns-then-is_below_cap-clause-done g c = λ t said right.
 pub returns-then-is_below_cap-clause-touched : goal.returns-then-is_below_cap-clause-touched
 returns-then-is_below_cap-clause-touched g c =
     let s = c.loop-next.self in
-    touched_taken s.coats.all.items s.coats.all.items s.taken.items c.push_number.new.numbers.items (heap_items s.queue)
+    touched_taken s.coats.all s.coats.all s.taken.items c.push_number.new.numbers.items (heap_items s.queue)
     (heap_items c.pop.new.self) c.in-Some.next c.in-Some.ensures.permutation (λ q apart. refl)
     c.loop-next.invariant.painting.touched c.in_ok-push_number.ensures
 
@@ -202,4 +202,4 @@ returns-clause-done g c = λ t said right.
     let i = l.invariant in
     let level = i.level t said right in
     let empty : length (heap_items l.self.queue) ≡ 0 = omega (arith, c.in_default.ensures.none) in
-    stops_empty t.history _ l.self.coats.all.items (heap_items l.self.queue) level.0 i.painting.waiting level.1 empty
+    stops_empty t.history _ l.self.coats.all (heap_items l.self.queue) level.0 i.painting.waiting level.1 empty

@@ -18,10 +18,10 @@ invariant-loop-next g l =
       told : (t : Told) → says t → IsPaintingOf t.history l.self;
       lists : ArePassed says l.self;
       spread : (t : Told) → says t
-          → IsSpread t.history l.fn.self.first.0 (numbers_of l.fn.self.others.now) l.self.coats.all.items;
+          → IsSpread t.history l.fn.self.first.0 (numbers_of l.fn.self.others.now) l.self.coats.all;
       level : (t : Told) → says t → CountWalks t.history
-          → (level : ℕ) × IsLevel t.history l.self.coats.all.items (heap_items l.self.queue) level;
+          → (level : ℕ) × IsLevel t.history l.self.coats.all (heap_items l.self.queue) level;
     }
 
 abbrev pub decreases-loop-next : goal.decreases-loop-next
-decreases-loop-next g l = work l.self.coats.all.items (heap_items l.self.queue)
+decreases-loop-next g l = work l.self.coats.all (heap_items l.self.queue)

@@ -36,7 +36,7 @@ returns-clause-spread g c = λ t said.
     let others = c.visit_field-2.ensures.others ∙ c.visit_field.ensures.others in
     let all = (c.in_ok-fields.ensures.fields.told t (c.visit_field.ensures.kept t mid)).all in
     spread_ends t.history s.first.0 (numbers_of s.others.now) c.args.commit.0 c.args.paint
-    c.visit_field-2.new.self.coats.all.items (rw (first, others) at (two.passes.told t said).spread) two.passes.same
+    c.visit_field-2.new.self.coats.all (rw (first, others) at (two.passes.told t said).spread) two.passes.same
     (λ q parent.
     ⊎_elim
     (λ x. grows_trans _ _ _ (one.named t q mid (rw c.parent_fields.ensures.known x)) (two.on.grows q))

@@ -19,13 +19,13 @@ pass-requires-clause-parent g c = λ t said. rw c.in-GraphPosition.is at (c.requ
 pub returns-in_ok-pass-in-GraphPosition-clause-lists : goal.returns-in_ok-pass-in-GraphPosition-clause-lists
 returns-in_ok-pass-in-GraphPosition-clause-lists g c = λ t said l.
     rw c.pass.ensures.trails
-    (passed_kept c.args.self.now.coats.all.items _ _ c.pass.new.self.coats.all.items
+    (passed_kept c.args.self.now.coats.all _ _ c.pass.new.self.coats.all
     c.in_ok-pass-in-GraphPosition.ensures.on.grows (c.requires.lists t (c.pass.ensures.kept t said) l))
 
 pub returns-in_ok-pass-in-GraphPosition-clause-named : goal.returns-in_ok-pass-in-GraphPosition-clause-named
 returns-in_ok-pass-in-GraphPosition-clause-named g c = λ t q said names.
     let same = rw c.in-GraphPosition.is at names in
-    subst (λ (y : ℕ). Grows (passed c.args.paint) (paint_at c.pass.new.self.coats.all.items y)) same
+    subst (λ (y : ℕ). Grows (passed c.args.paint) (paint_at c.pass.new.self.coats.all y)) same
     c.in_ok-pass-in-GraphPosition.ensures.heard
 
 pub visit_list-requires-clause-listed : goal.visit_list-requires-clause-listed

@@ -19,8 +19,8 @@ loop-commit-init g c =
     let s = c.args.self.now in
     let r = c.requires in
     let same : (t : Told) (i : ℕ) → g.S.CommitSource.says c.args.commits.now t
-    → IsPassed s.coats.all.items (t.lists i) (trail_in c.grow_to.new.self.layers.items i) = λ t i said.
-    passed_same s.coats.all.items (t.lists i) (trail_in s.coats.trails.layers.items i)
+    → IsPassed s.coats.all (t.lists i) (trail_in c.grow_to.new.self.layers.items i) = λ t i said.
+    passed_same s.coats.all (t.lists i) (trail_in s.coats.trails.layers.items i)
     (trail_in c.grow_to.new.self.layers.items i) (c.grow_to.ensures.same i) (r.lists t said i) in
     record {
       known = refl;
@@ -71,7 +71,7 @@ module _ (g : Over) (c : In_ok-add g) where
   before t said = c.listed_parent.ensures.kept t (c.pass.ensures.kept t said)
 
   passes : (t : Told) → g.S.CommitSource.says c.pass.new.commits t
-      → PassesNext c.loop-commit.self.coats.all.items c.pass.new.self.coats.all.items (t.lists c.layer_of-layer.result)
+      → PassesNext c.loop-commit.self.coats.all c.pass.new.self.coats.all (t.lists c.layer_of-layer.result)
       (trail_in c.loop-commit.self.coats.trails.layers.items c.layer_of-layer.result)
       (trail_in c.add.new.self.layers.items c.layer_of-layer.result) c.loop-commit.next c.passed-passed.result c.in_ok-word.word
   unfolding before
@@ -99,10 +99,10 @@ module _ (g : Over) (c : In_ok-add g) where
 
   -- the lists of the other layers
   others_passed : (t : Told) (i : ℕ) → g.S.CommitSource.says c.pass.new.commits t → i ≢ c.layer_of-layer.result
-      → IsPassed c.pass.new.self.coats.all.items (t.lists i) (trail_in c.add.new.self.layers.items i)
+      → IsPassed c.pass.new.self.coats.all (t.lists i) (trail_in c.add.new.self.layers.items i)
   others_passed t i said apart =
       rw (c.in_ok-add.ensures.others i apart, c.pass.ensures.trails)
-      (passed_kept c.loop-commit.self.coats.all.items _ _ c.pass.new.self.coats.all.items c.in_ok-pass.ensures.on.grows
+      (passed_kept c.loop-commit.self.coats.all _ _ c.pass.new.self.coats.all c.in_ok-pass.ensures.on.grows
       (c.loop-commit.invariant.apart t i (before t said) apart))
 
 pub loop-commit-preserved : goal.loop-commit-preserved
@@ -147,7 +147,7 @@ returns-in-Last-clause-passes g c =
 pub returns-in-Last-clause-lists : goal.returns-in-Last-clause-lists
 returns-in-Last-clause-lists g c = λ t said.
     let in_ok = (goal.at.returns-in-Last-clause-lists g c).In_ok-add in
-    are_passed_from c.pass.new.self.coats.all.items t.lists c.add.new.self.layers.items c.layer_of-layer.result
+    are_passed_from c.pass.new.self.coats.all t.lists c.add.new.self.layers.items c.layer_of-layer.result
     (λ i apart. others_passed g in_ok t i said apart) (passed_last (passes g in_ok t said) c.in-Last.field-0 c.in-Last.is)
 
 pub returns-in-Last-clause-on : goal.returns-in-Last-clause-on
@@ -163,7 +163,7 @@ returns-in-Last-clause-named g c = λ t q said contained.
     let heard =
     named_heard _ _ _ (passed_last one c.in-Last.field-0 c.in-Last.is) c.passed-passed.result c.args.index
     (begun_next g in_ok) q (contained c.layer_of-layer.result c.layer_of-layer.ensures) in
-    subst (λ (y : Paint). Grows y (paint_at c.pass.new.self.coats.all.items q)) c.passed-passed.ensures heard
+    subst (λ (y : Paint). Grows y (paint_at c.pass.new.self.coats.all q)) c.passed-passed.ensures heard
 
 -- the word that is next was passed with as much
 covered : (g : Over) (c : After-loop-commit g)
@@ -175,7 +175,7 @@ covered g c =
 pub returns-clause-lists : goal.returns-clause-lists
 returns-clause-lists g c = λ t said.
     let l = c.loop-commit in
-    are_passed_from l.self.coats.all.items t.lists l.self.coats.trails.layers.items c.layer_of-layer.result
+    are_passed_from l.self.coats.all t.lists l.self.coats.trails.layers.items c.layer_of-layer.result
     (λ i apart. l.invariant.apart t i said apart) (passed_stops (l.invariant.here t said) (covered g c))
 
 pub returns-clause-named : goal.returns-clause-named
@@ -191,4 +191,4 @@ returns-clause-named g c = λ t q said contained.
     (λ (at : c.args.index ≡ l.next).
     subst (λ (v : ℕ). Grows x (trail_at trail v)) (sym at) (covers_grows (trail_at trail l.next) x as_much))
     l.invariant.begun) q (contained c.layer_of-layer.result c.layer_of-layer.ensures) in
-    subst (λ (y : Paint). Grows y (paint_at l.self.coats.all.items q)) c.passed-passed.ensures heard
+    subst (λ (y : Paint). Grows y (paint_at l.self.coats.all q)) c.passed-passed.ensures heard

@@ -23,8 +23,8 @@ invariant-loop-commit g l =
       listed : g.S.CommitSource.is_listed k l.commit.0 l.next;
       told : (t : Told) → says t → IsListTrue t l.commit.0 l.layer l.next;
       apart : (t : Told) (i : ℕ) → says t → i ≢ l.layer
-          → IsPassed l.self.coats.all.items (t.lists i) (trail_in l.self.coats.trails.layers.items i);
-      here : (t : Told) → says t → IsPassedTo l.self.coats.all.items (t.lists l.layer)
+          → IsPassed l.self.coats.all (t.lists i) (trail_in l.self.coats.trails.layers.items i);
+      here : (t : Told) → says t → IsPassedTo l.self.coats.all (t.lists l.layer)
           (trail_in l.self.coats.trails.layers.items l.layer) l.next l.passed;
       begun : Grows l.passed (trail_at (trail_in l.self.coats.trails.layers.items l.layer) l.index) ⊎ (l.index ≡ l.next);
     }

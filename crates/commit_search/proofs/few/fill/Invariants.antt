@@ -1,0 +1,9 @@
+use Rattle.std.proofs.Common.{◌≡◌, length, take}
+use Rattle.commit_search.specs.HashTable.{AreFew}
+use Rattle.commit_search.proofs.few.fill.Given as goal
+
+abbrev pub invariant-loop-place : goal.invariant-loop-place
+invariant-loop-place l = record {
+  len : length l.table.items ≡ length l.fn.table.items;
+  few : AreFew l.table.items (take l.place l.marked.items);
+}

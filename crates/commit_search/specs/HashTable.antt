@@ -1,0 +1,37 @@
+-- A hash table of numbers that are marked: a slot has 0, or one more than the place of a number among them. For private contracts
+-- alone.
+use Rattle.std.specs.Prelude.{◌≡◌, ◌≢◌, ℕ, ◌+◌, ◌-◌, ◌*◌, ◌/◌, ◌%◌, ◌^◌, ◌<◌, ◌≤◌, List, length, slice_index_or, slice_set}
+use Rattle.std.specs.Prelude.{bit_and, bit_xor}
+use Rattle.commit_search.specs.Marks.{Marked, number_in}
+use Rattle.commit_search.specs.declared.few.TheConstants.{STEPS}
+
+-- the slot of a table of so many in which n is looked for after so many steps
+abbrev pub slot_in : ℕ → ℕ → ℕ → ℕ
+slot_in slots n step =
+    let mixed = n * 0x9e3779b1 % 2 ^ 32 in bit_and (bit_xor mixed (mixed / 2 ^ 15) + step) (slots - 1)
+
+-- what stands in that slot
+abbrev pub looked_at : List ℕ → ℕ → ℕ → ℕ
+looked_at table n step = slice_index_or table (slot_in (length table) n step) 0
+
+-- Place p is found where n is looked for, as long as no slot is empty.
+pub record StandsAt (table : List ℕ) (n p : ℕ) : Type 0 where
+  pub step : ℕ
+  pub few : step < STEPS
+  pub here : looked_at table n step ≡ p + 1
+  pub before : (k : ℕ) → k < step → looked_at table n k ≢ 0
+
+-- The table has the place of each number that is marked, and no other places.
+pub record AreFew (table : List ℕ) (marked : List Marked) : Type 0 where
+  pub few : length table < 2 ^ 32
+  pub within : (i : ℕ) → slice_index_or table i 0 ≤ length marked
+  pub stand : (p : ℕ) → p < length marked → StandsAt table (number_in marked p) p
+
+-- Place p of n was put into an empty slot.
+pub record Puts (old new : List ℕ) (n p : ℕ) : Type 0 where
+  pub step : ℕ
+  pub few : step < STEPS
+  pub inside : slot_in (length old) n step < length old
+  pub empty : looked_at old n step ≡ 0
+  pub before : (k : ℕ) → k < step → looked_at old n k ≢ 0
+  pub put : new ≡ slice_set old (slot_in (length old) n step) (p + 1)

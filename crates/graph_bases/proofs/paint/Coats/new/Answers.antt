@@ -1,0 +1,21 @@
+use Rattle.std.proofs.Common.{◌≡◌, Bool, false, [], refl, sym, count_by}
+use Rattle.graph_bases.specs.Paint.{is_fresh, is_ahead, is_behind, bare}
+use Rattle.graph_bases.specs.declared.paint.Coat.{Coat}
+use Rattle.graph_bases.proofs.EdgeLemmas.{none_counted}
+use Rattle.graph_bases.proofs.paint.Coats.new.Goals as goal
+
+pub returns : goal.returns
+returns g c =
+    let coats = c.in_ok-all.all in
+    let none : (t : Coat → Bool) → t bare ≡ false → 0 ≡ count_by t coats = λ t unmet.
+    sym (none_counted [] 0 [] coats c.in_ok-all.ensures.bare t unmet) in
+    record {
+      coats_len = c.in_ok-all.ensures.len;
+      bare = c.in_ok-all.ensures.bare;
+      trails = c.new-2.ensures;
+      counted = record {
+        fresh = none is_fresh refl;
+        ahead = none (λ (m : Coat). is_ahead m.paint) refl;
+        behind = none (λ (m : Coat). is_behind m.paint) refl;
+      };
+    }
