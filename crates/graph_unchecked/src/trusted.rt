@@ -12,9 +12,8 @@ ghost use Rattle.graph_unchecked.specs.Unchecked.{IsWalkUnchecked};
 
 use crate::among::{Among, IdComparison};
 use crate::between::Between;
-use crate::kept::{compared_among, told_between, walk_between_ids};
-use crate::question::unless_failed;
 use crate::record::{found_commit, found_parents};
+use crate::search::{compared_among, told_between, walk_between_ids};
 use crate::unread::Unread;
 use gix_commitgraph::Position;
 use gix_hash_core::{ObjectId, oid};
@@ -222,5 +221,21 @@ fn open_unasked<T: Folder>(
             comparer: AnyComparer::new(alloc),
         }),
         None => Err(Unread::NotByParts),
+    }
+}
+
+/// The answer, unless the folder has failed a read since it counted so many failures.
+fn unless_failed<T: Folder, A: Drop>(
+    folder: &T,
+    failures: u64,
+    answer: Result<A, Unread>,
+) -> Result<A, Unread>
+    ensures { (result ≡ Err Unread.Device)
+        ⊎ ((result ≡ answer) × (T.failure_count folder.now ≡ failures)) }
+{
+    if folder.failures() == failures {
+        answer
+    } else {
+        Err(Unread::Device)
     }
 }
