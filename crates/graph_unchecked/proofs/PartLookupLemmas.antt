@@ -1,107 +1,18 @@
 -- which commits lookups find in the graph that was opened
-use Rattle.std.proofs.Common.{◌≡◌, ℕ, suc, ◌+◌, ◌<◌, List, [], ◌∷◌, ◌++◌, All, Option, Some, None, Vec, take, slice_get}
+use Rattle.std.proofs.Common.{◌≡◌, ℕ, suc, ◌+◌, ◌<◌, List, [], ◌∷◌, ◌++◌, All, Some, None, Vec, take, slice_get}
 use Rattle.std.proofs.Common.{ap, arith, refl, sym, subst, ◌∙◌}
 use Rattle.std.specs.Global.{Global}
 use Rattle.std.specs.List.{AllZip}
 use Rattle.std.proofs.lemmas.List.{map-append, take_more}
 use Rattle.std.proofs.lemmas.List.Elements.{All-cons, All-nil}
 use Rattle.std.proofs.lemmas.Option.{get_or_from_slice_get, slice_get_within}
-use Rattle.graph_folder.specs.Tree.{Tree}
 use Rattle.graph_format.specs.Layer.{Layer}
 use Rattle.graph_format.specs.declared.Position.{Position}
-use Rattle.gix_commitgraph.specs.Graph.{IsGraph}
 use Rattle.gix_commitgraph.specs.GraphLookup.{FoundIn}
-use Rattle.gix_commitgraph.specs.OpenAlways.{IsFromPath}
 use Rattle.commit_search.specs.Positions.{numbers_of}
-use Rattle.graph_parts.specs.OfTree.{AreOfTree}
-use Rattle.graph_parts.specs.PathOpening.{opened_at}
-use Rattle.graph_parts.specs.Shown.{ArePartsOf, SeesMore, Shows}
-use Rattle.graph_parts.specs.declared.parts.GraphParts.{GraphParts}
-use Rattle.graph_parts.proofs.TreeLemmas.{seen-more, seen-shown}
-use Rattle.graph_unchecked.specs.PartLookups.{AreBoth, AreFirstAndOthers, AreOthersFound, IsShownAt}
-use Rattle.graph_unchecked.specs.Unchecked.{IsAnswerAt, IsFoundAmong, IsFoundAt, IsFoundBetween}
+use Rattle.graph_unchecked.specs.PartLookups.{AreFirstAndOthers, AreOthersFound}
+use Rattle.graph_unchecked.specs.Unchecked.{IsFoundAmong, IsFoundAt}
 use Rattle.graph_unchecked.specs.declared.among.Among.TheVariants.{Missing, Known as known_of_all}
-use Rattle.graph_unchecked.specs.declared.between.Between.TheVariants.{FirstMissing, SecondMissing, Known}
-
--- what is read after a graph was opened
-module _ (known : Option Tree) (path : List ℕ) (opened now : GraphParts)
-    (of : ArePartsOf known (λ (t : Tree). opened_at t path) (IsFromPath path) opened) (sees : SeesMore known opened now) where
-  -- the parts are still of its files
-  pub opened-of : AreOfTree known now
-  opened-of = seen-more known opened now sees (seen-shown known opened of.some.0 of.some.1)
-
-  -- and what is so of the layers that they show is so of the graph
-  pub shown-at : {A : Type 0} (IsSo : List Layer → A → Type 0) (answer : A)
-      → ((layers : List Layer) → Shows known now layers → IsSo layers answer) → (tree : Tree) → known ≡ Some tree
-      → IsShownAt known tree path IsSo (now, answer)
-  shown-at IsSo answer so tree is =
-      let at = of.each of.some.0 of.some.1 in
-      let shows = sees.told tree is of.some.0 of.some.1 in
-      record {
-        layers = of.some.0;
-        opens = at.opens tree is;
-        graph = at.graph;
-        so = (shows, so of.some.0 shows);
-      }
-
--- an answer about the positions that were found
-module _ (known : Option Tree) (tree : Tree) (path : List ℕ) (parts : GraphParts) where
-  pub first-missing : {A : Type 0} (IsSo : List Layer → ℕ → ℕ → A → Type 0) (first second : List ℕ)
-      → IsShownAt known tree path (IsFoundBetween AreBoth first second) (parts, FirstMissing)
-      → IsAnswerAt tree path (IsFoundBetween IsSo first second) FirstMissing
-  first-missing IsSo first second at =
-      record { layers = at.layers; opens = at.opens; graph = at.graph; so = at.so.1 }
-
-  pub second-missing : {A : Type 0} (IsSo : List Layer → ℕ → ℕ → A → Type 0) (first second : List ℕ)
-      → IsShownAt known tree path (IsFoundBetween AreBoth first second) (parts, SecondMissing)
-      → IsAnswerAt tree path (IsFoundBetween IsSo first second) SecondMissing
-  second-missing IsSo first second at =
-      record { layers = at.layers; opens = at.opens; graph = at.graph; so = at.so.1 }
-
-  pub both-known : {A : Type 0} (IsSo : List Layer → ℕ → ℕ → A → Type 0) (first second : List ℕ) (both : Position × Position)
-      (answer : A) → IsShownAt known tree path (IsFoundBetween AreBoth first second) (parts, Known both)
-      → ((layers : List Layer) → Shows known parts layers → IsGraph layers → IsSo layers both.0.0 both.1.0 answer)
-      → IsAnswerAt tree path (IsFoundBetween IsSo first second) (Known answer)
-  both-known IsSo first second both answer at so =
-      let found = at.so.1 in
-      record {
-        layers = at.layers;
-        opens = at.opens;
-        graph = at.graph;
-        so = (
-          both.0.0,
-          both.1.0,
-          subst (IsFoundAt at.layers first) found.4.0 found.2,
-          subst (IsFoundAt at.layers second) found.4.1 found.3,
-          so at.layers at.so.0 at.graph,
-        );
-      }
-
-  pub some-missing : {A : Type 0} (IsSo : List Layer → ℕ → List ℕ → A → Type 0) (ids : List (List ℕ)) (number : ℕ)
-      → IsShownAt known tree path (IsFoundAmong AreFirstAndOthers ids) (parts, Missing number)
-      → IsAnswerAt tree path (IsFoundAmong IsSo ids) (Missing number)
-  some-missing IsSo ids number at = record { layers = at.layers; opens = at.opens; graph = at.graph; so = at.so.1 }
-
-  pub all-known : {A : Type 0} (IsSo : List Layer → ℕ → List ℕ → A → Type 0) (ids : List (List ℕ))
-      (all : Position × Vec Position Global) (answer : A)
-      → IsShownAt known tree path (IsFoundAmong AreFirstAndOthers ids) (parts, known_of_all all)
-      → ((layers : List Layer) → Shows known parts layers → IsGraph layers
-      → IsSo layers all.0.0 (numbers_of all.1.items) answer)
-      → IsAnswerAt tree path (IsFoundAmong IsSo ids) (known_of_all answer)
-  all-known IsSo ids all answer at so =
-      let found = at.so.1 in
-      record {
-        layers = at.layers;
-        opens = at.opens;
-        graph = at.graph;
-        so = (
-          all.0.0,
-          numbers_of all.1.items,
-          subst (λ (others : List ℕ). AllZip (IsFoundAt at.layers) ids (all.0.0 ∷ others)) found.3.1
-              (subst (λ (p : ℕ). AllZip (IsFoundAt at.layers) ids (p ∷ found.1)) found.3.0 found.2),
-          so at.layers at.so.0 at.graph,
-        );
-      }
 
 -- positions of as many commits
 pub within-as : (n m : ℕ) (positions : List Position) → n ≡ m → All (λ (pos : Position). pos.0 < n) positions

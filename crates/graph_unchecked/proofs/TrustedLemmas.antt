@@ -15,7 +15,7 @@ use Rattle.graph_parts.specs.declared.parts.GraphParts.{GraphParts}
 use Rattle.graph_parts.proofs.TreeLemmas.{seen-shown}
 use Rattle.graph_unchecked.specs.PartSource.{ReadsOn}
 use Rattle.graph_unchecked.specs.PartLookups.{AreBoth, AreFirstAndOthers}
-use Rattle.graph_unchecked.specs.Trusted.{IsOfPath}
+use Rattle.graph_unchecked.specs.Trusted.{IsTrustedAt}
 use Rattle.graph_unchecked.specs.Unchecked.{IsAnswerAt, IsFoundAmong, IsFoundAt, IsFoundBetween}
 use Rattle.graph_unchecked.specs.declared.among.Among.TheVariants.{Known as known_of_all}
 use Rattle.graph_unchecked.specs.declared.between.Between.TheVariants.{Known}
@@ -35,7 +35,7 @@ reads-then known old mid new first second = record {
 
 -- the parts of what was opened
 pub of-opened : (known : Option Tree) (path : List ℕ) (parts : GraphParts)
-    → ArePartsOf known (λ (t : Tree). opened_at t path) (IsFromPath path) parts → IsOfPath known path parts
+    → ArePartsOf known (λ (t : Tree). opened_at t path) (IsFromPath path) parts → IsTrustedAt known path parts
 of-opened known path parts of =
     let at = of.each of.some.0 of.some.1 in
     record {
@@ -50,8 +50,8 @@ of-opened known path parts of =
     }
 
 -- are of it after more was read
-pub of-read : (known : Option Tree) (path : List ℕ) (old new : GraphParts) → ReadsOn known old new → IsOfPath known path old
-    → IsOfPath known path new
+pub of-read : (known : Option Tree) (path : List ℕ) (old new : GraphParts) → ReadsOn known old new → IsTrustedAt known path old
+    → IsTrustedAt known path new
 of-read known path old new reads of = record {
   right = reads.right;
   of = reads.of of.of;
@@ -69,7 +69,7 @@ of-read known path old new reads of = record {
 pub answer-at : {A E : Type 0} (known : Option Tree) (path : List ℕ) (old : GraphParts) (IsSo : List Layer → A → Type 0)
     (r : Result A E)
     → ForSome known (λ _. (layers : List Layer) → Shows known old layers → IsGraph layers → IfOk r (IsSo layers))
-    → IsOfPath known path old → ForSome known (λ tree. IfOk r (IsAnswerAt tree path IsSo))
+    → IsTrustedAt known path old → ForSome known (λ tree. IfOk r (IsAnswerAt tree path IsSo))
 answer-at known path old IsSo (Ok answer) so of tree is =
     let at = of.opened tree is in
     record {
@@ -84,7 +84,7 @@ answer-at known path old IsSo (Err e) so of tree is = tt
 pub answer-seen : {A E : Type 0} (known : Option Tree) (path : List ℕ) (old new : GraphParts) (IsSo : List Layer → A → Type 0)
     (r : Result A E) → SeesMore known old new
     → IfOk r (λ answer. (layers : List Layer) → Shows known new layers → IsGraph layers → IsSo layers answer)
-    → IsOfPath known path old → ForSome known (λ tree. IfOk r (IsAnswerAt tree path IsSo))
+    → IsTrustedAt known path old → ForSome known (λ tree. IfOk r (IsAnswerAt tree path IsSo))
 answer-seen known path old new IsSo (Ok answer) sees so of tree is =
     let at = of.opened tree is in
     record {
@@ -123,7 +123,7 @@ all-found IsSo ids all answer layers found so = (
 pub answered-at : {A : Type 0} (known : Option Tree) (path : List ℕ) (old : GraphParts) (IsSo : List Layer → A → Type 0)
     (r s : Result A Unread) (Kept : Type 0) → (r ≡ Err Device) ⊎ ((r ≡ s) × Kept)
     → ForSome known (λ _. (layers : List Layer) → Shows known old layers → IsGraph layers → IfOk s (IsSo layers))
-    → IsOfPath known path old → ForSome known (λ tree. IfOk r (IsAnswerAt tree path IsSo))
+    → IsTrustedAt known path old → ForSome known (λ tree. IfOk r (IsAnswerAt tree path IsSo))
 answered-at {A} known path old IsSo r s Kept (inl failed) so of tree is =
     subst (λ (x : Result A Unread). IfOk x (IsAnswerAt tree path IsSo)) (sym failed) tt
 answered-at {A} known path old IsSo r s Kept (inr same) so of tree is =
@@ -133,7 +133,7 @@ answered-at {A} known path old IsSo r s Kept (inr same) so of tree is =
 pub answered-seen : {A : Type 0} (known : Option Tree) (path : List ℕ) (old new : GraphParts) (IsSo : List Layer → A → Type 0)
     (r s : Result A Unread) (Kept : Type 0) → (r ≡ Err Device) ⊎ ((r ≡ s) × Kept) → SeesMore known old new
     → IfOk s (λ answer. (layers : List Layer) → Shows known new layers → IsGraph layers → IsSo layers answer)
-    → IsOfPath known path old → ForSome known (λ tree. IfOk r (IsAnswerAt tree path IsSo))
+    → IsTrustedAt known path old → ForSome known (λ tree. IfOk r (IsAnswerAt tree path IsSo))
 answered-seen {A} known path old new IsSo r s Kept (inl failed) sees so of tree is =
     subst (λ (x : Result A Unread). IfOk x (IsAnswerAt tree path IsSo)) (sym failed) tt
 answered-seen {A} known path old new IsSo r s Kept (inr same) sees so of tree is =

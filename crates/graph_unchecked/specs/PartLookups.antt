@@ -1,24 +1,16 @@
 -- For private contracts: which commits have some ids, in files of which parts are read.
-use Rattle.std.specs.Prelude.{◌≡◌, ℕ, ◌+◌, ◌<◌, List, All, Option, Vec, ⊤, None, Some, slice_get, take}
+use Rattle.std.specs.Prelude.{◌≡◌, ℕ, ◌+◌, ◌<◌, List, All, Vec, ⊤, None, Some, slice_get, take}
 use Rattle.std.specs.Global.{Global}
 use Rattle.std.specs.List.{AllZip}
-use Rattle.graph_folder.specs.Tree.{Tree}
 use Rattle.graph_format.specs.Layer.{Layer}
 use Rattle.graph_format.specs.declared.Position.{Position}
 use Rattle.gix_commitgraph.specs.GraphLookup.{FoundIn}
 use Rattle.commit_search.specs.Positions.{numbers_of}
-use Rattle.graph_parts.specs.Shown.{Shows}
-use Rattle.graph_parts.specs.declared.parts.GraphParts.{GraphParts}
-use Rattle.graph_unchecked.specs.Unchecked.{IsAnswerAt, IsFoundAt}
+use Rattle.graph_unchecked.specs.Unchecked.{IsFoundAt}
 use Rattle.graph_unchecked.specs.declared.among.Among.{Among}
 use Rattle.graph_unchecked.specs.declared.among.Among.TheVariants.{Missing, Known as known_of_all}
 use Rattle.graph_unchecked.specs.declared.between.Between.{Between}
 use Rattle.graph_unchecked.specs.declared.between.Between.TheVariants.{FirstMissing, SecondMissing, Known}
-
--- it is so of the graph that is opened at the path, and the parts show it
-abbrev pub IsShownAt : {A : Type 0} → Option Tree → Tree → List ℕ → (List Layer → A → Type 0) → GraphParts × A → Type 0
-IsShownAt known tree path IsSo found =
-    IsAnswerAt tree path (λ layers answer. Shows known found.0 layers × IsSo layers answer) found.1
 
 -- both positions, as numbers
 abbrev pub AreBoth : List Layer → ℕ → ℕ → Position × Position → Type 0

@@ -15,17 +15,12 @@ use Rattle.graph_parts.specs.Stored.{StoresAt}
 use Rattle.graph_parts.specs.declared.layer.StoredCommit.{StoredCommit}
 use Rattle.graph_parts.specs.declared.parts.GraphParts.{GraphParts}
 use Rattle.graph_unchecked.specs.Unchecked.{IsAnswerAt, IsFoundAt}
-use Rattle.graph_unchecked.specs.declared.trusted.TrustedGraph.{TrustedGraph}
 
--- The parts are of the files of a graph: where the tree is known, of the one that is opened at the path.
-pub record IsOfPath (known : Option Tree) (path : List ℕ) (parts : GraphParts) : Type 0 where
+-- The parts of the files of a trusted graph: where the tree is known, of the graph that is opened at the path.
+pub record IsTrustedAt (known : Option Tree) (path : List ℕ) (parts : GraphParts) : Type 0 where
   pub right : AreGraphParts parts
   pub of : AreOfTree known parts
   pub opened : ForSome known (λ (tree : Tree). IsAnswerAt tree path (λ layers shown. Shows known shown layers) parts)
-
--- the parts of the graph are such
-abbrev pub IsTrustedAt : Option Tree → List ℕ → TrustedGraph → Type 0
-IsTrustedAt known path graph = IsOfPath known path graph.parts
 
 -- what is found of the commit with an id: its position, and what is stored of it
 abbrev pub IsCommitFound : List ℕ → List Layer → Option (Position × StoredCommit) → Type 0

@@ -5,7 +5,6 @@ mod among;
 mod between;
 mod fields;
 mod ids;
-mod kept;
 pub mod law;
 mod lookup;
 pub mod question;

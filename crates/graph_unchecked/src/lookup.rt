@@ -1,16 +1,13 @@
 //! Which commits have some ids.
 
-ghost use Rattle.std.specs.Prelude.{◌≡◌, ◌<◌, ◌∷◌, ℕ, All, List, IfOk, IfSome};
-ghost use Rattle.std.specs.Option.{ForSome};
+ghost use Rattle.std.specs.Prelude.{◌≡◌, ◌<◌, ◌∷◌, List, IfOk, IfSome};
 ghost use Rattle.gix_hash_core.specs.Oid.{oid_bytes};
-ghost use Rattle.graph_folder.specs.Tree.{Tree};
 ghost use Rattle.graph_format.specs.Layer.{Layer};
 ghost use Rattle.gix_commitgraph.specs.GraphLookup.{FoundIn, position_number};
-ghost use Rattle.graph_parts.specs.OfTree.{AreOfTree};
 ghost use Rattle.graph_parts.specs.Shown.{AreGraphParts, SeesMore, Shows, commits_of_parts};
 ghost use Rattle.graph_unchecked.specs.PartLookups.{AreAllWithin, AreBoth, AreBothWithin};
 ghost use Rattle.graph_unchecked.specs.PartLookups.{AreFirstAndOthers, AreOthersFound};
-ghost use Rattle.graph_unchecked.specs.PartLookups.{AreOthersWithin, IsShownAt};
+ghost use Rattle.graph_unchecked.specs.PartLookups.{AreOthersWithin};
 ghost use Rattle.graph_unchecked.specs.Unchecked.{IsFoundAmong, IsFoundBetween};
 
 use crate::among::Among;
@@ -19,68 +16,64 @@ use crate::unread::Unread;
 use gix_commitgraph::Position;
 use gix_hash_core::{ObjectId, oid};
 use graph_folder::folder::Folder;
-use graph_parts::opening::open_parts;
 use graph_parts::parts::{GraphParts, Lookup};
 use std::alloc::Global;
 
-/// The parts of what stands at the path, and the positions of two ids.
+/// The positions of two ids.
 pub(crate) fn find_both<T: Folder>(
     alloc: Global,
     folder: &mut T,
-    path: &str,
+    parts: &mut GraphParts,
     first: oid<'_>,
     second: oid<'_>,
-) -> Result<(GraphParts, Between<(Position, Position)>), Unread>
-    ensures parts { IfOk result (λ found. AreGraphParts found.0) }
-    ensures of { IfOk result (λ found. AreOfTree (T.tree folder.old) found.0) }
-    ensures within { IfOk result (λ found. AreBothWithin (commits_of_parts found.0) found.1) }
-    ensures found { ForSome (T.tree folder.old) (λ tree. IfOk result
-        (IsShownAt (T.tree folder.old) tree path.now (IsFoundBetween AreBoth
-        (oid_bytes first.entry) (oid_bytes second.entry)))) }
+) -> Result<Between<(Position, Position)>, Unread>
+    requires parts { AreGraphParts parts.old }
+    ensures parts { AreGraphParts parts.new }
+    ensures sees { SeesMore (T.tree folder.old) parts.old parts.new }
+    ensures within { IfOk result (AreBothWithin (commits_of_parts parts.new)) }
+    ensures found { IfOk result (λ found. (layers : List Layer)
+        → Shows (T.tree folder.old) parts.new layers
+        → IsFoundBetween AreBoth (oid_bytes first.entry) (oid_bytes second.entry) layers found) }
     ensures tree { T.tree folder.new ≡ T.tree folder.old }
 {
-    let Some(mut parts) = open_parts(alloc, folder, path)? else {
-        return Err(Unread::NotByParts);
+    let Some(first) = find(alloc, folder, parts, first)? else {
+        return Ok(Between::FirstMissing);
     };
-    let Some(first) = find(alloc, folder, &mut parts, first)? else {
-        return Ok((parts, Between::FirstMissing));
+    let Some(second) = find(alloc, folder, parts, second)? else {
+        return Ok(Between::SecondMissing);
     };
-    let Some(second) = find(alloc, folder, &mut parts, second)? else {
-        return Ok((parts, Between::SecondMissing));
-    };
-    Ok((parts, Between::Known((first, second))))
+    Ok(Between::Known((first, second)))
 }
 
-/// The parts of what stands at the path, and the positions of an id and of some others.
-pub(crate) fn find_among<T: Folder>(
+/// The positions of an id and of some others.
+pub(crate) fn find_all<T: Folder>(
     alloc: Global,
     folder: &mut T,
-    path: &str,
+    parts: &mut GraphParts,
     first: oid<'_>,
     others: &[ObjectId],
-) -> Result<(GraphParts, Among<(Position, Vec<Position>)>), Unread>
-    ensures parts { IfOk result (λ found. AreGraphParts found.0) }
-    ensures of { IfOk result (λ found. AreOfTree (T.tree folder.old) found.0) }
-    ensures within { IfOk result (λ found. AreAllWithin (commits_of_parts found.0) found.1) }
-    ensures found { ForSome (T.tree folder.old) (λ tree. IfOk result
-        (IsShownAt (T.tree folder.old) tree path.now (IsFoundAmong AreFirstAndOthers
-        (oid_bytes first.entry ∷ others.now)))) }
+) -> Result<Among<(Position, Vec<Position>)>, Unread>
+    requires parts { AreGraphParts parts.old }
+    ensures parts { AreGraphParts parts.new }
+    ensures sees { SeesMore (T.tree folder.old) parts.old parts.new }
+    ensures within { IfOk result (AreAllWithin (commits_of_parts parts.new)) }
+    ensures found { IfOk result (λ found. (layers : List Layer)
+        → Shows (T.tree folder.old) parts.new layers
+        → IsFoundAmong AreFirstAndOthers (oid_bytes first.entry ∷ others.now) layers found) }
     ensures tree { T.tree folder.new ≡ T.tree folder.old }
 {
-    let Some(mut parts) = open_parts(alloc, folder, path)? else {
-        return Err(Unread::NotByParts);
+    let Some(first) = find(alloc, folder, parts, first)? else {
+        return Ok(Among::Missing(1));
     };
-    let Some(first) = find(alloc, folder, &mut parts, first)? else {
-        return Ok((parts, Among::Missing(1)));
-    };
-    match find_others(alloc, folder, &mut parts, others)? {
-        Among::Missing(number) => Ok((parts, Among::Missing(number))),
-        Among::Known(others) => Ok((parts, Among::Known((first, others)))),
+    let found = find_others(alloc, folder, parts, others)?;
+    match found {
+        Among::Missing(number) => Ok(Among::Missing(number)),
+        Among::Known(others) => Ok(Among::Known((first, others))),
     }
 }
 
 /// The positions of the ids after the first.
-pub(crate) fn find_others<T: Folder>(
+fn find_others<T: Folder>(
     alloc: Global,
     folder: &mut T,
     parts: &mut GraphParts,

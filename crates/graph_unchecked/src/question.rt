@@ -9,8 +9,7 @@ ghost use Rattle.graph_unchecked.specs.Unchecked.{IsWalkUnchecked};
 
 pub use crate::among::{Among, IdComparison};
 pub use crate::between::Between;
-use crate::lookup::{find_among, find_both};
-use crate::search::{compared, leads, walk_ids};
+use crate::trusted::TrustedGraph;
 pub use crate::unread::Unread;
 use gix_hash_core::{ObjectId, oid};
 use graph_folder::folder::Folder;
@@ -44,9 +43,8 @@ pub fn is_ancestor<T: Folder>(
         ⊎ (T.failure_count folder.new ≡ T.failure_count folder.old) }
     ensures tree { T.tree folder.new ≡ T.tree folder.old }
 {
-    let failures = folder.failures();
-    let answer = ask_ancestor(alloc, folder, path, first, second);
-    unless_failed(folder, failures, answer)
+    let mut graph = TrustedGraph::open(alloc, folder, path)?;
+    graph.is_ancestor(folder, first, second)
 }
 
 /// The ids on a shortest walk along parents from the commit with the first id to the one with the
@@ -78,9 +76,8 @@ pub fn ancestor_walk<T: Folder>(
         ⊎ (T.failure_count folder.new ≡ T.failure_count folder.old) }
     ensures tree { T.tree folder.new ≡ T.tree folder.old }
 {
-    let failures = folder.failures();
-    let answer = ask_walk(alloc, folder, path, first, second);
-    unless_failed(folder, failures, answer)
+    let mut graph = TrustedGraph::open(alloc, folder, path)?;
+    graph.ancestor_walk(folder, first, second)
 }
 
 /// The merge bases of the commit with the first id and those with the others, the least position
@@ -112,94 +109,6 @@ pub fn compare<T: Folder>(
         ⊎ (T.failure_count folder.new ≡ T.failure_count folder.old) }
     ensures tree { T.tree folder.new ≡ T.tree folder.old }
 {
-    let failures = folder.failures();
-    let answer = ask_comparison(alloc, folder, path, first, others);
-    unless_failed(folder, failures, answer)
-}
-
-/// The answer, unless the folder has failed a read since it counted so many failures.
-pub(crate) fn unless_failed<T: Folder, A: Drop>(
-    folder: &T,
-    failures: u64,
-    answer: Result<A, Unread>,
-) -> Result<A, Unread>
-    ensures { (result ≡ Err Unread.Device)
-        ⊎ ((result ≡ answer) × (T.failure_count folder.now ≡ failures)) }
-{
-    if folder.failures() == failures {
-        answer
-    } else {
-        Err(Unread::Device)
-    }
-}
-
-/// What `is_ancestor` answers, where the folder's count of failures is not looked at.
-fn ask_ancestor<T: Folder>(
-    alloc: Global,
-    folder: &mut T,
-    path: &str,
-    first: oid<'_>,
-    second: oid<'_>,
-) -> Result<Between<bool>, Unread>
-    ensures answer { ForSome (T.tree folder.old) (λ tree. IfOk result
-        (IsAnswerAt tree path.now (IsFoundBetween IsToldUnchecked
-        (oid_bytes first.entry) (oid_bytes second.entry)))) }
-    ensures tree { T.tree folder.new ≡ T.tree folder.old }
-{
-    let (mut parts, found) = find_both(alloc, folder, path, first, second)?;
-    match found {
-        Between::FirstMissing => Ok(Between::FirstMissing),
-        Between::SecondMissing => Ok(Between::SecondMissing),
-        Between::Known((first, second)) => {
-            let told = leads(alloc, folder, &mut parts, first, second)?;
-            Ok(Between::Known(told))
-        }
-    }
-}
-
-/// What `ancestor_walk` answers, where the folder's count of failures is not looked at.
-fn ask_walk<T: Folder>(
-    alloc: Global,
-    folder: &mut T,
-    path: &str,
-    first: oid<'_>,
-    second: oid<'_>,
-) -> Result<Between<Option<Vec<ObjectId>>>, Unread>
-    ensures answer { ForSome (T.tree folder.old) (λ tree. IfOk result
-        (IsAnswerAt tree path.now (IsFoundBetween IsWalkUnchecked
-        (oid_bytes first.entry) (oid_bytes second.entry)))) }
-    ensures tree { T.tree folder.new ≡ T.tree folder.old }
-{
-    let (mut parts, found) = find_both(alloc, folder, path, first, second)?;
-    match found {
-        Between::FirstMissing => Ok(Between::FirstMissing),
-        Between::SecondMissing => Ok(Between::SecondMissing),
-        Between::Known((first, second)) => {
-            let walk = walk_ids(alloc, folder, &mut parts, first, second)?;
-            Ok(Between::Known(walk))
-        }
-    }
-}
-
-/// What `compare` answers, where the folder's count of failures is not looked at.
-fn ask_comparison<T: Folder>(
-    alloc: Global,
-    folder: &mut T,
-    path: &str,
-    first: oid<'_>,
-    others: &[ObjectId],
-) -> Result<Among<IdComparison>, Unread>
-    ensures answer { ForSome (T.tree folder.old) (λ tree. IfOk result
-        (IsAnswerAt tree path.now (IsFoundAmong IsComparedUnchecked
-        (oid_bytes first.entry ∷ others.now)))) }
-    ensures tree { T.tree folder.new ≡ T.tree folder.old }
-{
-    let (mut parts, found) = find_among(alloc, folder, path, first, others)?;
-    match found {
-        Among::Missing(number) => Ok(Among::Missing(number)),
-        Among::Known((first, others)) => {
-            let comparison = compared(alloc, folder, &mut parts, first, &others)?;
-            Ok(Among::Known(comparison))
-        }
-    }
+    let mut graph = TrustedGraph::open(alloc, folder, path)?;
+    graph.compare(folder, first, others)
 }

@@ -1,32 +1,124 @@
-//! The searches for walks along parents and for merge bases, over parts.
+//! The searches for walks along parents and for merge bases, over parts that are kept, as is their
+//! memory.
 
-ghost use Rattle.std.specs.Prelude.{◌≡◌, ◌<◌, ℕ, All, List, IfOk};
+ghost use Rattle.std.specs.Prelude.{◌≡◌, ◌<◌, ◌∷◌, All, List, IfOk};
 ghost use Rattle.std.specs.Option.{ForSome};
-ghost use Rattle.graph_folder.specs.Tree.{Tree};
+ghost use Rattle.gix_hash_core.specs.Oid.{oid_bytes};
 ghost use Rattle.graph_format.specs.Layer.{Layer};
 ghost use Rattle.gix_commitgraph.specs.Graph.{IsGraph};
 ghost use Rattle.commit_search.specs.Positions.{numbers_of};
 ghost use Rattle.graph_parts.specs.OfTree.{AreOfTree};
 ghost use Rattle.graph_parts.specs.Shown.{AreGraphParts, Shows, commits_of_parts};
-ghost use Rattle.graph_unchecked.specs.PartSource.{ReadsOn};
 ghost use Rattle.graph_unchecked.specs.PartSearches.{AreBasesUnchecked, IsStepsUnchecked};
-ghost use Rattle.graph_unchecked.specs.Unchecked.{IsComparedUnchecked, IsToldUnchecked};
+ghost use Rattle.graph_unchecked.specs.PartSource.{ReadsOn};
+ghost use Rattle.graph_unchecked.specs.Unchecked.{IsComparedUnchecked, IsFoundAmong};
+ghost use Rattle.graph_unchecked.specs.Unchecked.{IsFoundBetween, IsToldUnchecked};
 ghost use Rattle.graph_unchecked.specs.Unchecked.{IsWalkUnchecked};
 
-use crate::among::IdComparison;
+use crate::among::{Among, IdComparison};
+use crate::between::Between;
 use crate::ids::read_ids;
+use crate::lookup::{find_all, find_both};
 use crate::source::PartCommits;
 use crate::unread::Unread;
 use gix_commitgraph::Position;
-use gix_hash_core::ObjectId;
+use gix_hash_core::{ObjectId, oid};
 use graph_ancestors::AnySearcher;
 use graph_bases::{AnyComparer, Comparison};
 use graph_folder::folder::Folder;
 use graph_parts::parts::GraphParts;
 use std::alloc::Global;
 
+/// Whether the commit with the first id is an ancestor of the one with the second, or the same.
+pub(crate) fn told_between<T: Folder>(
+    searcher: &mut AnySearcher,
+    alloc: Global,
+    folder: &mut T,
+    parts: &mut GraphParts,
+    first: oid<'_>,
+    second: oid<'_>,
+) -> Result<Between<bool>, Unread>
+    requires parts { AreGraphParts parts.old }
+    requires of { AreOfTree (T.tree folder.old) parts.old }
+    ensures reads { ReadsOn (T.tree folder.old) parts.old parts.new }
+    ensures told { ForSome (T.tree folder.old) (λ _. (layers : List Layer)
+        → Shows (T.tree folder.old) parts.old layers → IsGraph layers
+        → IfOk result (IsFoundBetween IsToldUnchecked
+        (oid_bytes first.entry) (oid_bytes second.entry) layers)) }
+    ensures tree { T.tree folder.new ≡ T.tree folder.old }
+{
+    let found = find_both(alloc, folder, parts, first, second)?;
+    match found {
+        Between::FirstMissing => Ok(Between::FirstMissing),
+        Between::SecondMissing => Ok(Between::SecondMissing),
+        Between::Known((first, second)) => {
+            let told = leads(searcher, alloc, folder, parts, first, second)?;
+            Ok(Between::Known(told))
+        }
+    }
+}
+
+/// The ids on a walk along parents from the commit with the first id to the one with the second.
+pub(crate) fn walk_between_ids<T: Folder>(
+    searcher: &mut AnySearcher,
+    alloc: Global,
+    folder: &mut T,
+    parts: &mut GraphParts,
+    first: oid<'_>,
+    second: oid<'_>,
+) -> Result<Between<Option<Vec<ObjectId>>>, Unread>
+    requires parts { AreGraphParts parts.old }
+    requires of { AreOfTree (T.tree folder.old) parts.old }
+    ensures reads { ReadsOn (T.tree folder.old) parts.old parts.new }
+    ensures told { ForSome (T.tree folder.old) (λ _. (layers : List Layer)
+        → Shows (T.tree folder.old) parts.old layers → IsGraph layers
+        → IfOk result (IsFoundBetween IsWalkUnchecked
+        (oid_bytes first.entry) (oid_bytes second.entry) layers)) }
+    ensures tree { T.tree folder.new ≡ T.tree folder.old }
+{
+    let found = find_both(alloc, folder, parts, first, second)?;
+    match found {
+        Between::FirstMissing => Ok(Between::FirstMissing),
+        Between::SecondMissing => Ok(Between::SecondMissing),
+        Between::Known((first, second)) => {
+            let walk = walk_ids(searcher, alloc, folder, parts, first, second)?;
+            Ok(Between::Known(walk))
+        }
+    }
+}
+
+/// What the commit with the first id and those with the others have in common, and the ids of the
+/// merge bases.
+pub(crate) fn compared_among<T: Folder>(
+    comparer: &mut AnyComparer,
+    alloc: Global,
+    folder: &mut T,
+    parts: &mut GraphParts,
+    first: oid<'_>,
+    others: &[ObjectId],
+) -> Result<Among<IdComparison>, Unread>
+    requires parts { AreGraphParts parts.old }
+    requires of { AreOfTree (T.tree folder.old) parts.old }
+    ensures reads { ReadsOn (T.tree folder.old) parts.old parts.new }
+    ensures told { ForSome (T.tree folder.old) (λ _. (layers : List Layer)
+        → Shows (T.tree folder.old) parts.old layers → IsGraph layers
+        → IfOk result (IsFoundAmong IsComparedUnchecked
+        (oid_bytes first.entry ∷ others.now) layers)) }
+    ensures tree { T.tree folder.new ≡ T.tree folder.old }
+{
+    let found = find_all(alloc, folder, parts, first, others)?;
+    match found {
+        Among::Missing(number) => Ok(Among::Missing(number)),
+        Among::Known((first, others)) => {
+            let comparison = compared(comparer, alloc, folder, parts, first, &others)?;
+            Ok(Among::Known(comparison))
+        }
+    }
+}
+
 /// Whether a walk along parents leads from the second commit to the first.
-pub(crate) fn leads<T: Folder>(
+fn leads<T: Folder>(
+    searcher: &mut AnySearcher,
     alloc: Global,
     folder: &mut T,
     parts: &mut GraphParts,
@@ -37,6 +129,7 @@ pub(crate) fn leads<T: Folder>(
     requires of { AreOfTree (T.tree folder.old) parts.old }
     requires first { first.0 < commits_of_parts parts.old }
     requires second { second.0 < commits_of_parts parts.old }
+    ensures reads { ReadsOn (T.tree folder.old) parts.old parts.new }
     ensures told { ForSome (T.tree folder.old) (λ _. (layers : List Layer)
         → Shows (T.tree folder.old) parts.old layers → IsGraph layers
         → IfOk result (IsToldUnchecked layers first.0 second.0)) }
@@ -47,11 +140,12 @@ pub(crate) fn leads<T: Folder>(
         folder,
         parts,
     };
-    AnySearcher::new(alloc).is_ancestor(&mut commits, first, second)
+    searcher.is_ancestor(&mut commits, first, second)
 }
 
 /// The ids on a walk along parents from the first commit to the second.
-pub(crate) fn walk_ids<T: Folder>(
+fn walk_ids<T: Folder>(
+    searcher: &mut AnySearcher,
     alloc: Global,
     folder: &mut T,
     parts: &mut GraphParts,
@@ -62,12 +156,14 @@ pub(crate) fn walk_ids<T: Folder>(
     requires of { AreOfTree (T.tree folder.old) parts.old }
     requires first { first.0 < commits_of_parts parts.old }
     requires second { second.0 < commits_of_parts parts.old }
+    ensures reads { ReadsOn (T.tree folder.old) parts.old parts.new }
     ensures walk { ForSome (T.tree folder.old) (λ _. (layers : List Layer)
         → Shows (T.tree folder.old) parts.old layers → IsGraph layers
         → IfOk result (IsWalkUnchecked layers first.0 second.0)) }
     ensures tree { T.tree folder.new ≡ T.tree folder.old }
 {
-    match walk_between(alloc, folder, parts, first, second)? {
+    let found = walk_between(searcher, alloc, folder, parts, first, second)?;
+    match found {
         Some(walk) => {
             let ids = read_ids(alloc, folder, parts, &walk)?;
             Ok(Some(ids))
@@ -78,6 +174,7 @@ pub(crate) fn walk_ids<T: Folder>(
 
 /// The positions on a walk along parents from the first commit to the second.
 fn walk_between<T: Folder>(
+    searcher: &mut AnySearcher,
     alloc: Global,
     folder: &mut T,
     parts: &mut GraphParts,
@@ -99,12 +196,13 @@ fn walk_between<T: Folder>(
         folder,
         parts,
     };
-    let reached = AnySearcher::new(alloc).ancestor_walk(&mut commits, first, second)?;
+    let reached = searcher.ancestor_walk(&mut commits, first, second)?;
     Ok(reached.walk)
 }
 
 /// What the first commit and the others have in common, and the ids of the merge bases.
-pub(crate) fn compared<T: Folder>(
+fn compared<T: Folder>(
+    comparer: &mut AnyComparer,
     alloc: Global,
     folder: &mut T,
     parts: &mut GraphParts,
@@ -115,12 +213,13 @@ pub(crate) fn compared<T: Folder>(
     requires of { AreOfTree (T.tree folder.old) parts.old }
     requires first { first.0 < commits_of_parts parts.old }
     requires others { All (λ other. other.0 < commits_of_parts parts.old) others.now }
+    ensures reads { ReadsOn (T.tree folder.old) parts.old parts.new }
     ensures compared { ForSome (T.tree folder.old) (λ _. (layers : List Layer)
         → Shows (T.tree folder.old) parts.old layers → IsGraph layers
         → IfOk result (IsComparedUnchecked layers first.0 (numbers_of others.now))) }
     ensures tree { T.tree folder.new ≡ T.tree folder.old }
 {
-    let comparison = bases_of(alloc, folder, parts, first, others)?;
+    let comparison = bases_of(comparer, alloc, folder, parts, first, others)?;
     let base_ids = read_ids(alloc, folder, parts, &comparison.bases.positions)?;
     Ok(IdComparison {
         comparison,
@@ -130,6 +229,7 @@ pub(crate) fn compared<T: Folder>(
 
 /// What the first commit and the others have in common.
 fn bases_of<T: Folder>(
+    comparer: &mut AnyComparer,
     alloc: Global,
     folder: &mut T,
     parts: &mut GraphParts,
@@ -151,5 +251,5 @@ fn bases_of<T: Folder>(
         folder,
         parts,
     };
-    AnyComparer::new(alloc).compare(&mut commits, first, others)
+    comparer.compare(&mut commits, first, others)
 }

@@ -12,9 +12,8 @@ ghost use Rattle.graph_unchecked.specs.Unchecked.{IsWalkUnchecked};
 
 use crate::among::{Among, IdComparison};
 use crate::between::Between;
-use crate::kept::{compared_among, told_between, walk_between_ids};
-use crate::question::unless_failed;
 use crate::record::{found_commit, found_parents};
+use crate::search::{compared_among, told_between, walk_between_ids};
 use crate::unread::Unread;
 use gix_commitgraph::Position;
 use gix_hash_core::{ObjectId, oid};
@@ -24,6 +23,7 @@ use graph_folder::folder::Folder;
 use graph_parts::opening::open_parts;
 use graph_parts::parts::{GraphParts, StoredCommit};
 use std::alloc::Global;
+use std::marker::Model;
 
 /// A graph that is trusted, for many questions: its files are read by parts, which are kept from
 /// one question to the next, as is the memory of the searches.
@@ -34,12 +34,25 @@ use std::alloc::Global;
 /// The folder of each question is the one in which the graph was opened. Each question may answer
 /// `Device` where a read failed, `OutOfMemory`, and `NotByParts` where the graph is to be opened
 /// whole and checked. More can be asked after each of them.
+///
+/// A contract sees it as the parts of the files that were read.
 #[derive(Drop)]
 pub struct TrustedGraph {
     alloc: Global,
     parts: GraphParts,
     searcher: AnySearcher,
     comparer: AnyComparer,
+}
+
+impl Model for TrustedGraph {
+    ghost use Rattle.graph_parts.specs.contracts.parts.GraphParts.{the_row};
+    ghost use Rattle.graph_parts.specs.declared.parts.GraphParts.{GraphParts};
+
+    ghost Value = { GraphParts };
+
+    ghost coded = { the_row.coded };
+
+    ghost view = { λ graph. graph.parts };
 }
 
 impl TrustedGraph {
@@ -222,5 +235,21 @@ fn open_unasked<T: Folder>(
             comparer: AnyComparer::new(alloc),
         }),
         None => Err(Unread::NotByParts),
+    }
+}
+
+/// The answer, unless the folder has failed a read since it counted so many failures.
+fn unless_failed<T: Folder, A: Drop>(
+    folder: &T,
+    failures: u64,
+    answer: Result<A, Unread>,
+) -> Result<A, Unread>
+    ensures { (result ≡ Err Unread.Device)
+        ⊎ ((result ≡ answer) × (T.failure_count folder.now ≡ failures)) }
+{
+    if folder.failures() == failures {
+        answer
+    } else {
+        Err(Unread::Device)
     }
 }

@@ -1,10 +1,19 @@
 -- The layers that were shown are shown still, and the source tells of them.
-use Rattle.std.proofs.Common.{◌≡◌, Option, sym, ap, subst, ◌∙◌}
+use Rattle.std.proofs.Common.{◌≡◌, Option, rules, sym, ap, subst, ◌∙◌}
 use Rattle.graph_folder.specs.Tree.{Tree}
 use Rattle.graph_parts.specs.Shown.{Shows, files_of}
 use Rattle.graph_unchecked.specs.PartSource.{KnownParts}
-use Rattle.graph_unchecked.proofs.SearchLemmas.{tells-after, told-unchecked}
+use Rattle.graph_unchecked.proofs.SearchLemmas.{reads-after, tells-after, told-unchecked}
 use Rattle.graph_unchecked.proofs.search.leads.Goals as goal
+
+pub returns-clause-reads : goal.returns-clause-reads
+returns-clause-reads g c =
+    let new = c.is_ancestor.new.commits in
+    reads-after (g.T.Folder.tree c.args.folder.now) (g.T.Folder.tree new.folder.now)
+    (ap (λ (k : KnownParts). k.tree) c.is_ancestor.ensures.known)
+    c.args.parts.now new.parts.now _ new.right
+    (ap (λ (k : KnownParts). k.files) c.is_ancestor.ensures.known)
+    new.of c.is_ancestor.ensures.kept (search rules)
 
 pub returns-clause-told : goal.returns-clause-told
 returns-clause-told g c = λ tree is layers shows graph.

@@ -5,7 +5,7 @@ use Rattle.graph_folder.specs.Tree.{Tree}
 use Rattle.graph_parts.specs.Shown.{SeesMore, Shows, commits_of_parts}
 use Rattle.graph_parts.proofs.GraphPartLemmas.{same-commits, sees-then}
 use Rattle.graph_unchecked.proofs.PartLookupLemmas.{all-of-others, none-of-first, some-of-others, within-as}
-use Rattle.graph_unchecked.proofs.kept.all.Goals as goal
+use Rattle.graph_unchecked.proofs.lookup.find_all.Goals as goal
 
 pub returns-in_default-clause-found : goal.returns-in_default-clause-found
 returns-in_default-clause-found g c = λ layers shows.
