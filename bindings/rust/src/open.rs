@@ -57,13 +57,16 @@ pub(crate) fn with_files(path: &Path, place: Place) -> Result<(Graph, Vec<LayerF
     let (graph, known) = opened(path, place)?;
     let root = path.to_str().map_or(path, |_| Path::new(""));
     let files = files_of(known, path.to_str().unwrap_or("").as_bytes()).map_err(|_| OpenError::OutOfMemory)?;
-    let whole = |(path, bytes): (Vec<u8>, _)| LayerFile { path: whole(root, &path), bytes };
+    let whole = |(path, bytes): ReadFile| LayerFile { path: whole(root, &path), bytes };
     Ok((graph, collected(files.into_iter().map(whole)).map_err(|_| OpenError::OutOfMemory)?))
 }
 
+/// The path of a file, and its bytes.
+type ReadFile = (Vec<u8>, Vec<u8>);
+
 /// Of what is known where a graph was opened, the files of its layers, each with its path: those that the lines of a chain file
 /// name, which stand behind it, since it is asked for only where the chain is opened; else the one file.
-fn files_of(known: Vec<Known>, asked: &[u8]) -> Result<Vec<(Vec<u8>, Vec<u8>)>, TryReserveError> {
+fn files_of(known: Vec<Known>, asked: &[u8]) -> Result<Vec<ReadFile>, TryReserveError> {
     let chain = known.iter().position(|it| it.path != asked && it.is_read() && it.path.ends_with(CHAIN_FILE));
     let is_file = |it: &Known| it.path == asked || it.path.ends_with(FILE);
     let read = |it: Known| match it.standing {
