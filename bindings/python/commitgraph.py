@@ -567,8 +567,8 @@ def _written_file(below: _Graph, commits: Sequence[NewCommit]) -> bytes:
             raise Error(Code.WRITE_NO_IDS, number=number)
     ids = b"".join(part for one in commits for part in (one.id, one.tree, *one.parents))
     handed, place = (_NewCommit * (len(commits) + 1))(), _at(ids)
-    for number, one in enumerate(commits):
-        handed[number], place = _handed(one, place)
+    for one, to in zip(commits, handed):
+        place = _hand_in(one, to, place)
     file = _Bytes(None, False)
     told = _library.cg_write(below, handed, len(commits), file)
     if told.code:
@@ -582,13 +582,15 @@ def _written_file(below: _Graph, commits: Sequence[NewCommit]) -> bytes:
         _library.cg_bytes_free(file)
 
 
-def _handed(commit: NewCommit, place: int) -> tuple[_NewCommit, int]:
-    """A commit for C whose ids stand from an address on, one after another; and where they end."""
-    words = []
-    for size in (len(commit.id), len(commit.tree), len(commit.id) * len(commit.parents)):
-        words += [place, size]
+def _hand_in(commit: NewCommit, to: _NewCommit, place: int) -> int:
+    """Tells C of a commit whose ids stand from an address on, one after another, and answers where they end."""
+    sizes = (("id", len(commit.id)), ("tree", len(commit.tree)), ("parents", len(commit.id) * len(commit.parents)))
+    for name, size in sizes:
+        setattr(to, name, place)
+        setattr(to, name + "_len", size)
         place += size
-    return _NewCommit(*words, commit.time if 0 <= commit.time < 2**64 else 2**64 - 1), place
+    to.time = commit.time if 0 <= commit.time < 2**64 else 2**64 - 1
+    return place
 
 
 NOWHERE = 0xFFFFFFFF
