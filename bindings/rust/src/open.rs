@@ -205,19 +205,24 @@ fn refusal(told: &sys::PathError, path: &Path, root: &Path, file: &[u8], known: 
     let nothing = || io::Error::from(ErrorKind::NotFound);
     match told.code {
         codes::OUT_OF_MEMORY => OpenError::OutOfMemory,
-        codes::OPEN_NOTHING_FOUND => OpenError::Io { path: path.to_owned(), error: nothing() },
+        codes::OPEN_NOTHING_FOUND => {
+            OpenError::Io { path: path.to_owned(), error: known.into_iter().find_map(said).unwrap_or_else(nothing) }
+        }
         codes::OPEN_CHAIN_NOT_TEXT => OpenError::ChainLine { path: whole.with_file_name("commit-graph-chain"), line: layer },
         code => match (FileError::of(code), GraphError::of(code, layer)) {
             (Some(error), _) => OpenError::Layer { layer, path: whole, error },
             (_, Some(error)) => OpenError::Graph(error),
-            _ => OpenError::Io { error: said_of(known, file).unwrap_or_else(nothing), path: whole },
+            _ => {
+                let unread = known.into_iter().find(|it| it.path == file);
+                OpenError::Io { error: unread.and_then(said).unwrap_or_else(nothing), path: whole }
+            }
         },
     }
 }
 
 /// What the system said of a file that was not read.
-fn said_of(known: Vec<Known>, path: &[u8]) -> Option<io::Error> {
-    match known.into_iter().find(|it| it.path == path)?.standing {
+fn said(known: Known) -> Option<io::Error> {
+    match known.standing {
         Standing::Nothing(error) | Standing::NotOpened(error) | Standing::NotRead(error) => Some(error),
         Standing::Folder => Some(io::Error::from_raw_os_error(IS_FOLDER)),
         Standing::File(_) | Standing::NoMemory => None,
