@@ -65,12 +65,14 @@ fn firsts(graph: &Graph) -> Seen {
     seen
 }
 
+/// All parents in blocks. Most commits have one, and LLVM makes of a loop over a slice one for long slices.
 fn blocks(graph: &Graph) -> Seen {
     let mut seen = Seen::default();
     for block in graph.parent_blocks() {
         for parents in block.iter() {
-            for parent in parents.unwrap() {
-                seen.add(parent.0);
+            match parents.unwrap() {
+                [parent] => seen.add(parent.0),
+                parents => parents.iter().for_each(|parent| seen.add(parent.0)),
             }
         }
     }

@@ -605,8 +605,8 @@ typedef struct cg_write_error { uint32_t code, position; uint64_t commit, other,
  * was before is not freed: let it be CG_NO_BYTES. The file's checksum, by which the file of a chain is named graph-X.graph, is its
  * last cg_id_len bytes.
  *
- * The layer is made once, in this call, whose memory is some 300 bytes a commit and 16 for each commit of the graph below; the bytes
- * wait in *out. */
+ * The layer is made once, in this call, whose memory is some 220 bytes a commit besides the file, and 16 for each commit of the graph
+ * below; the bytes wait in *out. */
 cg_write_error cg_write(cg_graph graph, const cg_new_commit *commits, size_t count, cg_bytes *out);
 
 /* Copies bytes, from the one of number `start` on, as many as there is room for. Answers how many there are from there on, 0 past

@@ -540,36 +540,13 @@ func (g *Graph) WriteLayer(commits []NewCommit) ([]byte, error) {
 }
 
 func write(below C.cg_graph, commits []NewCommit) ([]byte, error) {
-	room := C.calloc(C.size_t(len(commits)+1), C.sizeof_cg_new_commit)
-	if room == nil {
-		return nil, &Error{Code: C.CG_OUT_OF_MEMORY}
-	}
-	defer C.free(room)
-	handed := unsafe.Slice((*C.cg_new_commit)(room), len(commits)+1)
-	var ids []byte
-	for number, commit := range commits {
-		ids = append(append(ids, commit.ID...), commit.Tree...)
-		for _, parent := range commit.Parents {
-			if len(parent) != len(commit.ID) {
-				return nil, &Error{Code: C.CG_WRITE_NO_IDS, Number: uint64(number)}
-			}
-			ids = append(ids, parent...)
-		}
-	}
-	// C gets no pointer to memory of Go's that holds one.
-	copied := C.CBytes(ids)
-	defer C.free(copied)
-	next := (*C.uint8_t)(copied)
-	for number, commit := range commits {
-		id, tree, parents := len(commit.ID), len(commit.Tree), len(commit.ID)*len(commit.Parents)
-		one := &handed[number]
-		one.id, one.id_len, next = next, C.size_t(id), past(next, id)
-		one.tree, one.tree_len, next = next, C.size_t(tree), past(next, tree)
-		one.parents, one.parents_len, next = next, C.size_t(parents), past(next, parents)
-		one.time = C.uint64_t(commit.Time)
+	handed, err := handedIn(commits)
+	if err != nil {
+		return nil, err
 	}
 	var file C.cg_bytes
-	told := C.cg_write(below, &handed[0], C.size_t(len(commits)), &file)
+	told := C.cg_write(below, handed, C.size_t(len(commits)), &file)
+	C.free(unsafe.Pointer(handed))
 	if told.code != C.CG_OK {
 		return nil, &Error{
 			Code: uint32(told.code), Layer: uint64(told.layer), Position: uint32(told.position),
@@ -582,8 +559,49 @@ func write(below C.cg_graph, commits []NewCommit) ([]byte, error) {
 	return bytes, nil
 }
 
-func past(pointer *C.uint8_t, bytes int) *C.uint8_t {
-	return (*C.uint8_t)(unsafe.Add(unsafe.Pointer(pointer), bytes))
+// handedIn lists commits for C, in memory of C's that the caller frees: C gets no pointer to memory of Go's that holds one. Their
+// ids stand behind the list, one after another, and a byte behind those, so that each has an address there.
+func handedIn(commits []NewCommit) (*C.cg_new_commit, error) {
+	size, err := idBytes(commits)
+	if err != nil {
+		return nil, err
+	}
+	list := len(commits) * C.sizeof_cg_new_commit
+	room := C.calloc(1, C.size_t(list+size+1))
+	if room == nil {
+		return nil, &Error{Code: C.CG_OUT_OF_MEMORY}
+	}
+	handed, next := unsafe.Slice((*C.cg_new_commit)(room), len(commits)), unsafe.Slice((*byte)(unsafe.Add(room, list)), size+1)
+	put := func(ids ...[]byte) (*C.uint8_t, C.size_t) {
+		first, put := at(next), 0
+		for _, id := range ids {
+			put += copy(next, id)
+			next = next[len(id):]
+		}
+		return first, C.size_t(put)
+	}
+	for number, commit := range commits {
+		one := &handed[number]
+		one.id, one.id_len = put(commit.ID)
+		one.tree, one.tree_len = put(commit.Tree)
+		one.parents, one.parents_len = put(commit.Parents...)
+		one.time = C.uint64_t(commit.Time)
+	}
+	return (*C.cg_new_commit)(room), nil
+}
+
+// idBytes counts the bytes of the ids of commits, each of whose parents has an id as long as its own.
+func idBytes(commits []NewCommit) (int, error) {
+	size := 0
+	for number, commit := range commits {
+		for _, parent := range commit.Parents {
+			if len(parent) != len(commit.ID) {
+				return 0, &Error{Code: C.CG_WRITE_NO_IDS, Number: uint64(number)}
+			}
+		}
+		size += len(commit.ID)*(1+len(commit.Parents)) + len(commit.Tree)
+	}
+	return size, nil
 }
 
 var none [1]byte

@@ -562,13 +562,13 @@ def write_file(commits: Sequence[NewCommit]) -> bytes:
 
 
 def _written_file(below: _Graph, commits: Sequence[NewCommit]) -> bytes:
-    kept, handed = [], (_NewCommit * (len(commits) + 1))()
     for number, one in enumerate(commits):
         if any(len(parent) != len(one.id) for parent in one.parents):
             raise Error(Code.WRITE_NO_IDS, number=number)
-        kept.append((one.id, one.tree, b"".join(one.parents)))
-        words = (word for data in kept[-1] for word in (_at(data), len(data)))
-        handed[number] = _NewCommit(*words, one.time if 0 <= one.time < 2**64 else 2**64 - 1)
+    ids = b"".join(part for one in commits for part in (one.id, one.tree, *one.parents))
+    handed, place = (_NewCommit * (len(commits) + 1))(), _at(ids)
+    for one, to in zip(commits, handed):
+        place = _hand_in(one, to, place)
     file = _Bytes(None, False)
     told = _library.cg_write(below, handed, len(commits), file)
     if told.code:
@@ -580,6 +580,17 @@ def _written_file(below: _Graph, commits: Sequence[NewCommit]) -> bytes:
         return out.raw
     finally:
         _library.cg_bytes_free(file)
+
+
+def _hand_in(commit: NewCommit, to: _NewCommit, place: int) -> int:
+    """Tells C of a commit whose ids stand from an address on, one after another, and answers where they end."""
+    sizes = (("id", len(commit.id)), ("tree", len(commit.tree)), ("parents", len(commit.id) * len(commit.parents)))
+    for name, size in sizes:
+        setattr(to, name, place)
+        setattr(to, name + "_len", size)
+        place += size
+    to.time = commit.time if 0 <= commit.time < 2**64 else 2**64 - 1
+    return place
 
 
 NOWHERE = 0xFFFFFFFF

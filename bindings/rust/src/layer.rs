@@ -124,7 +124,7 @@ impl Graph {
     }
 
     /// The layers, the lowest first.
-    pub fn layers(&self) -> impl Iterator<Item = Layer<'_>> + FusedIterator {
+    pub fn layers(&self) -> impl FusedIterator<Item = Layer<'_>> {
         (0..self.num_layers()).filter_map(|number| self.layer(number))
     }
 

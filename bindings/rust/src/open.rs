@@ -57,13 +57,16 @@ pub(crate) fn with_files(path: &Path, place: Place) -> Result<(Graph, Vec<LayerF
     let (graph, known) = opened(path, place)?;
     let root = path.to_str().map_or(path, |_| Path::new(""));
     let files = files_of(known, path.to_str().unwrap_or("").as_bytes()).map_err(|_| OpenError::OutOfMemory)?;
-    let whole = |(path, bytes): (Vec<u8>, _)| LayerFile { path: whole(root, &path), bytes };
+    let whole = |(path, bytes): ReadFile| LayerFile { path: whole(root, &path), bytes };
     Ok((graph, collected(files.into_iter().map(whole)).map_err(|_| OpenError::OutOfMemory)?))
 }
 
+/// The path of a file, and its bytes.
+type ReadFile = (Vec<u8>, Vec<u8>);
+
 /// Of what is known where a graph was opened, the files of its layers, each with its path: those that the lines of a chain file
 /// name, which stand behind it, since it is asked for only where the chain is opened; else the one file.
-fn files_of(known: Vec<Known>, asked: &[u8]) -> Result<Vec<(Vec<u8>, Vec<u8>)>, TryReserveError> {
+fn files_of(known: Vec<Known>, asked: &[u8]) -> Result<Vec<ReadFile>, TryReserveError> {
     let chain = known.iter().position(|it| it.path != asked && it.is_read() && it.path.ends_with(CHAIN_FILE));
     let is_file = |it: &Known| it.path == asked || it.path.ends_with(FILE);
     let read = |it: Known| match it.standing {
@@ -202,19 +205,24 @@ fn refusal(told: &sys::PathError, path: &Path, root: &Path, file: &[u8], known: 
     let nothing = || io::Error::from(ErrorKind::NotFound);
     match told.code {
         codes::OUT_OF_MEMORY => OpenError::OutOfMemory,
-        codes::OPEN_NOTHING_FOUND => OpenError::Io { path: path.to_owned(), error: nothing() },
+        codes::OPEN_NOTHING_FOUND => {
+            OpenError::Io { path: path.to_owned(), error: known.into_iter().find_map(said).unwrap_or_else(nothing) }
+        }
         codes::OPEN_CHAIN_NOT_TEXT => OpenError::ChainLine { path: whole.with_file_name("commit-graph-chain"), line: layer },
         code => match (FileError::of(code), GraphError::of(code, layer)) {
             (Some(error), _) => OpenError::Layer { layer, path: whole, error },
             (_, Some(error)) => OpenError::Graph(error),
-            _ => OpenError::Io { error: said_of(known, file).unwrap_or_else(nothing), path: whole },
+            _ => {
+                let unread = known.into_iter().find(|it| it.path == file);
+                OpenError::Io { error: unread.and_then(said).unwrap_or_else(nothing), path: whole }
+            }
         },
     }
 }
 
 /// What the system said of a file that was not read.
-fn said_of(known: Vec<Known>, path: &[u8]) -> Option<io::Error> {
-    match known.into_iter().find(|it| it.path == path)?.standing {
+fn said(known: Known) -> Option<io::Error> {
+    match known.standing {
         Standing::Nothing(error) | Standing::NotOpened(error) | Standing::NotRead(error) => Some(error),
         Standing::Folder => Some(io::Error::from_raw_os_error(IS_FOLDER)),
         Standing::File(_) | Standing::NoMemory => None,

@@ -137,6 +137,7 @@ impl<'g> Writer<'g> {
         // SAFETY: `below` is closed, or open since it is borrowed; each pointer and length are those of a slice, none is null;
         // and `raw` is CG_NO_BYTES.
         let told = unsafe { sys::cg_write(below, handed.as_ptr(), handed.len(), &mut file.raw) };
+        drop(handed);
         match told.code {
             codes::OK => Ok(file.bytes()?),
             _ => Err(WriteError::of(&told)),

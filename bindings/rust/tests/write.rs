@@ -57,7 +57,7 @@ fn each_layer_of_a_chain_is_as_git_writes_it() {
         let handed: Vec<Told> = told.iter().filter(is_own).cloned().collect();
         let layers: Vec<_> = files[..number].iter().map(|file| (&file.bytes[..], "")).collect();
         let below = (number > 0).then(|| Checked::of_bytes(&layers).unwrap());
-        let writer = below.as_ref().map_or(Writer::new(), |below| Writer::on(below));
+        let writer = below.as_ref().map_or(Writer::new(), Writer::on);
         assert_eq!(written(writer, &handed).as_ref(), Ok(&files[number].bytes));
     }
 }
@@ -67,10 +67,9 @@ fn each_refusal_names_its_commit() {
     let below = Checked::from_file(&made().file, Default::default()).unwrap();
     let first = below.graph().id_at(Position(0));
     let none: [[u8; 20]; 0] = [];
-    let late = (id(1), id(9), vec![id(2)], 1 << 34);
     let rows: [(&[(_, _, Vec<[u8; 20]>, u64)], _); 7] = [
         (&[], WriteError::Nothing),
-        (&[late.clone()], WriteError::Time { commit: 0 }),
+        (&[(id(1), id(9), vec![id(2)], 1 << 34)], WriteError::Time { commit: 0 }),
         (&[(id(1), id(9), vec![], 0), (id(0), id(9), vec![], 0)], WriteError::NullId { commit: 1 }),
         (&[(id(1), id(9), vec![], 0), (id(2), id(0), vec![], 0)], WriteError::NullTree { commit: 1 }),
         (&[(id(1), id(9), vec![], 0), (id(1), id(9), vec![], 0)], WriteError::Twice { commit: 1, earlier: 0 }),

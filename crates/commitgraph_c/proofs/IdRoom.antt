@@ -1,7 +1,7 @@
 -- ids of a graph that are written to a room, one after another
 use Rattle.std.proofs.Common.{◌≡◌, refl, sym, ap, subst, ◌∙◌, ℕ, ◌+◌, ◌*◌, ◌<◌, ◌≤◌, List, [], ◌∷◌, ◌++◌, length, take, drop, map}
 use Rattle.std.proofs.Common.{All, Option, Some, None, IsSomeAnd, slice_get, get_or, arith, length-drop, ◌-◌}
-use Rattle.std.proofs.Common.{append_assoc, take-append-drop}
+use Rattle.std.proofs.Common.{append_assoc, length-append, take-append-drop}
 use Rattle.std.specs.List.{flat_map}
 use Rattle.std.proofs.lemmas.Grind.{flat_map-append}
 use Rattle.std.proofs.lemmas.List.{take_more, take_all, length-map, map-append, append-nil, drop-drop}
@@ -12,9 +12,8 @@ use Rattle.gix_hash_core.specs.Kind.{id_len}
 use Rattle.gix_hash_core.specs.declared.kind.Kind.{Kind}
 use Rattle.graph_format.specs.Format.{chunk_of, ids_id, pieces}
 use Rattle.graph_format.specs.Layer.{Layer, IsOpened, bytes_of}
+use Rattle.graph_format.proofs.PieceLemmas.{id_len-positive}
 use Rattle.graph_format.proofs.WholePieceLemmas.{whole_pieces}
-use Rattle.graph_encoder.proofs.Pieces.{length-flat_map-sized}
-use Rattle.graph_encoder.proofs.PlannedChunks.{id-whole}
 use Rattle.gix_commitgraph.specs.Graph.{IsGraph, graph_ids}
 use Rattle.c_opening.specs.Answers.{written}
 use Rattle.c_opening.proofs.Written.{first_places, none_written, written_after}
@@ -51,7 +50,7 @@ sized_at size ids pos id all here =
 
 -- the id at a position of a graph has the size of its kind, which is not 0
 pub size_positive : (kind : Kind) (size : ℕ) → size ≡ id_len kind → 0 < size
-size_positive kind size is = subst (λ n. 0 < n) (sym is) (id-whole kind)
+size_positive kind size is = subst (λ n. 0 < n) (sym is) (id_len-positive kind)
 
 pub id_fits : (layers : List Layer) (kind : Kind) (size pos : ℕ) (id : List ℕ) → IsGraph layers
     → All (λ layer. layer.kind ≡ kind) layers → size ≡ id_len kind → slice_get (graph_ids layers) pos ≡ Some id
@@ -83,11 +82,21 @@ as_many_ids : (all : List (List ℕ)) (positions : List ℕ) (size : ℕ) (old n
 as_many_ids all positions size old now are =
     sym (length-map are.ids (λ id. Some id)) ∙ ap length (sym are.held) ∙ length-map positions (slice_get all)
 
+-- items of one size take its multiple together
+joined_length : (size : ℕ) (items : List (List ℕ)) → All (λ item. length item ≡ size) items
+    → length (flat_map (λ item. item) items) ≡ size * length items
+joined_length size [] sized = omega arith
+joined_length size (item ∷ items) sized =
+    let first : length item ≡ size = All-head (λ x. length x ≡ size) item items sized in
+    let others : length (flat_map (λ x. x) items) ≡ size * length items =
+    joined_length size items (All-tail (λ x. length x ≡ size) item items sized) in
+    omega (arith, first, others, length-append item (flat_map (λ x. x) items))
+
 -- what is written ends at the size of all
 ends_at : (all : List (List ℕ)) (positions : List ℕ) (size : ℕ) (old now : List ℕ)
     → (are : AreWrittenIds all positions size old now) → length (flat_map (λ id. id) are.ids) ≡ size * length positions
 ends_at all positions size old now are =
-    length-flat_map-sized size (λ id. id) are.ids are.sized
+    joined_length size are.ids are.sized
     ∙ ap (λ n. size * n) (as_many_ids all positions size old now are)
 
 whole_item : (item room : List ℕ) → length item ≤ length room → written item room ≡ item ++ drop (length item) room

@@ -1,7 +1,7 @@
 //! The first parents of a commit, in the time of as many steps as there is room for.
 
 ghost use Rattle.std.specs.Prelude.{◌≡◌, ◌≢◌, ◌↔◌, ◌≤◌, ◌⊎◌, IfSome, IsSomeAnd, List, None};
-ghost use Rattle.std.specs.Prelude.{Option, if◌then◌else◌, length, min, nat_le, ℕ};
+ghost use Rattle.std.specs.Prelude.{Option, Some, if◌then◌else◌, length, min, nat_le, ℕ};
 ghost use Rattle.graph_format.specs.Parents.{second_parents};
 ghost use Rattle.graph_layer.specs.Commit.{commit_parents};
 ghost use Rattle.gix_commitgraph.specs.Graph.{total};
@@ -10,10 +10,11 @@ ghost use Rattle.commitgraph_c.specs.QueryAnswers.{parents_in};
 ghost use Rattle.c_opening.specs.Codes.{closed_graph, more_parents, no_such_position};
 ghost use Rattle.commitgraph_c.specs.FirstParents.{TellsFirstParents};
 
-use crate::commit_at::commit_at;
+use crate::commit_at::{commit_in_chain, commit_in_layer};
 use crate::parents::{CgParents, write_at};
 use c_opening::CgGraph;
 use c_opening::codes::{CLOSED_GRAPH, MORE_PARENTS, NO_SUCH_POSITION, parent_code};
+use gix_commitgraph::Graph;
 use gix_commitgraph::file::Commit;
 use graph_format::parents::ParentEdge;
 use graph_layer::fields::parent_edges;
@@ -36,13 +37,51 @@ pub fn cg_first_parents(graph: CgGraph, pos: u32, out: &mut [u32]) -> CgParents
             count: 0,
         };
     };
-    let Some(commit) = commit_at(graph, pos) else {
-        return CgParents {
+    if graph.layers().len() == 1 {
+        first_in_layer(graph, pos, out)
+    } else {
+        first_in_chain(graph, pos, out)
+    }
+}
+
+/// The same of a graph of one layer.
+#[inline(always)]
+fn first_in_layer(graph: &Graph, pos: u32, out: &mut [u32]) -> CgParents
+    requires { length graph.now ≡ 1 }
+    ensures parents { result.code ≢ no_such_position → HasCommit (Some graph.now) pos (λ commit.
+        TellsFirstParents (parents_in commit) result out.old out.new) }
+    ensures nowhere { result.code ≡ no_such_position ↔ total graph.now ≤ pos }
+    ensures open { result.code ≢ closed_graph }
+    ensures kept { result.code ≡ no_such_position
+        → (out.new ≡ out.old) × (result.count ≡ 0) }
+{
+    match commit_in_layer(graph, pos) {
+        Some(commit) => write_first(commit, out),
+        None => CgParents {
             code: NO_SUCH_POSITION,
             count: 0,
-        };
-    };
-    write_first(commit, out)
+        },
+    }
+}
+
+/// The same of any graph. This stays a call of its own, so that where there is one layer no
+/// register is saved for the search of a layer.
+#[inline(never)]
+fn first_in_chain(graph: &Graph, pos: u32, out: &mut [u32]) -> CgParents
+    ensures parents { result.code ≢ no_such_position → HasCommit (Some graph.now) pos (λ commit.
+        TellsFirstParents (parents_in commit) result out.old out.new) }
+    ensures nowhere { result.code ≡ no_such_position ↔ total graph.now ≤ pos }
+    ensures open { result.code ≢ closed_graph }
+    ensures kept { result.code ≡ no_such_position
+        → (out.new ≡ out.old) × (result.count ≡ 0) }
+{
+    match commit_in_chain(graph, pos) {
+        Some(commit) => write_first(commit, out),
+        None => CgParents {
+            code: NO_SUCH_POSITION,
+            count: 0,
+        },
+    }
 }
 
 /// Writes the positions of a commit's first parents, as many as there is room for.

@@ -124,7 +124,7 @@ pub fn long_lists(commits: u32) -> Vec<u8> {
         (b"OIDF", word(commits).repeat(256)),
         (b"OIDL", (0..commits).flat_map(id).collect()),
         (b"CDAT", (0..commits).flat_map(record).collect()),
-        (b"EDGE", (0..commits).flat_map(|number| word((number + 1) % commits | last(number))).collect()),
+        (b"EDGE", (0..commits).flat_map(|number| word(((number + 1) % commits) | last(number))).collect()),
     ];
     let mut bytes = [&b"CGPH\x01\x01"[..], &[chunks.len() as u8, 0]].concat();
     let mut start = 8 + 12 * (chunks.len() as u64 + 1);
