@@ -151,7 +151,8 @@ is_scattered() {
 # Makes a folder for files of a moment, `scratch`, if there is none.
 make_scratch() {
     [ -z "$scratch" ] || return 0
-    scratch=$(mktemp -d) || leave 'no folder for files of a moment can be made'
+    scratch=$(mktemp -d 2>/dev/null) ||
+        give_up "no folder for files of a moment can be made in '${TMPDIR:-/tmp}': see to that, or let TMPDIR name another one"
     look_after
 }
 
