@@ -151,7 +151,8 @@ is_scattered() {
 # Makes a folder for files of a moment, `scratch`, if there is none.
 make_scratch() {
     [ -z "$scratch" ] || return 0
-    scratch=$(mktemp -d 2>/dev/null) || give_up "no folder for files of a moment can be made in '${TMPDIR:-/tmp}': TMPDIR has to name one that may be written"
+    scratch=$(mktemp -d 2>/dev/null) ||
+        give_up "no folder for files of a moment can be made in '${TMPDIR:-/tmp}': TMPDIR has to name one that may be written"
     look_after
 }
 

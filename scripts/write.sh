@@ -56,10 +56,12 @@ refuse_unused() {
 is_object_folder() {
     [ -n "$named" ] || return 0
     eval "set -- $(named='' && look_for_folders && printf %s "$folders")"
+    lines=''
     for place in "$@"; do
         [ ! "$place" -ef "$named" ] || return 0
+        lines="$lines${lines:+$newline}    git cgraph write${split:+ --split} --object-dir=$(quoted "$place")"
     done
-    refuse_writing "'$named' is none of the object folders of this repository"
+    refuse_writing "'$named' is none of the object folders of this repository" 'name one that is' "$lines"
 }
 
 # Writes a commit-graph of one file.

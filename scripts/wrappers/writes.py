@@ -468,7 +468,8 @@ def rights_below(folder):
 def check_folders(results, written):
     """A folder that is named has to be one of the object folders; links are followed, as Git follows them."""
     answer = written.write("--object-dir", written.folder)
-    right = answer[:2] == (128, "") and "is none of the object folders of this repository\n" in answer.err
+    cure = "    git cgraph write --object-dir='%s'\n" % os.path.dirname(written.info).replace("'", "'\\''")
+    right = answer[:2] == (128, "") and "is none of the object folders of this repository\n" in answer.err and answer.err.endswith(cure)
     results.check("git cgraph write, of a folder that is none", None if right else "it is %r" % (answer,))
     fork = os.path.join(os.path.dirname(written.folder), "fork")
     git(written.clone, written.folder, "clone", "-q", "-s", "-n", written.folder, fork)

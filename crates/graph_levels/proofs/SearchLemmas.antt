@@ -4,7 +4,7 @@ use Rattle.std.proofs.Common.{length, get_or, count_by, Contains, refl, sym, ap,
 use Rattle.std.proofs.Math.ListN.{set}
 use Rattle.std.proofs.Math.Seq.{get_or-append_seam}
 use Rattle.std.proofs.lemmas.Bool.{cases_lt, cases_eq}
-use Rattle.std.proofs.lemmas.List.{get_or-set_same, get_or-set_other, get_or_append_left, length-set, length_push}
+use Rattle.std.proofs.lemmas.List.{get_or-set_same, get_or-set_other, get_or_append_left, length-set, length_push, set-set}
 use Rattle.std.proofs.lemmas.List.Sums.{sum_by-set}
 use Rattle.graph_levels.specs.declared.level.Level.{Level}
 use Rattle.graph_levels.specs.declared.level.State.{State}
@@ -14,6 +14,8 @@ use Rattle.graph_levels.specs.declared.lists.ParentLists.{ParentLists}
 use Rattle.graph_levels.specs.ParentLists.{commit_count, parent_list}
 use Rattle.graph_levels.specs.SearchStates.{no_frame, has_level, is_unseen, state_at, work_left, FollowsFrom, IsFrame}
 use Rattle.graph_levels.specs.SearchStates.{IsSearch}
+use Rattle.graph_levels.specs.OnTop.{FitTogether}
+use Rattle.graph_levels.proofs.DateBounds.{level_bound}
 use Rattle.graph_levels.proofs.StateLemmas.{StaysDone, set_stays, still_done, level_stays}
 
 -- the last of what was pushed, and those before it
@@ -301,6 +303,40 @@ module _ (below : List Level) (parents : ParentLists) (times : List ℕ) (states
         all = close_all;
       };
     }
+
+-- a commit gets its level at once, as if it had been opened and closed
+module _ (below : List Level) (parents : ParentLists) (times : List ℕ) (states : List State) (stack : List Frame)
+    (search : IsSearch below parents times states stack) (i : ℕ) (within : i < commit_count parents)
+    (unseen : get_or states i Unseen ≡ Unseen) (empty : length stack ≡ 0) (level : Level)
+    (input : FitTogether below parents times)
+    (is : FollowsFrom below states (parent_list parents i) (get_or times i 0) level) where
+  none_on_top : (j : ℕ) → j + 1 ≡ length stack
+      → Contains (parent_list parents (get_or stack j no_frame).commit) (length below + i)
+  none_on_top j last = absurd (omega (arith, empty))
+
+  abbrev begun : List State
+  begun = set states i Open
+
+  abbrev on_top : Frame
+  on_top = record { commit = i; next = 0 }
+
+  begun_search : IsSearch below parents times begun (stack ++ on_top ∷ [])
+  begun_search = open_search below parents times states stack search i within unseen none_on_top
+
+  follows : FollowsFrom below begun (parent_list parents i) (get_or times i 0) level
+  follows =
+      level_stays below states begun (set_stays below states i Open (not_done_from _ _ unseen refl)) (parent_list parents i)
+      (get_or times i 0) level is
+
+  early : level.date + work_left begun stack ≤ 2 ^ 63 + 2 * commit_count parents
+  early =
+      level_bound below parents times begun (stack ++ on_top ∷ []) input begun_search (parent_list parents i) i level
+      (work_left begun stack) within follows (omega (arith, length_push stack on_top))
+
+  pub give_search : IsSearch below parents times (set states i (Done level)) stack
+  give_search =
+      subst (λ (ss : List State). IsSearch below parents times ss stack) (set-set states i Open (Done level))
+      (close_search below parents times begun stack on_top begun_search level follows early)
 
 -- the frame on top has come further
 module _ (below : List Level) (parents : ParentLists) (times : List ℕ) (states : List State) (stack : List Frame) (t next : ℕ)

@@ -1,11 +1,13 @@
 -- A search for levels, as the value of its type. For private contracts alone.
-use Rattle.std.specs.Prelude.{◌≡◌, ℕ, ◌-◌, true, false, List, length, slice_index_or}
+use Rattle.std.specs.Prelude.{◌≡◌, ℕ, ◌-◌, ◌<◌, true, false, List, length, slice_index, slice_index_or}
 use Rattle.graph_levels.specs.declared.search.Search.{Search}
 use Rattle.graph_levels.specs.declared.level.State.{State}
 use Rattle.graph_levels.specs.declared.level.State.TheVariants.{Unseen}
 use Rattle.graph_levels.specs.declared.level.Frame.{Frame}
 use Rattle.graph_levels.specs.OnTop.{FitTogether}
-use Rattle.graph_levels.specs.ParentLists.{parent_list}
+use Rattle.graph_levels.specs.declared.level.Visit.{Visit}
+use Rattle.graph_levels.specs.declared.lists.ParentLists.{ParentLists}
+use Rattle.graph_levels.specs.ParentLists.{commit_count, parent_list}
 use Rattle.graph_levels.specs.SearchStates.{IsSearch, state_at, has_level, is_unseen, work_left, frame_at}
 
 -- what the search knows of the commit at a position
@@ -43,3 +45,9 @@ pub record ContinuesSearch (old new : Search) : Type 0 where
   pub times : new.times ≡ old.times
   pub seen : (i : ℕ) → is_unseen (slice_index_or old.states.items i Unseen) ≡ false
       → is_unseen (slice_index_or new.states.items i Unseen) ≡ false
+
+-- What is read for a visit is what is known of the commit.
+pub record IsVisit (lists : ParentLists) (times : List ℕ) (visit : Visit) : Type 0 where
+  pub within : visit.commit < commit_count lists
+  pub parents : visit.parents.now ≡ parent_list lists visit.commit
+  pub time : visit.time ≡ slice_index times visit.commit

@@ -50,3 +50,14 @@ pub(crate) struct Frame {
     /// The number of its parent that is looked at next: those before have their levels.
     pub(crate) next: usize,
 }
+
+/// A commit to which a visit is made, and what the visit reads of it.
+#[derive(Clone, Copy, Debug, Drop)]
+pub(crate) struct Visit<'a> {
+    /// The number of the commit among the new ones.
+    pub(crate) commit: usize,
+    /// The positions of its parents.
+    pub(crate) parents: &'a [u32],
+    /// Its time.
+    pub(crate) time: u64,
+}

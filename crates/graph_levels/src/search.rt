@@ -16,14 +16,17 @@ ghost use Rattle.graph_levels.specs.SearchStates.{has_level, is_unseen, level_da
 ghost use Rattle.graph_levels.specs.SearchStates.{FollowsFrom};
 ghost use Rattle.graph_levels.specs.Searching.{state_in, HasLevel, IsUnderWay, HasFittingInput};
 ghost use Rattle.graph_levels.specs.Searching.{steps_left, frame_on_top, parents_on_top};
-ghost use Rattle.graph_levels.specs.Searching.{ContinuesSearch};
+ghost use Rattle.graph_levels.specs.Searching.{ContinuesSearch, IsVisit};
 ghost use Rattle.graph_levels.specs.declared.level.State.TheVariants.{Unseen, Done};
 
-use crate::level::{Frame, Level, LevelsError, State};
+use crate::level::{Frame, Level, LevelsError, State, Visit};
 use crate::lists::ParentLists;
 use crate::oldest::oldest_first;
 use graph_walks::GENERATION_NUMBER_MAX;
 use std::alloc::{AllocError, Global};
+
+/// For how many visits is read at a time.
+const BLOCK: usize = 64;
 
 /// A search for levels. New commits are known by their numbers among themselves.
 #[derive(Drop)]
@@ -209,30 +212,54 @@ impl Search<'_> {
         Ok(())
     }
 
-    /// Sees to it that a commit has its level.
-    fn visit(&mut self, commit: usize) -> Result<(), LevelsError>
+    /// Gives a commit its level, since all its parents have theirs. None is being gone through.
+    fn give(&mut self, visit: Visit<'_>)
         requires going { IsUnderWay self.old }
         requires input { HasFittingInput self.old }
-        requires within { commit < commit_count self.old.parents.now }
+        requires empty { length self.old.stack.items ≡ 0 }
+        requires visit { IsVisit self.old.parents.now self.old.times.now visit }
+        requires unseen { slice_index_or self.old.states.items visit.commit Unseen ≡ Unseen }
+        requires done { (k : ℕ) → k < length visit.parents.now
+            → HasLevel self.old (slice_index visit.parents.now k) }
+        ensures going { IsUnderWay self.new }
+        ensures input { ContinuesSearch self.old self.new }
+        ensures empty { length self.new.stack.items ≡ 0 }
+        ensures seen { is_unseen
+            (slice_index_or self.new.states.items visit.entry.commit Unseen) ≡ false }
+    {
+        let level = self.level_of(visit.parents, visit.time);
+        self.states[visit.commit] = State::Done(level);
+    }
+
+    /// Sees to it that a commit has its level.
+    fn visit(&mut self, visit: Visit<'_>) -> Result<(), LevelsError>
+        requires going { IsUnderWay self.old }
+        requires input { HasFittingInput self.old }
+        requires visit { IsVisit self.old.parents.now self.old.times.now visit }
         requires empty { length self.old.stack.items ≡ 0 }
         ensures going { OnOk result (IsUnderWay self.new) }
         ensures input { OnOk result (ContinuesSearch self.old self.new) }
         ensures empty { OnOk result (length self.new.stack.items ≡ 0) }
         ensures seen { OnOk result
-            (is_unseen (slice_index_or self.new.states.items commit Unseen) ≡ false) }
+            (is_unseen (slice_index_or self.new.states.items visit.entry.commit Unseen) ≡ false) }
         ensures cycle { IfErr result
             (IsLevelsRefusal (length self.old.below.now) self.old.parents.now) }
     {
-        if let State::Unseen = self.states[commit] {
-            self.open(commit)?;
-            self.finish()?;
+        if let State::Unseen = self.states[visit.commit] {
+            match self.next_pending(visit.parents, 0) {
+                None => self.give(visit),
+                Some(_) => {
+                    self.open(visit.commit)?;
+                    self.finish()?;
+                }
+            }
         }
         Ok(())
     }
 
     /// Visits commits in this order of their numbers, leaving out numbers past the last commit. It
     /// need not name all.
-    fn visit_each(&mut self, order: &[u32]) -> Result<(), LevelsError>
+    fn visit_each(&mut self, alloc: Global, order: &[u32]) -> Result<(), LevelsError>
         requires going { IsUnderWay self.old }
         requires input { HasFittingInput self.old }
         requires empty { length self.old.stack.items ≡ 0 }
@@ -242,11 +269,27 @@ impl Search<'_> {
         ensures cycle { IfErr result
             (IsLevelsRefusal (length self.old.below.now) self.old.parents.now) }
     {
-        for number in order {
-            let commit = *number as usize;
-            if commit < self.parents.len() {
-                self.visit(commit)?;
-            }
+        for block in order.chunks(BLOCK) {
+            self.visit_block(alloc, block)?;
+        }
+        Ok(())
+    }
+
+    /// The same, where what all visits read is read first: commits in the order of their times
+    /// stand anywhere in memory, and the processor waits for many of them at once.
+    fn visit_block(&mut self, alloc: Global, block: &[u32]) -> Result<(), LevelsError>
+        requires going { IsUnderWay self.old }
+        requires input { HasFittingInput self.old }
+        requires empty { length self.old.stack.items ≡ 0 }
+        ensures going { OnOk result (IsUnderWay self.new) }
+        ensures input { OnOk result (ContinuesSearch self.old self.new) }
+        ensures empty { OnOk result (length self.new.stack.items ≡ 0) }
+        ensures cycle { IfErr result
+            (IsLevelsRefusal (length self.old.below.now) self.old.parents.now) }
+    {
+        let visits = visits_of(alloc, self.parents, self.times, block)?;
+        for visit in &visits {
+            self.visit(*visit)?;
         }
         Ok(())
     }
@@ -269,11 +312,45 @@ impl Search<'_> {
     }
 }
 
+/// What a visit to a commit reads of it.
+fn visit_to<'a>(parents: &'a ParentLists, times: &'a [u64], commit: usize) -> Visit<'a>
+    requires within { commit < commit_count parents.now }
+    requires timed { length times.now ≡ commit_count parents.now }
+    ensures visit { IsVisit parents.now times.now result }
+    ensures commit { result.commit ≡ commit }
+{
+    Visit {
+        commit,
+        parents: parents.of(commit),
+        time: times[commit],
+    }
+}
+
+/// What visits to the commits of these numbers read, leaving out numbers past the last commit.
+fn visits_of<'a>(
+    alloc: Global,
+    parents: &'a ParentLists,
+    times: &'a [u64],
+    block: &[u32],
+) -> Result<Vec<Visit<'a>>, AllocError>
+    requires { length times.now ≡ commit_count parents.now }
+    ensures { IfOk result (λ visits. All (IsVisit parents.now times.now) visits.items) }
+{
+    let mut visits = Vec::with_capacity(alloc, block.len())?;
+    for number in block {
+        let commit = *number as usize;
+        if commit < parents.len() {
+            visits.push(visit_to(parents, times, commit))?;
+        }
+    }
+    Ok(visits)
+}
+
 /// The level of each new commit: `below` has those of the commits below, `parents` and `times` what
 /// the new ones say. Positions count the commits below first. Times are in seconds since 1970-01-01
 /// 00:00:00 UTC.
 ///
-/// Each parent is looked at three times at most.
+/// Each parent is looked at four times at most.
 ///
 /// # Errors
 ///
@@ -310,9 +387,9 @@ pub fn levels(
         states: vec![in alloc; State::Unseen; parents.len()]?,
         stack: Vec::new(alloc),
     };
-    search.visit_each(&oldest_first(alloc, times)?)?;
+    search.visit_each(alloc, &oldest_first(alloc, times)?)?;
     for commit in 0..parents.len() {
-        search.visit(commit)?;
+        search.visit(visit_to(parents, times, commit))?;
     }
     Ok(search.found(alloc)?)
 }

@@ -12,7 +12,7 @@ use std::alloc::{AllocError, Global};
 /// About how many ids share a start.
 const IDS_EACH: usize = 2;
 
-/// How many fronts are looked at from a start on. More than these hardly ever share one.
+/// How many tips are looked at from a start on. More than these hardly ever share one.
 const MOST_EACH: usize = 8;
 
 /// The number that the first eight bytes of an id make. Two ids hardly ever have one front, unless
@@ -26,58 +26,64 @@ pub(crate) fn front(id: &ObjectId) -> u64
     u64::from_be_bytes([id[0], id[1], id[2], id[3], id[4], id[5], id[6], id[7]])
 }
 
-/// The fronts of ids in their order, and where to begin to look for one. They take eight bytes
-/// each, so that a search needs few lines of the processor's cache.
+/// The tips of ids in their order, and where to begin to look for one. They take four bytes each,
+/// so that a search needs few lines of the processor's cache.
 #[derive(Drop)]
 pub(crate) struct Guide {
-    fronts: Vec<u64>,
+    tips: Vec<u32>,
     starts: Vec<u32>,
 }
 
 impl Guide {
     /// The guide to ids that have these places.
     pub(crate) fn of(alloc: Global, places: &[FrontPlace]) -> Result<Guide, AllocError> {
-        let mut fronts = Vec::with_capacity(alloc, places.len())?;
+        let mut tips = Vec::with_capacity(alloc, places.len())?;
         for place in places {
-            fronts.push(place.front)?;
+            tips.push(tip(place.front))?;
         }
         let mut starts = vec![in alloc; 0; places.len() / IDS_EACH + 1]?;
-        let mut place = fronts.len();
-        for front in fronts.iter().rev() {
+        let mut place = tips.len();
+        for tip in tips.iter().rev() {
             place = place.saturating_sub(1);
-            let bucket = bucket_of(*front, starts.len());
+            let bucket = bucket_of(*tip, starts.len());
             if let Some(start) = starts.get_mut(bucket) {
                 *start = place.min(u32::MAX as usize) as u32;
             }
         }
-        Ok(Guide { fronts, starts })
+        Ok(Guide { tips, starts })
     }
 
     /// Where to begin to look for a front.
     fn start_of(&self, wanted: u64) -> u32 {
-        match self.starts.get(bucket_of(wanted, self.starts.len())) {
+        match self.starts.get(bucket_of(tip(wanted), self.starts.len())) {
             Some(start) => *start,
             None => 0,
         }
     }
 
-    /// Where the commit stands whose id has this front if there is one, unless many ids have fronts
-    /// that are near to each other. It is found by counting from the start on, without a choice for
-    /// which the processor would have to wait.
+    /// Where the commit stands whose id has this front if there is one, unless another id has the
+    /// same tip, or many ids have tips that are near to each other. It is found by counting from
+    /// the start on, without a choice for which the processor would have to wait.
     fn guess(&self, wanted: u64, start: u32) -> u32 {
-        let from = (start as usize).min(self.fronts.len());
-        let to = (from + MOST_EACH).min(self.fronts.len());
+        let from = (start as usize).min(self.tips.len());
+        let to = (from + MOST_EACH).min(self.tips.len());
+        let wanted = tip(wanted);
         let mut place = start;
-        for front in &self.fronts[from..to] {
-            place = place.wrapping_add(u32::from(*front < wanted));
+        for tip in &self.tips[from..to] {
+            place = place.wrapping_add(u32::from(*tip < wanted));
         }
         place
     }
 }
 
-/// Which of so many buckets of equal size a front falls into.
-fn bucket_of(front: u64, buckets: usize) -> usize {
-    ((front >> 32).wrapping_mul(buckets as u64) >> 32) as usize
+/// The number that the first four bytes of an id make, of its front.
+fn tip(front: u64) -> u32 {
+    (front >> 32) as u32
+}
+
+/// Which of so many buckets of equal size a tip falls into.
+fn bucket_of(tip: u32, buckets: usize) -> usize {
+    (u64::from(tip).wrapping_mul(buckets as u64) >> 32) as usize
 }
 
 /// How many commits have their parents guessed at a time.

@@ -71,6 +71,7 @@ impl Known<'_> {
     }
 
     /// The same, where this place is looked at first.
+    #[inline(always)]
     fn place_of(&self, id: &ObjectId, guess: u32) -> Option<usize>
         requires { IsKnown self.now }
         ensures some { IfSome result (λ place.
@@ -86,6 +87,7 @@ impl Known<'_> {
     }
 
     /// The position of the commit with an id.
+    #[inline(always)]
     fn position_of(&self, id: &ObjectId, guess: u32) -> Option<u32>
         requires { IsKnown self.now }
         ensures none { is_none result ≡ is_unknown_to self.now id.now }

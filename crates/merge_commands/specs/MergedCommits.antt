@@ -11,8 +11,8 @@ use Rattle.graph_writer.specs.declared.commit.WriteError.{WriteError}
 use Rattle.graph_writer.specs.declared.commit.WriteError.TheVariants as error
 use Rattle.graph_writer.specs.declared.filters.NewFilters.{NewFilters}
 use Rattle.history_commands.specs.Check.{MayRefuseToStart}
-use Rattle.write_commands.specs.declared.refusal.LayerRefusal.{LayerRefusal}
-use Rattle.write_commands.specs.declared.refusal.LayerRefusal.TheVariants.{Graph, Stream, Commits}
+use Rattle.layer_refusals.specs.declared.refusal.LayerRefusal.{LayerRefusal}
+use Rattle.layer_refusals.specs.declared.refusal.LayerRefusal.TheVariants.{Graph, Stream, Commits}
 use Rattle.merge_commands.specs.CarriedFilters.{AreCarried}
 use Rattle.merge_commands.specs.GraphCommits.{AreCommitsOf}
 

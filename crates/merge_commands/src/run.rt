@@ -9,7 +9,7 @@ ghost use Rattle.history_commands.specs.Check.{MayRefuseToStart};
 ghost use Rattle.merge_commands.specs.CarriedFilters.{AreCarried};
 ghost use Rattle.merge_commands.specs.GraphCommits.{AreCommitsOf};
 ghost use Rattle.merge_commands.specs.MergedCommits.{AreFoundCommits, MayMerge};
-ghost use Rattle.write_commands.specs.WrittenCommits.{written_text, written_status};
+ghost use Rattle.layer_refusals.specs.LayerAnswer.{written_text, written_status};
 
 use crate::commits::commits_of;
 use crate::filters::filters_of;
@@ -20,9 +20,9 @@ use graph_commands::status::Status;
 use graph_folder::folder::Folder;
 use graph_history::{Checked, CheckedGraph};
 use graph_writer::{NewCommit, NewFilters, WriteError, write_layer_with_filters};
+use layer_refusals::LayerRefusal;
 use std::alloc::{AllocError, Global};
 use std::io::Write;
-use write_commands::LayerRefusal;
 
 /// Writes the file of one layer with the commits of the graph at the path, which is checked before,
 /// as `graphtool verify` does: what Git writes of these commits. It has their changed-path filters

@@ -1,4 +1,3 @@
 pub mod NewStream
 pub mod NewEntries
-pub mod WriteRefusalLines
 pub mod WrittenCommits

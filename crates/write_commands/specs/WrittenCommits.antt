@@ -5,16 +5,14 @@ use Rattle.gix_hash_core.specs.declared.kind.Kind.{Kind}
 use Rattle.graph_format.specs.Layer.{Layer}
 use Rattle.graph_layer.specs.declared.opening.error.OpenError.{OpenError}
 use Rattle.gix_commitgraph.specs.Sound.{Sound}
-use Rattle.graph_commands.specs.Text.{◌⧺◌, newline}
 use Rattle.graph_commands.specs.declared.refusal.Refusal.{Refusal}
 use Rattle.graph_writer.specs.WrittenLayers.{IsWritten}
 use Rattle.graph_writer.specs.WritingRefusal.{MayRefuseWriting}
 use Rattle.graph_writer.specs.declared.commit.NewCommit.{NewCommit}
 use Rattle.history_commands.specs.Check.{MayRefuseToStart}
 use Rattle.write_commands.specs.NewStream.{MayRefuseCommits, SaysCommits}
-use Rattle.write_commands.specs.WriteRefusalLines.{layer_refusal_text}
-use Rattle.write_commands.specs.declared.refusal.LayerRefusal.{LayerRefusal}
-use Rattle.write_commands.specs.declared.refusal.LayerRefusal.TheVariants.{Graph, Stream, Commits}
+use Rattle.layer_refusals.specs.declared.refusal.LayerRefusal.{LayerRefusal}
+use Rattle.layer_refusals.specs.declared.refusal.LayerRefusal.TheVariants.{Graph, Stream, Commits}
 
 -- the kind of the ids of the graph below, if there is one
 abbrev pub kind_below : List Layer → Option Kind
@@ -55,13 +53,3 @@ MayWriteLayer path IsLeftAlone MayOpenAt before after (Err (Graph refusal)) =
     IsRefusedBelow path MayOpenAt refusal × Keeps before after
 MayWriteLayer path IsLeftAlone MayOpenAt before after answer =
     (layers : List Layer) × IsBelow path IsLeftAlone MayOpenAt layers × MayComeOf layers before after answer
-
--- the bytes of the layer, or the line of a refusal
-abbrev pub written_text : Result (List ℕ) LayerRefusal → List ℕ
-written_text (Ok bytes) = bytes
-written_text (Err refusal) = layer_refusal_text refusal ⧺ newline
-
--- 0 where a layer was written, and else 1
-abbrev pub written_status : Result (List ℕ) LayerRefusal → ℕ
-written_status (Ok bytes) = 0
-written_status (Err refusal) = 1

@@ -6,13 +6,10 @@
 #![tactic(auto)]
 
 mod commit;
-mod error;
 mod line;
 mod read;
-mod refusal;
 mod run;
 
-pub use error::{CommitsError, NewEntryError};
+pub use layer_refusals::{CommitsError, LayerRefusal, NewEntryError};
 pub use read::read_commits;
-pub use refusal::LayerRefusal;
 pub use run::run_write;

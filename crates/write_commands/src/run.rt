@@ -5,10 +5,9 @@ ghost use Rattle.graph_commands.specs.OpenerAnswer.{MayOpen};
 ghost use Rattle.graph_commands.specs.WrittenAnswer.{WritesAnswer};
 ghost use Rattle.graph_writer.specs.NewCommits.{layers_of_below};
 ghost use Rattle.write_commands.specs.WrittenCommits.{MayComeOf, MayWriteLayer, kind_below};
-ghost use Rattle.write_commands.specs.WrittenCommits.{written_text, written_status};
+ghost use Rattle.layer_refusals.specs.LayerAnswer.{written_text, written_status};
 
 use crate::read::read_commits;
-use crate::refusal::LayerRefusal;
 use gix_hash_core::Kind;
 use graph_commands::line::{WriteFailed, write_line};
 use graph_commands::status::Status;
@@ -16,6 +15,7 @@ use graph_folder::folder::Folder;
 use graph_history::Checked;
 use graph_writer::write_layer;
 use history_commands::opening::open_checked;
+use layer_refusals::LayerRefusal;
 use std::alloc::Global;
 use std::io::{Read, Write};
 

@@ -2,8 +2,8 @@ use Rattle.std.proofs.Common.{◌≡◌, length}
 use Rattle.graph_levels.specs.Searching.{IsUnderWay, HasFittingInput, ContinuesSearch}
 use Rattle.graph_levels.proofs.search.Search.visit_each.Given as goal
 
-abbrev pub invariant-loop-number : goal.invariant-loop-number
-invariant-loop-number l = record {
+abbrev pub invariant-loop-block : goal.invariant-loop-block
+invariant-loop-block l = record {
   going : IsUnderWay l.self;
   input : HasFittingInput l.self;
   on : ContinuesSearch l.fn.self l.self;

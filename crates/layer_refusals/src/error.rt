@@ -45,7 +45,7 @@ pub enum CommitsError {
 
 impl From<AllocError> for CommitsError {
     ghost use Rattle.std.specs.Prelude.{◌≡◌};
-    ghost use Rattle.write_commands.specs.declared.error.CommitsError.TheVariants.{OutOfMemory};
+    ghost use Rattle.layer_refusals.specs.declared.error.CommitsError.TheVariants.{OutOfMemory};
 
     ghost from_gives = { λ _ error. error ≡ OutOfMemory };
 

@@ -8,12 +8,12 @@ use Rattle.graph_writer.specs.declared.commit.WriteError.{WriteError}
 use Rattle.graph_writer.specs.declared.commit.WriteError.TheVariants as error
 use Rattle.history_commands.specs.Check.{check_refusal_text}
 use Rattle.history_commands.specs.declared.check.CheckRefusal.TheVariants as check
-use Rattle.write_commands.specs.declared.error.CommitsError.{CommitsError}
-use Rattle.write_commands.specs.declared.error.CommitsError.TheVariants.{Entry, Device, OutOfMemory}
-use Rattle.write_commands.specs.declared.error.NewEntryError.{NewEntryError}
-use Rattle.write_commands.specs.declared.error.NewEntryError.TheVariants as entry
-use Rattle.write_commands.specs.declared.refusal.LayerRefusal.{LayerRefusal}
-use Rattle.write_commands.specs.declared.refusal.LayerRefusal.TheVariants.{Graph, Stream, Commits}
+use Rattle.layer_refusals.specs.declared.error.CommitsError.{CommitsError}
+use Rattle.layer_refusals.specs.declared.error.CommitsError.TheVariants.{Entry, Device, OutOfMemory}
+use Rattle.layer_refusals.specs.declared.error.NewEntryError.{NewEntryError}
+use Rattle.layer_refusals.specs.declared.error.NewEntryError.TheVariants as entry
+use Rattle.layer_refusals.specs.declared.refusal.LayerRefusal.{LayerRefusal}
+use Rattle.layer_refusals.specs.declared.refusal.LayerRefusal.TheVariants.{Graph, Stream, Commits}
 
 -- the number of the reason for which an entry of a stream is refused
 abbrev pub new_entry_number : NewEntryError → ℕ

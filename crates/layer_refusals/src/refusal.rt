@@ -1,7 +1,7 @@
 //! The line that says why `write` was refused.
 
 ghost use Rattle.std.specs.Prelude.{◌≡◌, Some};
-ghost use Rattle.write_commands.specs.WriteRefusalLines.{new_entry_number};
+ghost use Rattle.layer_refusals.specs.WriteRefusalLines.{new_entry_number};
 
 use crate::error::{CommitsError, NewEntryError};
 use graph_commands::refusal::Refusal;
@@ -22,7 +22,7 @@ pub enum LayerRefusal {
 }
 
 impl From<Refusal> for LayerRefusal {
-    ghost use Rattle.write_commands.specs.declared.refusal.LayerRefusal.TheVariants.{Graph};
+    ghost use Rattle.layer_refusals.specs.declared.refusal.LayerRefusal.TheVariants.{Graph};
 
     ghost from_gives = { λ refusal found. found ≡ Graph refusal };
 
@@ -32,7 +32,7 @@ impl From<Refusal> for LayerRefusal {
 }
 
 impl From<CommitsError> for LayerRefusal {
-    ghost use Rattle.write_commands.specs.declared.refusal.LayerRefusal.TheVariants.{Stream};
+    ghost use Rattle.layer_refusals.specs.declared.refusal.LayerRefusal.TheVariants.{Stream};
 
     ghost from_gives = { λ error found. found ≡ Stream error };
 
@@ -42,7 +42,7 @@ impl From<CommitsError> for LayerRefusal {
 }
 
 impl From<WriteError> for LayerRefusal {
-    ghost use Rattle.write_commands.specs.declared.refusal.LayerRefusal.TheVariants.{Commits};
+    ghost use Rattle.layer_refusals.specs.declared.refusal.LayerRefusal.TheVariants.{Commits};
 
     ghost from_gives = { λ error found. found ≡ Commits error };
 
@@ -52,7 +52,7 @@ impl From<WriteError> for LayerRefusal {
 }
 
 impl fmt::Display for LayerRefusal {
-    ghost use Rattle.write_commands.specs.WriteRefusalLines.{layer_refusal_text};
+    ghost use Rattle.layer_refusals.specs.WriteRefusalLines.{layer_refusal_text};
 
     ghost output = { λ refusal. Some (layer_refusal_text refusal) };
 
@@ -70,7 +70,7 @@ impl fmt::Display for LayerRefusal {
 struct StreamText(CommitsError);
 
 impl fmt::Display for StreamText {
-    ghost use Rattle.write_commands.specs.WriteRefusalLines.{commits_refusal_text};
+    ghost use Rattle.layer_refusals.specs.WriteRefusalLines.{commits_refusal_text};
 
     ghost output = { λ text. Some (commits_refusal_text text.0) };
 
@@ -104,7 +104,7 @@ fn entry_number(error: NewEntryError) -> u8
 struct CommitsText(WriteError);
 
 impl fmt::Display for CommitsText {
-    ghost use Rattle.write_commands.specs.WriteRefusalLines.{write_refusal_text};
+    ghost use Rattle.layer_refusals.specs.WriteRefusalLines.{write_refusal_text};
 
     ghost output = { λ text. Some (write_refusal_text text.0) };
 

@@ -1,0 +1,2 @@
+pub mod WriteRefusalLines
+pub mod LayerAnswer
