@@ -84,7 +84,7 @@ const TEXTS: Texts<'static> = Texts {
 fn main(rt: HostRuntime) -> ExitCode {
     let words = words(&rt).unwrap_or_else(|| Vec::new(rt.alloc()));
     let command = Command::from_words(&words, TEXTS);
-    let (mut input, mut disk) = (rt.reader(), Disk::new(&rt));
+    let (mut input, mut disk) = (rt.stdin(), Disk::new(&rt));
     let (mut output, mut errors) = (io::writer(&rt), rt.stderr());
     let status = respond(
         rt.alloc(),
