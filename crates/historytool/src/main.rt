@@ -17,15 +17,15 @@ use std::{env, io};
 
 const USAGE: &str = "usage: historytool is-ancestor [--unchecked] PATH HEX HEX \
     | walk [--unchecked] PATH HEX HEX | merge-base [--unchecked] PATH HEX HEX.. \
-    | merge-base-ids [--unchecked] PATH HEX HEX.. | check PATH | show PATH | ask PATH \
-    | ids PATH [FROM TO] | objects PATH [FROM TO] | write [PATH] | merge PATH \
-    | --help | --version";
+    | merge-base-ids [--unchecked] PATH HEX HEX.. | check PATH | show PATH \
+    | ask [--unchecked] PATH | ids PATH [FROM TO] | objects PATH [FROM TO] | write [PATH] \
+    | merge PATH | --help | --version";
 
 const HELP: &str = "usage: historytool is-ancestor [--unchecked] PATH HEX HEX \
     | walk [--unchecked] PATH HEX HEX | merge-base [--unchecked] PATH HEX HEX.. \
-    | merge-base-ids [--unchecked] PATH HEX HEX.. | check PATH | show PATH | ask PATH \
-    | ids PATH [FROM TO] | objects PATH [FROM TO] | write [PATH] | merge PATH \
-    | --help | --version\n\
+    | merge-base-ids [--unchecked] PATH HEX HEX.. | check PATH | show PATH \
+    | ask [--unchecked] PATH | ids PATH [FROM TO] | objects PATH [FROM TO] | write [PATH] \
+    | merge PATH | --help | --version\n\
     \n\
     PATH is a commit-graph file, a folder with a chain of them, or an info folder.\n\
     HEX is the id of a commit in hexadecimal.\n\
