@@ -40,8 +40,8 @@ NAME is a file of the folder `checks`, such as show_checks; without one, all are
   and far apart.
 - each byte of three small files, changed to some other values, or with `every-value` to all of them, beside
   a slow reading of the file; two million runs then, which take more than half an hour.
-- `ask`: each question beside the command of its name, at once, over two pipes, over a terminal and among noise; and graphs
-  that take the place of one another, right and damaged ones, beside new runs, and while Git writes them.
+- `ask`, also with `--unchecked`: each question beside the command of its name, at once, over two pipes, over a terminal and
+  among noise; and graphs that take the place of one another, right and damaged ones, beside new runs, and while Git writes them.
 - `git cgraph`: each word, installed, in repositories of every kind, beside Git's own answers, and what is said
   of damaged ones: of each refusal, and of what happens to files. By the commands that it gives all is right again.
 - `git cgraph` beside a process that writes the commit-graph anew all the time: no run refuses it. scripts/races makes more

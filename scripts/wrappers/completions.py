@@ -29,6 +29,7 @@ ASKED = {
     "git cgraph is-ancestor --unch": {"--unchecked"},
     "git cgraph walk --unch": {"--unchecked"},
     "git cgraph merge-base --unch": {"--unchecked"},
+    "git cgraph ask --unch": {"--unchecked"},
     "git cgraph find --unch": set(),
     "git cgraph w": {"walk", "write"},
     "git cgraph write --sp": {"--split"},

@@ -202,6 +202,7 @@ def check_completion(results, clone, repository):
         ("is-ancestor", "--u"): {"--unchecked"},
         ("walk", "--u"): {"--unchecked"},
         ("merge-base", "--u"): {"--unchecked"},
+        ("ask", "--u"): {"--unchecked"},
         ("find", "--u"): set(),
         ("find", "-q", "anno"): {"annotated"},
         ("--object-dir", "su"): {"sub"},

@@ -235,8 +235,9 @@ def check_statuses(results, clone, repository):
     clone.put_program("historytool", "echo \"$1 $2 $3\"\n")
     for command in commands():
         if command.reads == "trusted" and command.by_git:
-            words = [command.word, "HEAD", "--unchecked", *WORDS[command.word][1][1:]]
-            out = "%s --unchecked info/commit-graph\n" % ASKED.get(command.word, command.word)
+            revisions, path = WORDS[command.word][1] if command.word in WORDS else [], "info/commit-graph"
+            words = [command.word, *revisions[:1], "--unchecked", *revisions[1:]]
+            out = "%s --unchecked %s\n" % (ASKED.get(command.word, command.word), path if revisions else "info")
             results.check("git cgraph " + " ".join(words), exactly(ask(clone, words, repository), 0, out))
     clone.put_program("historytool", "echo 'usage: other words' >&2\nexit 2\n")
     answer = ask(clone, ["check"], repository)

@@ -26,7 +26,7 @@ const COMPLAINTS: Complaints<'static> = Complaints {
 fn main(rt: HostRuntime) -> ExitCode {
     let words = words(&rt).unwrap_or_else(|| Vec::new(rt.alloc()));
     let command = Command::from_words(&words);
-    let (mut input, mut disk, mut output) = (rt.reader(), Disk::new(&rt), io::writer(&rt));
+    let (mut input, mut disk, mut output) = (rt.stdin(), Disk::new(&rt), io::writer(&rt));
     let status = respond(
         rt.alloc(),
         command,

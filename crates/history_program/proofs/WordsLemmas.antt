@@ -25,7 +25,8 @@ named_alone help version name (command.MergeBaseIds path first others) is = let 
 named_alone help version name (command.MergeBaseIdsUnchecked group) is = let e = is.0 in cc
 named_alone help version name (command.Check path) is = let e = is in cc
 named_alone help version name (command.Show path) is = let e = is in cc
-named_alone help version name (command.Ask path) is = let e = is in cc
+named_alone help version name (command.Ask path) is = let e = is.0 in cc
+named_alone help version name (command.AskUnchecked path) is = let e = is in cc
 named_alone help version name (command.Ids path None) is = let e = is in cc
 named_alone help version name (command.Ids path (Some range)) is = let e = is.2 in cc
 named_alone help version name (command.Objects path None) is = let e = is in cc
@@ -36,7 +37,8 @@ named_alone help version name (command.Merge path) is = let e = is in cc
 
 -- a name that asks with a path
 pub named_with_path : (help version name path : List ℕ) (asked : Command) → AskAfterName help version (name ∷ path ∷ []) asked
-    → (name ≡ codes "check") ⊎ (name ≡ codes "show") ⊎ (name ≡ codes "ask") ⊎ (name ≡ codes "ids") ⊎ (name ≡ codes "objects")
+    → (name ≡ codes "check") ⊎ (name ≡ codes "show") ⊎ ((name ≡ codes "ask") × (path ≢ codes "--unchecked"))
+    ⊎ (name ≡ codes "ids") ⊎ (name ≡ codes "objects")
     ⊎ (name ≡ codes "write") ⊎ (name ≡ codes "merge")
 named_with_path help version name path (command.Help text) is = elim is.0 [ inl e ↦ cc | inr e ↦ cc ]
 named_with_path help version name path (command.Version text) is = let e = is.0 in cc
@@ -50,7 +52,10 @@ named_with_path help version name path (command.MergeBaseIds at first others) is
 named_with_path help version name path (command.MergeBaseIdsUnchecked group) is = let e = is.0 in cc
 named_with_path help version name path (command.Check at) is = let e = is in inl cc
 named_with_path help version name path (command.Show at) is = let e = is in inr (inl cc)
-named_with_path help version name path (command.Ask at) is = let e = is in inr (inr (inl cc))
+named_with_path help version name path (command.Ask at) is =
+    let e = is.0 in let same : at.now ≡ path = cc in
+    inr (inr (inl (cc, subst (λ (p : List ℕ). p ≡ codes "--unchecked" → ⊥) same is.1)))
+named_with_path help version name path (command.AskUnchecked at) is = let e = is in cc
 named_with_path help version name path (command.Ids at None) is = let e = is in inr (inr (inr (inl cc)))
 named_with_path help version name path (command.Ids at (Some range)) is = let e = is.2 in cc
 named_with_path help version name path (command.Objects at None) is = let e = is in inr (inr (inr (inr (inl cc))))
@@ -98,6 +103,11 @@ NamedWithIds name path first others =
     ⊎ (((name ≡ codes "ids") ⊎ (name ≡ codes "objects")) × (length others ≡ 1)
     × ((to : List ℕ) × (range : PositionRange) × (map string_bytes others ≡ to ∷ []) × SpellsRange first to range))
     ⊎ (IsOfMany name × AskOfMany name (name ∷ path ∷ first ∷ map string_bytes others))
+    ⊎ ((name ≡ codes "ask") × (path ≡ codes "--unchecked") × (others ≡ []))
+
+no_others : (others : List (String Global)) → map string_bytes others ≡ [] → others ≡ []
+no_others [] none = refl
+no_others (other ∷ others) none = cc
 
 pub named_with_ids : (help version name path first : List ℕ) (others : List (String Global)) (asked : Command)
     → AskAfterName help version (name ∷ path ∷ first ∷ map string_bytes others) asked → NamedWithIds name path first others
@@ -115,19 +125,21 @@ named_with_ids help version name path first others (command.WalkUnchecked pair) 
     let same : name ≡ codes "walk" = cc in inl (inr same, (true, pair.path.now, pair.first.now, pair.second.now, cc))
 named_with_ids help version name path first others (command.MergeBase at one more) is =
     let e = is.0.0 in let same : name ≡ codes "merge-base" = cc in
-    inr (inr (inl same, (false, at.now, one.now, more.now, (cc, is.0.1), is.1)))
+    inr (inr (inl (inl same, (false, at.now, one.now, more.now, (cc, is.0.1), is.1))))
 named_with_ids help version name path first others (command.MergeBaseUnchecked group) is =
     let e = is.0 in let same : name ≡ codes "merge-base" = cc in
-    inr (inr (inl same, (true, group.path.now, group.first.now, group.others.now, cc, is.1)))
+    inr (inr (inl (inl same, (true, group.path.now, group.first.now, group.others.now, cc, is.1))))
 named_with_ids help version name path first others (command.MergeBaseIds at one more) is =
     let e = is.0.0 in let same : name ≡ codes "merge-base-ids" = cc in
-    inr (inr (inr same, (false, at.now, one.now, more.now, (cc, is.0.1), is.1)))
+    inr (inr (inl (inr same, (false, at.now, one.now, more.now, (cc, is.0.1), is.1))))
 named_with_ids help version name path first others (command.MergeBaseIdsUnchecked group) is =
     let e = is.0 in let same : name ≡ codes "merge-base-ids" = cc in
-    inr (inr (inr same, (true, group.path.now, group.first.now, group.others.now, cc, is.1)))
+    inr (inr (inl (inr same, (true, group.path.now, group.first.now, group.others.now, cc, is.1))))
 named_with_ids help version name path first others (command.Check at) is = let e = is in cc
 named_with_ids help version name path first others (command.Show at) is = let e = is in cc
-named_with_ids help version name path first others (command.Ask at) is = let e = is in cc
+named_with_ids help version name path first others (command.Ask at) is = let e = is.0 in cc
+named_with_ids help version name path first others (command.AskUnchecked at) is =
+    let none : map string_bytes others ≡ [] = cc in inr (inr (inr (cc, cc, no_others others none)))
 named_with_ids help version name path first others (command.Ids at None) is = let e = is in cc
 named_with_ids help version name path first others (command.Ids at (Some range)) is =
     let e = is.2 in let rest : map string_bytes others ≡ is.1 ∷ [] = cc in
@@ -167,10 +179,12 @@ of_two name path first others (inr (inl (inl ids, one, to))) is =
     absurd (no_name name (codes "ids") is ids (λ e. omega (arith, e)) (λ e. omega (arith, e)))
 of_two name path first others (inr (inl (inr objects, one, to))) is =
     absurd (no_name name (codes "objects") is objects (λ e. omega (arith, e)) (λ e. omega (arith, e)))
-of_two name path first others (inr (inr (inl base, some))) is =
+of_two name path first others (inr (inr (inl (inl base, some)))) is =
     absurd (no_name name (codes "merge-base") is base (λ e. omega (arith, e)) (λ e. omega (arith, e)))
-of_two name path first others (inr (inr (inr ids, some))) is =
+of_two name path first others (inr (inr (inl (inr ids, some)))) is =
     absurd (no_name name (codes "merge-base-ids") is ids (λ e. omega (arith, e)) (λ e. omega (arith, e)))
+of_two name path first others (inr (inr (inr (ask, option, none)))) is =
+    absurd (no_name name (codes "ask") is ask (λ e. omega (arith, e)) (λ e. omega (arith, e)))
 
 -- the same of a question about one id and some others
 no_name_of_many : (name other : List ℕ) → IsOfMany name → name ≡ other → (length other ≡ 10 → ⊥) → (length other ≡ 14 → ⊥) → ⊥
@@ -187,7 +201,9 @@ of_many name path first others (inr (inl (inl ids, one, to))) is =
     absurd (no_name_of_many name (codes "ids") is ids (λ e. omega (arith, e)) (λ e. omega (arith, e)))
 of_many name path first others (inr (inl (inr objects, one, to))) is =
     absurd (no_name_of_many name (codes "objects") is objects (λ e. omega (arith, e)) (λ e. omega (arith, e)))
-of_many name path first others (inr (inr many)) is = many.1
+of_many name path first others (inr (inr (inl many))) is = many.1
+of_many name path first others (inr (inr (inr (ask, option, none)))) is =
+    absurd (no_name_of_many name (codes "ask") is ask (λ e. omega (arith, e)) (λ e. omega (arith, e)))
 
 no_two : (name path first at one other : List ℕ) (unchecked : Bool) → path ≡ codes "--unchecked"
     → AreQuestionWords name unchecked at (one ∷ other ∷ []) (name ∷ path ∷ first ∷ []) → ⊥
@@ -269,7 +285,8 @@ none_asked help version (command.MergeBaseIds path first others) is = let e = is
 none_asked help version (command.MergeBaseIdsUnchecked group) is = let e = is.0 in cc
 none_asked help version (command.Check path) is = let e = is in cc
 none_asked help version (command.Show path) is = let e = is in cc
-none_asked help version (command.Ask path) is = let e = is in cc
+none_asked help version (command.Ask path) is = let e = is.0 in cc
+none_asked help version (command.AskUnchecked path) is = let e = is in cc
 none_asked help version (command.Ids path None) is = let e = is in cc
 none_asked help version (command.Ids path (Some range)) is = let e = is.2 in cc
 none_asked help version (command.Objects path None) is = let e = is in cc

@@ -24,10 +24,11 @@ use Rattle.history_commands.specs.Walk.{IsWalkOfIds, walk_text, walk_status}
 use Rattle.unchecked_commands.specs.UncheckedAncestor.{MayTellUnchecked}
 use Rattle.unchecked_commands.specs.UncheckedBases.{MayCompareUnchecked, told_bases_text, told_bases_status, told_ids_text}
 use Rattle.unchecked_commands.specs.UncheckedWalk.{MayWalkUnchecked}
+use Rattle.unchecked_questions.specs.Trusting.{MayAskTrusted, trusted_text, trusted_status}
 use Rattle.history_program.specs.declared.command.Command.TheVariants as command
 
--- these are the words of a question about ids in the graph at the path, after the program's own name: the word `--unchecked`
--- before the path says that the graph is not to be checked, and is no path itself
+-- these are the words of a command about the graph at the path, and ids if it takes some, after the program's own name: the word
+-- `--unchecked` before the path says that the graph is not to be checked, and is no path itself
 abbrev pub AreQuestionWords : List ℕ → Bool → List ℕ → List (List ℕ) → List (List ℕ) → Type 0
 AreQuestionWords name false path ids words = (words ≡ name ∷ path ∷ ids) × (path ≢ codes "--unchecked")
 AreQuestionWords name true path ids words = words ≡ name ∷ codes "--unchecked" ∷ path ∷ ids
@@ -57,7 +58,8 @@ AskAfterName help version words (command.MergeBaseIdsUnchecked group) =
     × (group.others.now ≢ [])
 AskAfterName help version words (command.Check path) = words ≡ codes "check" ∷ path.now ∷ []
 AskAfterName help version words (command.Show path) = words ≡ codes "show" ∷ path.now ∷ []
-AskAfterName help version words (command.Ask path) = words ≡ codes "ask" ∷ path.now ∷ []
+AskAfterName help version words (command.Ask path) = AreQuestionWords (codes "ask") false path.now [] words
+AskAfterName help version words (command.AskUnchecked path) = AreQuestionWords (codes "ask") true path.now [] words
 AskAfterName help version words (command.Ids path None) = words ≡ codes "ids" ∷ path.now ∷ []
 AskAfterName help version words (command.Ids path (Some range)) =
     (from to : List ℕ) × (words ≡ codes "ids" ∷ path.now ∷ from ∷ to ∷ []) × SpellsRange from to range
@@ -121,6 +123,8 @@ HistorytoolMayWrite (command.Show path) input unread IsLeftAlone MayOpenAt befor
     WritesAnswer show_text show_status (MayShow (MayOpenAt path.now before after)) old new status
 HistorytoolMayWrite (command.Ask path) input unread IsLeftAlone MayOpenAt before after old new status =
     WritesAnswer ask_text ask_status (MayAsk (MayOpenAt path.now) before after input unread) old new status
+HistorytoolMayWrite (command.AskUnchecked path) input unread IsLeftAlone MayOpenAt before after old new status =
+    WritesAnswer trusted_text trusted_status (MayAskTrusted (MayOpenAt path.now) before after input unread) old new status
 HistorytoolMayWrite (command.Ids path range) input unread IsLeftAlone MayOpenAt before after old new status =
     WritesAnswer ids_text ids_status (MayListIds range (MayOpenAt path.now before after)) old new status
 HistorytoolMayWrite (command.Objects path range) input unread IsLeftAlone MayOpenAt before after old new status =

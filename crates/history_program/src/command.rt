@@ -33,6 +33,7 @@ use std::io::{Read, Write};
 use unchecked_commands::ancestor::run_is_ancestor_unchecked;
 use unchecked_commands::bases::{run_merge_base_ids_unchecked, run_merge_base_unchecked};
 use unchecked_commands::walk::run_walk_unchecked;
+use unchecked_questions::trusting::run_ask_unchecked;
 use write_commands::run_write;
 
 /// What `historytool` is asked to do.
@@ -116,6 +117,11 @@ pub enum Command<'a> {
     },
     /// The questions that the input has are to be answered from the graph.
     Ask {
+        /// The path of the graph.
+        path: &'a str,
+    },
+    /// The same as by `Ask` is to be answered from a graph that is trusted.
+    AskUnchecked {
         /// The path of the graph.
         path: &'a str,
     },
@@ -263,7 +269,7 @@ impl<'a> Command<'a> {
         match name {
             "check" => Some(Command::Check { path }),
             "show" => Some(Command::Show { path }),
-            "ask" => Some(Command::Ask { path }),
+            "ask" => Command::ask(path),
             "ids" => Some(Command::Ids { path, range: None }),
             "objects" => Some(Command::Objects { path, range: None }),
             "write" => Some(Command::Write { path: Some(path) }),
@@ -288,6 +294,7 @@ impl<'a> Command<'a> {
             (name.now ∷ path.now ∷ first.now ∷ map string_bytes others.now) command }
     {
         match name {
+            "ask" => Command::ask_unchecked(path, first, others),
             "is-ancestor" => Command::is_ancestor(path, first, others),
             "walk" => Command::walk(path, first, others),
             "ids" => match others {
@@ -308,6 +315,33 @@ impl<'a> Command<'a> {
 }
 
 impl<'a> Command<'a> {
+    /// `ask`, if the word after it is no option.
+    fn ask(path: &'a str) -> Option<Command<'a>>
+        ensures asked { (help version : List ℕ)
+            → IfSome result (AskAfterName help version (codes "ask" ∷ path.now ∷ [])) }
+        ensures other { IsNone result → path.now ≡ codes "--unchecked" }
+    {
+        match path {
+            "--unchecked" => None,
+            _ => Some(Command::Ask { path }),
+        }
+    }
+
+    /// `ask --unchecked`, if the word after that is the last.
+    fn ask_unchecked(option: &str, path: &'a str, others: &'a [String]) -> Option<Command<'a>>
+        ensures asked { (help version : List ℕ) → IfSome result (AskAfterName help version
+            (codes "ask" ∷ option.now ∷ path.now ∷ map string_bytes others.now)) }
+        ensures other { IsNone result → ¬ ((option.now ≡ codes "--unchecked") × (others.now ≡ [])) }
+    {
+        match option {
+            "--unchecked" => match others {
+                [] => Some(Command::AskUnchecked { path }),
+                _ => None,
+            },
+            _ => None,
+        }
+    }
+
     /// `is-ancestor`, if there is one other id.
     fn is_ancestor(path: &'a str, first: &'a str, others: &'a [String]) -> Option<Command<'a>>
         ensures asked { (help version : List ℕ) → IfSome result (AskAfterName help version
@@ -476,8 +510,7 @@ impl Run for Command<'_> {
         output: &mut W,
     ) -> Result<u8, WriteFailed> {
         match self {
-            Command::Help { text } => tell(output, text),
-            Command::Version { text } => tell(output, text),
+            Command::Help { text } | Command::Version { text } => tell(output, text),
             Command::IsAncestor {
                 path,
                 first,
@@ -505,6 +538,7 @@ impl Run for Command<'_> {
             Command::Check { path } => run_check(alloc, folder, path, output),
             Command::Show { path } => run_show(alloc, folder, path, output),
             Command::Ask { path } => Ok(run_ask(alloc, input, folder, path, output)?.status),
+            Command::AskUnchecked { path } => run_ask_unchecked(alloc, input, folder, path, output),
             Command::Ids { path, range } => run_ids(alloc, folder, path, range, output),
             Command::Objects { path, range } => {
                 run_objects(alloc, input, folder, path, range, output)

@@ -17,15 +17,15 @@ use std::{env, io};
 
 const USAGE: &str = "usage: historytool is-ancestor [--unchecked] PATH HEX HEX \
     | walk [--unchecked] PATH HEX HEX | merge-base [--unchecked] PATH HEX HEX.. \
-    | merge-base-ids [--unchecked] PATH HEX HEX.. | check PATH | show PATH | ask PATH \
-    | ids PATH [FROM TO] | objects PATH [FROM TO] | write [PATH] | merge PATH \
-    | --help | --version";
+    | merge-base-ids [--unchecked] PATH HEX HEX.. | check PATH | show PATH \
+    | ask [--unchecked] PATH | ids PATH [FROM TO] | objects PATH [FROM TO] | write [PATH] \
+    | merge PATH | --help | --version";
 
 const HELP: &str = "usage: historytool is-ancestor [--unchecked] PATH HEX HEX \
     | walk [--unchecked] PATH HEX HEX | merge-base [--unchecked] PATH HEX HEX.. \
-    | merge-base-ids [--unchecked] PATH HEX HEX.. | check PATH | show PATH | ask PATH \
-    | ids PATH [FROM TO] | objects PATH [FROM TO] | write [PATH] | merge PATH \
-    | --help | --version\n\
+    | merge-base-ids [--unchecked] PATH HEX HEX.. | check PATH | show PATH \
+    | ask [--unchecked] PATH | ids PATH [FROM TO] | objects PATH [FROM TO] | write [PATH] \
+    | merge PATH | --help | --version\n\
     \n\
     PATH is a commit-graph file, a folder with a chain of them, or an info folder.\n\
     HEX is the id of a commit in hexadecimal.\n\
@@ -84,7 +84,7 @@ const TEXTS: Texts<'static> = Texts {
 fn main(rt: HostRuntime) -> ExitCode {
     let words = words(&rt).unwrap_or_else(|| Vec::new(rt.alloc()));
     let command = Command::from_words(&words, TEXTS);
-    let (mut input, mut disk) = (rt.reader(), Disk::new(&rt));
+    let (mut input, mut disk) = (rt.stdin(), Disk::new(&rt));
     let (mut output, mut errors) = (io::writer(&rt), rt.stderr());
     let status = respond(
         rt.alloc(),

@@ -11,3 +11,4 @@ mod noise;
 mod reloading;
 mod replacing;
 mod rows;
+mod trusting;

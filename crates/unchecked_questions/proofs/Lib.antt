@@ -1,2 +1,3 @@
 pub mod PartReplyLemmas
 pub mod TrustingLemmas
+pub mod KeptLemmas

@@ -9,17 +9,19 @@ use Rattle.std.proofs.lemmas.List.{map-append}
 use Rattle.std.proofs.lemmas.List.Concat.{flat_map-append}
 use Rattle.graph_folder.specs.declared.folder.ReadError.{ReadError}
 use Rattle.graph_folder.specs.declared.folder.ReadError.TheVariants.{NotOpened}
+use Rattle.graph_format.specs.Layer.{Layer}
+use Rattle.graph_layer.specs.declared.opening.error.OpenError.{OpenError}
 use Rattle.graph_commands.specs.Block.{with_block}
 use Rattle.graph_commands.specs.Text.{newline}
 use Rattle.graph_commands.specs.WrittenAnswer.{WritesAnswer, WritesRefusal}
 use Rattle.graph_commands.specs.declared.refusal.Refusal.{Refusal}
-use Rattle.question_answers.specs.Taken.{Opener, end_status, end_text, opened_line}
+use Rattle.question_answers.specs.Taken.{MayTake, Opener, end_status, end_text, opened_line}
 use Rattle.question_lines.specs.InputLines.{HasNoLine, IsKeptAs, TakesLine}
 use Rattle.unchecked_questions.specs.PartReplies.{AddsTold}
 use Rattle.question_lines.specs.ReadLines.{AreLinesOf, HasRead}
 use Rattle.question_lines.specs.Questions.{Asks}
 use Rattle.unchecked_questions.specs.Trusting.{AreTold, MayAskTrusted, MayCount, MayTellAsked, MayTellCount, MayTellTrusted, Told}
-use Rattle.unchecked_questions.specs.Trusting.{TrustedSession, told_text, trusted_status, trusted_text}
+use Rattle.unchecked_questions.specs.Trusting.{TellsOfTaken, TrustedSession, told_text, trusted_status, trusted_text}
 use Rattle.question_lines.specs.declared.question.Question.{Question}
 use Rattle.question_lines.specs.declared.question.Question.TheVariants as question
 use Rattle.question_lines.proofs.ReadLemmas.{lines_ended, lines_failed, reads_line, reads_more, reads_none}
@@ -121,6 +123,14 @@ pub adds_anew : {T E : Type 0} (result : Result T E) (MayOpen : Opener) (before 
     → OnOk result (AddsTold (MayTellTrusted MayOpen before after line) old new)
 adds_anew (Ok value) MayOpen before after line old new asks adds = (adds.0, inr (inr (inl (asks, adds.1))), adds.2)
 adds_anew (Err error) MayOpen before after line old new asks adds = tt
+
+-- what is told of a right graph that was taken may be told for the question
+pub adds_taken : {T E : Type 0} (result : Result T E) (MayOpen : Result (List Layer) OpenError → Type 0) (before after : ℕ)
+    (asked : Question) (layers : List Layer) (old new : Option (List ℕ)) → MayTake MayOpen (Ok layers)
+    → OnOk result (AddsTold (TellsOfTaken (Ok layers) asked) old new)
+    → OnOk result (AddsTold (MayTellAsked MayOpen before after asked) old new)
+adds_taken (Ok value) MayOpen before after asked layers old new taken adds = (adds.0, inr (Ok layers, taken, adds.1), adds.2)
+adds_taken (Err error) MayOpen before after asked layers old new taken adds = tt
 
 -- a line of its own was written, if it was
 pub adds_line : {T E : Type 0} (result : Result T E) (MayTell : List ℕ → Type 0) (told : List ℕ) (old new : Option (List ℕ))

@@ -1,2 +1,3 @@
 pub mod Trusting
 pub mod PartReplies
+pub mod KeptGraphs

@@ -1,14 +1,12 @@
 -- For private contracts: what is read by parts for a question, and its lines.
-use Rattle.std.specs.Prelude.{ℕ, List, Option, Result, Ok, Vec, option_map}
+use Rattle.std.specs.Prelude.{ℕ, List, Option, Ok, Vec, option_map}
 use Rattle.std.specs.Global.{Global}
 use Rattle.std.specs.Io.KnownBytes.{Appends}
 use Rattle.graph_format.specs.declared.Position.{Position}
-use Rattle.graph_layer.specs.OpenAnswer.{result_map}
 use Rattle.graph_parts.specs.declared.layer.StoredCommit.{StoredCommit}
 use Rattle.graph_commands.specs.declared.report.Found.{Found}
 use Rattle.graph_commands.specs.Find.{find_text}
 use Rattle.graph_commands.specs.Text.{◌⧺◌, newline}
-use Rattle.graph_commands.specs.declared.refusal.Refusal.{Refusal}
 use Rattle.history_commands.specs.IsAncestor.{is_ancestor_text}
 use Rattle.history_commands.specs.Walk.{walk_text}
 use Rattle.unchecked_commands.specs.UncheckedAncestor.{answer_of}
@@ -17,7 +15,6 @@ use Rattle.unchecked_commands.specs.UncheckedWalk.{listed_walk}
 use Rattle.unchecked_questions.specs.Trusting.{parents_reply}
 use Rattle.unchecked_questions.specs.declared.by_parts.Reply.{Reply}
 use Rattle.unchecked_questions.specs.declared.by_parts.Reply.TheVariants as reply
-use Rattle.unchecked_questions.specs.declared.trusting.Opened.{Opened}
 
 -- what is reported of a commit
 abbrev pub reported : Position × StoredCommit → Found
@@ -34,7 +31,3 @@ reply_text (reply.Parents found) = parents_reply (Ok (option_map (λ (ids : Vec 
 -- some text that may be told is added to what a writer holds, and an empty line
 abbrev pub AddsTold : (List ℕ → Type 0) → Option (List ℕ) → Option (List ℕ) → Type 0
 AddsTold MayTell old new = (told : List ℕ) × MayTell told × Appends old new (told ⧺ newline)
-
--- how many commits the graph has that was opened
-abbrev pub opened_count : Result Opened Refusal → Result ℕ Refusal
-opened_count opened = result_map (λ (o : Opened). o.commits) opened

@@ -1,17 +1,22 @@
 //! The command `ask --unchecked`: many questions about the graph at a path, which is trusted.
 
-ghost use Rattle.std.specs.Prelude.{◌≡◌, ◌≢◌, [], List, ℕ, IfOk, IfSome, OnOk, map};
+ghost use Rattle.std.specs.Prelude.{◌≡◌, ◌≢◌, [], List, ℕ, Option, IfErr, IfOk, Ok, OnOk, map};
+ghost use Rattle.std.specs.Prelude.{true};
 ghost use Rattle.std.specs.Io.KnownBytes.{Appends};
 ghost use Rattle.std.specs.List.{flat_map};
+ghost use Rattle.gix_commitgraph.specs.Opening.{MetNoFailure};
+ghost use Rattle.gix_commitgraph.specs.Sound.{Sound};
 ghost use Rattle.graph_commands.specs.OpenerAnswer.{MayOpen};
 ghost use Rattle.graph_commands.specs.WrittenAnswer.{WritesAnswer};
-ghost use Rattle.graph_unchecked.specs.Trusted.{IsTrustedAt};
+ghost use Rattle.graph_folder.specs.Tree.{Tree};
+ghost use Rattle.history_commands.specs.Check.{MayRefuseToStart};
 ghost use Rattle.question_lines.specs.Questions.{HasAllIds};
 ghost use Rattle.question_lines.specs.ReadLines.{AreLinesOf};
-ghost use Rattle.unchecked_questions.specs.PartReplies.{AddsTold, opened_count};
+ghost use Rattle.unchecked_questions.specs.KeptGraphs.{IsKeptAt, MayStay, opened_count};
+ghost use Rattle.unchecked_questions.specs.PartReplies.{AddsTold};
 ghost use Rattle.unchecked_questions.specs.Trusting.{AreTold, MayAskTrusted, MayCount};
 ghost use Rattle.unchecked_questions.specs.Trusting.{MayTellAsked, MayTellCount};
-ghost use Rattle.unchecked_questions.specs.Trusting.{MayTellTrusted, Told, told_text};
+ghost use Rattle.unchecked_questions.specs.Trusting.{MayTellTrusted, TellsOfTaken, Told, told_text};
 ghost use Rattle.unchecked_questions.specs.Trusting.{trusted_status, trusted_text};
 
 use crate::by_parts::{ask_by_parts, push_reply};
@@ -21,6 +26,7 @@ use graph_commands::line::WriteFailed;
 use graph_commands::refusal::Refusal;
 use graph_commands::run::refuse;
 use graph_folder::folder::{Folder, ReadError};
+use graph_history::CheckedGraph;
 use graph_unchecked::question::Unread;
 use graph_unchecked::trusted::TrustedGraph;
 use history_commands::opening::open_checked;
@@ -31,11 +37,45 @@ use question_lines::question::{Question, read_question};
 use std::alloc::Global;
 use std::io::{Read, Write};
 
+/// What is kept of a graph from one question to the next.
+#[derive(Drop)]
+enum Kept {
+    /// The parts of its files that were read.
+    Parts(TrustedGraph),
+    /// All of it, which was checked.
+    Whole(CheckedGraph),
+    /// Nothing: it is opened for each question.
+    Nothing,
+}
+
+/// A graph that was opened whole, and checked.
+#[derive(Drop)]
+struct Whole {
+    graph: CheckedGraph,
+    /// Whether it may answer more than one question: whether no read failed.
+    stays: bool,
+}
+
+impl Whole {
+    /// What is kept of it.
+    fn keep(self) -> Kept
+        ensures { (known : Option Tree) (path : List ℕ) → Sound self.graph.layers
+            → (self.stays ≡ true → MayStay known path self.graph.layers)
+            → IsKeptAt known path result }
+    {
+        if self.stays {
+            Kept::Whole(self.graph)
+        } else {
+            Kept::Nothing
+        }
+    }
+}
+
 /// A graph that was opened.
 #[derive(Drop)]
 struct Opened {
-    /// Its parts, where it can be read by parts.
-    graph: Option<TrustedGraph>,
+    /// What is kept of it.
+    kept: Kept,
     /// How many commits it has.
     commits: u32,
 }
@@ -48,10 +88,11 @@ struct Opened {
 /// checked. Where they make a right graph, the answers are those of the commands that check it.
 /// Where they do not, each answer promises what its command with `--unchecked` does. Where parts do
 /// not suffice for a question, or what was read cannot be that of a right graph, the graph is
-/// opened whole for this question, and checked: the answer is that of a right graph, or why it is
-/// refused. A failed read is refused as one of the opener, and want of memory as one of the search.
+/// opened whole, and checked: the answer is that of a right graph, which answers from then on, or
+/// why it is refused. A failed read is refused as one of the opener, and want of memory as one of
+/// the search.
 ///
-/// For `reload` the path is opened anew, by parts. Where that is refused, the parts of before stay.
+/// For `reload` the path is opened anew, by parts. Where that is refused, what was kept stays.
 ///
 /// Where the graph is refused at first, one line is written that says why, and nothing is read.
 /// Where a read of the reader fails, or there is no memory for a line, such a line ends the
@@ -73,7 +114,7 @@ pub fn run_ask_unchecked<R: Read, T: Folder, W: Write>(
     match open_trusted(alloc, folder, path) {
         Ok(opened) => {
             write_count(writer, opened.commits)?;
-            let failed = answer_all(alloc, reader, folder, path, opened.graph, writer)?;
+            let failed = answer_all(alloc, reader, folder, path, opened.kept, writer)?;
             end(writer, failed)
         }
         Err(refusal) => refuse(writer, &refusal),
@@ -85,28 +126,60 @@ fn open_trusted<T: Folder>(alloc: Global, folder: &mut T, path: &str) -> Result<
     ensures count { MayCount (MayOpen (T.tree folder.old) path.now (T.failure_count folder.old)
         (T.failure_count folder.new)) (T.failure_count folder.old) (T.failure_count folder.new)
         (opened_count result) }
-    ensures graph { IfOk result (λ opened.
-        IfSome opened.graph (IsTrustedAt (T.tree folder.old) path.now)) }
+    ensures kept { IfOk result (λ opened. IsKeptAt (T.tree folder.old) path.now opened.kept) }
     ensures tree { T.tree folder.new ≡ T.tree folder.old }
 {
     match TrustedGraph::open(alloc, folder, path) {
         Ok(graph) => {
             let commits = graph.num_commits();
             Ok(Opened {
-                graph: Some(graph),
+                kept: Kept::Parts(graph),
                 commits,
             })
         }
         Err(Unread::Device) => Err(Refusal::Open(OpenError::Device)),
         Err(Unread::OutOfMemory) => Err(Refusal::Walk),
-        Err(Unread::NotByParts) => match open_checked(alloc, folder, path) {
-            Ok(graph) => Ok(Opened {
-                graph: None,
-                commits: graph.as_checked().num_commits(),
-            }),
+        Err(Unread::NotByParts) => match open_whole(alloc, folder, path) {
+            Ok(whole) => {
+                let commits = whole.graph.as_checked().num_commits();
+                Ok(Opened {
+                    kept: whole.keep(),
+                    commits,
+                })
+            }
             Err(refusal) => Err(refusal),
         },
     }
+}
+
+/// Opens the graph at the path whole, and checks it.
+fn open_whole<T: Folder>(alloc: Global, folder: &mut T, path: &str) -> Result<Whole, Refusal>
+    ensures opened { IfOk result (λ whole.
+        MayOpen (T.tree folder.old) path.now (T.failure_count folder.old)
+        (T.failure_count folder.new) (Ok whole.graph.layers)) }
+    ensures right { IfOk result (λ whole. Sound whole.graph.layers) }
+    ensures stays { IfOk result (λ whole. whole.stays ≡ true
+        → MayStay (T.tree folder.old) path.now whole.graph.layers) }
+    ensures refused { IfErr result (MayRefuseToStart
+        (MayOpen (T.tree folder.old) path.now (T.failure_count folder.old)
+        (T.failure_count folder.new))) }
+    ensures tree { T.tree folder.new ≡ T.tree folder.old }
+{
+    let failures = folder.failures();
+    match open_checked(alloc, folder, path) {
+        Ok(graph) => Ok(Whole {
+            graph,
+            stays: has_met_none(folder, failures),
+        }),
+        Err(refusal) => Err(refusal),
+    }
+}
+
+/// Whether a folder, in which so many reads had failed, has met no failure since.
+fn has_met_none<T: Folder>(folder: &T, failures: u64) -> bool
+    ensures { result ≡ true → MetNoFailure failures (T.failure_count folder.now) }
+{
+    failures < u64::MAX && folder.failures() <= failures
 }
 
 /// Answers all lines, and tells why no further line could be read, if that is how they ended.
@@ -115,10 +188,10 @@ fn answer_all<R: Read, T: Folder, W: Write>(
     reader: &mut R,
     folder: &mut T,
     path: &str,
-    graph: Option<TrustedGraph>,
+    kept: Kept,
     writer: &mut W,
 ) -> Result<Option<ReadError>, WriteFailed>
-    requires { IfSome graph (IsTrustedAt (T.tree folder.old) path.now) }
+    requires { IsKeptAt (T.tree folder.old) path.now kept }
     ensures answered { IfOk result (λ failed. (turns : List Told)
         × AreTold (MayOpen (T.tree folder.old) path.now) (T.failure_count folder.old)
         (T.failure_count folder.new) turns
@@ -131,7 +204,7 @@ fn answer_all<R: Read, T: Folder, W: Write>(
         return Ok(Some(ReadError::OutOfMemory));
     };
     answer_lines(
-        alloc, &mut lines, reader, folder, path, graph, &mut block, writer,
+        alloc, &mut lines, reader, folder, path, kept, &mut block, writer,
     )
 }
 
@@ -143,13 +216,13 @@ fn answer_lines<R: Read, T: Folder, W: Write>(
     reader: &mut R,
     folder: &mut T,
     path: &str,
-    graph: Option<TrustedGraph>,
+    kept: Kept,
     block: &mut Block,
     writer: &mut W,
 ) -> Result<Option<ReadError>, WriteFailed>
     requires lines { lines.old.ahead ≡ [] }
     requires block { block.old ≡ [] }
-    requires graph { IfSome graph (IsTrustedAt (T.tree folder.old) path.now) }
+    requires kept { IsKeptAt (T.tree folder.old) path.now kept }
     ensures answered { IfOk result (λ failed. (turns : List Told)
         × AreTold (MayOpen (T.tree folder.old) path.now) (T.failure_count folder.old)
         (T.failure_count folder.new) turns
@@ -158,7 +231,7 @@ fn answer_lines<R: Read, T: Folder, W: Write>(
         × Appends (W.contents writer.old) (W.contents writer.new) (flat_map told_text turns)) }
     ensures tree { T.tree folder.new ≡ T.tree folder.old }
 {
-    let mut graph = graph;
+    let mut kept = kept;
     for _ in 0..u64::MAX {
         let more = match lines.read(reader) {
             Ok(more) => more,
@@ -167,7 +240,7 @@ fn answer_lines<R: Read, T: Folder, W: Write>(
         if !more {
             return Ok(None);
         }
-        answer_line(alloc, folder, path, &mut graph, lines.line(), block, writer)?;
+        answer_line(alloc, folder, path, &mut kept, lines.line(), block, writer)?;
     }
     Ok(Some(ReadError::Device))
 }
@@ -177,24 +250,24 @@ fn answer_line<T: Folder, W: Write>(
     alloc: Global,
     folder: &mut T,
     path: &str,
-    graph: &mut Option<TrustedGraph>,
+    kept: &mut Kept,
     line: &[u8],
     block: &mut Block,
     writer: &mut W,
 ) -> Result<(), WriteFailed>
     requires block { block.old ≡ [] }
-    requires graph { IfSome graph.old (IsTrustedAt (T.tree folder.old) path.now) }
+    requires kept { IsKeptAt (T.tree folder.old) path.now kept.old }
     ensures told { OnOk result (AddsTold (MayTellTrusted (MayOpen (T.tree folder.old) path.now)
         (T.failure_count folder.old) (T.failure_count folder.new) line.now)
         (W.contents writer.old) (W.contents writer.new)) }
     ensures block { OnOk result (block.new ≡ []) }
-    ensures graph { IfSome graph.new (IsTrustedAt (T.tree folder.old) path.now) }
+    ensures kept { IsKeptAt (T.tree folder.old) path.now kept.new }
     ensures tree { T.tree folder.new ≡ T.tree folder.old }
 {
     match read_question(alloc, line) {
-        Ok(Some(Question::Reload)) => reload(alloc, folder, path, graph, writer),
+        Ok(Some(Question::Reload)) => reload(alloc, folder, path, kept, writer),
         Ok(Some(question)) => {
-            answer_question(alloc, folder, path, graph, &question, block, writer)
+            answer_question(alloc, folder, path, kept, &question, block, writer)
         }
         Ok(None) => {
             block.push_text(writer, "refused question\n")?;
@@ -209,25 +282,25 @@ fn answer_line<T: Folder, W: Write>(
     }
 }
 
-/// Opens the graph at the path anew, and tells that. Where it is refused, the one of before stays.
+/// Opens the graph at the path anew, and tells that. Where it is refused, what was kept stays.
 fn reload<T: Folder, W: Write>(
     alloc: Global,
     folder: &mut T,
     path: &str,
-    graph: &mut Option<TrustedGraph>,
+    kept: &mut Kept,
     writer: &mut W,
 ) -> Result<(), WriteFailed>
-    requires { IfSome graph.old (IsTrustedAt (T.tree folder.old) path.now) }
+    requires { IsKeptAt (T.tree folder.old) path.now kept.old }
     ensures told { OnOk result (AddsTold (MayTellCount (MayOpen (T.tree folder.old) path.now
         (T.failure_count folder.old) (T.failure_count folder.new))
         (T.failure_count folder.old) (T.failure_count folder.new))
         (W.contents writer.old) (W.contents writer.new)) }
-    ensures graph { IfSome graph.new (IsTrustedAt (T.tree folder.old) path.now) }
+    ensures kept { IsKeptAt (T.tree folder.old) path.now kept.new }
     ensures tree { T.tree folder.new ≡ T.tree folder.old }
 {
     match open_trusted(alloc, folder, path) {
         Ok(opened) => {
-            *graph = opened.graph;
+            *kept = opened.kept;
             write_count(writer, opened.commits)
         }
         Err(refusal) => write_refused(writer, &refusal),
@@ -240,7 +313,7 @@ fn answer_question<T: Folder, W: Write>(
     alloc: Global,
     folder: &mut T,
     path: &str,
-    graph: &mut Option<TrustedGraph>,
+    kept: &mut Kept,
     question: &Question,
     block: &mut Block,
     writer: &mut W,
@@ -248,36 +321,40 @@ fn answer_question<T: Folder, W: Write>(
     requires asks { question.now ≢ Question.Reload }
     requires ids { HasAllIds question.now }
     requires block { block.old ≡ [] }
-    requires graph { IfSome graph.old (IsTrustedAt (T.tree folder.old) path.now) }
+    requires kept { IsKeptAt (T.tree folder.old) path.now kept.old }
     ensures told { OnOk result (AddsTold (MayTellAsked (MayOpen (T.tree folder.old) path.now
         (T.failure_count folder.old) (T.failure_count folder.new))
         (T.failure_count folder.old) (T.failure_count folder.new) question.now)
         (W.contents writer.old) (W.contents writer.new)) }
     ensures block { OnOk result (block.new ≡ []) }
-    ensures graph { IfSome graph.new (IsTrustedAt (T.tree folder.old) path.now) }
+    ensures kept { IsKeptAt (T.tree folder.old) path.now kept.new }
     ensures tree { T.tree folder.new ≡ T.tree folder.old }
 {
-    let Some(parts) = graph else {
-        return answer_checked(alloc, folder, path, question, block, writer);
-    };
-    match ask_by_parts(folder, parts, question) {
-        Ok(reply) => {
-            push_reply(block, writer, reply)?;
-            finish(block, writer)?;
-            Ok(())
-        }
-        Err(Unread::Device) => write_refused(writer, &Refusal::Open(OpenError::Device)),
-        Err(Unread::OutOfMemory) => write_refused(writer, &Refusal::Walk),
-        Err(Unread::NotByParts) => answer_checked(alloc, folder, path, question, block, writer),
+    match kept {
+        Kept::Parts(parts) => match ask_by_parts(folder, parts, question) {
+            Ok(reply) => {
+                push_reply(block, writer, reply)?;
+                finish(block, writer)?;
+                Ok(())
+            }
+            Err(Unread::Device) => write_refused(writer, &Refusal::Open(OpenError::Device)),
+            Err(Unread::OutOfMemory) => write_refused(writer, &Refusal::Walk),
+            Err(Unread::NotByParts) => {
+                answer_checked(alloc, folder, path, kept, question, block, writer)
+            }
+        },
+        Kept::Whole(graph) => answer_over(alloc, graph, question, block, writer),
+        Kept::Nothing => answer_checked(alloc, folder, path, kept, question, block, writer),
     }
 }
 
 /// Opens the graph at the path whole, checks it, and answers a question over it, or why it is
-/// refused.
+/// refused. The graph stays, where no read failed.
 fn answer_checked<T: Folder, W: Write>(
     alloc: Global,
     folder: &mut T,
     path: &str,
+    kept: &mut Kept,
     question: &Question,
     block: &mut Block,
     writer: &mut W,
@@ -285,17 +362,39 @@ fn answer_checked<T: Folder, W: Write>(
     requires asks { question.now ≢ Question.Reload }
     requires ids { HasAllIds question.now }
     requires block { block.old ≡ [] }
+    requires kept { IsKeptAt (T.tree folder.old) path.now kept.old }
     ensures told { OnOk result (AddsTold (MayTellAsked (MayOpen (T.tree folder.old) path.now
         (T.failure_count folder.old) (T.failure_count folder.new))
         (T.failure_count folder.old) (T.failure_count folder.new) question.now)
         (W.contents writer.old) (W.contents writer.new)) }
     ensures block { OnOk result (block.new ≡ []) }
+    ensures kept { IsKeptAt (T.tree folder.old) path.now kept.new }
     ensures tree { T.tree folder.new ≡ T.tree folder.old }
 {
-    let graph = match open_checked(alloc, folder, path) {
-        Ok(graph) => graph,
+    let whole = match open_whole(alloc, folder, path) {
+        Ok(whole) => whole,
         Err(refusal) => return write_refused(writer, &refusal),
     };
+    answer_over(alloc, &whole.graph, question, block, writer)?;
+    *kept = whole.keep();
+    Ok(())
+}
+
+/// Answers a question over a graph that was checked.
+fn answer_over<W: Write>(
+    alloc: Global,
+    graph: &CheckedGraph,
+    question: &Question,
+    block: &mut Block,
+    writer: &mut W,
+) -> Result<(), WriteFailed>
+    requires asks { question.now ≢ Question.Reload }
+    requires ids { HasAllIds question.now }
+    requires block { block.old ≡ [] }
+    ensures told { OnOk result (AddsTold (TellsOfTaken (Ok graph.now.layers) question.now)
+        (W.contents writer.old) (W.contents writer.new)) }
+    ensures block { OnOk result (block.new ≡ []) }
+{
     let graph = graph.as_checked();
     let mut teller = Teller::new(alloc, &graph);
     teller.tell(question, block, writer)?;

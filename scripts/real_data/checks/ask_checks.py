@@ -1,6 +1,6 @@
-"""Checks `ask`: each question beside the command of its name, at once, over two pipes, over a terminal and among noise, and
-graphs that take the place of one another, also while Git writes them. And `git cgraph ask`, with the programs of the manual that
-ask over two pipes.
+"""Checks `ask`, also with `--unchecked`: each question beside the command of its name, at once, over two pipes, over a terminal and
+among noise, and graphs that take the place of one another, also while Git writes them. And `git cgraph ask`, with the programs of
+the manual that ask over two pipes.
 """
 
 import itertools
@@ -45,6 +45,14 @@ NO_FEED = [byte for byte in range(256) if byte != 10]
 
 STEPS = 400
 """So often a graph takes the place of another one."""
+
+WAYS = (["ask"], ["ask", "--unchecked"])
+"""How the program is asked: of a graph that is checked, and of one that is trusted."""
+
+ANSWER = re.compile(
+    r"(ok commits \d+|position \d+ generation \d+ time \d+|parents( [0-9a-f]{40,64})*|none|unknown 1|refused [a-z]+ \d.*)\n\n"
+)
+"""What may be told of one commit, or of a graph that is opened anew."""
 
 
 class Asking:
@@ -93,23 +101,32 @@ def check_kind(programs, results, new):
     path, kind = repository.info_path(), repository.object_format
     asked = list(questions(repository))
     answers = [answer_alone(programs, path, question, repository) for question in asked]
-    text = "ok commits 20\n\n" + "".join(answers)
-    for title, ends in (("", "\n"), (", the last line without its end", "")):
-        said = histories.run("ask", path, input="\n".join(asked).encode() + ends.encode())
-        results.check("%s, ask, all at once%s" % (kind, title), judge.exactly(0, text, "", said))
-    command = [histories.path, "ask", path]
-    results.check("%s, ask, one after another" % kind, over_pipes(command, zip(asked, answers), 20))
-    results.check("%s, ask, each answer is written by itself" % kind, in_messages(command, asked[:-1], answers))
-    results.check("%s, ask, over a terminal" % kind, over_terminal(command, list(zip(asked, answers))[: -len(NO_QUESTIONS)]))
-    results.check("%s, ask, nothing" % kind, judge.exactly(0, "ok commits 20\n\n", "", histories.run("ask", path, input=b"")))
-    refused = histories.run("ask", path + "/nowhere", input=b"reload\n")
-    results.check("%s, ask, no graph" % kind, judge.exactly(1, "refused open 1\n", "", refused))
-    rows = [(line.encode(), answer) for line, answer in zip(asked, answers) if len(line) < 1000]
-    check_streams(histories, results, "%s, ask" % kind, path, rows)
-    check_reload(programs, results, repository, history)
-    results.check("%s, ask, graphs in turn" % kind, in_turn(histories, new("questions over graphs in turn")))
+    for way in WAYS:
+        title = "%s, %s" % (kind, " ".join(way))
+        check_way(histories, results, title, [*way, path], list(zip(asked, answers)))
+        check_reload(programs, results, repository, history, way)
+    for name, complaint in in_turn(histories, new("questions over graphs in turn")):
+        results.check("%s, %s, graphs in turn" % (kind, name), complaint)
     results.check("%s, ask beside a writer" % kind, beside_writer(histories, new("questions beside a writer")))
+    trusted = trusted_beside_writer(histories, new("questions beside a writer, trusted"))
+    results.check("%s, ask --unchecked beside a writer" % kind, trusted)
     LINES.add(("ask", "refused question"))
+
+
+def check_way(histories, results, title, words, rows):
+    """The answers of the program for these words, over each kind of stream; a row is a line and its answer."""
+    asked, answers = zip(*rows)
+    command, opened = [histories.path, *words], "ok commits 20\n\n"
+    for name, ends in (("", "\n"), (", the last line without its end", "")):
+        said = histories.run(*words, input=("\n".join(asked) + ends).encode())
+        results.check("%s, all at once%s" % (title, name), judge.exactly(0, opened + "".join(answers), "", said))
+    results.check("%s, one after another" % title, over_pipes(command, rows, 20))
+    results.check("%s, each answer is written by itself" % title, in_messages(command, asked[:-1], answers))
+    results.check("%s, over a terminal" % title, over_terminal(command, rows[: -len(NO_QUESTIONS)]))
+    results.check("%s, nothing" % title, judge.exactly(0, opened, "", histories.run(*words, input=b"")))
+    refused = histories.run(*words[:-1], words[-1] + "/nowhere", input=b"reload\n")
+    results.check("%s, no graph" % title, judge.exactly(1, "refused open 1\n", "", refused))
+    check_streams(histories, results, title, words, [(line.encode(), answer) for line, answer in rows if len(line) < 1000])
 
 
 def questions(repository):
@@ -174,19 +191,19 @@ def in_messages(command, asked, answers):
     return "no write ends with the answer at byte %d" % joined[0] if joined else None
 
 
-def check_streams(histories, results, title, path, rows):
+def check_streams(histories, results, title, words, rows):
     """Questions that come byte by byte, and among noise; input that cannot be read, and output that cannot be written."""
     opened, chance = "ok commits 20\n\n", random.Random(14)
     noise = [bytes(chance.choices(NO_FEED, k=chance.randrange(60))) for _ in range(NOISE * len(rows))]
     noisy = [rows[place // NOISE] if place % NOISE == 0 else (line, "refused question\n\n") for place, line in enumerate(noise)]
     for name, lines, size in (("byte by byte", rows, 1), ("among noise", noisy, 97)):
         text = opened + "".join(answer for _, answer in lines)
-        said = in_pieces(partial(histories.run, "ask", path), b"".join(line + b"\n" for line, _ in lines), size)
+        said = in_pieces(partial(histories.run, *words), b"".join(line + b"\n" for line, _ in lines), size)
         results.check("%s, %s" % (title, name), judge.exactly(0, text, "", said))
-    closed = histories.run("ask", path, preexec_fn=partial(os.close, 0))
+    closed = histories.run(*words, preexec_fn=partial(os.close, 0))
     results.check("%s, input that is closed" % title, judge.exactly(1, opened + "refused read 2\n", "", closed))
-    check_failed_write(results, title, partial(histories.run, "ask", path, input=b""))
-    with Asking([histories.path, "ask", path], stderr=subprocess.PIPE) as run:
+    check_failed_write(results, title, partial(histories.run, *words, input=b""))
+    with Asking([histories.path, *words], stderr=subprocess.PIPE) as run:
         run.answer()
         run.run.stdout.close()
         run.run.stdin.write(b"nonsense\n")
@@ -227,9 +244,7 @@ def read_terminal(terminal):
 
 
 def in_turn(histories, repository):
-    """A complaint where graphs take the place of one another and an answer is not that of a new run; or where the new graph is
-    refused, not that of the last one which was taken.
-    """
+    """Of both ways a name and a complaint, or None, about graphs that take the place of one another."""
     path, ids = repository.info_path(), repository.add(shapes.tangled(30, seed=12))
     asked = ["%s %s" % (word, name) for name in ids for word in ("find", "parents")]
     right, wrong = right_and_wrong(repository, ids)
@@ -238,19 +253,54 @@ def in_turn(histories, repository):
         put_files(path, files)
         alone.append(histories.run("ask", path, input="\n".join(asked).encode()))
     if [answer.status for answer in alone] != [0] * len(right) + [1] * len(wrong):
-        return "new runs end with %r" % [answer.status for answer in alone]
-    put_files(path, right[0])
+        return [("ask", "new runs end with %r" % [answer.status for answer in alone])]
+    steps = [0, *random.Random(13).choices(range(len(alone)), k=STEPS)]
+    graphs = list(zip(right + wrong, alone))
+    return [(" ".join(way), judged(histories, path, asked, [graphs[step] for step in steps])) for way, judged in JUDGED]
+
+
+def checked_in_turn(histories, path, asked, graphs):
+    """A complaint where an answer is not that of a new run; or where the new graph is refused, not that of the last one which was
+    taken.
+    """
+    put_files(path, graphs[0][0])
     with Asking([histories.path, "ask", path]) as run:
         told = run.answer() + "".join(map(run.ask, asked))
-        for place in [0, *random.Random(13).choices(range(len(alone)), k=STEPS)]:
-            put_files(path, (right + wrong)[place])
-            line, before = alone[place].out.decode(), told.partition("\n\n")[2]
+        for place, (files, alone) in enumerate(graphs):
+            put_files(path, files)
+            line, before = alone.out.decode(), told.partition("\n\n")[2]
             told = run.ask("reload") + "".join(map(run.ask, asked))
-            wanted = line + "\n" + before if alone[place].status else line
+            wanted = line + "\n" + before if alone.status else line
             if told != wanted:
-                return "for graph %d it tells %.200r, and not %.200r" % (place, told, wanted)
+                return "at step %d it tells %.200r, and not %.200r" % (place, told, wanted)
         status = run.end()
     return None if status == 0 else "the status is %s" % status
+
+
+def trusted_in_turn(histories, path, asked, graphs):
+    """A complaint where an answer of a right graph that was opened anew is not that of a new run, or something that is no answer is
+    told: before it is opened anew, or of a wrong graph.
+    """
+    put_files(path, graphs[0][0])
+    chance = random.Random(15)
+    with Asking([histories.path, "ask", "--unchecked", path]) as run:
+        told = [run.answer()]
+        for place, (files, alone) in enumerate(graphs):
+            put_files(path, files)
+            told += map(run.ask, chance.sample(asked, 6))
+            anew = [run.ask("reload"), *map(run.ask, asked)]
+            if alone.status == 0 and "".join(anew) != alone.out.decode():
+                return "at step %d it tells %.200r, and not %.200r" % (place, "".join(anew), alone.out.decode())
+            odd = [answer for answer in told + anew if not ANSWER.fullmatch(answer)]
+            if odd:
+                return "at step %d it tells %.200r" % (place, odd[0])
+            told = []
+        status = run.end()
+    return None if status == 0 else "the status is %s" % status
+
+
+JUDGED = list(zip(WAYS, (checked_in_turn, trusted_in_turn)))
+"""The ways, and how graphs in turn are judged."""
 
 
 def right_and_wrong(repository, ids):
@@ -334,6 +384,33 @@ def beside_writer(histories, repository):
         return writer.failure or (None if told == right else "at the end it tells %r" % (told,))
 
 
+def trusted_beside_writer(histories, repository):
+    """A complaint where a trusted graph that is opened anew beside such a writer does not answer what is so of all its graphs. Its
+    files may be gone, and then the answer is that or a refusal.
+    """
+    ids = repository.add(shapes.linear(10 * (WRITES + 1)))
+    repository.write_graph("--split", tips=[ids[9]])
+    writer = LayerWriter(repository, [ids[at] for at in range(19, len(ids), 10)])
+    refused = r"refused open (2|3|5 layer \d+ file \d+)"
+    wanted = [r"ok commits \d+0", "yes", "parents " + ids[0], "none"]
+    with Asking([histories.path, "ask", "--unchecked", repository.info_path()]) as run:
+        run.answer()
+        writer.start()
+        while True:
+            is_last = not writer.is_alive()
+            asked = ["reload", "is-ancestor %s %s" % (ids[0], ids[9]), "parents " + ids[1], "find " + "0" * len(ids[0])]
+            for question, answer in zip(asked, wanted):
+                told = run.ask(question)
+                if not re.fullmatch(r"(%s|%s)\n\n" % (answer, refused), told):
+                    return "for %r it tells %r" % (question, told)
+            if is_last:
+                break
+        writer.join()
+        told = run.ask("reload"), run.ask("parents " + ids[-1]), run.end()
+        right = "ok commits %d\n\n" % len(ids), "parents %s\n\n" % ids[-2], 0
+        return writer.failure or (None if told == right else "at the end it tells %r" % (told,))
+
+
 class LayerWriter(threading.Thread):
     """Writes a layer for each of some tips. The layers of before are removed where they are merged."""
 
@@ -351,10 +428,13 @@ class LayerWriter(threading.Thread):
             self.failure = failure
 
 
-def check_reload(programs, results, repository, history):
-    """The graph gets a layer, then a damaged one, and then is gone; after each, the path is opened anew."""
-    path, kind = repository.info_path(), repository.object_format
-    with Asking([programs[1].path, "ask", path]) as run:
+def check_reload(programs, results, repository, history, way):
+    """The graph gets a layer, which is then damaged, where nobody sees it who trusts it, and mended; after each, the path is opened
+    anew. At the end the graph is the one of before.
+    """
+    path, title = repository.info_path(), "%s, %s" % (repository.object_format, " ".join(way))
+    files = files_of(path)
+    with Asking([programs[1].path, *way, path]) as run:
         ask = run.ask
         run.answer()
         tip = repository.add(history, 20)[-1]
@@ -362,18 +442,19 @@ def check_reload(programs, results, repository, history):
         before = ask("find " + tip)
         told = [before, ask("reload"), ask("find " + tip)]
         right = ["none\n\n", "ok commits 30\n\n", answer_alone(programs, path, "find " + tip, repository)]
-        results.check("%s, ask, a layer more" % kind, None if told == right else "it tells %r, and not %r" % (told, right))
+        results.check("%s, a layer more" % title, None if told == right else "it tells %r, and not %r" % (told, right))
         checksum, layer = repository.chain()[-1]
         top = os.path.join(repository.chain_path(), "graph-%s.graph" % checksum)
         os.chmod(top, 0o644)
         write_bytes(top, layer[:-1] + bytes([layer[-1] ^ 1]))
-        refusal = programs[0].verify(path).out.decode() + "\n"
+        refusal = programs[0].verify(path).out.decode() + "\n" if way == ["ask"] else right[1]
         told = [ask("reload"), ask("find " + tip)]
         right = [refusal, right[2]]
-        results.check("%s, ask, a damaged layer" % kind, None if told == right else "it tells %r, and not %r" % (told, right))
+        results.check("%s, a damaged layer" % title, None if told == right else "it tells %r, and not %r" % (told, right))
         write_bytes(top, layer)
         told = ask("reload")
-        results.check("%s, ask, it is mended" % kind, None if told == "ok commits 30\n\n" else "it tells %r" % told)
+        results.check("%s, it is mended" % title, None if told == "ok commits 30\n\n" else "it tells %r" % told)
+    put_files(path, files)
 
 
 def check_by_git(installed, results, repository, way):
@@ -382,8 +463,16 @@ def check_by_git(installed, results, repository, way):
     ids = repository.add(history)
     repository.git("update-ref", "refs/heads/topic", ids[2])
     repository.git("symbolic-ref", "HEAD", "refs/heads/tip-%d" % (len(ids) - 1))
+    for words in WAYS:
+        check_command(installed, results, repository, ids, ["git", "cgraph", *words])
+    repository.write_graph()
+    check_refused_by_git(installed, results, repository, way)
+    check_scripts(installed, results, repository, ids, way)
+
+
+def check_command(installed, results, repository, ids, command):
+    """The answers of the command of some words, and a chain that takes the place of the file."""
     repository.write_graph(tips=[ids[6]])
-    command = ["git", "cgraph", "ask"]
     surroundings = {"env": installed.variables, "cwd": repository.folder}
     asked = [
         ("is-ancestor %s %s" % (ids[0], ids[6]), "yes\n\n"),
@@ -391,23 +480,20 @@ def check_by_git(installed, results, repository, way):
         ("nonsense", "refused question\n\n"),
         ("parents %s" % ids[-1], "unknown 1\n\n"),
     ]
-    commits = len(repository.git("rev-list", ids[6]).split())
-    results.check("git cgraph ask, over two pipes", over_pipes(command, asked, commits, **surroundings))
-    results.check("git cgraph ask, over a terminal", over_terminal(command, asked, **surroundings))
+    title, commits = " ".join(command), len(repository.git("rev-list", ids[6]).split())
+    results.check("%s, over two pipes" % title, over_pipes(command, asked, commits, **surroundings))
+    results.check("%s, over a terminal" % title, over_terminal(command, asked, **surroundings))
     with Asking(command, **surroundings) as run:
         run.answer()
         repository.write_graph("--split")
         told = run.ask("reload"), run.ask("is-ancestor %s %s" % (ids[0], ids[-1])), run.end()
         right = "ok commits %d\n\n" % len(ids), "yes\n\n", 0
-        results.check("git cgraph ask, a chain in the place of a file", None if told == right else "it tells %r" % (told,))
-    check_refused_by_git(installed, results, repository, way)
-    check_scripts(installed, results, repository, ids, way)
+        results.check("%s, a chain in the place of a file" % title, None if told == right else "it tells %r" % (told,))
+    shutil.rmtree(repository.chain_path())
 
 
 def check_refused_by_git(installed, results, repository, way):
     """A commit-graph that is refused or not there, questions that cannot be read, and options that are not for `ask`."""
-    shutil.rmtree(repository.chain_path())
-    repository.write_graph()
     content, rows = read_bytes(repository.graph_path()), refusals.read_rows()
     folder = os.open(repository.folder, os.O_RDONLY)
     answer = run_words(["git", "cgraph", "ask"], installed.variables, cwd=repository.folder, stdin=folder)

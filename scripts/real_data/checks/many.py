@@ -43,6 +43,7 @@ class Bench:
         self.path = os.path.join(folder, "commit-graph")
         self.file = os.open(self.path, os.O_RDWR | os.O_CREAT | os.O_TRUNC)
         self.out = os.open(os.path.join(folder, "out"), os.O_RDWR | os.O_CREAT | os.O_TRUNC)
+        self.given = os.open(os.path.join(folder, "given"), os.O_RDWR | os.O_CREAT | os.O_TRUNC)
         self.actions = [(os.POSIX_SPAWN_DUP2, self.file, 0)]
         self.actions += [(os.POSIX_SPAWN_DUP2, self.out, stream) for stream in (1, 2)]
         signal.signal(signal.SIGALRM, self.hang)
@@ -57,13 +58,20 @@ class Bench:
         os.ftruncate(self.file, 0)
         os.pwrite(self.file, content, 0)
 
-    def run(self, *words):
-        """The status, negative for a signal and None where it hangs, and all that is written."""
+    def run_on(self, given, *words):
+        """The same as of `run`, where standard input has these bytes."""
+        os.ftruncate(self.given, 0)
+        os.pwrite(self.given, given, 0)
+        os.lseek(self.given, 0, os.SEEK_SET)
+        return self.run(*words, actions=[(os.POSIX_SPAWN_DUP2, self.given, 0), *self.actions[1:]])
+
+    def run(self, *words, actions=None):
+        """The status, negative for a signal and None where it hangs, and all that is written. Standard input is the file."""
         os.lseek(self.file, 0, os.SEEK_SET)
         os.ftruncate(self.out, 0)
         os.lseek(self.out, 0, os.SEEK_SET)
         program = self.histories if words[0] == "check" else self.program
-        child = os.posix_spawn(program, (program, *words), {}, file_actions=self.actions)
+        child = os.posix_spawn(program, (program, *words), {}, file_actions=actions or self.actions)
         signal.setitimer(signal.ITIMER_REAL, SECONDS)
         try:
             ended = os.waitpid(child, 0)[1]

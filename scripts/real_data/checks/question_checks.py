@@ -20,6 +20,7 @@ OTHER_WORDS = [
     *(["walk", ".", ID], ["walk", ".", ID, ID, ID], ["Walk", ".", ID, ID], ["walk", b"\xff", ID, ID]),
     *(["is-ancestor", "--unchecked"], ["is-ancestor", "--unchecked", ".", ID], ["is-ancestor", "--unchecked", ID, ID]),
     *(["walk", "--unchecked"], ["walk", "--unchecked", ".", ID], ["walk", "--unchecked", ID, ID], ["ids", "--unchecked", "."]),
+    *(["ask", "--unchecked"], ["ask", "--unchecked", ".", "."], ["ask", ".", "--unchecked"]),
     *(["is-ancestor"], ["is-ancestor", ".", ID], ["ancestor", ".", ID, ID], ["verify", "."], ["--walk", ".", ID, ID]),
     *(["merge-base"], ["merge-base", "."], ["merge-base", ".", ID], ["merge-base", ".", ID, b"\xff"]),
     *(["merge-base-ids"], ["merge-base-ids", ".", ID], ["merge-bases", ".", ID, ID]),

@@ -7,6 +7,7 @@ written in blocks, and graphs of every size up to ten and of more commits than a
 
 import os
 import pty
+import re
 import resource
 import signal
 import socket
@@ -226,10 +227,19 @@ def wrong_failed_reads(place, case):
     if case.program not in TEXTS or not content or case.status:
         return LEFT_OUT
     for count in (*range(0, len(content), SOME), len(content)):
-        complaint = judge.exactly(1, "refused read 2\n", "", place.failing(case, count))
+        told = told_before(case, content[:count]) + "refused read 2\n"
+        complaint = judge.exactly(1, told, "", place.failing(case, count))
         if complaint:
             return "after %d bytes: %s" % (count, complaint)
     return None
+
+
+def told_before(case, content):
+    """What is told before a read of standard input fails after these bytes: by `ask` how many commits there are, and the answer to
+    each whole line, up to an empty line each."""
+    if case.words[0] != "ask":
+        return ""
+    return "".join(re.findall(r"(?s).+?\n\n", case.out)[: 1 + content.count(b"\n")])
 
 
 def wrong_failed_writes(place, case):

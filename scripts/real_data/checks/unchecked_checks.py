@@ -2,9 +2,10 @@
 
 Of a right file the answer is the one that there is, or a shortest walk. Of any other it may be the refusal of `verify`; and
 `yes` or a walk only where a walk leads there along the parents that stand in the file, between commits with these ids. Each
-merge base is a common ancestor along them.
+merge base is a common ancestor along them. `ask` answers as the commands by themselves do, also a second time.
 """
 
+import re
 import tempfile
 
 from checks import many
@@ -24,7 +25,7 @@ def check_all(histories, results, every_value=False):
         parts = [(histories.path, content, masks, start) for start in range(0, len(content), PART)]
         answers = many.in_processes(try_part, parts)
         complaints, kinds = [complaint for complaint, _ in answers if complaint], set().union(*(kinds for _, kinds in answers))
-        title = "each byte of a file changed, %s, is-ancestor, walk and merge-base --unchecked" % name
+        title = "each byte of a file changed, %s, is-ancestor, walk, merge-base and ask --unchecked" % name
         results.check(title, complaints[0] if complaints else None)
         left_out = sorted({"refused", "unknown"} - kinds)
         results.check("the same, %s, each kind of answer" % name, "none is %s" % left_out if left_out else None)
@@ -55,7 +56,7 @@ def complaint_of(bench, content, asked, kinds):
     """A complaint about an answer to some pairs of ids in a file of these bytes, or None."""
     bench.put(content)
     verified = reading.verified(content)
-    leads = Leads(content)
+    leads, questions = Leads(content), []
     for first, second in asked:
         told = leads.told(first, second)
         wanted = {told} if verified.startswith("ok ") else {verified, told, "no\n", "unknown 1\n", "unknown 2\n"}
@@ -63,13 +64,29 @@ def complaint_of(bench, content, asked, kinds):
         kinds.update(text.decode("latin-1").split()[:1])
         if text.decode("latin-1") not in wanted or status != many.status_of(text):
             return "%s, %s: status %s and %r, expected %r" % (first, second, status, text[:80], min(wanted))
+        questions.append(("is-ancestor %s %s" % (first, second), text))
         status, text = bench.run("walk", "--unchecked", bench.path, second, first)
         if not leads.may_be_found(second, first, verified, status, text.decode("latin-1")):
             return "walk, %s, %s: status %s and %r" % (second, first, status, text[:80])
+        questions.append(("walk %s %s" % (second, first), text))
         status, text = bench.run("merge-base", "--unchecked", bench.path, second, first)
         if not leads.may_be_bases(second, first, verified, status, text.decode("latin-1")):
             return "merge-base, %s, %s: status %s and %r" % (second, first, status, text[:80])
-    return None
+        questions.append(("merge-base %s %s" % (second, first), text))
+    return asked_odd(bench, content, verified, questions * 2)
+
+
+def asked_odd(bench, content, verified, questions):
+    """A complaint where `ask` does not answer these questions, pairs of a line and an answer, as the commands by themselves do: of
+    a graph that is refused at first it tells that, and else how many commits there are; or None."""
+    status, text = bench.run_on("".join(line + "\n" for line, _ in questions).encode(), "ask", "--unchecked", bench.path)
+    opened, _, told = text.partition(b"\n\n")
+    if status == 1 and text.decode("latin-1") == verified:
+        return None if all(answer == text for _, answer in questions) else "ask is refused, and a question is not"
+    wanted = b"".join(answer + b"\n" for _, answer in questions)
+    counted = re.fullmatch(rb"ok commits (\d+)", opened)
+    right = counted and (not verified.startswith("ok ") or verified.startswith(opened.decode() + " "))
+    return None if status == 0 and right and told == wanted else "ask: status %s and %r, expected %r" % (status, text[:80], wanted[:80])
 
 
 class Leads:

@@ -35,6 +35,16 @@ REPEATED = (
 )
 """Layers in which 0x33 and 0x44 stand twice."""
 
+FIRST, LAST = "1" * 40, "c" * 40
+"""The first and the last commit of several graphs."""
+
+ASKED = (
+    *("parents " + LAST, "is-ancestor %s %s" % (FIRST, LAST), "walk %s %s" % (LAST, FIRST)),
+    *("merge-base %s %s" % (LAST, FIRST), "find " + LAST.upper(), "parents " + "e" * 40),
+    *("nonsense", "reload", "parents " + LAST),
+)
+"""What `ask` is asked about them: of each kind a question."""
+
 SMALL = bytes(1099)
 """Fewer bytes than any file has."""
 
@@ -249,6 +259,7 @@ def histories():
         # The parent of the second commit is no commit of the graph.
         "outside": file((0x11, (), 1), (0xCC, (7,), 2)),
         "bytes": b"bytes",
+        "asked": "\n".join(ASKED).encode(),
     }
 
 

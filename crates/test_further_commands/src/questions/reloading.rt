@@ -5,6 +5,7 @@ use crate::questions::chains::{Chain, Files};
 use crate::questions::fixtures::{
     Changing, FIVE, TWO, WRONG, expect_answer, expect_told, folder_of, in_turn,
 };
+use crate::questions::trusting::expect_trusted;
 use graph_folder::folder::Memory;
 use graph_vectors::Source;
 use std::alloc::Global;
@@ -26,6 +27,9 @@ fn the_new_graph_answers_from_then_on(rt: HostRuntime) {
         ok commits 5\n\n\
         parents 1111111111111111111111111111111111111111\n\n";
     expect_told(&rt, rt.alloc(), &[FIVE, TWO, FIVE], ASKED, text);
+    // A graph that is trusted is read whole in this folder, and stays from then on.
+    let mut folder = in_turn(&rt, rt.alloc(), &[FIVE, TWO, FIVE]);
+    expect_trusted(&rt, rt.alloc(), &mut folder, ASKED, (0, text));
 }
 
 #[test]

@@ -1,8 +1,11 @@
 //! Questions about five commits, and their answers.
 
 use crate::folders::joined;
-use crate::questions::fixtures::{A, B, C, D, E, FIVE, FIVE_OK, NONE, ask, expect_told, folder_of};
+use crate::questions::fixtures::{
+    A, B, C, D, E, FIVE, FIVE_OK, NONE, ask, expect_told, folder_of, in_turn,
+};
 use crate::questions::flushed::Flushed;
+use crate::questions::trusting::expect_trusted;
 use graph_vectors::Source;
 use std::alloc::Global;
 use std::process::Abort;
@@ -89,14 +92,19 @@ fn answers(rt: &impl Abort, alloc: Global, rows: &[Row<'_>]) -> String {
     text
 }
 
-/// Asserts how questions are answered. Each comes twice, so that what one of them marks would be
-/// seen by the next.
+/// Asserts how questions are answered, also of a graph that is trusted. Each comes twice, so that
+/// what one of them marks would be seen by the next.
 fn expect_rows(rt: &impl Abort, alloc: Global, rows: &[Row<'_>]) {
     let asked = questions(rt, alloc, rows);
     let told = answers(rt, alloc, rows);
     let asked = joined(rt, alloc, &[&asked, &asked]);
     let told = joined(rt, alloc, &[FIVE_OK, &told, &told]);
     expect_told(rt, alloc, &[FIVE], &asked, &told);
+    let mut folder = folder_of(rt, alloc, FIVE);
+    expect_trusted(rt, alloc, &mut folder, &asked, (0, &told));
+    // This folder is read whole, so that a graph answers which was checked.
+    let mut folder = in_turn(rt, alloc, &[FIVE]);
+    expect_trusted(rt, alloc, &mut folder, &asked, (0, &told));
 }
 
 #[test]

@@ -1,12 +1,8 @@
--- What the check finds may be told.
-use Rattle.std.proofs.Common.{◌≡◌, ◌∙◌, List, ap, inr, refl, subst}
+-- What the check finds may be told, and the graph may stay.
+use Rattle.std.proofs.Common.{inr, refl}
 use Rattle.std.specs.Prelude.{Ok, Err}
-use Rattle.graph_format.specs.Layer.{Layer}
-use Rattle.graph_history.specs.RightGraph.{CheckedLayers}
-use Rattle.question_lines.specs.Questions.{question_ids, question_name}
-use Rattle.question_answers.specs.Replies.{TellsOfIds}
 use Rattle.question_answers.specs.Taken.{opened_line}
-use Rattle.unchecked_questions.proofs.TrustingLemmas.{adds_line, adds_told}
+use Rattle.unchecked_questions.proofs.TrustingLemmas.{adds_line}
 use Rattle.unchecked_questions.proofs.trusting.answer_checked.Goals as goal
 
 pub returns-in-Err-clause-told : goal.returns-in-Err-clause-told
@@ -16,12 +12,9 @@ returns-in-Err-clause-told g c =
 
 pub returns-clause-told : goal.returns-clause-told
 returns-clause-told g c =
-    let layers = c.in-Ok.graph.layers in
-    let asked = c.args.question.now in
-    let added = c.in_ok-tell.ensures.told in
-    let stand : c.new-teller.result ≡ layers =
-    c.new-teller.ensures ∙ ap (λ (v : CheckedLayers). v.layers) c.as_checked-graph.ensures.same in
-    let tells =
-    subst (λ (those : List Layer). TellsOfIds those (question_name asked) (question_ids asked) added.0) stand added.1 in
-    adds_told _ added.0 c.args.block.now _ _ _ (inr (Ok layers, (c.in-Ok.ensures.opened, c.in-Ok.ensures.right), tells))
-    c.requires.block added.2 c.in_ok-finish.ensures.written
+    let adds = c.in_ok-answer_over.ensures.told in
+    (adds.0, inr (Ok c.in-Ok.whole.graph.layers, (c.in-Ok.ensures.opened, c.in-Ok.ensures.right), adds.1), adds.2)
+
+pub returns-clause-kept : goal.returns-clause-kept
+returns-clause-kept g c =
+    c.keep.ensures (g.T.Folder.tree c.args.folder.now) c.args.path.now c.in-Ok.ensures.right c.in-Ok.ensures.stays

@@ -19,7 +19,7 @@ loop-init g c =
     record {
       answered = subst (λ (left : Option (List ℕ)). Answered opens failures failures input left old old) (sym same)
           (answered_none opens failures input old);
-      graph = c.requires.graph;
+      kept = c.requires.kept;
       block = c.requires.block;
       tree = refl;
     }
@@ -41,7 +41,7 @@ loop-preserved g c =
     record {
       answered = answered_more (MayOpen (g.T.Folder.tree c.args.folder.now) c.args.path.now) _ _ _ _ _ _ _ _ _
           c.read.new.self.line c.loop.invariant.answered (c.in-Ok.ensures.line c.if-not-more.false) told;
-      graph = rw c.loop.invariant.tree at c.answer_line.ensures.graph;
+      kept = rw c.loop.invariant.tree at c.answer_line.ensures.kept;
       block = c.in_ok-answer_line.ensures.block;
       tree = c.answer_line.ensures.tree ∙ c.loop.invariant.tree;
     }

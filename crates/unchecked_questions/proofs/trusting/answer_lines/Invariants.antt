@@ -1,9 +1,8 @@
--- The lines so far were answered, and the graph is still that of the path.
+-- The lines so far were answered, and what is kept is still of the path.
 use Rattle.std.proofs.Common.{◌≡◌, []}
-use Rattle.std.specs.Prelude.{IfSome}
 use Rattle.std.specs.Io.KnownBytes.{prepend_known}
 use Rattle.graph_commands.specs.OpenerAnswer.{MayOpen}
-use Rattle.graph_unchecked.specs.Trusted.{IsTrustedAt}
+use Rattle.unchecked_questions.specs.KeptGraphs.{IsKeptAt}
 use Rattle.unchecked_questions.proofs.TrustingLemmas.{Answered}
 use Rattle.unchecked_questions.proofs.trusting.answer_lines.Given as goal
 
@@ -13,7 +12,7 @@ invariant-loop g l = record {
       (g.T.Folder.failure_count l.folder) (g.R.Read.remaining l.fn.reader)
       (prepend_known l.lines.ahead (g.R.Read.remaining l.reader))
       (g.W.Write.contents l.fn.writer) (g.W.Write.contents l.writer);
-  graph : IfSome l.graph (IsTrustedAt (g.T.Folder.tree l.fn.folder) l.path);
+  kept : IsKeptAt (g.T.Folder.tree l.fn.folder) l.path l.kept;
   block : l.block ≡ [];
   tree : g.T.Folder.tree l.folder ≡ g.T.Folder.tree l.fn.folder;
 }

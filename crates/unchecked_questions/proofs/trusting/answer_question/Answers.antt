@@ -1,41 +1,43 @@
--- What is told is found by parts, or by a check; and the parts stay those of the path.
-use Rattle.std.proofs.Common.{inl}
+-- What is told is found by parts, or by a check; and what is kept stays of the path.
+use Rattle.std.proofs.Common.{Option, inl, subst, sym}
 use Rattle.std.specs.Prelude.{Err}
+use Rattle.graph_folder.specs.Tree.{Tree}
 use Rattle.graph_layer.specs.declared.opening.error.OpenError.TheVariants.{Device}
 use Rattle.graph_commands.specs.declared.refusal.Refusal.TheVariants.{Open, Walk}
+use Rattle.graph_unchecked.specs.Trusted.{IsTrustedAt}
 use Rattle.question_answers.specs.Taken.{opened_line}
 use Rattle.unchecked_commands.proofs.AnswerLemmas.{kept-unless}
 use Rattle.unchecked_questions.specs.PartReplies.{reply_text}
 use Rattle.unchecked_questions.proofs.PartReplyLemmas.{tells-failed, tells-wanting}
-use Rattle.unchecked_questions.proofs.TrustingLemmas.{adds_line, adds_told}
+use Rattle.unchecked_questions.proofs.TrustingLemmas.{adds_line, adds_taken, adds_told}
 use Rattle.unchecked_questions.proofs.trusting.answer_question.Goals as goal
 
-pub returns-in_err-push_reply-in-Ok-clause-graph : goal.returns-in_err-push_reply-in-Ok-clause-graph
-returns-in_err-push_reply-in-Ok-clause-graph g c =
-    c.ask_by_parts.ensures.graph c.args.path.now (rw c.in-Some.is at c.requires.graph)
+pub returns-in_err-push_reply-in-Ok-clause-kept : goal.returns-in_err-push_reply-in-Ok-clause-kept
+returns-in_err-push_reply-in-Ok-clause-kept g c =
+    c.ask_by_parts.ensures.graph c.args.path.now (rw c.in-Parts.is at c.requires.kept)
 
-pub returns-in_err-finish-in-Ok-clause-graph : goal.returns-in_err-finish-in-Ok-clause-graph
-returns-in_err-finish-in-Ok-clause-graph g c =
-    c.ask_by_parts.ensures.graph c.args.path.now (rw c.in-Some.is at c.requires.graph)
+pub returns-in_err-finish-in-Ok-clause-kept : goal.returns-in_err-finish-in-Ok-clause-kept
+returns-in_err-finish-in-Ok-clause-kept g c =
+    c.ask_by_parts.ensures.graph c.args.path.now (rw c.in-Parts.is at c.requires.kept)
 
 pub returns-in_ok-finish-in-Ok-clause-told : goal.returns-in_ok-finish-in-Ok-clause-told
 returns-in_ok-finish-in-Ok-clause-told g c =
-    let of = rw c.in-Some.is at c.requires.graph in
+    let of = rw c.in-Parts.is at c.requires.kept in
     adds_told _ (reply_text c.in-Ok.reply) c.args.block.now _ _ _ (inl (c.in-Ok.ensures.told c.args.path.now of))
     c.requires.block c.in_ok-push_reply-in-Ok.ensures c.in_ok-finish-in-Ok.ensures.written
 
-pub returns-in_ok-finish-in-Ok-clause-graph : goal.returns-in_ok-finish-in-Ok-clause-graph
-returns-in_ok-finish-in-Ok-clause-graph g c =
-    c.ask_by_parts.ensures.graph c.args.path.now (rw c.in-Some.is at c.requires.graph)
+pub returns-in_ok-finish-in-Ok-clause-kept : goal.returns-in_ok-finish-in-Ok-clause-kept
+returns-in_ok-finish-in-Ok-clause-kept g c =
+    c.ask_by_parts.ensures.graph c.args.path.now (rw c.in-Parts.is at c.requires.kept)
 
 pub returns-in-Err-Device-clause-told : goal.returns-in-Err-Device-clause-told
 returns-in-Err-Device-clause-told g c =
     adds_line c.write_refused.result _ (opened_line (Err (Open Device))) _ _
     (inl (tells-failed _ _ _ c.args.question.now c.requires.asks)) c.write_refused.ensures
 
-pub returns-in-Err-Device-clause-graph : goal.returns-in-Err-Device-clause-graph
-returns-in-Err-Device-clause-graph g c =
-    c.ask_by_parts.ensures.graph c.args.path.now (rw c.in-Some.is at c.requires.graph)
+pub returns-in-Err-Device-clause-kept : goal.returns-in-Err-Device-clause-kept
+returns-in-Err-Device-clause-kept g c =
+    c.ask_by_parts.ensures.graph c.args.path.now (rw c.in-Parts.is at c.requires.kept)
 
 pub returns-in-Err-OutOfMemory-clause-told : goal.returns-in-Err-OutOfMemory-clause-told
 returns-in-Err-OutOfMemory-clause-told g c =
@@ -48,9 +50,9 @@ returns-in-Err-OutOfMemory-clause-told g c =
     (inl (tells-wanting _ before after c.args.question.now kept c.requires.asks))
     c.write_refused-in-Err-OutOfMemory.ensures
 
-pub returns-in-Err-OutOfMemory-clause-graph : goal.returns-in-Err-OutOfMemory-clause-graph
-returns-in-Err-OutOfMemory-clause-graph g c =
-    c.ask_by_parts.ensures.graph c.args.path.now (rw c.in-Some.is at c.requires.graph)
+pub returns-in-Err-OutOfMemory-clause-kept : goal.returns-in-Err-OutOfMemory-clause-kept
+returns-in-Err-OutOfMemory-clause-kept g c =
+    c.ask_by_parts.ensures.graph c.args.path.now (rw c.in-Parts.is at c.requires.kept)
 
 pub returns-in-Err-NotByParts-clause-told : goal.returns-in-Err-NotByParts-clause-told
 returns-in-Err-NotByParts-clause-told g c =
@@ -59,8 +61,20 @@ returns-in-Err-NotByParts-clause-told g c =
     let kept =
     kept-unless c.ask_by_parts.result before after (λ device. let is = c.in-Err-NotByParts.is in cc)
     c.ask_by_parts.ensures.failures in
-    rw (c.ask_by_parts.ensures.tree, kept) at c.answer_checked-in-Err-NotByParts.ensures.told
+    rw (c.ask_by_parts.ensures.tree, kept) at c.answer_checked.ensures.told
 
-pub returns-in-Err-NotByParts-clause-graph : goal.returns-in-Err-NotByParts-clause-graph
-returns-in-Err-NotByParts-clause-graph g c =
-    c.ask_by_parts.ensures.graph c.args.path.now (rw c.in-Some.is at c.requires.graph)
+pub returns-in-Err-NotByParts-clause-kept : goal.returns-in-Err-NotByParts-clause-kept
+returns-in-Err-NotByParts-clause-kept g c = rw c.ask_by_parts.ensures.tree at c.answer_checked.ensures.kept
+
+pub answer_checked-requires-clause-kept : goal.answer_checked-requires-clause-kept
+answer_checked-requires-clause-kept g c =
+    let path = c.args.path.now in
+    subst (λ (known : Option Tree). IsTrustedAt known path c.ask_by_parts.new.graph) (sym c.ask_by_parts.ensures.tree)
+    (c.ask_by_parts.ensures.graph path (rw c.in-Parts.is at c.requires.kept))
+
+pub returns-in-Whole-clause-told : goal.returns-in-Whole-clause-told
+returns-in-Whole-clause-told g c =
+    let failures = g.T.Folder.failure_count c.args.folder.now in
+    let stays = rw c.in-Whole.is at c.requires.kept in
+    adds_taken c.answer_over.result _ failures failures c.args.question.now _ _ _ (stays.0 failures, stays.1)
+    c.answer_over.ensures.told

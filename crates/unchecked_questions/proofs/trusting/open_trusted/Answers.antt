@@ -16,14 +16,14 @@ returns-in-Ok-clause-count g c =
     let so = c.num_commits-commits.ensures known path c.in-Ok.ensures.graph in
     inl (kept, λ layers one. so_of_only known path before after IsCountOf c.num_commits-commits.result kept so layers one)
 
-pub returns-in-Ok-open_checked-clause-count : goal.returns-in-Ok-open_checked-clause-count
-returns-in-Ok-open_checked-clause-count g c =
+pub returns-in-Ok-open_whole-clause-count : goal.returns-in-Ok-open_whole-clause-count
+returns-in-Ok-open_whole-clause-count g c =
     let before = g.T.Folder.failure_count c.args.folder.now in
     let middle = g.T.Folder.failure_count c.open.new.folder in
     let kept =
     kept-unless c.open.result before middle (λ device. let is = c.in-Err-NotByParts.is in cc) c.open.ensures.failures in
-    let opened = rw (c.open.ensures.tree, kept) at c.in-Ok-open_checked.ensures.opened in
-    inr (Ok c.in-Ok-open_checked.graph.layers, (opened, c.in-Ok-open_checked.ensures.right), search rules)
+    let opened = rw (c.open.ensures.tree, kept) at c.in-Ok-open_whole.ensures.opened in
+    inr (Ok c.in-Ok-open_whole.whole.graph.layers, (opened, c.in-Ok-open_whole.ensures.right), search rules)
 
 pub returns-in-Err-clause-count : goal.returns-in-Err-clause-count
 returns-in-Err-clause-count g c =
@@ -33,3 +33,8 @@ returns-in-Err-clause-count g c =
     kept-unless c.open.result before middle (λ device. let is = c.in-Err-NotByParts.is in cc) c.open.ensures.failures in
     let refused = rw (c.open.ensures.tree, kept) at c.in-Err.ensures.refused in
     inr (Err c.in-Err.refusal, refused, refl)
+
+pub returns-in-Ok-open_whole-clause-kept : goal.returns-in-Ok-open_whole-clause-kept
+returns-in-Ok-open_whole-clause-kept g c =
+    c.keep.ensures (g.T.Folder.tree c.args.folder.now) c.args.path.now c.in-Ok-open_whole.ensures.right
+    (λ is. rw c.open.ensures.tree at (c.in-Ok-open_whole.ensures.stays is))

@@ -1,5 +1,5 @@
 -- A question about one id and some others has some.
-use Rattle.std.proofs.Common.{◌≡◌, codes, map, string_bytes, arith, length, true, false, ap, inr, refl}
+use Rattle.std.proofs.Common.{codes, map, string_bytes, arith, length, true, false, ap, inr, refl}
 use Rattle.history_program.proofs.WordsLemmas.{known_words, many_asked}
 use Rattle.history_program.proofs.command.Command.merge_base_ids.Goals as goal
 

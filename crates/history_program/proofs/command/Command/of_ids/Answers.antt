@@ -58,3 +58,9 @@ returns-in-text-3-clause-other c none help version asked asks =
     c.merge_base_ids.ensures.other none help version asked
     (subst (λ (name : List ℕ). AskAfterName help version
     (name ∷ c.args.path.now ∷ c.args.first.now ∷ map string_bytes c.args.others.now) asked) c.in-text-3.is asks)
+
+pub returns-in-ask-clause-asked : goal.returns-in-ask-clause-asked
+returns-in-ask-clause-asked c help version =
+    subst (λ (name : List ℕ). IfSome c.ask_unchecked.result (AskAfterName help version
+    (name ∷ c.args.path.now ∷ c.args.first.now ∷ map string_bytes c.args.others.now)))
+    (sym c.in-ask.is) (c.ask_unchecked.ensures.asked help version)
