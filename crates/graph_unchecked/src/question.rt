@@ -17,8 +17,8 @@ use std::alloc::Global;
 
 /// Whether the commit with the first id is an ancestor of the one with the second, or the same, in
 /// the graph that the path opens. Its files are read by parts: of each layer its first bytes, and
-/// ids, records and words of the extra edge list. What is read is kept until the answer, with a bit
-/// for each commit of the graph.
+/// ids, records and words of the extra edge list. What is read is kept until the answer, with some
+/// twenty bytes for each commit that is reached.
 ///
 /// The graph is not checked. In one that is right the answer is exact. In any other a yes still
 /// names a walk that is there, but a no promises nothing.
@@ -83,7 +83,7 @@ pub fn ancestor_walk<T: Folder>(
 /// The merge bases of the commit with the first id and those with the others, the least position
 /// first, and how far they have come apart, in the graph that the path opens. The bases are what
 /// `git merge-base --all FIRST OTHERS..` names. The files are read by parts, as [`is_ancestor`]
-/// reads them; what is read is kept, with two bytes for each commit of the graph.
+/// reads them; what is read is kept, with a few dozen bytes for each commit that is reached.
 ///
 /// The graph is not checked. In one that is right the answer is exact. In any other each base is a
 /// common ancestor along the parents that were read, and nothing else is promised of the numbers

@@ -21,17 +21,17 @@ use crate::ids::read_ids;
 use crate::lookup::{find_all, find_both};
 use crate::source::PartCommits;
 use crate::unread::Unread;
+use commit_search::FewSearcher;
 use gix_commitgraph::Position;
 use gix_hash_core::{ObjectId, oid};
-use graph_ancestors::AnySearcher;
-use graph_bases::{AnyComparer, Comparison};
+use graph_bases::{Comparison, FewComparer};
 use graph_folder::folder::Folder;
 use graph_parts::parts::GraphParts;
 use std::alloc::Global;
 
 /// Whether the commit with the first id is an ancestor of the one with the second, or the same.
 pub(crate) fn told_between<T: Folder>(
-    searcher: &mut AnySearcher,
+    searcher: &mut FewSearcher,
     alloc: Global,
     folder: &mut T,
     parts: &mut GraphParts,
@@ -60,7 +60,7 @@ pub(crate) fn told_between<T: Folder>(
 
 /// The ids on a walk along parents from the commit with the first id to the one with the second.
 pub(crate) fn walk_between_ids<T: Folder>(
-    searcher: &mut AnySearcher,
+    searcher: &mut FewSearcher,
     alloc: Global,
     folder: &mut T,
     parts: &mut GraphParts,
@@ -90,7 +90,7 @@ pub(crate) fn walk_between_ids<T: Folder>(
 /// What the commit with the first id and those with the others have in common, and the ids of the
 /// merge bases.
 pub(crate) fn compared_among<T: Folder>(
-    comparer: &mut AnyComparer,
+    comparer: &mut FewComparer,
     alloc: Global,
     folder: &mut T,
     parts: &mut GraphParts,
@@ -118,7 +118,7 @@ pub(crate) fn compared_among<T: Folder>(
 
 /// Whether a walk along parents leads from the second commit to the first.
 fn leads<T: Folder>(
-    searcher: &mut AnySearcher,
+    searcher: &mut FewSearcher,
     alloc: Global,
     folder: &mut T,
     parts: &mut GraphParts,
@@ -145,7 +145,7 @@ fn leads<T: Folder>(
 
 /// The ids on a walk along parents from the first commit to the second.
 fn walk_ids<T: Folder>(
-    searcher: &mut AnySearcher,
+    searcher: &mut FewSearcher,
     alloc: Global,
     folder: &mut T,
     parts: &mut GraphParts,
@@ -174,7 +174,7 @@ fn walk_ids<T: Folder>(
 
 /// The positions on a walk along parents from the first commit to the second.
 fn walk_between<T: Folder>(
-    searcher: &mut AnySearcher,
+    searcher: &mut FewSearcher,
     alloc: Global,
     folder: &mut T,
     parts: &mut GraphParts,
@@ -202,7 +202,7 @@ fn walk_between<T: Folder>(
 
 /// What the first commit and the others have in common, and the ids of the merge bases.
 fn compared<T: Folder>(
-    comparer: &mut AnyComparer,
+    comparer: &mut FewComparer,
     alloc: Global,
     folder: &mut T,
     parts: &mut GraphParts,
@@ -229,7 +229,7 @@ fn compared<T: Folder>(
 
 /// What the first commit and the others have in common.
 fn bases_of<T: Folder>(
-    comparer: &mut AnyComparer,
+    comparer: &mut FewComparer,
     alloc: Global,
     folder: &mut T,
     parts: &mut GraphParts,

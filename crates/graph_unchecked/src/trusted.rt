@@ -15,10 +15,10 @@ use crate::between::Between;
 use crate::record::{found_commit, found_parents};
 use crate::search::{compared_among, told_between, walk_between_ids};
 use crate::unread::Unread;
+use commit_search::FewSearcher;
 use gix_commitgraph::Position;
 use gix_hash_core::{ObjectId, oid};
-use graph_ancestors::AnySearcher;
-use graph_bases::AnyComparer;
+use graph_bases::FewComparer;
 use graph_folder::folder::Folder;
 use graph_parts::opening::open_parts;
 use graph_parts::parts::{GraphParts, StoredCommit};
@@ -40,8 +40,8 @@ use std::marker::Model;
 pub struct TrustedGraph {
     alloc: Global,
     parts: GraphParts,
-    searcher: AnySearcher,
-    comparer: AnyComparer,
+    searcher: FewSearcher,
+    comparer: FewComparer,
 }
 
 impl Model for TrustedGraph {
@@ -231,8 +231,8 @@ fn open_unasked<T: Folder>(
         Some(parts) => Ok(TrustedGraph {
             alloc,
             parts,
-            searcher: AnySearcher::new(alloc),
-            comparer: AnyComparer::new(alloc),
+            searcher: FewSearcher::new(alloc),
+            comparer: FewComparer::new(alloc),
         }),
         None => Err(Unread::NotByParts),
     }
