@@ -1,25 +1,21 @@
 -- what is kept of pieces after a read
 use Rattle.std.proofs.Common.{◌≡◌, ℕ, suc, zero, ◌+◌, ◌-◌, ◌*◌, ◌/◌, ◌%◌, ◌<◌, ◌≤◌, ◌⊎◌, List, [], ◌∷◌, ◌++◌, length, min, Bool}
-use Rattle.std.proofs.Common.{◌↔◌, true, false}
+use Rattle.std.proofs.Common.{true, false, take, drop, if◌then◌else◌, Result, Ok, Err, IfOk, is_ok, is_err}
 use Rattle.std.proofs.Common.{Option, Some, None, Vec, slice_range, refl, sym, ap, subst, ◌∙◌, arith, inl, inr, get_or}
-use Rattle.std.proofs.Common.{if◌then◌else◌}
-use Rattle.std.specs.BTreeMap.{IsEmpty, IsUnchanged, Updates, get, is_at}
 use Rattle.std.specs.Global.{Global}
 use Rattle.std.specs.List.{slice_get}
-use Rattle.std.specs.Map.{lookup}
 use Rattle.std.specs.Option.{ForSome, IfNone, IfSome, IsSomeAnd, is_some}
-use Rattle.std.specs.Ordering.{is_eq, nat_cmp}
-use Rattle.std.specs.declared.cmp.Ordering.{Ordering}
-use Rattle.std.specs.declared.cmp.Ordering.TheVariants.{Less, Equal, Greater}
 use Rattle.std.proofs.Math.ListN.{set}
 use Rattle.std.proofs.Math.Nat.{mul-add, mul-le-mul_left}
-use Rattle.std.proofs.lemmas.Map.Lookups.{exact_unsigned}
+use Rattle.std.proofs.lemmas.List.{drop-append-le, drop_at, length-append, length-drop, length_push, take-append-le, take_all}
 use Rattle.std.proofs.lemmas.Option.{same_Some, slice_get_read, slice_get_within}
 use Rattle.graph_format.proofs.PieceLemmas.{slice_range-slice_range}
 use Rattle.graph_folder.specs.Tree.{Tree, file_at}
-use Rattle.graph_parts.specs.PieceBlocks.{AddsStretch, AreOf, AreSized, HasStretch, IsPieceOf, KeepsNothing, KeepsSame}
-use Rattle.graph_parts.specs.PieceBlocks.{LacksStretch, ReadsMore, stretch_first, stretch_len, stretch_start}
+use Rattle.graph_parts.specs.PieceBlocks.{AddsStretch, AreOf, AreSized, CanKeep, HasBlock, HasStretch, IsPieceKept, IsPieceOf}
+use Rattle.graph_parts.specs.PieceBlocks.{KeepsNothing, KeepsSame, LacksBlock, ReadsMore, stretch_first, stretch_len}
+use Rattle.graph_parts.specs.PieceBlocks.{stretch_start}
 use Rattle.graph_parts.specs.declared.pieces.TheConstants.{BLOCK_LEN}
+use Rattle.graph_parts.specs.declared.pieces.Kept.{Kept}
 use Rattle.graph_parts.specs.declared.pieces.Pieces.{Pieces}
 use Rattle.graph_parts.specs.declared.pieces.Place.{Place}
 use Rattle.graph_parts.specs.declared.pieces.Stretch.{Stretch}
@@ -35,21 +31,13 @@ piece-fits place index within =
     piece-in place.size (index % BLOCK_LEN) (min BLOCK_LEN (place.count - BLOCK_LEN * (index / BLOCK_LEN))) (omega arith)
 
 -- the bytes of a stretch are those of a file
-abbrev IsStretchOf : List ℕ → Stretch → Vec ℕ Global → Place → Type 0
+abbrev IsStretchOf : List ℕ → Stretch → List ℕ → Place → Type 0
 IsStretchOf file stretch bytes place =
-    slice_range file (stretch_start place stretch) (stretch_start place stretch + stretch_len place stretch) ≡ bytes.items
+    slice_range file (stretch_start place stretch) (stretch_start place stretch + stretch_len place stretch) ≡ bytes
 
-module _ (old new : Pieces) (added : Stretch) (bytes : Vec ℕ Global) (adds : AddsStretch old new added bytes) where
+module _ (old new : Pieces) (added : Stretch) (bytes : List ℕ) (adds : AddsStretch old new added bytes) where
   adds-kept : (file : List ℕ) → AreOf new file → AreOf old file
   adds-kept file of s b keeps = subst (IsStretchOf file s b) adds.place (of s b (adds.stays s b keeps))
-
-  adds-sized : AreSized old → length bytes.items ≡ stretch_len old.place added → AreSized new
-  adds-sized sized long s b keeps =
-      subst (λ (p : Place). length b.items ≡ stretch_len p s) (sym adds.place)
-      (elim (adds.only s b keeps) [
-        | inl kept ↦ sized s b kept
-        | inr is ↦ rw (is.0, is.1) long
-      ])
 
   adds-of : (file : List ℕ) → AreOf old file → IsStretchOf file added bytes old.place → AreOf new file
   adds-of file of part s b keeps =
@@ -61,29 +49,48 @@ module _ (old new : Pieces) (added : Stretch) (bytes : Vec ℕ Global) (adds : A
 
 -- the same is kept
 pub same-start : (pieces : Pieces) → KeepsSame pieces pieces
-same-start pieces = record { place = refl; same = λ s b. ((λ keeps. keeps), (λ keeps. keeps)) }
+same-start pieces = record {
+  place = refl;
+  alone = refl;
+  bytes = refl;
+  blocks = λ number block. ((λ has. has), (λ has. has));
+}
+
+module _ (old new : Pieces) (is : KeepsSame old new) where
+  same-there : (s : Stretch) (b : List ℕ) → HasStretch old s b → HasStretch new s b
+  same-there (Block number) b keeps = (keeps.0, (is.blocks number keeps.0).1 keeps.1, keeps.2)
+  same-there (Alone index) b keeps = (keeps.0, rw is.alone keeps.1, rw (is.bytes, is.place) keeps.2)
+
+  same-back : (s : Stretch) (b : List ℕ) → HasStretch new s b → HasStretch old s b
+  same-back (Block number) b keeps = (keeps.0, (is.blocks number keeps.0).0 keeps.1, keeps.2)
+  same-back (Alone index) b keeps = (keeps.0, rw is.alone at keeps.1, rw (is.bytes, is.place) at keeps.2)
+
+  pub same-sized : AreSized old → AreSized new
+  same-sized sized = record {
+    blocks = λ number block has. rw is.place (sized.blocks number block ((is.blocks number block).0 has));
+    alone = rw (is.bytes, is.place, is.alone) sized.alone;
+  }
 
 -- nothing was read
 pub reads-same : (known : Option Tree) (path : List ℕ) (old new : Pieces) → KeepsSame old new → AreSized old
     → ReadsMore known path old new
 reads-same known path old new is sized = record {
   place = is.place;
-  sized = λ s b keeps.
-      subst (λ (p : Place). length b.items ≡ stretch_len p s) (sym is.place) (sized s b ((is.same s b).0 keeps));
-  kept = λ file of s b keeps. subst (IsStretchOf file s b) is.place (of s b ((is.same s b).1 keeps));
+  sized = same-sized old new is sized;
+  kept = λ file of s b keeps. subst (IsStretchOf file s b) is.place (of s b (same-there old new is s b keeps));
   told = λ tree known_as file stands of s b keeps.
-      subst (IsStretchOf file s b) (sym is.place) (of s b ((is.same s b).0 keeps));
+      subst (IsStretchOf file s b) (sym is.place) (of s b (same-back old new is s b keeps));
 }
 
 -- a stretch was read
-pub reads-stretch : (known : Option Tree) (path : List ℕ) (old new : Pieces) (added : Stretch) (bytes : Vec ℕ Global)
-    → AddsStretch old new added bytes → AreSized old → length bytes.items ≡ stretch_len old.place added
+pub reads-stretch : (known : Option Tree) (path : List ℕ) (old new : Pieces) (added : Stretch) (bytes : List ℕ)
+    → AddsStretch old new added bytes → AreSized new
     → ForSome known (λ (tree : Tree). IsSomeAnd (file_at tree path) (λ file. slice_range file (stretch_start old.place added)
-    (stretch_start old.place added + stretch_len old.place added) ≡ bytes.items))
+    (stretch_start old.place added + stretch_len old.place added) ≡ bytes))
     → ReadsMore known path old new
-reads-stretch known path old new added bytes adds sized long part = record {
+reads-stretch known path old new added bytes adds sized part = record {
   place = adds.place;
-  sized = adds-sized old new added bytes adds sized long;
+  sized = sized;
   kept = adds-kept old new added bytes adds;
   told = λ tree is file stands of.
       adds-of old new added bytes adds file of (rw stands at (part tree is));
@@ -103,39 +110,36 @@ get-push [] k x is = let clash : None ≡ Some (Some x) = is in cc
 get-push (y ∷ ys) zero x is = is
 get-push (y ∷ ys) (suc k) x is = get-push ys k x is
 
-same-push : (old now new : Pieces) → KeepsSame old now → new.place ≡ now.place → new.alone ≡ now.alone
+same-push : (old now new : Pieces) → KeepsSame old now → new.place ≡ now.place → new.alone ≡ now.alone → new.bytes ≡ now.bytes
     → new.blocks.items ≡ now.blocks.items ++ None ∷ [] → KeepsSame old new
-same-push old now new before place alone is = record { place = place ∙ before.place; same = same }
-  where
-    same : (s : Stretch) (b : Vec ℕ Global) → HasStretch new s b ↔ HasStretch old s b
-    same (Block k) b = (
-      (λ keeps. (before.same (Block k) b).0 (get-pushed now.blocks.items k b (rw is at keeps))),
-      (λ keeps. rw is (get-push now.blocks.items k b ((before.same (Block k) b).1 keeps))),
-    )
-    same (Alone k) b = (
-      (λ keeps. (before.same (Alone k) b).0 (rw alone at keeps)),
-      (λ keeps. rw alone ((before.same (Alone k) b).1 keeps)),
-    )
+same-push old now new before place alone bytes is = record {
+  place = place ∙ before.place;
+  alone = alone ∙ before.alone;
+  bytes = ap (λ (v : Vec ℕ Global). v.items) bytes ∙ before.bytes;
+  blocks = λ k block. (
+    (λ has. (before.blocks k block).0 (get-pushed now.blocks.items k block (rw is at has))),
+    (λ has. rw is (get-push now.blocks.items k block ((before.blocks k block).1 has))),
+  );
+}
 
-same-items : (old now new : Pieces) → KeepsSame old now → new.place ≡ now.place → new.alone ≡ now.alone
+same-items : (old now new : Pieces) → KeepsSame old now → new.place ≡ now.place → new.alone ≡ now.alone → new.bytes ≡ now.bytes
     → new.blocks.items ≡ now.blocks.items → KeepsSame old new
-same-items old now new before place alone is = record { place = place ∙ before.place; same = same }
-  where
-    same : (s : Stretch) (b : Vec ℕ Global) → HasStretch new s b ↔ HasStretch old s b
-    same (Block k) b = (
-      (λ keeps. (before.same (Block k) b).0 (rw is at keeps)),
-      (λ keeps. rw is ((before.same (Block k) b).1 keeps)),
-    )
-    same (Alone k) b = (
-      (λ keeps. (before.same (Alone k) b).0 (rw alone at keeps)),
-      (λ keeps. rw alone ((before.same (Alone k) b).1 keeps)),
-    )
+same-items old now new before place alone bytes is = record {
+  place = place ∙ before.place;
+  alone = alone ∙ before.alone;
+  bytes = ap (λ (v : Vec ℕ Global). v.items) bytes ∙ before.bytes;
+  blocks = λ k block. (
+    (λ has. (before.blocks k block).0 (rw is at has)),
+    (λ has. rw is ((before.blocks k block).1 has)),
+  );
+}
 
 -- room for one block more, unless there was no memory for it
 pub same-unless : (old now new : Pieces) (b : Bool) → KeepsSame old now → new.place ≡ now.place → new.alone ≡ now.alone
-    → new.blocks.items ≡ (if b then now.blocks.items ++ None ∷ [] else now.blocks.items) → KeepsSame old new
-same-unless old now new true before place alone is = same-push old now new before place alone is
-same-unless old now new false before place alone is = same-items old now new before place alone is
+    → new.bytes ≡ now.bytes → new.blocks.items ≡ (if b then now.blocks.items ++ None ∷ [] else now.blocks.items)
+    → KeepsSame old new
+same-unless old now new true before place alone bytes is = same-push old now new before place alone bytes is
+same-unless old now new false before place alone bytes is = same-items old now new before place alone bytes is
 
 set-there : {X : Type 0} (xs : List X) (i : ℕ) (x : X) → i < length xs → slice_get (set xs i x) i ≡ Some x
 set-there [] i x h = absurd (omega (arith, h))
@@ -162,81 +166,189 @@ set-stays (z ∷ zs) (suc i) zero x y is other = is
 set-stays (z ∷ zs) (suc i) (suc j) x y is other = set-stays zs i j x y is (λ e. other (ap suc e))
 
 -- a block is put where none is kept
-pub adds-block : (old grown new : Pieces) (number : ℕ) (block : Vec ℕ Global) → KeepsSame old grown
-    → number < length grown.blocks.items → LacksStretch old (Block number) → new.place ≡ grown.place → new.alone ≡ grown.alone
-    → new.blocks.items ≡ set grown.blocks.items number (Some block) → AddsStretch old new (Block number) block
-adds-block old grown new number block before room none place alone is = record {
-  place = place ∙ before.place;
-  stays = stays;
-  only = only;
-  there = rw is (set-there grown.blocks.items number (Some block) room);
-}
-  where
-    stays : (s : Stretch) (b : Vec ℕ Global) → HasStretch old s b → HasStretch new s b
-    stays (Block k) b keeps =
-        rw is (set-stays grown.blocks.items number k (Some block) (Some b) ((before.same (Block k) b).1 keeps)
-        (λ e. none b (subst (λ (n : ℕ). HasStretch old (Block n) b) e keeps)))
-    stays (Alone k) b keeps = rw alone ((before.same (Alone k) b).1 keeps)
+module _ (old grown new : Pieces) (number : ℕ) (block : Vec ℕ Global) (before : KeepsSame old grown)
+    (room : number < length grown.blocks.items) (none : LacksBlock old number) (place : new.place ≡ grown.place)
+    (alone : new.alone ≡ grown.alone) (bytes : new.bytes ≡ grown.bytes)
+    (is : new.blocks.items ≡ set grown.blocks.items number (Some block)) where
+  same-place : new.place ≡ old.place
+  same-place = place ∙ before.place
 
-    only : (s : Stretch) (b : Vec ℕ Global) → HasStretch new s b
-        → HasStretch old s b ⊎ ((s ≡ Block number) × (b ≡ block))
-    only (Block k) b keeps =
-        elim (set-either grown.blocks.items number k (Some block) (Some b) (rw is at keeps)) [
-          | inl here ↦ inl ((before.same (Block k) b).0 here)
-          | inr at ↦ inr (ap Block at.0, same_Some _ _ at.1)
-        ]
-    only (Alone k) b keeps = inl ((before.same (Alone k) b).0 (rw alone at keeps))
+  same-alone : new.alone ≡ old.alone
+  same-alone = alone ∙ before.alone
 
-equal-if : (o : Ordering) → is_eq o ≡ true → o ≡ Equal
-equal-if Less is = let clash : false ≡ true = is in cc
-equal-if Equal is = refl
-equal-if Greater is = let clash : false ≡ true = is in cc
+  same-bytes : new.bytes.items ≡ old.bytes.items
+  same-bytes = ap (λ (v : Vec ℕ Global). v.items) bytes ∙ before.bytes
 
--- a piece is put alone where none is kept so
-pub adds-alone : (old new : Pieces) (index : ℕ) (piece : Vec ℕ Global) → LacksStretch old (Alone index) → new.place ≡ old.place
-    → new.blocks ≡ old.blocks → Updates nat_cmp old.alone new.alone index (Some piece) → AddsStretch old new (Alone index) piece
-adds-alone old new index piece none place blocks updates = record {
-  place = place;
-  stays = stays;
-  only = only;
-  there = updates.1;
-}
-  where
-    stays-by : (k : ℕ) (b : Vec ℕ Global) → get nat_cmp old.alone k ≡ Some b → (v : Bool) → is_at (nat_cmp index) k ≡ v
-        → get nat_cmp new.alone k ≡ Some b
-    stays-by k b keeps true here =
-        let same : index ≡ k = exact_unsigned index k (equal-if (nat_cmp index k) here) in
-        absurd (none b (subst (λ (n : ℕ). get nat_cmp old.alone n ≡ Some b) (sym same) keeps))
-    stays-by k b keeps false apart = updates.2 k apart ∙ keeps
+  block-there : HasBlock new number block
+  block-there = rw is (set-there grown.blocks.items number (Some block) room)
 
-    stays : (s : Stretch) (b : Vec ℕ Global) → HasStretch old s b → HasStretch new s b
-    stays (Block k) b keeps = rw blocks keeps
-    stays (Alone k) b keeps = stays-by k b keeps (is_at (nat_cmp index) k) refl
+  block-stays : (k : ℕ) (b : Vec ℕ Global) → HasBlock old k b → HasBlock new k b
+  block-stays k b has =
+      rw is (set-stays grown.blocks.items number k (Some block) (Some b) ((before.blocks k b).1 has)
+      (λ e. none b (subst (λ (n : ℕ). HasBlock old n b) e has)))
 
-    only-by : (k : ℕ) (b : Vec ℕ Global) → get nat_cmp new.alone k ≡ Some b → (v : Bool) → is_at (nat_cmp index) k ≡ v
-        → HasStretch old (Alone k) b ⊎ ((Alone k ≡ Alone index) × (b ≡ piece))
-    only-by k b keeps true here =
-        let same : index ≡ k = exact_unsigned index k (equal-if (nat_cmp index k) here) in
-        let at : Some piece ≡ Some b =
-        sym updates.1 ∙ ap (λ (n : ℕ). get nat_cmp new.alone n) same ∙ keeps in
-        inr (ap Alone (sym same), sym (same_Some _ _ at))
-    only-by k b keeps false apart = inl (sym (updates.2 k apart) ∙ keeps)
+  block-only : (k : ℕ) (b : Vec ℕ Global) → HasBlock new k b → HasBlock old k b ⊎ ((k ≡ number) × (b ≡ block))
+  block-only k b has =
+      elim (set-either grown.blocks.items number k (Some block) (Some b) (rw is at has)) [
+        | inl here ↦ inl ((before.blocks k b).0 here)
+        | inr at ↦ inr (at.0, same_Some _ _ at.1)
+      ]
 
-    only : (s : Stretch) (b : Vec ℕ Global) → HasStretch new s b
-        → HasStretch old s b ⊎ ((s ≡ Alone index) × (b ≡ piece))
-    only (Block k) b keeps = inl (rw blocks at keeps)
-    only (Alone k) b keeps = only-by k b keeps (is_at (nat_cmp index) k) refl
+  stays : (s : Stretch) (b : List ℕ) → HasStretch old s b → HasStretch new s b
+  stays (Block k) b keeps = (keeps.0, block-stays k keeps.0 keeps.1, keeps.2)
+  stays (Alone k) b keeps = (keeps.0, rw same-alone keeps.1, rw (same-bytes, same-place) keeps.2)
 
--- no piece more was put alone
-pub same-alone : (old new : Pieces) → new.place ≡ old.place → new.blocks ≡ old.blocks → IsUnchanged old.alone new.alone
-    → KeepsSame old new
-same-alone old new place blocks is = record { place = place; same = same }
-  where
-    same : (s : Stretch) (b : Vec ℕ Global) → HasStretch new s b ↔ HasStretch old s b
-    same (Block k) b = ((λ keeps. rw blocks at keeps), (λ keeps. rw blocks keeps))
-    same (Alone k) b =
-        let alike : get nat_cmp new.alone k ≡ get nat_cmp old.alone k = ap (lookup (is_at (nat_cmp k))) is in
-        ((λ keeps. sym alike ∙ keeps), (λ keeps. alike ∙ keeps))
+  only : (s : Stretch) (b : List ℕ) → HasStretch new s b
+      → HasStretch old s b ⊎ ((s ≡ Block number) × (b ≡ block.items))
+  only (Block k) b keeps =
+      elim (block-only k keeps.0 keeps.1) [
+        | inl here ↦ inl (keeps.0, here, keeps.2)
+        | inr at ↦ inr (ap Block at.0, sym keeps.2 ∙ ap (λ (v : Vec ℕ Global). v.items) at.1)
+      ]
+  only (Alone k) b keeps = inl (keeps.0, rw same-alone at keeps.1, rw (same-bytes, same-place) at keeps.2)
+
+  pub adds-block : AddsStretch old new (Block number) block.items
+  adds-block = record { place = same-place; stays = stays; only = only; there = (block, block-there, refl) }
+
+  pub block-sized : AreSized old → length block.items ≡ stretch_len old.place (Block number) → AreSized new
+  block-sized sized long = record {
+    blocks = λ k b has.
+        rw same-place
+        (elim (block-only k b has) [
+          | inl here ↦ sized.blocks k b here
+          | inr at ↦ rw (at.0, at.1) long
+        ]);
+    alone = rw (same-bytes, same-place, same-alone) sized.alone;
+  }
+
+-- a piece of a block that was put
+pub block-kept : (blocks : List (Option (Vec ℕ Global))) (number index : ℕ) (block : Vec ℕ Global) → number < length blocks
+    → number ≡ index / BLOCK_LEN
+    → (b : Vec ℕ Global) × (slice_get (set blocks number (Some block)) (index / BLOCK_LEN) ≡ Some (Some b))
+block-kept blocks number index block room at = (
+  block,
+  subst (λ (n : ℕ). slice_get (set blocks number (Some block)) n ≡ Some (Some block)) at
+      (set-there blocks number (Some block) room),
+)
+
+-- parts of lists with more behind them
+slice-left : (xs ys : List ℕ) (i j : ℕ) → i ≤ j → j ≤ length xs → slice_range (xs ++ ys) i j ≡ slice_range xs i j
+slice-left xs ys i j up within =
+    ap (take (j - i)) (drop-append-le i xs ys (omega (arith, up, within)))
+    ∙ take-append-le (j - i) (drop i xs) ys (omega (arith, within, length-drop i xs))
+
+slice-right : (xs ys : List ℕ) (i j : ℕ) → i ≡ length xs → j ≡ length xs + length ys → slice_range (xs ++ ys) i j ≡ ys
+slice-right xs ys i j start end =
+    ap (take (j - i)) (drop_at xs ys i (sym start)) ∙ take_all (j - i) ys (omega (arith, start, end))
+
+get-left : {X : Type 0} (xs ys : List X) (k : ℕ) (x : X) → slice_get xs k ≡ Some x → slice_get (xs ++ ys) k ≡ Some x
+get-left [] ys k x is = let clash : None ≡ Some x = is in cc
+get-left (z ∷ zs) ys zero x is = is
+get-left (z ∷ zs) ys (suc k) x is = get-left zs ys k x is
+
+get-last : {X : Type 0} (xs : List X) (x : X) → slice_get (xs ++ x ∷ []) (length xs) ≡ Some x
+get-last [] x = refl
+get-last (z ∷ zs) x = get-last zs x
+
+-- an element of a list with one more is one of the list, or the new one
+get-either : {X : Type 0} (xs : List X) (x y : X) (k : ℕ) → slice_get (xs ++ x ∷ []) k ≡ Some y
+    → (slice_get xs k ≡ Some y) ⊎ ((k ≡ length xs) × (y ≡ x))
+get-either [] x y zero is = inr (refl, sym (same_Some _ _ is))
+get-either [] x y (suc k) is = inl is
+get-either (z ∷ zs) x y zero is = inl is
+get-either (z ∷ zs) x y (suc k) is =
+    elim (get-either zs x y k is) [ inl kept ↦ inl kept | inr same ↦ inr (ap suc same.0, same.1) ]
+
+-- a piece that is kept alone lies among the bytes
+pub alone-within : (pieces : Pieces) (number index : ℕ) → AreSized pieces → slice_get pieces.alone number ≡ Some index
+    → pieces.place.size * number + pieces.place.size ≤ length pieces.bytes.items
+alone-within pieces number index sized at =
+    omega (
+      arith,
+      sized.alone,
+      piece-in pieces.place.size number (length pieces.alone) (slice_get_within pieces.alone number index at),
+    )
+
+-- a piece is put after those that are kept alone
+module _ (old new : Pieces) (index : ℕ) (piece : List ℕ) (long : length piece ≡ old.place.size) (sized : AreSized old)
+    (place : new.place ≡ old.place) (blocks : new.blocks ≡ old.blocks) (alone : new.alone ≡ old.alone ++ index ∷ [])
+    (bytes : new.bytes.items ≡ old.bytes.items ++ piece) where
+  alone-stays : (s : Stretch) (b : List ℕ) → HasStretch old s b → HasStretch new s b
+  alone-stays (Block k) b keeps = (keeps.0, rw blocks keeps.1, keeps.2)
+  alone-stays (Alone k) b keeps = (
+    keeps.0,
+    rw alone (get-left old.alone (index ∷ []) keeps.0 k keeps.1),
+    rw (bytes, place)
+        (slice-left old.bytes.items piece (old.place.size * keeps.0) (old.place.size * keeps.0 + old.place.size) (omega arith)
+        (alone-within old keeps.0 k sized keeps.1)
+        ∙ keeps.2),
+  )
+
+  piece-last : slice_range (old.bytes.items ++ piece) (old.place.size * length old.alone)
+      (old.place.size * length old.alone + old.place.size)
+      ≡ piece
+  piece-last =
+      slice-right old.bytes.items piece (old.place.size * length old.alone)
+      (old.place.size * length old.alone + old.place.size) (sym sized.alone) (omega (arith, sized.alone, long))
+
+  alone-only : (s : Stretch) (b : List ℕ) → HasStretch new s b
+      → HasStretch old s b ⊎ ((s ≡ Alone index) × (b ≡ piece))
+  alone-only (Block k) b keeps = inl (keeps.0, rw blocks at keeps.1, keeps.2)
+  alone-only (Alone k) b keeps =
+      let part : slice_range (old.bytes.items ++ piece) (old.place.size * keeps.0) (old.place.size * keeps.0 + old.place.size)
+      ≡ b =
+      rw (bytes, place) at keeps.2 in
+      elim (get-either old.alone index k keeps.0 (rw alone at keeps.1)) [
+        | inl here ↦
+            inl (
+              keeps.0,
+              here,
+              sym (slice-left old.bytes.items piece (old.place.size * keeps.0) (old.place.size * keeps.0 + old.place.size)
+                  (omega arith) (alone-within old keeps.0 k sized here))
+                  ∙ part,
+            )
+        | inr at ↦
+            inr (
+              ap Alone at.1,
+              sym part
+                  ∙ ap (λ (n : ℕ). slice_range (old.bytes.items ++ piece) (old.place.size * n)
+                  (old.place.size * n + old.place.size)) at.0
+                  ∙ piece-last,
+            )
+      ]
+
+  alone-kept : slice_get new.alone (length old.alone) ≡ Some index
+  alone-kept = rw alone (get-last old.alone index)
+
+  pub adds-alone : AddsStretch old new (Alone index) piece
+  adds-alone = record {
+    place = place;
+    stays = alone-stays;
+    only = alone-only;
+    there = (length old.alone, alone-kept, rw (bytes, place) piece-last);
+  }
+
+  pub alone-sized : AreSized new
+  alone-sized = record {
+    blocks = λ k b has. rw place (sized.blocks k b (rw blocks at has));
+    alone =
+        ap length bytes
+        ∙ length-append old.bytes.items piece
+        ∙ omega (arith, sized.alone, long, mul-add old.place.size (length old.alone) 1)
+        ∙ sym (ap (λ (xs : List ℕ). new.place.size * length xs) alone
+        ∙ ap (λ (n : ℕ). new.place.size * n) (length_push old.alone index)
+        ∙ ap (λ (p : Place). p.size * (length old.alone + 1)) place);
+  }
+
+-- bytes that were appended
+pub taken : {A E : Type 0} (r : Result A E) (old more new : List ℕ) → is_err r ≡ false → new ≡ (if is_ok r then more else old)
+    → new ≡ more
+taken (Ok x) old more new passed is = is
+taken (Err e) old more new passed is = let clash : true ≡ false = passed in cc
+
+-- an index that was put after the others
+pub numbered : (old new : List ℕ) (index n : ℕ) → n ≡ length old → new ≡ old ++ index ∷ [] → slice_get new n ≡ Some index
+numbered old new index n last is = rw (last, is) (get-last old index)
 
 -- a piece of a block that is a file's is the file's
 pub piece-of : (pieces : Pieces) (file block : List ℕ) (index : ℕ) → index < pieces.place.count
@@ -264,20 +376,20 @@ piece-of pieces file block index within is =
 -- a block was found, or none
 pub some-there : (pieces : Pieces) (number : ℕ) (o : Option (Vec ℕ Global)) (block : Vec ℕ Global)
     → o ≡ get_or pieces.blocks.items number o → number < length pieces.blocks.items → o ≡ Some block
-    → HasStretch pieces (Block number) block
+    → HasBlock pieces number block
 some-there pieces number o block is within found =
     slice_get_read pieces.blocks.items (length pieces.blocks.items) number o refl within is
     ∙ ap (λ (b : Option (Vec ℕ Global)). Some b) found
 
-pub none-past : (pieces : Pieces) (number : ℕ) → length pieces.blocks.items ≤ number → LacksStretch pieces (Block number)
-none-past pieces number past other keeps =
-    absurd (omega (arith, past, slice_get_within pieces.blocks.items number (Some other) keeps))
+pub none-past : (pieces : Pieces) (number : ℕ) → length pieces.blocks.items ≤ number → LacksBlock pieces number
+none-past pieces number past other has =
+    absurd (omega (arith, past, slice_get_within pieces.blocks.items number (Some other) has))
 
 pub none-there : (pieces : Pieces) (number : ℕ) (o : Option (Vec ℕ Global)) → o ≡ get_or pieces.blocks.items number o
-    → number < length pieces.blocks.items → o ≡ None → LacksStretch pieces (Block number)
-none-there pieces number o is within missed other keeps =
+    → number < length pieces.blocks.items → o ≡ None → LacksBlock pieces number
+none-there pieces number o is within missed other has =
     let here = slice_get_read pieces.blocks.items (length pieces.blocks.items) number o refl within is in
-    let clash : None ≡ Some other = sym missed ∙ same_Some _ _ (sym here ∙ keeps) in cc
+    let clash : None ≡ Some other = sym missed ∙ same_Some _ _ (sym here ∙ has) in cc
 
 -- the stretch of a piece begins with one of the pieces
 pub stretch-within : (stretch : Stretch) (index count : ℕ) → IsPieceOf stretch index → index < count
@@ -294,43 +406,43 @@ pub if-missing : {T : Type 0} (o : Option T) (P : Type 0) → IfNone o P → is_
 if-missing None P says missed = says
 if-missing (Some x) P says missed = let clash : true ≡ false = missed in cc
 
--- a piece that is kept alone
-pub alone-there : (pieces : Pieces) (index : ℕ) (o : Option (Vec ℕ Global)) (piece : Vec ℕ Global)
-    → o ≡ get nat_cmp pieces.alone index → o ≡ Some piece → HasStretch pieces (Alone index) piece
-alone-there pieces index o piece is found = sym is ∙ found
+-- a stretch of a piece whose block is not kept can be kept
+pub can-keep : (pieces : Pieces) (stretch : Stretch) (index : ℕ) → IsPieceOf stretch index
+    → LacksBlock pieces (index / BLOCK_LEN) → CanKeep pieces stretch
+can-keep pieces (Block number) index is none = subst (LacksBlock pieces) (sym is) none
+can-keep pieces (Alone one) index is none = tt
 
-pub alone-fits : (pieces : Pieces) (index : ℕ) (piece : Vec ℕ Global) → AreSized pieces
-    → HasStretch pieces (Alone index) piece → length piece.items ≡ pieces.place.size
-alone-fits pieces index piece sized keeps = omega (arith, sized (Alone index) piece keeps)
+-- the piece of a stretch that is kept alone
+pub kept-alone : {E : Type 0} (new : Pieces) (stretch : Stretch) (one : ℕ) (r : Result Kept E) → stretch ≡ Alone one
+    → IfOk r (IsPieceKept new one) → IfOk r (λ kept. (index : ℕ) → IsPieceOf stretch index → IsPieceKept new index kept)
+kept-alone new stretch one (Ok kept) is at = λ index of.
+    subst (λ (n : ℕ). IsPieceKept new n kept) (subst (λ (s : Stretch). IsPieceOf s index) is of) at
+kept-alone new stretch one (Err e) is at = tt
 
-pub alone-of : (pieces : Pieces) (index : ℕ) (piece : Vec ℕ Global) (file : List ℕ) → AreOf pieces file
-    → HasStretch pieces (Alone index) piece
-    → piece.items ≡ slice_range file (pieces.place.start + pieces.place.size * index)
+-- the bytes of a piece that is kept alone are those of a file
+pub alone-of : (pieces : Pieces) (number index : ℕ) (file : List ℕ) → AreOf pieces file
+    → slice_get pieces.alone number ≡ Some index
+    → slice_range pieces.bytes.items (pieces.place.size * number) (pieces.place.size * number + pieces.place.size)
+    ≡ slice_range file (pieces.place.start + pieces.place.size * index)
     (pieces.place.start + pieces.place.size * index + pieces.place.size)
-alone-of pieces index piece file of keeps =
-    sym (of (Alone index) piece keeps)
+alone-of pieces number index file of at =
+    sym (of (Alone index) _ (number, at, refl))
     ∙ ap (λ (n : ℕ). slice_range file (pieces.place.start + pieces.place.size * index) n) (omega arith)
 
--- neither is kept
-pub lacks-both : (pieces : Pieces) (index : ℕ) (o : Option (Vec ℕ Global)) → o ≡ get nat_cmp pieces.alone index → o ≡ None
-    → LacksStretch pieces (Block (index / BLOCK_LEN)) → (stretch : Stretch) → IsPieceOf stretch index
-    → LacksStretch pieces stretch
-lacks-both pieces index o is missed none (Block number) of other keeps =
-    none other (subst (λ (n : ℕ). HasStretch pieces (Block n) other) of keeps)
-lacks-both pieces index o is missed none (Alone one) of other keeps =
-    let at : get nat_cmp pieces.alone index ≡ Some other = subst (λ (n : ℕ). get nat_cmp pieces.alone n ≡ Some other) of keeps in
-    let clash : None ≡ Some other = sym missed ∙ is ∙ at in cc
-
 -- nothing was read
-pub nothing-kept : (pieces : Pieces) → pieces.blocks.items ≡ [] → IsEmpty pieces.alone → KeepsNothing pieces
+pub nothing-kept : (pieces : Pieces) → pieces.blocks.items ≡ [] → pieces.alone ≡ [] → KeepsNothing pieces
 nothing-kept pieces blocks alone (Block number) bytes keeps =
-    let clash : None ≡ Some (Some bytes) = rw blocks at keeps in cc
-nothing-kept pieces blocks alone (Alone index) bytes keeps = let clash : None ≡ Some bytes = rw alone at keeps in cc
+    let clash : None ≡ Some (Some keeps.0) = rw blocks at keeps.1 in cc
+nothing-kept pieces blocks alone (Alone index) bytes keeps = let clash : None ≡ Some index = rw alone at keeps.1 in cc
 
-pub none_sized : (pieces : Pieces) → KeepsNothing pieces → AreSized pieces
-none_sized pieces none stretch bytes keeps = absurd (none stretch bytes keeps)
+pub nothing-sized : (pieces : Pieces) → pieces.blocks.items ≡ [] → pieces.alone ≡ [] → pieces.bytes.items ≡ [] → AreSized pieces
+nothing-sized pieces blocks alone bytes = record {
+  blocks = λ k block has.
+      let clash : None ≡ Some (Some block) = rw blocks at has in cc;
+  alone = rw (bytes, alone) (omega arith);
+}
 
 pub none_of : (pieces : Pieces) (file : List ℕ) → KeepsNothing pieces → AreOf pieces file
 none_of pieces file none stretch bytes keeps = absurd (none stretch bytes keeps)
 
-pub ruleset none_kept = (none_sized, none_of)
+pub ruleset none_kept = (none_of)

@@ -1,12 +1,12 @@
 -- The pieces that lie one after another in a file, and what is kept of them.
 use Rattle.std.specs.Prelude.{◌≡◌, ◌↔◌, ◌⊎◌, ℕ, ◌+◌, ◌-◌, ◌*◌, ◌/◌, ◌≤◌, List, Option, Some, Vec}
-use Rattle.std.specs.Prelude.{length, min, slice_get, slice_range}
-use Rattle.std.specs.BTreeMap.{get}
+use Rattle.std.specs.Prelude.{length, min, slice_get, slice_range, ⊤}
 use Rattle.std.specs.Global.{Global}
 use Rattle.std.specs.Option.{ForSome}
-use Rattle.std.specs.Ordering.{nat_cmp}
 use Rattle.graph_folder.specs.Tree.{Tree, file_at}
 use Rattle.graph_parts.specs.declared.pieces.TheConstants.{BLOCK_LEN}
+use Rattle.graph_parts.specs.declared.pieces.Kept.{Kept}
+use Rattle.graph_parts.specs.declared.pieces.Kept.TheVariants.{InBlock, ByNumber}
 use Rattle.graph_parts.specs.declared.pieces.Pieces.{Pieces}
 use Rattle.graph_parts.specs.declared.pieces.Place.{Place}
 use Rattle.graph_parts.specs.declared.pieces.Stretch.{Stretch}
@@ -39,45 +39,60 @@ abbrev pub IsPieceOf : Stretch → ℕ → Type 0
 IsPieceOf (Block number) index = number ≡ index / BLOCK_LEN
 IsPieceOf (Alone one) index = one ≡ index
 
--- the stretch is kept, with these bytes
-abbrev pub HasStretch : Pieces → Stretch → Vec ℕ Global → Type 0
-HasStretch pieces (Block number) bytes = slice_get pieces.blocks.items number ≡ Some (Some bytes)
-HasStretch pieces (Alone index) bytes = get nat_cmp pieces.alone index ≡ Some bytes
+-- the block of this number is kept
+abbrev pub HasBlock : Pieces → ℕ → Vec ℕ Global → Type 0
+HasBlock pieces number block = slice_get pieces.blocks.items number ≡ Some (Some block)
 
--- it is not kept
-abbrev pub LacksStretch : Pieces → Stretch → Type 0
-LacksStretch pieces stretch = (bytes : Vec ℕ Global) → ¬ HasStretch pieces stretch bytes
+-- it is not
+abbrev pub LacksBlock : Pieces → ℕ → Type 0
+LacksBlock pieces number = (block : Vec ℕ Global) → ¬ HasBlock pieces number block
+
+-- the stretch is kept, with these bytes
+abbrev pub HasStretch : Pieces → Stretch → List ℕ → Type 0
+HasStretch pieces (Block number) bytes = (block : Vec ℕ Global) × HasBlock pieces number block × (block.items ≡ bytes)
+HasStretch pieces (Alone index) bytes =
+    (number : ℕ) × (slice_get pieces.alone number ≡ Some index)
+    × (slice_range pieces.bytes.items (pieces.place.size * number) (pieces.place.size * number + pieces.place.size) ≡ bytes)
 
 -- nothing is kept
 abbrev pub KeepsNothing : Pieces → Type 0
-KeepsNothing pieces = (stretch : Stretch) → LacksStretch pieces stretch
+KeepsNothing pieces = (stretch : Stretch) (bytes : List ℕ) → ¬ HasStretch pieces stretch bytes
 
--- a stretch of a piece is kept
-abbrev pub HasPiece : Pieces → ℕ → Type 0
-HasPiece pieces index = (stretch : Stretch) × (bytes : Vec ℕ Global) × IsPieceOf stretch index × HasStretch pieces stretch bytes
+-- a stretch can be kept: a block once
+abbrev pub CanKeep : Pieces → Stretch → Type 0
+CanKeep pieces (Block number) = LacksBlock pieces number
+CanKeep pieces (Alone index) = ⊤
 
--- each stretch that is kept has its length
-abbrev pub AreSized : Pieces → Type 0
-AreSized pieces = (stretch : Stretch) (bytes : Vec ℕ Global) → HasStretch pieces stretch bytes
-    → length bytes.items ≡ stretch_len pieces.place stretch
+-- the piece of an index is kept so
+abbrev pub IsPieceKept : Pieces → ℕ → Kept → Type 0
+IsPieceKept pieces index InBlock = (block : Vec ℕ Global) × HasBlock pieces (index / BLOCK_LEN) block
+IsPieceKept pieces index (ByNumber number) = slice_get pieces.alone number ≡ Some index
+
+-- Each block that is kept has its length, and the pieces that are kept alone have theirs.
+pub record AreSized (pieces : Pieces) : Type 0 where
+  pub blocks : (number : ℕ) (block : Vec ℕ Global) → HasBlock pieces number block
+      → length block.items ≡ stretch_len pieces.place (Block number)
+  pub alone : length pieces.bytes.items ≡ pieces.place.size * length pieces.alone
 
 -- the stretches that are kept are those of a file
 abbrev pub AreOf : Pieces → List ℕ → Type 0
-AreOf pieces file = (stretch : Stretch) (bytes : Vec ℕ Global) → HasStretch pieces stretch bytes
+AreOf pieces file = (stretch : Stretch) (bytes : List ℕ) → HasStretch pieces stretch bytes
     → slice_range file (stretch_start pieces.place stretch)
     (stretch_start pieces.place stretch + stretch_len pieces.place stretch)
-    ≡ bytes.items
+    ≡ bytes
 
 -- The same is kept of the same pieces.
 pub record KeepsSame (old new : Pieces) : Type 0 where
   pub place : new.place ≡ old.place
-  pub same : (stretch : Stretch) (bytes : Vec ℕ Global) → HasStretch new stretch bytes ↔ HasStretch old stretch bytes
+  pub alone : new.alone ≡ old.alone
+  pub bytes : new.bytes.items ≡ old.bytes.items
+  pub blocks : (number : ℕ) (block : Vec ℕ Global) → HasBlock new number block ↔ HasBlock old number block
 
 -- One stretch more is kept of the same pieces.
-pub record AddsStretch (old new : Pieces) (added : Stretch) (bytes : Vec ℕ Global) : Type 0 where
+pub record AddsStretch (old new : Pieces) (added : Stretch) (bytes : List ℕ) : Type 0 where
   pub place : new.place ≡ old.place
-  pub stays : (stretch : Stretch) (b : Vec ℕ Global) → HasStretch old stretch b → HasStretch new stretch b
-  pub only : (stretch : Stretch) (b : Vec ℕ Global) → HasStretch new stretch b
+  pub stays : (stretch : Stretch) (b : List ℕ) → HasStretch old stretch b → HasStretch new stretch b
+  pub only : (stretch : Stretch) (b : List ℕ) → HasStretch new stretch b
       → HasStretch old stretch b ⊎ ((stretch ≡ added) × (b ≡ bytes))
   pub there : HasStretch new added bytes
 

@@ -1,6 +1,6 @@
 //! The parts of one layer's file.
 
-ghost use Rattle.std.specs.Prelude.{◌≡◌, ◌<◌, ◌+◌, IfOk, IfSome, IsTrue, Option, Some, length};
+ghost use Rattle.std.specs.Prelude.{◌≡◌, ◌<◌, ◌+◌, IfOk, IfSome, Option, Some, length};
 ghost use Rattle.std.specs.Prelude.{slice_get, slice_index};
 ghost use Rattle.gix_hash_core.specs.Kind.{id_len};
 ghost use Rattle.graph_folder.specs.Tree.{Tree};
@@ -9,13 +9,13 @@ ghost use Rattle.graph_format.specs.Format.{record_of};
 ghost use Rattle.graph_format.specs.Layer.{Layer, record_at};
 ghost use Rattle.graph_format.specs.Parents.{extra_edge_of};
 ghost use Rattle.graph_find.specs.ReadHead.{IsHead};
-ghost use Rattle.graph_parts.specs.PieceBlocks.{HasPiece};
+ghost use Rattle.graph_parts.specs.PieceBlocks.{IsPieceKept};
 ghost use Rattle.graph_parts.specs.PartFiles.{AreIds, AreRecords, AreEdges, commits_in, edge_count};
 ghost use Rattle.graph_parts.specs.PartFiles.{edge_words};
 ghost use Rattle.graph_parts.specs.Stored.{StoresCommit};
 ghost use Rattle.graph_parts.specs.ShownLayer.{IsLayerParts, SeesMoreOfLayer, ShowsAll, ShowsLayer};
 
-use crate::pieces::{Pieces, Place};
+use crate::pieces::{Kept, Pieces, Place};
 use gix_hash_core::{Kind, ObjectId, oid};
 use graph_find::chain::ChainLayer;
 use graph_find::head::Head;
@@ -119,18 +119,19 @@ impl LayerParts {
         }
     }
 
-    /// Reads the id at a position of the layer, unless it is kept: whether it is now.
+    /// Reads the id at a position of the layer, unless it is kept: how it is now. It is not where
+    /// the file no longer has its length, or is to be read whole.
     pub(crate) fn read_id<T: Folder>(
         &mut self,
         alloc: Global,
         folder: &mut T,
         pos: u32,
-    ) -> Result<bool, ReadError>
+    ) -> Result<Option<Kept>, ReadError>
         requires parts { IsLayerParts self.old }
         requires pos { pos < commits_in self.old.file }
         ensures parts { IsLayerParts self.new }
         ensures sees { SeesMoreOfLayer (T.tree folder.old) self.old self.new }
-        ensures there { IfOk result (λ there. IsTrue there → HasPiece self.new.ids pos) }
+        ensures kept { IfOk result (λ answer. IfSome answer (IsPieceKept self.new.ids pos)) }
         ensures tree { T.tree folder.new ≡ T.tree folder.old }
         ensures failures { T.failure_count folder.new
             ≡ failures_after result (T.failure_count folder.old) }
@@ -140,16 +141,16 @@ impl LayerParts {
             .read(alloc, folder, self.file.path.as_str(), len, pos as usize)
     }
 
-    /// The id at a position of the layer, which is kept.
-    pub(crate) fn kept_id(&self, pos: u32) -> &[u8]
+    /// The id at a position of the layer, which is kept so.
+    pub(crate) fn kept_id(&self, pos: u32, kept: Kept) -> &[u8]
         requires parts { IsLayerParts self.now }
         requires pos { pos < commits_in self.now.file }
-        requires kept { HasPiece self.now.ids pos }
+        requires kept { IsPieceKept self.now.ids pos kept }
         ensures size { length result.now ≡ id_len self.now.file.head.layout.kind }
         ensures id { (known : Option Tree) (layer : Layer) → ShowsLayer known self.now layer
             → slice_get layer.ids pos ≡ Some result.now }
     {
-        self.ids.piece(pos as usize)
+        self.ids.piece(pos as usize, kept)
     }
 
     /// The id at a position of the layer. `None` where its file no longer has the length that it
@@ -171,11 +172,10 @@ impl LayerParts {
         ensures failures { T.failure_count folder.new
             ≡ failures_after result (T.failure_count folder.old) }
     {
-        let there = self.read_id(alloc, folder, pos)?;
-        if !there {
+        let Some(kept) = self.read_id(alloc, folder, pos)? else {
             return Ok(None);
-        }
-        match oid::try_from_bytes(self.kept_id(pos)) {
+        };
+        match oid::try_from_bytes(self.kept_id(pos, kept)) {
             Some(id) => Ok(Some(id.to_owned())),
             None => Ok(None),
         }
@@ -201,13 +201,11 @@ impl LayerParts {
             ≡ failures_after result (T.failure_count folder.old) }
     {
         let (len, index) = (self.file.head.len, pos as usize);
-        let there = self
-            .records
-            .read(alloc, folder, self.file.path.as_str(), len, index)?;
-        if !there {
+        let path = self.file.path.as_str();
+        let Some(kept) = self.records.read(alloc, folder, path, len, index)? else {
             return Ok(None);
-        }
-        let fields = self.records.piece(index);
+        };
+        let fields = self.records.piece(index, kept);
         Ok(Some(commit_of(self.file.head.layout.kind, fields)))
     }
 
@@ -239,13 +237,11 @@ impl LayerParts {
             ≡ failures_after result (T.failure_count folder.old) }
     {
         let len = self.file.head.len;
-        let there = self
-            .edges
-            .read(alloc, folder, self.file.path.as_str(), len, index)?;
-        if !there {
+        let path = self.file.path.as_str();
+        let Some(kept) = self.edges.read(alloc, folder, path, len, index)? else {
             return Ok(None);
-        }
-        let word = self.edges.piece(index);
+        };
+        let word = self.edges.piece(index, kept);
         Ok(Some(ExtraEdge::from_raw(word_at(word, 0))))
     }
 }

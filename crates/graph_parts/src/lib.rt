@@ -2,8 +2,10 @@
 //! and ids, records and words of the extra edge list, which are kept.
 #![tactic(auto)]
 
+mod guesses;
 mod layer;
 mod lookup;
+mod numbering;
 pub mod opening;
 pub mod parts;
 mod pieces;

@@ -8,6 +8,7 @@ ghost use Rattle.graph_parts.specs.Lookups.{LiesWithin, LooksUpInLayer};
 ghost use Rattle.graph_parts.specs.PartFiles.{commits_in};
 ghost use Rattle.graph_parts.specs.ShownLayer.{IsLayerParts, SeesMoreOfLayer, ShowsLayer};
 
+use crate::guesses::Guesses;
 use crate::layer::LayerParts;
 use gix_commitgraph::Position;
 use gix_hash_core::oid;
@@ -27,7 +28,8 @@ pub enum Lookup {
 }
 
 impl LayerParts {
-    /// Looks up an id in the layer: the ids that begin with the same byte are halved.
+    /// Looks up an id in the layer: of the ids that begin with the same byte those are looked at
+    /// where it is guessed to stand, and then what is left is halved.
     pub(crate) fn position_of<T: Folder>(
         &mut self,
         alloc: Global,
@@ -56,16 +58,23 @@ impl LayerParts {
             return Ok(Lookup::NotByParts);
         }
         let (mut low, mut high) = (span.start, span.end);
+        let mut guesses = Guesses::new(wanted);
         while low < high {
-            let middle = low + (high - low) / 2;
-            let there = self.read_id(alloc, folder, middle)?;
-            if !there {
+            let pos = guesses.next(low, high);
+            let Some(kept) = self.read_id(alloc, folder, pos)? else {
                 return Ok(Lookup::NotByParts);
-            }
-            match wanted.cmp(self.kept_id(middle)) {
-                Ordering::Less => high = middle,
-                Ordering::Equal => return Ok(Lookup::Found(Position(middle))),
-                Ordering::Greater => low = middle + 1,
+            };
+            let there = self.kept_id(pos, kept);
+            match wanted.cmp(there) {
+                Ordering::Less => {
+                    guesses.is_before(there);
+                    high = pos;
+                }
+                Ordering::Equal => return Ok(Lookup::Found(Position(pos))),
+                Ordering::Greater => {
+                    guesses.is_after(there);
+                    low = pos + 1;
+                }
             }
         }
         Ok(Lookup::Missing)

@@ -175,7 +175,8 @@ impl GraphParts {
     }
 
     /// Looks up an id: in the layers from the lowest on, until it is found. Of the ids of a layer
-    /// that begin with the same byte, as many are compared as their number has binary digits.
+    /// that begin with the same byte, at most eight more are compared than their number has binary
+    /// digits, and four or five where ids are spread evenly, as digests are.
     ///
     /// # Errors
     ///

@@ -1,21 +1,22 @@
 //! Pieces of one size that lie one after another in a file, of which parts are read and kept.
 
-ghost use Rattle.std.specs.Prelude.{◌≡◌, ◌+◌, ◌*◌, ◌<◌, ◌≤◌, ℕ, List, Vec, length, slice_range};
-ghost use Rattle.std.specs.Prelude.{IfErr, IfNone, IfOk, IfSome, IsSomeAnd, IsTrue, OnErr, OnOk};
+ghost use Rattle.std.specs.Prelude.{◌≡◌, ◌+◌, ◌*◌, ◌/◌, ◌<◌, ◌≤◌, ℕ, List, Vec, length};
+ghost use Rattle.std.specs.Prelude.{IfErr, IfNone, IfOk, IfSome, IsSomeAnd, OnErr, OnOk};
+ghost use Rattle.std.specs.Prelude.{slice_range};
 ghost use Rattle.std.specs.Global.{Global};
 ghost use Rattle.std.specs.Option.{ForSome};
 ghost use Rattle.graph_folder.specs.Tree.{file_at};
 ghost use Rattle.graph_folder.specs.Failures.{failures_after};
-ghost use Rattle.graph_parts.specs.PieceBlocks.{AddsStretch, AreOf, AreSized, FitsIn, HasPiece};
-ghost use Rattle.graph_parts.specs.PieceBlocks.{HasStretch, IsPieceOf, KeepsNothing, KeepsSame};
-ghost use Rattle.graph_parts.specs.PieceBlocks.{LacksStretch, ReadsMore, stretch_count};
+ghost use Rattle.graph_parts.specs.PieceBlocks.{AddsStretch, AreOf, AreSized, CanKeep, FitsIn};
+ghost use Rattle.graph_parts.specs.PieceBlocks.{HasBlock, IsPieceKept, IsPieceOf, KeepsNothing};
+ghost use Rattle.graph_parts.specs.PieceBlocks.{KeepsSame, LacksBlock, ReadsMore, stretch_count};
 ghost use Rattle.graph_parts.specs.PieceBlocks.{stretch_first, stretch_len, stretch_start};
 ghost use Rattle.graph_parts.specs.declared.pieces.Stretch.TheVariants.{Alone, Block};
 
+use crate::numbering::Numbering;
 use graph_find::reading::read_range;
 use graph_folder::folder::{Folder, ReadError};
 use std::alloc::Global;
-use std::collections::BTreeMap;
 
 /// How many pieces a block has, but for the last one.
 pub const BLOCK_LEN: usize = 128;
@@ -37,13 +38,25 @@ pub(crate) enum Stretch {
     Alone(usize),
 }
 
+/// How a piece is kept.
+#[derive(Clone, Copy)]
+pub(crate) enum Kept {
+    /// In its block.
+    InBlock,
+    /// Alone: this is its number among those that are.
+    ByNumber(usize),
+}
+
 /// Pieces at a place, and those of them that were read: first one by one, so many of them, and then
 /// by blocks. So few pieces are read quickly and take little memory, and many take few reads.
 #[derive(Drop)]
 pub(crate) struct Pieces {
     pub(crate) place: Place,
     most_alone: usize,
-    alone: BTreeMap<usize, Vec<u8>>,
+    /// Which pieces were read alone, by their indices.
+    alone: Numbering,
+    /// The bytes of these pieces, one after another.
+    bytes: Vec<u8>,
     blocks: Vec<Option<Vec<u8>>>,
 }
 
@@ -53,17 +66,19 @@ impl Pieces {
     pub(crate) fn new(alloc: Global, place: Place, most_alone: usize) -> Pieces
         ensures place { result.place ≡ place }
         ensures none { KeepsNothing result }
+        ensures sized { AreSized result }
     {
         Pieces {
             place,
             most_alone,
-            alone: BTreeMap::new(alloc),
+            alone: Numbering::new(alloc),
+            bytes: Vec::new(alloc),
             blocks: Vec::new(alloc),
         }
     }
 
-    /// Reads a piece of the file at the path, unless it is kept: whether it is now. It is not where
-    /// the file no longer has its length, or is to be read whole.
+    /// Reads a piece of the file at the path, unless it is kept, and answers how it is kept now. It
+    /// is not where the file no longer has its length, or is to be read whole.
     pub(crate) fn read<T: Folder>(
         &mut self,
         alloc: Global,
@@ -71,18 +86,19 @@ impl Pieces {
         path: &str,
         file_len: usize,
         index: usize,
-    ) -> Result<bool, ReadError>
+    ) -> Result<Option<Kept>, ReadError>
         requires index { index < self.old.place.count }
         requires fits { FitsIn self.old.place file_len }
         requires sized { AreSized self.old }
         ensures reads { ReadsMore (T.tree folder.old) path.now self.old self.new }
-        ensures there { IfOk result (λ there. IsTrue there → HasPiece self.new index) }
+        ensures kept { IfOk result (λ answer. IfSome answer (IsPieceKept self.new index)) }
         ensures tree { T.tree folder.new ≡ T.tree folder.old }
         ensures failures { T.failure_count folder.new
             ≡ failures_after result (T.failure_count folder.old) }
     {
-        if self.kept(index).is_some() {
-            return Ok(true);
+        let known = self.kept(index);
+        if known.is_some() {
+            return Ok(known);
         }
         let stretch = self.stretch_of(index);
         match self
@@ -90,48 +106,58 @@ impl Pieces {
             .read_stretch(alloc, folder, path, file_len, stretch)?
         {
             Some(bytes) => {
-                self.keep(stretch, bytes)?;
-                Ok(true)
+                let kept = self.keep(stretch, bytes)?;
+                Ok(Some(kept))
             }
-            None => Ok(false),
+            None => Ok(None),
         }
     }
 
-    /// A piece that is kept.
-    pub(crate) fn piece(&self, index: usize) -> &[u8]
+    /// A piece that is kept so.
+    pub(crate) fn piece(&self, index: usize, kept: Kept) -> &[u8]
         requires index { index < self.now.place.count }
         requires sized { AreSized self.now }
-        requires kept { HasPiece self.now index }
+        requires kept { IsPieceKept self.now index kept }
         ensures size { length result.now ≡ self.now.place.size }
         ensures piece { (file : List ℕ) → AreOf self.now file → result.now
             ≡ slice_range file (self.now.place.start + self.now.place.size * index)
             (self.now.place.start + self.now.place.size * index + self.now.place.size) }
     {
-        match self.kept(index) {
-            Some(piece) => piece,
+        match kept {
+            Kept::InBlock => self.piece_of_block(index),
+            Kept::ByNumber(number) => {
+                let start = self.place.size * number;
+                &self.bytes[start..start + self.place.size]
+            }
+        }
+    }
+
+    /// A piece whose block is kept.
+    fn piece_of_block(&self, index: usize) -> &[u8]
+        requires index { index < self.now.place.count }
+        requires sized { AreSized self.now }
+        requires kept { (block : Vec ℕ Global) × HasBlock self.now (index / BLOCK_LEN) block }
+        ensures size { length result.now ≡ self.now.place.size }
+        ensures piece { (file : List ℕ) → AreOf self.now file → result.now
+            ≡ slice_range file (self.now.place.start + self.now.place.size * index)
+            (self.now.place.start + self.now.place.size * index + self.now.place.size) }
+    {
+        let start = self.place.size * (index % BLOCK_LEN);
+        match self.block(index / BLOCK_LEN) {
+            Some(block) => &block[start..start + self.place.size],
             None => unreachable!(),
         }
     }
 
-    /// A piece, if it is kept.
-    fn kept(&self, index: usize) -> Option<&[u8]>
-        requires index { index < self.now.place.count }
-        requires sized { AreSized self.now }
-        ensures size { IfSome result (λ piece. length piece.now ≡ self.now.place.size) }
-        ensures piece { IfSome result (λ piece. (file : List ℕ) → AreOf self.now file
-            → piece.now ≡ slice_range file (self.now.place.start + self.now.place.size * index)
-            (self.now.place.start + self.now.place.size * index + self.now.place.size)) }
-        ensures some { IfSome result (λ _. HasPiece self.now index) }
-        ensures none { IfNone result ((stretch : Stretch) → IsPieceOf stretch index
-            → LacksStretch self.now stretch) }
+    /// How a piece is kept, if it is.
+    fn kept(&self, index: usize) -> Option<Kept>
+        ensures some { IfSome result (IsPieceKept self.now index) }
+        ensures none { IfNone result (LacksBlock self.now (index / BLOCK_LEN)) }
     {
         match self.block(index / BLOCK_LEN) {
-            Some(block) => {
-                let start = self.place.size * (index % BLOCK_LEN);
-                Some(&block[start..start + self.place.size])
-            }
-            None => match self.alone.get(&index) {
-                Some(piece) => Some(piece),
+            Some(_) => Some(Kept::InBlock),
+            None => match self.alone.number_of(index) {
+                Some(number) => Some(Kept::ByNumber(number)),
                 None => None,
             },
         }
@@ -139,9 +165,9 @@ impl Pieces {
 
     /// The block of this number, if it is kept.
     fn block(&self, number: usize) -> Option<&[u8]>
-        ensures some { IfSome result (λ block. (bytes : Vec ℕ Global)
-            × HasStretch self.now (Block number) bytes × (bytes.items ≡ block.now)) }
-        ensures none { IfNone result (LacksStretch self.now (Block number)) }
+        ensures some { IfSome result (λ bytes. (block : Vec ℕ Global)
+            × HasBlock self.now number block × (block.items ≡ bytes.now)) }
+        ensures none { IfNone result (LacksBlock self.now number) }
     {
         if self.blocks.len() <= number {
             return None;
@@ -163,29 +189,39 @@ impl Pieces {
         }
     }
 
-    /// Keeps the bytes of a stretch, of which nothing is kept.
-    fn keep(&mut self, stretch: Stretch, bytes: Vec<u8>) -> Result<(), ReadError>
-        requires { LacksStretch self.old stretch }
-        ensures adds { OnOk result (AddsStretch self.old self.new stretch bytes) }
+    /// Keeps the bytes of a stretch, and answers how its pieces are kept now.
+    fn keep(&mut self, stretch: Stretch, bytes: Vec<u8>) -> Result<Kept, ReadError>
+        requires new { CanKeep self.old stretch }
+        requires long { length bytes.items ≡ stretch_len self.old.place stretch }
+        requires sized { AreSized self.old }
+        ensures adds { OnOk result (AddsStretch self.old self.new stretch bytes.items) }
+        ensures kept { IfOk result (λ kept. (index : ℕ) → IsPieceOf stretch index
+            → IsPieceKept self.new index kept) }
         ensures same { OnErr result (KeepsSame self.old self.new) }
+        ensures sized { AreSized self.new }
         ensures memory { IfErr result (λ error. error ≡ ReadError.OutOfMemory) }
     {
         match stretch {
             Stretch::Block(number) => self.keep_block(number, bytes),
-            Stretch::Alone(index) => self.keep_alone(index, bytes),
+            Stretch::Alone(index) => self.keep_alone(index, &bytes),
         }
     }
 
     /// Keeps a block that is not kept.
-    fn keep_block(&mut self, number: usize, block: Vec<u8>) -> Result<(), ReadError>
-        requires { LacksStretch self.old (Block number) }
-        ensures adds { OnOk result (AddsStretch self.old self.new (Block number) block) }
+    fn keep_block(&mut self, number: usize, block: Vec<u8>) -> Result<Kept, ReadError>
+        requires new { LacksBlock self.old number }
+        requires long { length block.items ≡ stretch_len self.old.place (Block number) }
+        requires sized { AreSized self.old }
+        ensures adds { OnOk result (AddsStretch self.old self.new (Block number) block.items) }
+        ensures kept { IfOk result (λ kept. (index : ℕ) → number ≡ index / BLOCK_LEN
+            → IsPieceKept self.new index kept) }
         ensures same { OnErr result (KeepsSame self.old self.new) }
+        ensures sized { AreSized self.new }
         ensures memory { IfErr result (λ error. error ≡ ReadError.OutOfMemory) }
     {
         self.grow_to(number)?;
         self.blocks[number] = Some(block);
-        Ok(())
+        Ok(Kept::InBlock)
     }
 
     /// Makes room for the block of this number.
@@ -200,16 +236,26 @@ impl Pieces {
         Ok(())
     }
 
-    /// Keeps a piece alone that is not kept so.
-    fn keep_alone(&mut self, index: usize, piece: Vec<u8>) -> Result<(), ReadError>
-        requires { LacksStretch self.old (Alone index) }
-        ensures adds { OnOk result (AddsStretch self.old self.new (Alone index) piece) }
+    /// Keeps a piece alone.
+    fn keep_alone(&mut self, index: usize, piece: &[u8]) -> Result<Kept, ReadError>
+        requires long { length piece.now ≡ self.old.place.size }
+        requires sized { AreSized self.old }
+        ensures adds { OnOk result (AddsStretch self.old self.new (Alone index) piece.now) }
+        ensures kept { IfOk result (λ kept. IsPieceKept self.new index kept) }
         ensures same { OnErr result (KeepsSame self.old self.new) }
+        ensures sized { AreSized self.new }
         ensures memory { IfErr result (λ error. error ≡ ReadError.OutOfMemory) }
     {
-        match self.alone.insert(index, piece) {
-            Ok(_) => Ok(()),
-            Err(_) => Err(ReadError::OutOfMemory),
+        let (number, end) = (self.alone.len(), self.bytes.len());
+        if self.bytes.extend_from_slice(piece).is_err() {
+            return Err(ReadError::OutOfMemory);
+        }
+        match self.alone.push(index) {
+            Ok(()) => Ok(Kept::ByNumber(number)),
+            Err(_) => {
+                self.bytes.truncate(end);
+                Err(ReadError::OutOfMemory)
+            }
         }
     }
 }

@@ -1,5 +1,5 @@
 -- The word is that of the index.
-use Rattle.std.proofs.Common.{IsTrue, string_bytes, rules, sym, ap, ◌∙◌, arith}
+use Rattle.std.proofs.Common.{string_bytes, sym, ap, ◌∙◌, arith}
 use Rattle.graph_format.specs.Parents.{extra_edge_of}
 use Rattle.graph_parts.specs.PieceBlocks.{ReadsMore}
 use Rattle.graph_parts.specs.declared.pieces.Place.{Place}
@@ -7,29 +7,27 @@ use Rattle.graph_parts.proofs.LayerPartLemmas.{parts-edges, sees-edges, shown-wo
 use Rattle.graph_parts.proofs.layer.LayerParts.edge_at.Goals as goal
 
 pub piece-word-requires-clause-kept : goal.piece-word-requires-clause-kept
-piece-word-requires-clause-kept g c =
-    let yes : IsTrue c.in_ok-there.there = search rules in
-    c.in_ok-there.ensures.there yes
+piece-word-requires-clause-kept g c = rw c.in-Some.is at c.in_ok-kept.ensures.kept
 
 pub word_at-requires : goal.word_at-requires
 word_at-requires g c =
-    let size = ap (λ (p : Place). p.size) c.in_ok-there.ensures.reads.place in
+    let size = ap (λ (p : Place). p.size) c.in_ok-kept.ensures.reads.place in
     omega (arith, c.piece-word.ensures.size, size, c.requires.parts.edges.size)
 
-pub returns-in_err-there-clause-sees : goal.returns-in_err-there-clause-sees
-returns-in_err-there-clause-sees g c =
+pub returns-in_err-kept-clause-sees : goal.returns-in_err-kept-clause-sees
+returns-in_err-kept-clause-sees g c =
     let known = g.T.Folder.tree c.args.folder.now in
     let part = c.args.self.now in
     let reads : ReadsMore known (string_bytes part.file.path) part.edges c.read.new.self =
-    rw (← c.as_str.ensures.value) c.read.ensures.reads in
+    rw (← c.as_str-path.ensures.value) c.read.ensures.reads in
     sees-edges known part c.read.new.self reads
 
-pub returns-then-not-there-clause-sees : goal.returns-then-not-there-clause-sees
-returns-then-not-there-clause-sees g c =
+pub returns-in_default-clause-sees : goal.returns-in_default-clause-sees
+returns-in_default-clause-sees g c =
     let known = g.T.Folder.tree c.args.folder.now in
     let part = c.args.self.now in
     let reads : ReadsMore known (string_bytes part.file.path) part.edges c.read.new.self =
-    rw (← c.as_str.ensures.value) c.read.ensures.reads in
+    rw (← c.as_str-path.ensures.value) c.read.ensures.reads in
     sees-edges known part c.read.new.self reads
 
 pub returns-clause-sees : goal.returns-clause-sees
@@ -37,7 +35,7 @@ returns-clause-sees g c =
     let known = g.T.Folder.tree c.args.folder.now in
     let part = c.args.self.now in
     let reads : ReadsMore known (string_bytes part.file.path) part.edges c.read.new.self =
-    rw (← c.as_str.ensures.value) c.read.ensures.reads in
+    rw (← c.as_str-path.ensures.value) c.read.ensures.reads in
     sees-edges known part c.read.new.self reads
 
 pub returns-clause-says : goal.returns-clause-says
@@ -45,7 +43,7 @@ returns-clause-says g c = λ layer shows.
     let known = g.T.Folder.tree c.args.folder.now in
     let part = c.args.self.now in
     let reads : ReadsMore known (string_bytes part.file.path) part.edges c.read.new.self =
-    rw (← c.as_str.ensures.value) c.read.ensures.reads in
+    rw (← c.as_str-path.ensures.value) c.read.ensures.reads in
     c.from_raw.ensures
     ∙ ap extra_edge_of
     (c.word_at.ensures

@@ -1,13 +1,11 @@
 -- The id is that of the position.
-use Rattle.std.proofs.Common.{List, ℕ, Some, IsTrue, rules, sym, ap, ◌∙◌}
+use Rattle.std.proofs.Common.{List, ℕ, Some, sym, ap, ◌∙◌}
 use Rattle.graph_parts.proofs.layer.LayerParts.id_at.Goals as goal
 
 pub kept_id-requires-clause-kept : goal.kept_id-requires-clause-kept
-kept_id-requires-clause-kept g c =
-    let yes : IsTrue c.in_ok-there.there = search rules in
-    c.in_ok-there.ensures.there yes
+kept_id-requires-clause-kept g c = rw c.in-Some.is at c.in_ok-kept.ensures.kept
 
-pub returns-in-Some-clause-id : goal.returns-in-Some-clause-id
-returns-in-Some-clause-id g c = λ layer shows.
+pub returns-in-Some-try_from_bytes-clause-id : goal.returns-in-Some-try_from_bytes-clause-id
+returns-in-Some-try_from_bytes-clause-id g c = λ layer shows.
     c.kept_id.ensures.id (g.T.Folder.tree c.args.folder.now) layer shows
-    ∙ ap (λ (id : List ℕ). Some id) (sym (c.to_owned.ensures ∙ c.in-Some.ensures.bytes))
+    ∙ ap (λ (id : List ℕ). Some id) (sym (c.to_owned.ensures ∙ c.in-Some-try_from_bytes.ensures.bytes))

@@ -1,4 +1,4 @@
--- The id is compared with the one in the middle.
+-- The id is compared with one of those that are left.
 use Rattle.std.proofs.Common.{◌<◌, slice_index, refl, rules, sym, ◌∙◌, arith}
 use Rattle.graph_format.specs.Format.{fan_of}
 use Rattle.graph_find.specs.ReadHead.{IsBucketSpan}
@@ -38,8 +38,8 @@ loop-low-init g c =
           shown-bucket known c.args.self.now layer shows wanted c.span-span.result byte is;
     }
 
-pub kept_id-requires-clause-kept : goal.kept_id-requires-clause-kept
-kept_id-requires-clause-kept g c = c.in_ok-there.ensures.there (search rules)
+pub kept_id-there-requires-clause-kept : goal.kept_id-there-requires-clause-kept
+kept_id-there-requires-clause-kept g c = rw c.in-Some.is at c.in_ok-kept.ensures.kept
 
 pub loop-low-preserved-in-Less : goal.loop-low-preserved-in-Less
 loop-low-preserved-in-Less g c =
@@ -53,7 +53,7 @@ loop-low-preserved-in-Less g c =
       within = omega (arith, c.loop-low.invariant.within, c.loop-low-test.true);
       stands = λ layer shows.
           stands_within-lower layer _ _ _ _ _ (c.loop-low.invariant.stands layer (more.kept layer shows))
-          (c.kept_id.ensures.id known layer shows) (sym c.in-Less.ensures);
+          (c.kept_id-there.ensures.id known layer shows) (sym c.in-Less.ensures);
     }
 
 pub loop-low-preserved : goal.loop-low-preserved
@@ -68,16 +68,16 @@ loop-low-preserved g c =
       within = c.loop-low.invariant.within;
       stands = λ layer shows.
           stands_within-upper layer _ _ _ _ _ (c.loop-low.invariant.stands layer (more.kept layer shows))
-          (c.kept_id.ensures.id known layer shows) (sym c.in-Greater.ensures);
+          (c.kept_id-there.ensures.id known layer shows) (sym c.in-Greater.ensures);
     }
 
-pub returns-in_err-there-clause-sees : goal.returns-in_err-there-clause-sees
-returns-in_err-there-clause-sees g c =
+pub returns-in_err-kept-clause-sees : goal.returns-in_err-kept-clause-sees
+returns-in_err-kept-clause-sees g c =
     sees-after (g.T.Folder.tree c.args.folder.now) c.args.self.now c.loop-low.self c.read_id.new.self
     c.loop-low.invariant.sees (rw c.loop-low.invariant.tree at c.read_id.ensures.sees)
 
-pub returns-then-not-there-clause-sees : goal.returns-then-not-there-clause-sees
-returns-then-not-there-clause-sees g c =
+pub returns-in_default-clause-sees : goal.returns-in_default-clause-sees
+returns-in_default-clause-sees g c =
     sees-after (g.T.Folder.tree c.args.folder.now) c.args.self.now c.loop-low.self c.read_id.new.self
     c.loop-low.invariant.sees (rw c.loop-low.invariant.tree at c.read_id.ensures.sees)
 
@@ -90,7 +90,7 @@ pub returns-in-Equal-clause-answers : goal.returns-in-Equal-clause-answers
 returns-in-Equal-clause-answers g c =
     rw (← c.as_bytes-wanted.ensures.bytes)
     (λ layer shows.
-    found-equal layer _ _ _ (c.kept_id.ensures.id (g.T.Folder.tree c.args.folder.now) layer shows) (sym c.in-Equal.ensures))
+    found-equal layer _ _ _ (c.kept_id-there.ensures.id (g.T.Folder.tree c.args.folder.now) layer shows) (sym c.in-Equal.ensures))
 
 pub returns-clause-answers : goal.returns-clause-answers
 returns-clause-answers g c =

@@ -1,8 +1,30 @@
--- The piece is kept.
+-- The piece lies in its block, or among those that are kept alone.
+use Rattle.std.proofs.Common.{arith}
+use Rattle.graph_parts.proofs.BlockLemmas.{alone-of, alone-within}
 use Rattle.graph_parts.proofs.pieces.Pieces.piece.Goals as goal
 
-pub unreachable-requires : goal.unreachable-requires
-unreachable-requires c =
-    let none = rw c.in-None.is at c.kept.ensures.none in
-    let kept = c.requires.kept in
-    none kept.0 kept.2 kept.1 kept.3
+pub piece_of_block-requires-clause-kept : goal.piece_of_block-requires-clause-kept
+piece_of_block-requires-clause-kept c = rw c.in-InBlock.is at c.requires.kept
+
+pub overflow_mul-start : goal.overflow_mul-start
+overflow_mul-start c =
+    let at = rw c.in-ByNumber.is at c.requires.kept in
+    let within = alone-within c.args.self.now c.in-ByNumber.number c.args.index c.requires.sized at in
+    omega (arith, within, c.args.self.now.bytes.ok, c.args.self.now.bytes.small)
+
+pub overflow_add-result : goal.overflow_add-result
+overflow_add-result c =
+    let at = rw c.in-ByNumber.is at c.requires.kept in
+    let within = alone-within c.args.self.now c.in-ByNumber.number c.args.index c.requires.sized at in
+    omega (arith, within, c.args.self.now.bytes.ok, c.args.self.now.bytes.small)
+
+pub slice_bounds-result-end : goal.slice_bounds-result-end
+slice_bounds-result-end c =
+    let at = rw c.in-ByNumber.is at c.requires.kept in
+    let within = alone-within c.args.self.now c.in-ByNumber.number c.args.index c.requires.sized at in
+    omega (arith, within, c.deref.ensures.len, c.args.self.now.bytes.ok)
+
+pub returns-in-ByNumber-clause-piece : goal.returns-in-ByNumber-clause-piece
+returns-in-ByNumber-clause-piece c = λ file of.
+    let at = rw c.in-ByNumber.is at c.requires.kept in
+    rw c.deref.ensures.value (alone-of c.args.self.now c.in-ByNumber.number c.args.index file of at)
