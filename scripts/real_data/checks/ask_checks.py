@@ -429,8 +429,8 @@ class LayerWriter(threading.Thread):
 
 
 def check_reload(programs, results, repository, history, way):
-    """The graph gets a layer, which is then damaged, where those need not see it who trust it, and mended; after each, the path is
-    opened anew. At the end the graph is the one of before.
+    """The graph gets a layer, which is then damaged, where nobody sees it who trusts it, and mended; after each, the path is opened
+    anew. At the end the graph is the one of before.
     """
     path, title = repository.info_path(), "%s, %s" % (repository.object_format, " ".join(way))
     files = files_of(path)
@@ -447,9 +447,9 @@ def check_reload(programs, results, repository, history, way):
         top = os.path.join(repository.chain_path(), "graph-%s.graph" % checksum)
         os.chmod(top, 0o644)
         write_bytes(top, layer[:-1] + bytes([layer[-1] ^ 1]))
-        refusal = programs[0].verify(path).out.decode() + "\n"
+        refusal = programs[0].verify(path).out.decode() + "\n" if way == ["ask"] else right[1]
         told = [ask("reload"), ask("find " + tip)]
-        right = [right[1] if way != ["ask"] and told[0] == right[1] else refusal, right[2]]
+        right = [refusal, right[2]]
         results.check("%s, a damaged layer" % title, None if told == right else "it tells %r, and not %r" % (told, right))
         write_bytes(top, layer)
         told = ask("reload")
