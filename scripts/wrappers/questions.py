@@ -172,7 +172,7 @@ def check_told(results, clone):
         helps = [ask(clone, [*before, option], clone.folder, ("sh",)) for option in ("--help", "-h")]
         answer = helps[0]
         line = next(line for line in manual.split("\n") if line.startswith("    ") and " %s" % (word or "verify") in line)
-        told = line.strip() in answer.out and (not word or len(answer.out.split("\n")) < 30)
+        told = line.strip() in answer.out and (not word or len(answer.out.split("\n")) < 36)
         right = answer.status == 0 and answer.out.startswith(("usage: git cgraph", "git-cgraph: ")) and not answer.err
         title = " ".join(["git-cgraph", *before, "--help"])
         results.check(title, None if right and told and helps[0] == helps[1] else "they are %r" % (helps,))
