@@ -106,7 +106,7 @@ pub fn run_history(rt: &HostRuntime, alloc: Global, line: &[u8]) -> Result<()> {
         bail!("no such command");
     };
     let input = match command {
-        Command::Ask { .. } => bytes_of(rt, "questions")?,
+        Command::Ask { .. } | Command::AskUnchecked { .. } => bytes_of(rt, "questions")?,
         _ => bytes_of(rt, "stream")?,
     };
     run_command(rt, alloc, command, &input)
