@@ -13,7 +13,7 @@ use graph_commands::status::Status;
 use graph_folder::folder::Disk;
 use history_program::command::{Command, Texts};
 use std::process::ExitCode;
-use std::{env, io};
+use std::{env, fs, io};
 
 const USAGE: &str = "usage: historytool is-ancestor [--unchecked] PATH HEX HEX \
     | walk [--unchecked] PATH HEX HEX | merge-base [--unchecked] PATH HEX HEX.. \
@@ -84,6 +84,9 @@ const TEXTS: Texts<'static> = Texts {
 fn main(rt: HostRuntime) -> ExitCode {
     let words = words(&rt).unwrap_or_else(|| Vec::new(rt.alloc()));
     let command = Command::from_words(&words, TEXTS);
+    // If standard input is closed, the next file that is opened takes its number, and would be read
+    // in its place. So a folder takes it, of which no read succeeds.
+    let _folder = fs::open(&rt, "/");
     let (mut input, mut disk) = (rt.stdin(), Disk::new(&rt));
     let (mut output, mut errors) = (io::writer(&rt), rt.stderr());
     let status = respond(
