@@ -17,8 +17,7 @@ use crate::reading::read_range;
 use gix_hash_core::{Kind, oid};
 use graph_folder::folder::{Folder, ReadError};
 use graph_format::chunks::record_len;
-use graph_format::integers::long_at;
-use graph_format::records::TIME_BITS;
+use graph_format::records::generation_and_time;
 use std::alloc::Global;
 
 /// Searches the layer of a file that begins with this head: it reads the ids that begin with the
@@ -68,17 +67,16 @@ pub(crate) fn find_in_layer<T: Folder>(
 }
 
 /// What the bytes of a record say of the commit at a position.
-#[tactic(auto, unfolding(graph_format::specs::Format::record_of))]
 fn commit_of(kind: Kind, pos: u32, fields: &[u8]) -> FoundCommit
     requires { length fields.now ≡ id_len kind + 16 }
     ensures pos { result.pos ≡ pos }
     ensures generation { result.generation ≡ (record_of kind fields.now).generation }
     ensures time { result.time ≡ (record_of kind fields.now).time }
 {
-    let generation_and_time = long_at(fields, kind.len_in_bytes() + 8);
+    let (generation, time) = generation_and_time(kind, fields);
     FoundCommit {
         pos,
-        generation: (generation_and_time >> TIME_BITS) as u32,
-        time: generation_and_time % (1 << TIME_BITS),
+        generation,
+        time,
     }
 }

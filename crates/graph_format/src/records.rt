@@ -66,12 +66,22 @@ impl Records {
         let fields = kind.len_in_bytes();
         let (first, second) = (word_at(bytes, fields), word_at(bytes, fields + 4));
         self.parent_fields.push((first, second))?;
-        let generation_and_time = long_at(bytes, fields + 8);
-        self.generations
-            .push((generation_and_time >> TIME_BITS) as u32)?;
-        self.times.push(generation_and_time % (1 << TIME_BITS))?;
+        let (generation, time) = generation_and_time(kind, bytes);
+        self.generations.push(generation)?;
+        self.times.push(time)?;
         Ok(())
     }
+}
+
+/// The generation number and the committer's time that the last eight bytes of a record say.
+#[tactic(auto, unfolding(crate::specs::Format::record_of))]
+pub fn generation_and_time(kind: Kind, record: &[u8]) -> (u32, u64)
+    requires { length record.now ≡ record_len kind }
+    ensures generation { result.0 ≡ (record_of kind record.now).generation }
+    ensures time { result.1 ≡ (record_of kind record.now).time }
+{
+    let word = long_at(record, kind.len_in_bytes() + 8);
+    ((word >> TIME_BITS) as u32, word % (1 << TIME_BITS))
 }
 
 /// Decodes the words that stand in the bytes, one after another.

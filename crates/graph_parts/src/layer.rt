@@ -21,9 +21,9 @@ use graph_find::chain::ChainLayer;
 use graph_find::head::Head;
 use graph_folder::folder::{Folder, ReadError};
 use graph_format::chunks::record_len;
-use graph_format::integers::{long_at, word_at};
+use graph_format::integers::word_at;
 use graph_format::parents::{ExtraEdge, ParentEdge};
-use graph_format::records::TIME_BITS;
+use graph_format::records::generation_and_time;
 use std::alloc::Global;
 
 /// How many bytes a word of an extra edge list has.
@@ -253,10 +253,10 @@ fn commit_of(kind: Kind, fields: &[u8]) -> StoredCommit
     ensures { StoresCommit (record_of kind fields.now) result }
 {
     let at = kind.len_in_bytes();
-    let generation_and_time = long_at(fields, at + 8);
+    let (generation, time) = generation_and_time(kind, fields);
     StoredCommit {
-        generation: (generation_and_time >> TIME_BITS) as u32,
-        time: generation_and_time % (1 << TIME_BITS),
+        generation,
+        time,
         first: ParentEdge::from_raw(word_at(fields, at)),
         second: ParentEdge::from_raw(word_at(fields, at + 4)),
     }
