@@ -73,14 +73,14 @@ impl Records {
     }
 }
 
-/// The generation number and the committer's time that the last eight bytes of a record say.
+/// The generation number and the committer's time that the bytes of a record say, in its last eight.
 #[tactic(auto, unfolding(crate::specs::Format::record_of))]
-pub fn generation_and_time(kind: Kind, record: &[u8]) -> (u32, u64)
-    requires { length record.now ≡ record_len kind }
-    ensures generation { result.0 ≡ (record_of kind record.now).generation }
-    ensures time { result.1 ≡ (record_of kind record.now).time }
+pub fn generation_and_time(kind: Kind, bytes: &[u8]) -> (u32, u64)
+    requires { length bytes.now ≡ record_len kind }
+    ensures generation { result.0 ≡ (record_of kind bytes.now).generation }
+    ensures time { result.1 ≡ (record_of kind bytes.now).time }
 {
-    let word = long_at(record, kind.len_in_bytes() + 8);
+    let word = long_at(bytes, kind.len_in_bytes() + 8);
     ((word >> TIME_BITS) as u32, word % (1 << TIME_BITS))
 }
 
