@@ -110,7 +110,8 @@ fn compare_not_opened<T: Folder>(rt: &impl Abort, alloc: Global, folder: &mut T,
     let read = folder.read(alloc, path);
     assert!(rt; read.err() == Some(ReadError::NotOpened));
     assert!(rt; folder.has_bytes(alloc, path, &[]) == Err(ReadError::NotOpened));
-    assert!(rt; has_no_part(alloc, folder, path, (0, 1)));
+    let part = folder.read_part(alloc, path, 0, 1);
+    assert!(rt; part.err() == Some(ReadError::NotOpened));
     assert!(rt; folder.failures() == 0);
 }
 

@@ -122,11 +122,11 @@ impl<'r, R: Files> Disk<'r, R> {
         alloc: Global,
         path: &str,
     ) -> Result<Option<OpenedFile<R::File>>, ReadError> {
-        let file_len = match fs::metadata(self.rt, path) {
-            Ok(metadata) if metadata.is_file() => metadata.len(),
-            _ => 0,
-        };
-        if file_len == 0 {
+        let metadata = fs::metadata(self.rt, path).map_err(|_| ReadError::NotOpened)?;
+        if metadata.is_dir() {
+            return Err(ReadError::NotOpened);
+        }
+        if !metadata.is_file() || metadata.len() == 0 {
             return Ok(None);
         }
         let file = fs::open(self.rt, path).map_err(|_| ReadError::NotOpened)?;
@@ -134,7 +134,7 @@ impl<'r, R: Files> Disk<'r, R> {
         Ok(Some(OpenedFile {
             path,
             file,
-            file_len,
+            file_len: metadata.len(),
         }))
     }
 
@@ -206,7 +206,8 @@ impl<'r, R: Files> Folder for Disk<'r, R> {
 
     /// These bytes of the file at the path, and its length as the host says it. `None` where the
     /// host calls it no regular file, or empty, where it cannot be set to `start`, or where the
-    /// file ends before that length.
+    /// file ends before that length. `NotOpened` comes where the host knows nothing at the path,
+    /// does not open it or calls it a folder, and `Device` where a later read fails.
     fn read_part(
         &mut self,
         alloc: Global,
