@@ -5,7 +5,7 @@ use Rattle.std.specs.Prelude.{◌==◌}
 use Rattle.std.specs.Global.{Global}
 use Rattle.std.proofs.lemmas.Bool.{cases_lt, eq-eqb, eqb-true}
 use Rattle.commit_search.specs.Marks.{Marked, IsMarked, AreMarks, AreBits}
-use Rattle.commit_search.specs.HashTable.{AreFew, AreKept, Puts}
+use Rattle.commit_search.specs.HashTable.{AreHeld, Puts}
 use Rattle.commit_search.proofs.QueueLemmas.{marked_cases}
 use Rattle.commit_search.proofs.HashTableLemmas.{same_len, few_put}
 
@@ -37,7 +37,7 @@ module _ (bound : ℕ) (marked : List Marked) (e : Marked) (below : e.number < b
 
   -- its place is put into the table
   pub kept_put : (old new bits : List ℕ) (p : ℕ) → length bits ≡ 0 → p ≡ length marked → Puts old new e.number p
-      → AreKept bound old bits marked → AreKept bound new bits (marked ++ e ∷ [])
+      → AreHeld bound old bits marked → AreHeld bound new bits (marked ++ e ∷ [])
   kept_put old new bits p none place puts kept = record {
     slots = omega (arith, kept.slots, same_len old new e.number p puts);
     within = within_more kept.within;
@@ -48,7 +48,7 @@ module _ (bound : ℕ) (marked : List Marked) (e : Marked) (below : e.number < b
   -- its bit is set
   pub kept_set : (table old new : List ℕ) → 0 < length old → length new ≡ length old
       → (AreMarks old marked → AreMarks new (marked ++ e ∷ []))
-      → AreKept bound table old marked → AreKept bound table new (marked ++ e ∷ [])
+      → AreHeld bound table old marked → AreHeld bound table new (marked ++ e ∷ [])
   kept_set table old new some len set_one kept = record {
     slots = kept.slots;
     within = within_more kept.within;
@@ -66,7 +66,7 @@ module _ (bound more : ℕ) (le : bound ≤ more) (marked : List Marked) (below 
   within_grown n is = omega (arith, le, below n is)
 
   -- while there are no bits
-  pub kept_grown : (table bits : List ℕ) → length bits ≡ 0 → AreKept bound table bits marked → AreKept more table bits marked
+  pub kept_grown : (table bits : List ℕ) → length bits ≡ 0 → AreHeld bound table bits marked → AreHeld more table bits marked
   kept_grown table bits none kept = record {
     slots = kept.slots;
     within = within_grown;
@@ -75,7 +75,7 @@ module _ (bound more : ℕ) (le : bound ≤ more) (marked : List Marked) (below 
   }
 
   -- and bits are made anew
-  pub kept_anew : (table bits : List ℕ) → length table < 2 ^ 32 → AreBits more bits marked → AreKept more table bits marked
+  pub kept_anew : (table bits : List ℕ) → length table < 2 ^ 32 → AreBits more bits marked → AreHeld more table bits marked
   kept_anew table bits slots are = record {
     slots = slots;
     within = within_grown;

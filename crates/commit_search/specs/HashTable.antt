@@ -26,7 +26,7 @@ pub record AreFew (table : List ℕ) (marked : List Marked) : Type 0 where
   pub stand : (p : ℕ) → p < length marked → StandsAt table (number_in marked p) p
 
 -- Numbers below a bound are marked: in a hash table as long as there are no bits, and then by the bits.
-pub record AreKept (bound : ℕ) (table bits : List ℕ) (marked : List Marked) : Type 0 where
+pub record AreHeld (bound : ℕ) (table bits : List ℕ) (marked : List Marked) : Type 0 where
   pub slots : length table < 2 ^ 32
   pub within : (n : ℕ) → IsMarked marked n → n < bound
   pub few : length bits ≡ 0 → AreFew table marked

@@ -3,7 +3,7 @@
 ghost use Rattle.std.specs.Prelude.{◌≡◌, ◌↔◌, ◌*◌, ◌^◌, ◌<◌, ◌≤◌, ℕ, IfNone, IfOk, IfSome, IsTrue};
 ghost use Rattle.std.specs.Prelude.{true, false, length, slice_index_or};
 ghost use Rattle.commit_search.specs.Marks.{IsMarked, AreBits, number_in};
-ghost use Rattle.commit_search.specs.HashTable.{slot_in, looked_at, AreFew, AreKept, Puts};
+ghost use Rattle.commit_search.specs.HashTable.{slot_in, looked_at, AreFew, AreHeld, Puts};
 ghost use Rattle.commit_search.specs.declared.few.TheConstants.{STEPS};
 
 use crate::bits::{is_set, set_bit};
@@ -41,13 +41,13 @@ pub struct FewMarks {
 
 impl Model for FewMarks {
     ghost use Rattle.commit_search.specs.Marks.{Marking};
-    ghost use Rattle.commit_search.specs.HashTable.{AreKept};
+    ghost use Rattle.commit_search.specs.HashTable.{AreHeld};
 
     ghost Value = { Marking };
 
     ghost view = { λ a. record { bound = a.bound; marked = a.marked.items } };
 
-    ghost invariant = { λ a. AreKept a.bound a.table.items a.bits.items a.marked.items };
+    ghost invariant = { λ a. AreHeld a.bound a.table.items a.bits.items a.marked.items };
 }
 
 impl Marks for FewMarks {
@@ -234,7 +234,7 @@ fn grown(
 ) -> Result<(Vec<u32>, Vec<u64>), AllocError>
     requires slots { slots < 2 ^ 32 }
     requires within { (n : ℕ) → IsMarked marked.now.items n → n < bound }
-    ensures { IfOk result (λ both. AreKept bound both.0.items both.1.items marked.now.items) }
+    ensures { IfOk result (λ both. AreHeld bound both.0.items both.1.items marked.now.items) }
 {
     let slots = (slots * GROWTH).max(LEAST);
     if slots <= bound as usize / SHARE && marked.len() <= slots / 2 {
