@@ -451,9 +451,9 @@ uint32_t cg_verify_layer(cg_graph graph, uint64_t layer, cg_layer_verdict *out);
  *   CG_OUT_OF_MEMORY; else
  *   CG_OK: `length` is the number of commits on a shortest walk, both ends included, or 0 where there is none, and `visits`
  *      that of the commits that were visited.
- * Where the code is not CG_OK, all else is 0, and nothing is written. Where the generation numbers allow a walk, each search fills a
- * bit for each commit of the graph, 125 KB of a million commits: some microseconds. No call keeps memory for the next one, since
- * threads share a graph; cg_are_ancestors fills these bits once for all its pairs. */
+ * Where the code is not CG_OK, all else is 0, and nothing is written. A search takes some bytes for each commit that it reaches, and
+ * once these are many, a bit for each commit of the graph. No call keeps memory for the next one, since threads share a graph;
+ * cg_are_ancestors keeps it for all its pairs. */
 typedef struct cg_reached { uint32_t code, visits; uint64_t length; } cg_reached;
 
 /* Looks for a shortest walk along parents, and writes its positions, as many as there is room for. */

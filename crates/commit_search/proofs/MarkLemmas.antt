@@ -1,11 +1,13 @@
 -- A table of bits for numbers that are marked, as numbers are marked and cleared in it.
 use Rattle.std.proofs.Common.{◌≡◌, ◌≢◌, ◌↔◌, ℕ, suc, zero, ◌*◌, ◌/◌, ◌%◌, ◌^◌, ◌<◌, ◌≤◌, List, [], ◌∷◌, ◌++◌, length, set}
-use Rattle.std.proofs.Common.{get_or, bit_or, w64, refl, sym, ap, ◌∙◌, subst, ⊎_elim, arith}
+use Rattle.std.proofs.Common.{◌+◌, take, get_or, bit_or, w64, refl, sym, ap, ◌∙◌, subst, ⊎_elim, arith}
 use Rattle.std.specs.Int.{bit_at}
 use Rattle.std.proofs.lemmas.Bool.{cases_lt, cases_eq}
-use Rattle.std.proofs.lemmas.List.{length-set, get_or-set_same, get_or-set_other}
+use Rattle.std.proofs.lemmas.List.{take_more, length-set, get_or-set_same, get_or-set_other}
+use Rattle.std.proofs.lemmas.Option.{slice_get-get_or}
 use Rattle.std.proofs.lemmas.Nat.Bits.{bit_at_set_same, bit_at_set_other, bit_at-zero}
-use Rattle.commit_search.specs.Marks.{Marking, Marked, IsMarked, bit_of, AreMarks, marked_at}
+use Rattle.std.specs.Option.{option_map_or}
+use Rattle.commit_search.specs.Marks.{Marking, Marked, IsMarked, number_in, bit_of, AreMarks, marked_at}
 use Rattle.commit_search.proofs.QueueLemmas.{marked_new, marked_old, marked_cases}
 
 module _ (bits : List ℕ) (n : ℕ) (inside : n < 64 * length bits) (word : ℕ) where
@@ -85,6 +87,26 @@ module _ (bits : List ℕ) (n : ℕ) (inside : n < 64 * length bits) (word : ℕ
         ))
         (cases_eq m n);
   }
+
+-- none is marked where no bit is set
+pub are_marks-none : (bits : List ℕ) → ((k : ℕ) → get_or bits k 0 ≡ 0) → AreMarks bits []
+are_marks-none bits none = record {
+  within = λ n is. absurd (let lt = is.1 in omega (arith, lt));
+  those = λ n. (
+    (λ bit. let clear = sym bit ∙ ap (λ w. bit_at w (n % 64)) (none (n / 64)) ∙ bit_at-zero (n % 64) in
+        absurd (omega (arith, clear))),
+    (λ is. absurd (let lt = is.1 in omega (arith, lt))),
+  );
+}
+
+-- of a list of numbers, the bits of those before a place are set, and then that one is
+pub are_marks-more : (bits : List ℕ) (n : ℕ) (marked : List Marked) (p : ℕ) → p < length marked → number_in marked p ≡ n
+    → ((e : Marked) → e.number ≡ n → AreMarks bits (take p marked ++ e ∷ [])) → AreMarks bits (take (p + 1) marked)
+are_marks-more bits n marked p lt number set_one =
+    let none : Marked = record { number = 0; mark = 0 } in
+    let at : number_in marked p ≡ (get_or marked p none).number =
+    ap (λ o. option_map_or (λ (e : Marked). e.number) o 0) (slice_get-get_or marked p none lt) in
+    subst (AreMarks bits) (sym (take_more marked p none lt)) (set_one (get_or marked p none) (sym at ∙ number))
 
 -- While marks are cleared: each number whose bit is set is left.
 pub record AreLeft (bits : List ℕ) (marked : List Marked) : Type 0 where

@@ -1,14 +1,12 @@
 -- A hash table of numbers that are marked: a slot has 0, or one more than the place of a number among them. For private contracts
 -- alone.
-use Rattle.std.specs.Prelude.{◌≡◌, ◌≢◌, ℕ, ◌+◌, ◌-◌, ◌*◌, ◌/◌, ◌%◌, ◌^◌, ◌<◌, ◌≤◌, List, length, slice_index_or, slice_set}
-use Rattle.std.specs.Prelude.{bit_and, bit_xor}
-use Rattle.commit_search.specs.Marks.{Marked, number_in}
+use Rattle.std.specs.Prelude.{◌≡◌, ◌≢◌, ℕ, ◌+◌, ◌-◌, ◌^◌, ◌<◌, ◌≤◌, List, length, slice_index_or, slice_set, bit_and}
+use Rattle.commit_search.specs.Marks.{Marked, IsMarked, AreBits, number_in}
 use Rattle.commit_search.specs.declared.few.TheConstants.{STEPS}
 
--- the slot of a table of so many in which n is looked for after so many steps
+-- the slot of a table of so many, a power of two, in which n is looked for after so many steps
 abbrev pub slot_in : ℕ → ℕ → ℕ → ℕ
-slot_in slots n step =
-    let mixed = n * 0x9e3779b1 % 2 ^ 32 in bit_and (bit_xor mixed (mixed / 2 ^ 15) + step) (slots - 1)
+slot_in slots n step = bit_and (n + step) (slots - 1)
 
 -- what stands in that slot
 abbrev pub looked_at : List ℕ → ℕ → ℕ → ℕ
@@ -26,6 +24,13 @@ pub record AreFew (table : List ℕ) (marked : List Marked) : Type 0 where
   pub few : length table < 2 ^ 32
   pub within : (i : ℕ) → slice_index_or table i 0 ≤ length marked
   pub stand : (p : ℕ) → p < length marked → StandsAt table (number_in marked p) p
+
+-- Numbers below a bound are marked: in a hash table as long as there are no bits, and then by the bits.
+pub record AreHeld (bound : ℕ) (table bits : List ℕ) (marked : List Marked) : Type 0 where
+  pub slots : length table < 2 ^ 32
+  pub within : (n : ℕ) → IsMarked marked n → n < bound
+  pub few : length bits ≡ 0 → AreFew table marked
+  pub many : 0 < length bits → AreBits bound bits marked
 
 -- Place p of n was put into an empty slot.
 pub record Puts (old new : List ℕ) (n p : ℕ) : Type 0 where

@@ -1,5 +1,5 @@
 -- Numbers that are marked, in the order in which they were. For private contracts alone.
-use Rattle.std.specs.Prelude.{◌≡◌, ◌↔◌, ℕ, ◌*◌, ◌/◌, ◌%◌, ◌<◌, List, [], length, slice_get, slice_index_or}
+use Rattle.std.specs.Prelude.{◌≡◌, ◌↔◌, ℕ, ◌*◌, ◌/◌, ◌%◌, ◌<◌, ◌≤◌, List, [], length, slice_get, slice_index_or}
 use Rattle.std.specs.Int.{bit_at}
 use Rattle.std.specs.Option.{option_map_or}
 pub use Rattle.commit_search.specs.declared.marks.Marked.{Marked}
@@ -33,6 +33,12 @@ marking_of bits marked = record { bound = 64 * length bits; marked = marked }
 pub record AreMarks (bits : List ℕ) (marked : List Marked) : Type 0 where
   pub within : (n : ℕ) → IsMarked marked n → n < 64 * length bits
   pub those : (n : ℕ) → (bit_of bits n ≡ 1) ↔ IsMarked marked n
+
+-- The table has a bit for each number below a bound, set for those that are marked.
+pub record AreBits (bound : ℕ) (bits : List ℕ) (marked : List Marked) : Type 0 where
+  pub some : 0 < length bits
+  pub room : bound ≤ 64 * length bits
+  pub marks : AreMarks bits marked
 
 -- Marks for each layer: which numbers are marked there, and the bound of those that may be; none past the last ones.
 abbrev pub marked_at : List Marking → ℕ → List Marked

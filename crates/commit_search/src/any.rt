@@ -22,8 +22,8 @@ use std::marker::Model;
 
 /// Answers queries over the commits of any source, and keeps its memory from one to the next: that
 /// of its marks, asked for at the first query that needs them, which are a bit for each commit of
-/// the source and eight bytes for each commit that a query reaches, or for those some twenty bytes
-/// alone. What a query marks there is cleared after it, and no more.
+/// the source and eight bytes for each commit that a query reaches, or for those a few dozen bytes
+/// alone, as long as they are few. What a query marks there is cleared after it, and no more.
 ///
 /// Where the generation numbers that a source says are right, the answers are exact. Where they are
 /// not, a query ends all the same, and a walk or a yes that it answers is there. A contract speaks
@@ -49,8 +49,8 @@ impl<M: Marks> Model for MarkSearcher<M> {
 /// Answers queries over the commits of any source, with a bit for each of them.
 pub type AnySearcher = MarkSearcher<BitMarks>;
 
-/// Answers queries over the commits of any source where a query reaches few of them: it takes no
-/// memory for the others.
+/// Answers queries over the commits of any source where a query mostly reaches few of them: it
+/// takes memory for the others only once it has reached many.
 pub type FewSearcher = MarkSearcher<FewMarks>;
 
 impl<M: Marks> MarkSearcher<M> {

@@ -1,6 +1,7 @@
 //! Marks of numbers of which there is a bit for each.
 
-ghost use Rattle.std.specs.Prelude.{◌≡◌};
+ghost use Rattle.std.specs.Prelude.{◌≡◌, ◌↔◌, ◌*◌, ◌<◌, ◌++◌, ◌∷◌, [], List, IsTrue, length};
+ghost use Rattle.commit_search.specs.Marks.{Marked, AreMarks, bit_of};
 
 use crate::marks::{Marked, Marks};
 use std::alloc::{AllocError, Global};
@@ -43,13 +44,12 @@ impl Marks for BitMarks {
     }
 
     fn is_marked(&self, number: u32) -> bool {
-        let word = self.bits[number as usize / 64];
-        (word >> (number % 64)) & 1 == 1
+        is_set(&self.bits, number)
     }
 
     fn set(&mut self, number: u32, mark: u32) -> Result<(), AllocError> {
         self.marked.push(Marked { number, mark })?;
-        self.bits[number as usize / 64] |= 1 << (number % 64);
+        set_bit(&mut self.bits, number);
         Ok(())
     }
 
@@ -70,4 +70,23 @@ impl Marks for BitMarks {
             self.bits[marked.number as usize / 64] = 0;
         }
     }
+}
+
+/// Whether the bit of a number is set.
+pub(crate) fn is_set(bits: &Vec<u64>, number: u32) -> bool
+    requires { number < 64 * length bits.now.items }
+    ensures { IsTrue result ↔ (bit_of bits.now.items number ≡ 1) }
+{
+    let word = bits[number as usize / 64];
+    (word >> (number % 64)) & 1 == 1
+}
+
+/// Sets the bit of a number, which is marked after all others.
+pub(crate) fn set_bit(bits: &mut Vec<u64>, number: u32)
+    requires { number < 64 * length bits.old.items }
+    ensures len { length bits.new.items ≡ length bits.old.items }
+    ensures marks { (marked : List Marked) (one : Marked) → one.number ≡ number
+        → AreMarks bits.old.items marked → AreMarks bits.new.items (marked ++ one ∷ []) }
+{
+    bits[number as usize / 64] |= 1 << (number % 64);
 }

@@ -1,59 +1,53 @@
-//! Marks of numbers of which few are marked, in a hash table.
+//! Marks of numbers of which few are marked, in a hash table, and in bits once they are many.
 
-ghost use Rattle.std.specs.Prelude.{◌≡◌, ◌*◌, ◌^◌, ◌<◌, ◌≤◌, ℕ, IfNone, IfOk, IfSome, IsTrue};
+ghost use Rattle.std.specs.Prelude.{◌≡◌, ◌↔◌, ◌*◌, ◌^◌, ◌<◌, ◌≤◌, ℕ, IfNone, IfOk, IfSome, IsTrue};
 ghost use Rattle.std.specs.Prelude.{true, false, length, slice_index_or};
-ghost use Rattle.commit_search.specs.Marks.{IsMarked, number_in};
-ghost use Rattle.commit_search.specs.HashTable.{slot_in, looked_at, AreFew, Puts};
+ghost use Rattle.commit_search.specs.Marks.{IsMarked, AreBits, number_in};
+ghost use Rattle.commit_search.specs.HashTable.{slot_in, looked_at, AreFew, AreHeld, Puts};
 ghost use Rattle.commit_search.specs.declared.few.TheConstants.{STEPS};
 
+use crate::bits::{is_set, set_bit};
 use crate::marks::{Marked, Marks};
 use std::alloc::{AllocError, Global};
 use std::marker::Model;
 
 /// How many slots a table has at least.
-const LEAST: usize = 64;
+const LEAST: usize = 4096;
 
-/// At how many slots a table no longer grows.
-const MOST: usize = 1 << 31;
+/// How many times more slots the next table has.
+const GROWTH: usize = 4;
 
-/// In how many slots a number may stand: in that of its hash, or in one of those after it.
+/// A table has at most a slot for so many numbers: a bit for each would take less than twice its
+/// memory.
+const SHARE: usize = 64;
+
+/// In how many slots a number may stand: in that of its last bits, or in one of those after it.
 const STEPS: usize = 64;
 
-/// Marks that take memory for the numbers that are marked, and none for the others: 16 to 24 bytes
-/// for each, unless many of their hashes are near to each other.
+/// Marks that take memory for the numbers that are marked, and none for the others: a table of 16
+/// KiB at first, and then up to 40 bytes for each. Where a larger table would not be much less than
+/// a bit for each number below the bound, there are these bits in its place.
 #[derive(Drop)]
 pub struct FewMarks {
     alloc: Global,
     bound: u32,
-    /// A hash table. A slot has 0, or one more than the place of a number among those that are
-    /// marked.
+    /// A hash table, as long as there are no bits. A slot has 0, or one more than the place of a
+    /// number among those that are marked.
     table: Vec<u32>,
+    /// A bit for each number, or none.
+    bits: Vec<u64>,
     marked: Vec<Marked>,
 }
 
 impl Model for FewMarks {
     ghost use Rattle.commit_search.specs.Marks.{Marking};
-    ghost use Rattle.commit_search.specs.HashTable.{AreFew};
+    ghost use Rattle.commit_search.specs.HashTable.{AreHeld};
 
     ghost Value = { Marking };
 
     ghost view = { λ a. record { bound = a.bound; marked = a.marked.items } };
 
-    ghost invariant = { λ a. AreFew a.table.items a.marked.items };
-}
-
-impl FewMarks {
-    /// The place of a number among those that are marked, if it is one of them.
-    pub fn place_of(&self, number: u32) -> Option<usize>
-        ensures within { IfSome result (λ place. place < length self.now.marked) }
-        ensures some { IfSome result (λ place. number_in self.now.marked place ≡ number) }
-        ensures none { IfNone result (¬ IsMarked self.now.marked number) }
-    {
-        if self.table.is_empty() {
-            return None;
-        }
-        found(&self.table, &self.marked, number)
-    }
+    ghost invariant = { λ a. AreHeld a.bound a.table.items a.bits.items a.marked.items };
 }
 
 impl Marks for FewMarks {
@@ -64,28 +58,42 @@ impl Marks for FewMarks {
             alloc,
             bound: 0,
             table: Vec::new(alloc),
+            bits: Vec::new(alloc),
             marked: Vec::new(alloc),
         }
     }
 
     fn grow_to(&mut self, bound: u32) -> Result<(), AllocError> {
-        self.bound = self.bound.max(bound);
+        let bound = self.bound.max(bound);
+        if !self.bits.is_empty() {
+            self.bits = bits_of(self.alloc, &self.marked, bound)?;
+        }
+        self.bound = bound;
         Ok(())
     }
 
     fn is_marked(&self, number: u32) -> bool {
-        self.place_of(number).is_some()
+        if self.bits.is_empty() {
+            stands_in(&self.table, &self.marked, number)
+        } else {
+            is_set(&self.bits, number)
+        }
     }
 
     fn set(&mut self, number: u32, mark: u32) -> Result<(), AllocError> {
         let place = self.marked.len();
         self.marked.push(Marked { number, mark })?;
+        if !self.bits.is_empty() {
+            set_bit(&mut self.bits, number);
+            return Ok(());
+        }
         if place < self.table.len() / 2 && put(&mut self.table, number, place as u32) {
             return Ok(());
         }
-        match table_of(self.alloc, &self.marked, self.table.len()) {
-            Ok(table) => {
+        match grown(self.alloc, &self.marked, self.table.len(), self.bound) {
+            Ok((table, bits)) => {
                 self.table = table;
+                self.bits = bits;
                 Ok(())
             }
             Err(error) => {
@@ -109,6 +117,7 @@ impl Marks for FewMarks {
 
     fn clear(&mut self) {
         self.table.clear();
+        self.bits.clear();
         self.marked.clear();
     }
 }
@@ -120,8 +129,7 @@ fn slot_of(number: u32, step: usize, slots: usize) -> usize
     ensures slot { result ≡ slot_in slots number step }
     ensures within { result < slots }
 {
-    let mixed = number.wrapping_mul(0x9e37_79b1);
-    ((mixed ^ (mixed >> 15)) as usize + step) & (slots - 1)
+    (number as usize + step) & (slots - 1)
 }
 
 /// What stands in that slot.
@@ -139,6 +147,14 @@ fn number_at(marked: &Vec<Marked>, place: usize) -> u32
     ensures { result ≡ number_in marked.now.items place }
 {
     marked[place].number
+}
+
+/// Whether a number is marked, as a table says.
+fn stands_in(table: &Vec<u32>, marked: &Vec<Marked>, number: u32) -> bool
+    requires { AreFew table.now.items marked.now.items }
+    ensures { IsTrue result ↔ IsMarked marked.now.items number }
+{
+    !table.is_empty() && found(table, marked, number).is_some()
 }
 
 /// The place of a number, as a table says.
@@ -196,19 +212,37 @@ fn fill(table: &mut Vec<u32>, marked: &Vec<Marked>) -> bool
     true
 }
 
-/// A table for all numbers that are marked, with more slots than this, and twice as many as there
-/// are numbers.
-fn table_of(alloc: Global, marked: &Vec<Marked>, slots: usize) -> Result<Vec<u32>, AllocError>
-    requires { slots < 2 ^ 32 }
-    ensures { IfOk result (λ table. AreFew table.items marked.now.items) }
+/// A bit for each number below a bound, set for those that are marked.
+fn bits_of(alloc: Global, marked: &Vec<Marked>, bound: u32) -> Result<Vec<u64>, AllocError>
+    requires { (n : ℕ) → IsMarked marked.now.items n → n < bound }
+    ensures { IfOk result (λ bits. AreBits bound bits.items marked.now.items) }
 {
-    let mut slots = slots.max(LEAST / 2);
-    while slots < MOST {
-        slots *= 2;
+    let mut bits = vec![in alloc; 0; bound as usize / 64 + 1]?;
+    for place in 0..marked.len() {
+        set_bit(&mut bits, number_at(marked, place));
+    }
+    Ok(bits)
+}
+
+/// What keeps all numbers that are marked, once a table of so many slots cannot: a larger table and
+/// no bits; or, if that were large, or a number found no slot in it, no table and the bits.
+fn grown(
+    alloc: Global,
+    marked: &Vec<Marked>,
+    slots: usize,
+    bound: u32,
+) -> Result<(Vec<u32>, Vec<u64>), AllocError>
+    requires slots { slots < 2 ^ 32 }
+    requires within { (n : ℕ) → IsMarked marked.now.items n → n < bound }
+    ensures { IfOk result (λ both. AreHeld bound both.0.items both.1.items marked.now.items) }
+{
+    let slots = (slots * GROWTH).max(LEAST);
+    if slots <= bound as usize / SHARE && marked.len() <= slots / 2 {
         let mut table = vec![in alloc; 0; slots]?;
-        if marked.len() <= slots / 2 && fill(&mut table, marked) {
-            return Ok(table);
+        if fill(&mut table, marked) {
+            return Ok((table, Vec::new(alloc)));
         }
     }
-    Err(AllocError)
+    let bits = bits_of(alloc, marked, bound)?;
+    Ok((Vec::new(alloc), bits))
 }

@@ -12,10 +12,11 @@ ghost use Rattle.graph_ancestors.specs.RefusedGraph.{MayRefuseGraph};
 ghost use Rattle.graph_history.specs.Checked.{MayRefuseWith};
 ghost use Rattle.graph_history.specs.RightGraph.{plain_options};
 
+use commit_search::FewSearcher;
 use gix_commitgraph::file::Commit;
 use gix_commitgraph::verify::{Outcome, VerifyError, VerifyOptions};
 use gix_commitgraph::{Graph, Position};
-use graph_ancestors::{NoFault, Reached, Searcher, check};
+use graph_ancestors::{InMemory, NoFault, Reached, Searcher, check};
 use std::alloc::{AllocError, Global};
 use std::borrow::Cow;
 use std::marker::Model;
@@ -150,7 +151,8 @@ impl<'g> Checked<'g> {
         ensures refused { OnErr result ((descendant.0 ≢ ancestor.0)
             × MayLead (history_of self.now.layers) descendant.0 ancestor.0) }
     {
-        self.searcher(alloc).is_ancestor(ancestor, descendant)
+        let mut commits = InMemory::new(self.graph);
+        FewSearcher::new(alloc).is_ancestor(&mut commits, ancestor, descendant)
     }
 
     /// Looks for a shortest walk along parents from one commit to another, at positions that are
@@ -175,6 +177,7 @@ impl<'g> Checked<'g> {
         ensures refused { OnErr result
             ((from.0 ≡ to.0) ⊎ MayLead (history_of self.now.layers) from.0 to.0) }
     {
-        self.searcher(alloc).ancestor_walk(from, to)
+        let mut commits = InMemory::new(self.graph);
+        FewSearcher::new(alloc).ancestor_walk(&mut commits, from, to)
     }
 }

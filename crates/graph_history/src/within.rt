@@ -14,11 +14,12 @@ use crate::checked::Checked;
 use crate::limit::{Limit, LimitError, Stopped};
 use crate::limited::Limited;
 use crate::owned::CheckedGraph;
+use commit_search::FewSearcher;
 use gix_commitgraph::file::Commit;
 use gix_commitgraph::law::check::a_check_of_a_graph_calls_on_each_position_once;
 use gix_commitgraph::verify::{VerifyError, VerifyOptions};
 use gix_commitgraph::{Graph, Position};
-use graph_ancestors::{AnySearcher, InMemory, Reached};
+use graph_ancestors::{InMemory, Reached};
 use graph_bases::{AnyComparer, Comparison};
 use std::alloc::{AllocError, Global};
 
@@ -52,7 +53,7 @@ impl<'g> Checked<'g> {
             return self.whole_walk(alloc, from, to);
         }
         let mut commits = Limited::new(InMemory::new(self.graph), limit.with_more(AHEAD));
-        match AnySearcher::new(alloc).ancestor_walk(&mut commits, from, to) {
+        match FewSearcher::new(alloc).ancestor_walk(&mut commits, from, to) {
             Ok(reached) if reached.visits as u64 <= limit.visits => Ok(reached),
             Ok(_) => Err(LimitError::Stopped),
             Err(error) => Err(error),
@@ -74,7 +75,7 @@ impl<'g> Checked<'g> {
             ⊎ MayLead (history_of self.now.layers) from.0 to.0)) }
     {
         let mut whole = InMemory::new(self.graph);
-        match AnySearcher::new(alloc).ancestor_walk(&mut whole, from, to) {
+        match FewSearcher::new(alloc).ancestor_walk(&mut whole, from, to) {
             Ok(reached) => Ok(reached),
             Err(error) => Err(LimitError::Source(error)),
         }
@@ -110,7 +111,7 @@ impl<'g> Checked<'g> {
             };
         }
         let mut commits = Limited::new(InMemory::new(self.graph), limit);
-        AnySearcher::new(alloc).is_ancestor(&mut commits, ancestor, descendant)
+        FewSearcher::new(alloc).is_ancestor(&mut commits, ancestor, descendant)
     }
 
     /// What [`Checked::compare`] answers, where no more commits are visited for it than the limit
