@@ -3,7 +3,6 @@ pub mod TrailLemmas
 pub mod SheetLemmas
 pub mod PaintLemmas
 pub mod CoatLemmas
-pub mod TouchLemmas
 pub mod PassLemmas
 pub mod BaseLemmas
 pub mod FoundLemmas

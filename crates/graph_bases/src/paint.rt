@@ -1,6 +1,6 @@
 //! What is known of the ways to the commits of a graph from a commit and some others.
 
-ghost use Rattle.std.specs.Prelude.{◌≡◌, ◌≢◌, ◌↔◌, ◌+◌, ◌<◌, ◌≤◌, ◌^◌, ℕ, cond, length, slice_set};
+ghost use Rattle.std.specs.Prelude.{◌≡◌, ◌↔◌, ◌+◌, ◌<◌, ◌≤◌, ◌^◌, ℕ, cond, length, slice_set};
 ghost use Rattle.std.specs.Prelude.{IfOk, IsTrue, OnOk};
 ghost use Rattle.graph_bases.specs.Paint.{first_leads, others_lead, is_stale, is_ahead};
 ghost use Rattle.graph_bases.specs.Paint.{is_behind, is_base, covers, joined, passed};
@@ -197,28 +197,16 @@ impl<T: CoatTable> Coats<T> {
         self.all.set(commit.0, coat)
     }
 
-    /// Makes the coat of a commit bare, where there is one. The counts stay.
-    pub(crate) fn uncover(&mut self, number: u32)
-        ensures len { length self.new.all ≡ length self.old.all }
-        ensures here { coat_at self.new.all number ≡ bare }
-        ensures there { (p : ℕ) → p ≢ number
-            → coat_at self.new.all p ≡ coat_at self.old.all p }
-    {
-        if (number as usize) < self.all.len() {
-            self.all.uncover(number);
-        }
-    }
-
-    /// The same coats, where all of them are bare, with right counts. Words are bare again.
+    /// The same coats, all of them bare again, with right counts. Words are bare again.
     pub(crate) fn into_idle(self) -> Coats<T>
-        requires { (p : ℕ) → coat_at self.all p ≡ bare }
         ensures { AreIdle (length self.all) result }
     {
         let Coats {
-            all,
+            mut all,
             mut trails,
             ..
         } = self;
+        all.clear();
         trails.clear();
         Coats {
             all,

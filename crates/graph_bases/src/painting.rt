@@ -16,7 +16,7 @@ ghost use Rattle.graph_bases.specs.Paint.{IsCounted, IsPaint, AreIdle};
 ghost use Rattle.graph_bases.specs.Painting.{IsSpread, IsLevel, Joins, JoinsNumbered, Adds};
 ghost use Rattle.graph_bases.specs.Painting.{ArePassed, IsPassed, MayAdd, IsPaintingOf};
 ghost use Rattle.graph_bases.specs.Painting.{AreCandidates, IsDone, IsPainting, IsPainted};
-ghost use Rattle.graph_bases.specs.Painting.{AreBases, AreTouched, entry_cmp, work};
+ghost use Rattle.graph_bases.specs.Painting.{AreBases, entry_cmp, work};
 ghost use Rattle.graph_bases.specs.Trails.{trail_in};
 
 use crate::bases::Divergence;
@@ -41,8 +41,6 @@ pub(crate) struct Painting<'p, T: CoatTable> {
     /// The positions of commits to which both sides lead: each merge base is one of them. Others
     /// turn out to be ancestors of another.
     candidates: Vec<u32>,
-    /// The positions of the commits that were taken from the queue.
-    taken: Vec<u32>,
     /// How many commits were taken from the queue.
     visits: u64,
 }
@@ -73,7 +71,6 @@ impl<'p, T: CoatTable> Painting<'p, T> {
             coats,
             queue: BinaryHeap::new(alloc),
             candidates: Vec::new(alloc),
-            taken: Vec::new(alloc),
             visits: 0,
         }
     }
@@ -92,7 +89,6 @@ impl<'p, T: CoatTable> Painting<'p, T> {
         ensures others { self.new.others.now ≡ self.old.others.now }
         ensures coats { self.new.coats ≡ self.old.coats }
         ensures candidates { self.new.candidates.items ≡ self.old.candidates.items }
-        ensures taken { self.new.taken.items ≡ self.old.taken.items }
         ensures visits { self.new.visits ≡ self.old.visits }
         ensures len { OnOk result (length (heap_items self.new.queue)
             ≡ length (heap_items self.old.queue)
@@ -119,7 +115,6 @@ impl<'p, T: CoatTable> Painting<'p, T> {
         ensures others { self.new.others.now ≡ self.old.others.now }
         ensures coats { self.new.coats ≡ self.old.coats }
         ensures queue { heap_items self.new.queue ≡ heap_items self.old.queue }
-        ensures taken { self.new.taken.items ≡ self.old.taken.items }
         ensures visits { self.new.visits ≡ self.old.visits }
         ensures candidates { OnOk result (self.new.candidates.items
             ≡ (if is_base paint then self.old.candidates.items ++ commit.0 ∷ []
@@ -190,8 +185,6 @@ impl<'p, T: CoatTable> Painting<'p, T> {
         ensures len { OnOk result
             (length self.new.coats.all ≡ S.count (S.known commits.old)) }
         ensures counted { OnOk result (IsCounted self.new.coats) }
-        ensures touched { OnOk result (AreTouched self.new.coats.all self.new.taken.items
-            (heap_items self.new.queue)) }
         ensures candidates { OnOk result (AreCandidates self.new.coats.all
             self.new.candidates.items) }
         ensures paint { OnOk result ((t : Told) → S.says commits.new t
@@ -212,7 +205,6 @@ impl<'p, T: CoatTable> Painting<'p, T> {
     {
         generations_never_rise_along_walks();
         while let Some(next) = self.queue.pop() {
-            push_number(&mut self.taken, next.1)?;
             let is_below_cap = next.0 < GENERATION_NUMBER_MAX;
             if self.coats.fresh == 0 && is_below_cap {
                 return Ok(());
@@ -253,7 +245,6 @@ impl<'p, T: CoatTable> Painting<'p, T> {
         requires { AreCandidates self.old.coats.all self.old.candidates.items }
         ensures coats { self.new.coats ≡ self.old.coats }
         ensures queue { heap_items self.new.queue ≡ heap_items self.old.queue }
-        ensures taken { self.new.taken.items ≡ self.old.taken.items }
         ensures visits { self.new.visits ≡ self.old.visits }
         ensures bases { IfOk result (λ bases. AreBases self.old.coats.all
             (numbers_of bases.items)) }
@@ -269,24 +260,11 @@ impl<'p, T: CoatTable> Painting<'p, T> {
         Ok(bases)
     }
 
-    /// The coats, all of them bare again. Only the commits that were painted are gone over.
+    /// The coats, all of them bare again.
     pub(crate) fn into_coats(self) -> Coats<T>
-        requires { AreTouched self.coats.all self.taken.items (heap_items self.queue) }
         ensures { AreIdle (length self.entry.coats.all) result }
     {
-        let Painting {
-            mut coats,
-            mut queue,
-            mut taken,
-            ..
-        } = self;
-        while let Some(next) = queue.pop() {
-            coats.uncover(next.1);
-        }
-        while let Some(number) = taken.pop() {
-            coats.uncover(number);
-        }
-        coats.into_idle()
+        self.coats.into_idle()
     }
 }
 
@@ -305,8 +283,6 @@ pub(crate) fn paint_from<'p, T: CoatTable, S: CommitSource>(
     ensures kept { (t : Told) → S.says commits.new t → S.says commits.old t }
     ensures len { IfOk result (λ s. length s.coats.all ≡ S.count (S.known commits.old)) }
     ensures counted { IfOk result (λ s. IsCounted s.coats) }
-    ensures touched { IfOk result (λ s. AreTouched s.coats.all s.taken.items
-        (heap_items s.queue)) }
     ensures candidates { IfOk result (λ s. AreCandidates s.coats.all s.candidates.items) }
     ensures paint { IfOk result (λ s. (t : Told) → S.says commits.new t
         → IsPaint t.history first.0 (numbers_of others.now) s.coats.all) }
@@ -339,13 +315,5 @@ fn push_entry(queue: &mut BinaryHeap<(u32, u32)>, entry: (u32, u32)) -> Result<(
         (IsPermutation (entry ∷ heap_items queue.old) (heap_items queue.new)) }
 {
     queue.push(entry)?;
-    Ok(())
-}
-
-/// Adds a number.
-fn push_number(numbers: &mut Vec<u32>, number: u32) -> Result<(), AllocError>
-    ensures { OnOk result (numbers.new.items ≡ numbers.old.items ++ number ∷ []) }
-{
-    numbers.push(number)?;
     Ok(())
 }

@@ -12,7 +12,6 @@ use Rattle.graph_bases.proofs.CoatLemmas.{next_number, rest_numbered, taken_pain
 use Rattle.graph_bases.proofs.CoatLemmas.{candidates_same}
 use Rattle.graph_bases.proofs.PaintLemmas.{grows_refl}
 use Rattle.graph_bases.proofs.PassLemmas.{passed_kept}
-use Rattle.graph_bases.proofs.TouchLemmas.{touched_taken}
 use Rattle.graph_bases.proofs.VisitCountLemmas.{count_taken}
 use Rattle.graph_bases.proofs.painting.Painting.run.Goals as goal
 use Rattle.graph_bases.proofs.painting.Painting.run.Given.{Over}
@@ -83,9 +82,6 @@ visit-requires-clause-passes g c =
         counted = c.in_ok-set.ensures.counted;
         waiting = after.waiting;
         candidates = candidates_same coats now s.candidates.items after.same i.painting.candidates;
-        touched =
-            touched_taken coats now s.taken.items c.push_number.new.numbers.items (heap_items s.queue) (heap_items c.pop.new.self)
-            c.in-Some.next c.in-Some.ensures.permutation after.there i.painting.touched c.in_ok-push_number.ensures;
         visits =
             (let old = i.painting.visits.least in
             count_taken coats now p s.visits c.saturating_add-self.result new inside is_coat c.in_ok-set.ensures.coats queued
@@ -168,13 +164,6 @@ returns-then-is_below_cap-clause-done g c = λ t said right.
     let level = i.level t said right in
     stops (next g (goal.at.returns-then-is_below_cap-clause-done g c).In-Some) t.history (i.told t said).numbered level.1 stale
     below
-
-pub returns-then-is_below_cap-clause-touched : goal.returns-then-is_below_cap-clause-touched
-returns-then-is_below_cap-clause-touched g c =
-    let s = c.loop-next.self in
-    touched_taken s.coats.all s.coats.all s.taken.items c.push_number.new.numbers.items (heap_items s.queue)
-    (heap_items c.pop.new.self) c.in-Some.next c.in-Some.ensures.permutation (λ q apart. refl)
-    c.loop-next.invariant.painting.touched c.in_ok-push_number.ensures
 
 pub returns-then-is_below_cap-clause-paint : goal.returns-then-is_below_cap-clause-paint
 returns-then-is_below_cap-clause-paint g c = λ t said.
