@@ -181,16 +181,21 @@ impl<T: CoatTable> Coats<T> {
         self.all.at(commit.0)
     }
 
-    /// Changes the coat of a commit.
-    pub(crate) fn set(&mut self, commit: Position, coat: Coat) -> Result<(), AllocError>
+    /// Changes the coat of a commit, which was this old one.
+    pub(crate) fn set(
+        &mut self,
+        commit: Position,
+        old: Coat,
+        coat: Coat,
+    ) -> Result<(), AllocError>
         requires counted { IsCounted self.old }
         requires within { commit.0 < length self.old.all }
+        requires old { old ≡ coat_at self.old.all commit.0 }
         requires few { length self.old.all < 2 ^ 32 }
         ensures coats { OnOk result (self.new.all ≡ slice_set self.old.all commit.0 coat) }
         ensures trails { self.new.trails ≡ self.old.trails }
         ensures counted { OnOk result (IsCounted self.new) }
     {
-        let old = self.at(commit);
         self.fresh = recounted(self.fresh, old.is_fresh(), coat.is_fresh());
         self.ahead = recounted(self.ahead, old.paint.is_ahead(), coat.paint.is_ahead());
         self.behind = recounted(self.behind, old.paint.is_behind(), coat.paint.is_behind());

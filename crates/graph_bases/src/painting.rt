@@ -75,14 +75,16 @@ impl<'p, T: CoatTable> Painting<'p, T> {
         }
     }
 
-    /// Puts a commit into the queue, where it is not there.
+    /// Puts a commit into the queue, unless it is there.
     fn enqueue<S: CommitSource>(
         &mut self,
         commits: &mut S,
         commit: Position,
+        is_there: bool,
     ) -> Result<(), S::Error>
         requires painting { IsPainting (S.count (S.known commits.old)) self.old }
         requires within { commit.0 < S.count (S.known commits.old) }
+        requires there { is_there ≡ is_queued self.old.coats.all commit.0 }
         ensures known { S.known commits.new ≡ S.known commits.old }
         ensures kept { (t : Told) → S.says commits.new t → S.says commits.old t }
         ensures first { self.new.first ≡ self.old.first }
@@ -101,7 +103,7 @@ impl<'p, T: CoatTable> Painting<'p, T> {
         ensures failed { IfErr result (λ e. S.may_fail (S.known commits.old) e
             ⊎ S.Error.from_gives alloc_error e) }
     {
-        if self.coats.at(commit).queued {
+        if is_there {
             return Ok(());
         }
         let generation = commits.generation_number(commit)?;
@@ -156,15 +158,15 @@ impl<'p, T: CoatTable> Painting<'p, T> {
         ensures failed { IfErr result (λ e. S.may_fail (S.known commits.old) e
             ⊎ S.Error.from_gives alloc_error e) }
     {
-        let known = self.coats.at(commit).paint;
-        if known.covers(paint) {
+        let known = self.coats.at(commit);
+        if known.paint.covers(paint) {
             return Ok(());
         }
-        let paint = known.join(paint);
-        self.enqueue(commits, commit)?;
+        let paint = known.paint.join(paint);
+        self.enqueue(commits, commit, known.queued)?;
         self.add_candidate(commit, paint)?;
         let queued = true;
-        self.coats.set(commit, Coat { paint, queued })?;
+        self.coats.set(commit, known, Coat { paint, queued })?;
         Ok(())
     }
 
@@ -210,9 +212,10 @@ impl<'p, T: CoatTable> Painting<'p, T> {
                 return Ok(());
             }
             let commit = Position(next.1);
-            let paint = self.coats.at(commit).paint;
+            let known = self.coats.at(commit);
+            let paint = known.paint;
             let queued = false;
-            self.coats.set(commit, Coat { paint, queued })?;
+            self.coats.set(commit, known, Coat { paint, queued })?;
             self.visits = self.visits.saturating_add(1);
             self.visit(commits, commit, paint)?;
         }

@@ -1,6 +1,6 @@
 //! Tables of coats: one for searches that may reach many commits, and one for those that reach few.
 
-ghost use Rattle.std.specs.Prelude.{◌≡◌};
+ghost use Rattle.std.specs.Prelude.{◌≡◌, []};
 
 use crate::paint::{BARE, Coat};
 use crate::sheet::CoatTable;
@@ -115,14 +115,22 @@ impl CoatTable for FewCoats {
         match self.painted.set(commit, 0) {
             Ok(()) => Ok(()),
             Err(error) => {
-                self.clear();
+                forget(&mut self.painted, &mut self.coats);
                 Err(error)
             }
         }
     }
 
     fn clear(&mut self) {
-        self.painted.clear();
-        self.coats.clear();
+        forget(&mut self.painted, &mut self.coats);
     }
+}
+
+/// Forgets which commits were painted, and their coats.
+fn forget(painted: &mut FewMarks, coats: &mut Vec<Coat>)
+    ensures painted { painted.new.marked ≡ [] }
+    ensures coats { coats.new.items ≡ [] }
+{
+    painted.clear();
+    coats.clear();
 }

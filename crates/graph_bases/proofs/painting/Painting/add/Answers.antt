@@ -1,6 +1,6 @@
 use Rattle.std.proofs.Common.{◌<◌, true, length, set, sym, ap, ◌∙◌, heap_items, arith}
 use Rattle.commit_search.specs.Positions.{numbers_of}
-use Rattle.graph_bases.specs.Paint.{joined, covers}
+use Rattle.graph_bases.specs.Paint.{coat_at, joined, covers}
 use Rattle.graph_bases.specs.declared.paint.Coat.{Coat}
 use Rattle.graph_bases.specs.declared.paint.Coats.{Coats}
 use Rattle.graph_bases.specs.declared.paint.Paint.{Paint}
@@ -18,6 +18,11 @@ set-requires-clause-few g c =
       c.requires.painting.coats_len,
       ap (λ (m : Coats _). length m.all) same,
     )
+
+pub set-requires-clause-old : goal.set-requires-clause-old
+set-requires-clause-old g c =
+    c.at-known.ensures
+    ∙ ap (λ (ms : Coats _). coat_at ms.all c.args.commit.0) (sym (c.add_candidate.ensures.coats ∙ c.enqueue.ensures.coats))
 
 pub returns : goal.returns
 returns g c =

@@ -34,8 +34,8 @@ next g c =
       greatest = c.in-Some.ensures.below_top waiting.order;
     }
 
-pub at-paint-requires : goal.at-paint-requires
-at-paint-requires g c = next_inside (next g (goal.at.at-paint-requires g c).In-Some)
+pub at-known-requires : goal.at-known-requires
+at-known-requires g c = next_inside (next g (goal.at.at-known-requires g c).In-Some)
 
 pub set-requires-clause-within : goal.set-requires-clause-within
 set-requires-clause-within g c = next_inside (next g (goal.at.set-requires-clause-within g c).In-Some)
@@ -51,7 +51,7 @@ visit-requires-clause-lists g c =
     let now = c.set.new.self.all in
     let i = c.loop-next.invariant in
     let first = next g (goal.at.visit-requires-clause-lists g c).In-Some in
-    let is_coat = ap (λ (m : Coat). coat_with m.paint false) c.at-paint.ensures in
+    let is_coat = ap (λ (m : Coat). coat_with m.paint false) c.at-known.ensures in
     let after = taken_by first is_coat c.in_ok-set.ensures.coats (next_queued first) in
     λ t said l.
     rw c.set.ensures.trails
@@ -70,8 +70,8 @@ visit-requires-clause-passes g c =
     let first = next g (goal.at.visit-requires-clause-passes g c).In-Some in
     let inside = next_inside first in
     let queued = next_queued first in
-    let new = coat_with c.at-paint.result.paint false in
-    let is_coat = ap (λ (m : Coat). coat_with m.paint false) c.at-paint.ensures in
+    let new = coat_with c.at-known.result.paint false in
+    let is_coat = ap (λ (m : Coat). coat_with m.paint false) c.at-known.ensures in
     let after = taken_by first is_coat c.in_ok-set.ensures.coats queued in
     let few = count_by-le-length is_visited coats in
     rw i.known
@@ -89,7 +89,7 @@ visit-requires-clause-passes g c =
             (omega (arith, c.saturating_add-self.ensures, old, few, i.painting.few, i.painting.coats_len)) i.painting.visits);
       };
       within = next_within first;
-      same = λ settled. after.same p ∙ sym (ap (λ (m : Coat). m.paint) c.at-paint.ensures);
+      same = λ settled. after.same p ∙ sym (ap (λ (m : Coat). m.paint) c.at-known.ensures);
       told = λ t said.
           (let h = t.history in
           let of = i.told t said in
@@ -114,7 +114,7 @@ visit-requires-clause-passes g c =
                   omega (arith, c.saturating_add-self.ensures, old.count, few, i.painting.few, i.painting.coats_len) in
                   rw visits (visiting_taken first of.numbered is_coat c.in_ok-set.ensures.coats after queued some old));
             };
-            so = subst (IsSo h a bs p) (sym (ap (λ (m : Coat). m.paint) c.at-paint.ensures)) (of.paint.each p);
+            so = subst (IsSo h a bs p) (sym (ap (λ (m : Coat). m.paint) c.at-known.ensures)) (of.paint.each p);
             spread = taken_spread after h a bs spread;
             in_order = λ right.
                 (let level = i.level t said right in
@@ -123,7 +123,7 @@ visit-requires-clause-passes g c =
                   uncapped = λ below.
                       painted_below_cap of.paint (λ q r. c.generations_never_rise_along_walks.ensures h q r right) below p
                       (painted below);
-                  painted = λ below. ap (λ (m : Coat). is_painted m.paint) c.at-paint.ensures ∙ painted below;
+                  painted = λ below. ap (λ (m : Coat). is_painted m.paint) c.at-known.ensures ∙ painted below;
                   own = λ below. after.here;
                   level = taken_level first h of.numbered level.1 after;
                 });
@@ -133,7 +133,7 @@ visit-requires-clause-passes g c =
 pub loop-next-smaller : goal.loop-next-smaller
 loop-next-smaller g c =
     let first = next g (goal.at.loop-next-smaller g c).In-Some in
-    let is_coat = ap (λ (m : Coat). coat_with m.paint false) c.at-paint.ensures in
+    let is_coat = ap (λ (m : Coat). coat_with m.paint false) c.at-known.ensures in
     lt_of_le_of_lt c.in_ok-visit.ensures.work (taken_by first is_coat c.in_ok-set.ensures.coats (next_queued first)).work
 
 pub loop-next-preserved : goal.loop-next-preserved
