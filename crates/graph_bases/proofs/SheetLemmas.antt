@@ -1,13 +1,14 @@
 -- A coat for each commit: of all commits, or kept for those alone that are marked.
 use Rattle.std.proofs.Common.{◌≡◌, ◌≢◌, ◌⊎◌, ℕ, suc, zero, ◌<◌, ◌≤◌, Bool, List, [], ◌∷◌, ◌++◌, if◌then◌else◌, length, map, set}
 use Rattle.std.proofs.Common.{get_or, All, Contains, refl, sym, ap, ◌∙◌, subst, inl, inr, ⊎_elim, arith}
-use Rattle.std.proofs.Common.{eq-eqb, ne_eqb}
+use Rattle.std.proofs.Common.{◌==◌, eq-eqb, ne_eqb}
 use Rattle.std.proofs.lemmas.Bool.{cases_eq, cases_lt}
 use Rattle.std.proofs.lemmas.List.{length-set, length_push, get_or-set_same, get_or-set_other, get_or_past}
 use Rattle.std.proofs.lemmas.List.Elements.{All-contains, Contains-append_left, Contains-get_or, Contains-push_cases, Contains-push}
 use Rattle.std.proofs.lemmas.List.FromFn.{length-map-range_with_len, get_or-map-range_with_len, fill_by_all}
 use Rattle.std.specs.List.{range_with_len}
-use Rattle.commit_search.specs.Marks.{Marked, IsMarked, number_in}
+use Rattle.commit_search.specs.Marks.{IsMarked, number_in}
+use Rattle.commit_search.specs.declared.marks.Marked.{Marked}
 use Rattle.commit_search.proofs.QueueLemmas.{cases_pushed, commit_old, commit_new}
 use Rattle.graph_bases.specs.Sheet.{bare, coat_at, AreChanged, kept_coat, AreKeptCoats, sheet_of}
 use Rattle.graph_bases.specs.declared.paint.Coat.{Coat}

@@ -2,7 +2,8 @@
 use Rattle.std.specs.Prelude.{◌≡◌, ◌⊎◌, ◌==◌, if◌then◌else◌, ℕ, ◌<◌, false, List, [], ◌∷◌, All, Contains, length, map}
 use Rattle.std.specs.Prelude.{slice_index_or}
 use Rattle.std.specs.List.{range_with_len}
-use Rattle.commit_search.specs.Marks.{Marked, number_in}
+use Rattle.commit_search.specs.Marks.{number_in}
+use Rattle.commit_search.specs.declared.marks.Marked.{Marked}
 use Rattle.graph_bases.specs.declared.paint.Coat.{Coat}
 use Rattle.graph_bases.specs.declared.paint.Paint.TheVariants.{Bare}
 

@@ -3,8 +3,8 @@ use Rattle.commit_search.specs.Marks.{Marking}
 use Rattle.graph_bases.proofs.SheetLemmas.{kept_nothing, sheet_bare, sheet_len}
 use Rattle.graph_bases.proofs.tables.FewCoatsCoatTable.new.Goals as goal
 
-pub invariant_of-self : goal.invariant_of-self
-invariant_of-self c =
+pub invariant_of-result : goal.invariant_of-result
+invariant_of-result c =
     kept_nothing c.new.result.marked c.new-2.result.items (ap (λ (m : Marking). m.marked) c.new.ensures) c.new-2.ensures.items
 
 pub returns-clause-len : goal.returns-clause-len
