@@ -4,7 +4,8 @@ use Rattle.std.proofs.Common.{get_or, All, Contains, refl, sym, ap, ◌∙◌, s
 use Rattle.std.proofs.Common.{◌==◌, eq-eqb, ne_eqb}
 use Rattle.std.proofs.lemmas.Bool.{cases_eq, cases_lt}
 use Rattle.std.proofs.lemmas.List.{length-set, length_push, get_or-set_same, get_or-set_other, get_or_past}
-use Rattle.std.proofs.lemmas.List.Elements.{All-contains, Contains-append_left, Contains-get_or, Contains-push_cases, Contains-push}
+use Rattle.std.proofs.lemmas.List.Elements.{All-contains, Contains-append_left, Contains-get_or, Contains-push}
+use Rattle.std.proofs.lemmas.List.Elements.{Contains-push_cases}
 use Rattle.std.proofs.lemmas.List.FromFn.{length-map-range_with_len, get_or-map-range_with_len, fill_by_all}
 use Rattle.std.specs.List.{range_with_len}
 use Rattle.commit_search.specs.Marks.{IsMarked, number_in}
@@ -52,7 +53,8 @@ changed_painted coats changed p are painted =
 pub changed_popped : (coats : List Coat) (rest : List ℕ) (n : ℕ) → AreChanged coats (rest ++ n ∷ [])
     → (n < length coats) × AreChanged (set coats n bare) rest
 changed_popped coats rest n are =
-    let inside : n < length coats = All-contains (λ (m : ℕ). m < length coats) (rest ++ n ∷ []) n are.within (Contains-push rest n) in
+    let inside : n < length coats =
+    All-contains (λ (m : ℕ). m < length coats) (rest ++ n ∷ []) n are.within (Contains-push rest n) in
     (inside, record {
       within = λ i d lt.
           omega (

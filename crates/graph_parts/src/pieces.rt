@@ -48,8 +48,8 @@ pub(crate) enum Kept {
     ByNumber(usize),
 }
 
-/// A series of pieces, and those of them that were read: first one by one, so many of them, and then
-/// by blocks. So few pieces are read quickly and take little memory, and many take few reads.
+/// A series of pieces, and those of them that were read: first one by one, so many of them, and
+/// then by blocks. So few pieces are read quickly and take little memory, and many take few reads.
 #[derive(Drop)]
 pub(crate) struct Pieces {
     pub(crate) series: Series,

@@ -1,4 +1,4 @@
-use Rattle.std.proofs.Common.{◌≡◌, ◌+◌, ◌<◌, count_by, false, length, refl, sym, ap, ◌∙◌, subst, lt_of_le_of_lt}
+use Rattle.std.proofs.Common.{◌≡◌, ◌+◌, ◌<◌, count_by, false, length, sym, ap, ◌∙◌, subst, lt_of_le_of_lt}
 use Rattle.std.proofs.Common.{heap_items, arith}
 use Rattle.std.proofs.lemmas.List.Sums.{count_by-le-length}
 use Rattle.graph_walks.specs.declared.TheConstants.{GENERATION_NUMBER_MAX}

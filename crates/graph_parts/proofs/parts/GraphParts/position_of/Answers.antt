@@ -28,7 +28,8 @@ module _ (g : Over) (c : After-position_of g) where
   reads = record {
     right = c.loop-layer.invariant.right;
     here = slice_get_read c.loop-layer.self.layers.items (length c.loop-layer.self.layers.items) c.loop-layer.layer
-        c.index_mut.result.now refl (omega (arith, c.loop-layer.invariant.long, c.loop-layer-test.true)) c.index_mut.ensures.value;
+        c.index_mut.result.now refl (omega (arith, c.loop-layer.invariant.long, c.loop-layer-test.true))
+        c.index_mut.ensures.value;
     is = refl;
     sees = rw c.loop-layer.invariant.tree at c.position_of.ensures.sees;
     kept = c.position_of.ensures.parts;
