@@ -20,7 +20,7 @@ use Rattle.graph_parts.proofs.parts.GraphParts.position_of.Goals as goal
 
 -- A layer was searched, of which more may be kept then.
 module _ (g : Over) (c : After-position_of g) where
-  new : GraphParts
+  abbrev new : GraphParts
   new = record { layers = with_item c.loop-layer.self.layers c.loop-layer.layer c.position_of.new.self }
 
   reads : ReadsAt (g.T.Folder.tree c.args.folder.now) c.loop-layer.self new c.loop-layer.layer c.index_mut.result.now
