@@ -1,4 +1,4 @@
--- A coat for each commit: of all commits, or kept for those alone that are marked.
+-- A coat for each commit: of all commits, or kept for those alone that were painted.
 use Rattle.std.proofs.Common.{◌≡◌, ◌≢◌, ◌⊎◌, ℕ, suc, zero, ◌<◌, ◌≤◌, Bool, List, [], ◌∷◌, ◌++◌, if◌then◌else◌, length, map, set}
 use Rattle.std.proofs.Common.{get_or, All, Contains, refl, sym, ap, ◌∙◌, subst, inl, inr, ⊎_elim, arith}
 use Rattle.std.proofs.Common.{◌==◌, eq-eqb, ne_eqb}
@@ -8,11 +8,10 @@ use Rattle.std.proofs.lemmas.List.Elements.{All-contains, Contains-append_left, 
 use Rattle.std.proofs.lemmas.List.Elements.{Contains-push_cases}
 use Rattle.std.proofs.lemmas.List.FromFn.{length-map-range_with_len, get_or-map-range_with_len, fill_by_all}
 use Rattle.std.specs.List.{range_with_len}
-use Rattle.commit_search.specs.Marks.{IsMarked, number_in}
-use Rattle.commit_search.specs.declared.marks.Marked.{Marked}
-use Rattle.commit_search.proofs.QueueLemmas.{cases_pushed, commit_old, commit_new}
+use Rattle.graph_bases.specs.Places.{IsListed}
 use Rattle.graph_bases.specs.Sheet.{bare, coat_at, AreChanged, kept_coat, AreKeptCoats, sheet_of}
 use Rattle.graph_bases.specs.declared.paint.Coat.{Coat}
+use Rattle.graph_bases.proofs.PlaceLemmas.{place_cases, old_place, new_place}
 
 -- Which coats were changed.
 
@@ -87,7 +86,7 @@ changed_empty coats changed none are p =
     (λ (was : Contains changed p). let lt = was.1 in absurd (omega arith))
     (are.those p)
 
--- The coats of the commits that are marked.
+-- The coats of the commits that were painted.
 
 is_one : (n p : ℕ) (x y : Coat) → n ≡ p → (if n == p then x else y) ≡ x
 is_one n p x y e = ap (λ (b : Bool). if b then x else y) (eq-eqb n p e)
@@ -95,89 +94,89 @@ is_one n p x y e = ap (λ (b : Bool). if b then x else y) (eq-eqb n p e)
 is_other : (n p : ℕ) (x y : Coat) → n ≢ p → (if n == p then x else y) ≡ y
 is_other n p x y apart = ap (λ (b : Bool). if b then x else y) (ne_eqb n p apart)
 
-kept_tail : (e : Marked) (marked : List Marked) (x : Coat) (coats : List Coat) → AreKeptCoats (e ∷ marked) (x ∷ coats)
-    → AreKeptCoats marked coats
-kept_tail e marked x coats are = record {
+kept_tail : (e : ℕ) (painted : List ℕ) (x : Coat) (coats : List Coat) → AreKeptCoats (e ∷ painted) (x ∷ coats)
+    → AreKeptCoats painted coats
+kept_tail e painted x coats are = record {
   as_many = omega (arith, are.as_many);
   once = λ i j lt lt' same.
       (let next : suc i ≡ suc j = are.once (suc i) (suc j) (omega (arith, lt)) (omega (arith, lt')) same in omega (arith, next));
 }
 
 -- that of the commit at a place
-kept_place : (marked : List Marked) (coats : List Coat) (place p : ℕ) → AreKeptCoats marked coats → place < length marked
-    → number_in marked place ≡ p → kept_coat marked coats p ≡ get_or coats place bare
+kept_place : (painted : List ℕ) (coats : List Coat) (place p : ℕ) → AreKeptCoats painted coats → place < length painted
+    → get_or painted place 0 ≡ p → kept_coat painted coats p ≡ get_or coats place bare
 kept_place [] coats place p are lt at = absurd (omega (arith, lt))
-kept_place (e ∷ marked) [] place p are lt at = absurd (omega (arith, are.as_many))
-kept_place (e ∷ marked) (x ∷ coats) zero p are lt at = is_one e.number p x (kept_coat marked coats p) at
-kept_place (e ∷ marked) (x ∷ coats) (suc k) p are lt at =
-    is_other e.number p x (kept_coat marked coats p)
+kept_place (e ∷ painted) [] place p are lt at = absurd (omega (arith, are.as_many))
+kept_place (e ∷ painted) (x ∷ coats) zero p are lt at = is_one e p x (kept_coat painted coats p) at
+kept_place (e ∷ painted) (x ∷ coats) (suc k) p are lt at =
+    is_other e p x (kept_coat painted coats p)
     (λ same.
     let clash : 0 ≡ suc k = are.once 0 (suc k) (omega arith) lt (same ∙ sym at) in absurd (omega (arith, clash)))
-    ∙ kept_place marked coats k p (kept_tail e marked x coats are) (omega (arith, lt)) at
+    ∙ kept_place painted coats k p (kept_tail e painted x coats are) (omega (arith, lt)) at
 
--- that of a commit that is not marked
-kept_none : (marked : List Marked) (coats : List Coat) (p : ℕ) → ¬ IsMarked marked p → kept_coat marked coats p ≡ bare
+-- that of a commit that was not painted
+kept_none : (painted : List ℕ) (coats : List Coat) (p : ℕ) → ¬ IsListed painted p → kept_coat painted coats p ≡ bare
 kept_none [] coats p none = refl
-kept_none (e ∷ marked) [] p none = refl
-kept_none (e ∷ marked) (x ∷ coats) p none =
-    is_other e.number p x (kept_coat marked coats p) (λ same. none (0, omega arith, same))
-    ∙ kept_none marked coats p (λ (i, lt, at). none (suc i, omega (arith, lt), at))
+kept_none (e ∷ painted) [] p none = refl
+kept_none (e ∷ painted) (x ∷ coats) p none =
+    is_other e p x (kept_coat painted coats p) (λ same. none (0, omega arith, same))
+    ∙ kept_none painted coats p (λ (i, lt, at). none (suc i, omega (arith, lt), at))
 
 -- those of the others, where the one at a place changes
-kept_others : (marked : List Marked) (coats : List Coat) (place q : ℕ) (coat : Coat) → place < length coats
-    → number_in marked place ≢ q → kept_coat marked (set coats place coat) q ≡ kept_coat marked coats q
+kept_others : (painted : List ℕ) (coats : List Coat) (place q : ℕ) (coat : Coat) → place < length coats
+    → get_or painted place 0 ≢ q → kept_coat painted (set coats place coat) q ≡ kept_coat painted coats q
 kept_others [] coats place q coat lt apart = refl
-kept_others (e ∷ marked) [] place q coat lt apart = absurd (omega (arith, lt))
-kept_others (e ∷ marked) (x ∷ coats) zero q coat lt apart =
-    is_other e.number q coat (kept_coat marked coats q) apart ∙ sym (is_other e.number q x (kept_coat marked coats q) apart)
-kept_others (e ∷ marked) (x ∷ coats) (suc k) q coat lt apart =
-    ap (λ (y : Coat). if e.number == q then x else y) (kept_others marked coats k q coat (omega (arith, lt)) apart)
+kept_others (e ∷ painted) [] place q coat lt apart = absurd (omega (arith, lt))
+kept_others (e ∷ painted) (x ∷ coats) zero q coat lt apart =
+    is_other e q coat (kept_coat painted coats q) apart ∙ sym (is_other e q x (kept_coat painted coats q) apart)
+kept_others (e ∷ painted) (x ∷ coats) (suc k) q coat lt apart =
+    ap (λ (y : Coat). if e == q then x else y) (kept_others painted coats k q coat (omega (arith, lt)) apart)
 
--- that of a commit that is marked after the others, and those of the others
-kept_new : (marked : List Marked) (coats : List Coat) (e : Marked) (coat : Coat) → length coats ≡ length marked
-    → ¬ IsMarked marked e.number → kept_coat (marked ++ e ∷ []) (coats ++ coat ∷ []) e.number ≡ coat
-kept_new [] [] e coat many none = is_one e.number e.number coat bare refl
+-- that of a commit that is painted after the others, and those of the others
+kept_new : (painted : List ℕ) (coats : List Coat) (e : ℕ) (coat : Coat) → length coats ≡ length painted
+    → ¬ IsListed painted e → kept_coat (painted ++ e ∷ []) (coats ++ coat ∷ []) e ≡ coat
+kept_new [] [] e coat many none = is_one e e coat bare refl
 kept_new [] (x ∷ coats) e coat many none = absurd (omega (arith, many))
-kept_new (f ∷ marked) [] e coat many none = absurd (omega (arith, many))
-kept_new (f ∷ marked) (x ∷ coats) e coat many none =
-    is_other f.number e.number x (kept_coat (marked ++ e ∷ []) (coats ++ coat ∷ []) e.number)
+kept_new (f ∷ painted) [] e coat many none = absurd (omega (arith, many))
+kept_new (f ∷ painted) (x ∷ coats) e coat many none =
+    is_other f e x (kept_coat (painted ++ e ∷ []) (coats ++ coat ∷ []) e)
     (λ same. none (0, omega arith, same))
-    ∙ kept_new marked coats e coat (omega (arith, many)) (λ (i, lt, at). none (suc i, omega (arith, lt), at))
+    ∙ kept_new painted coats e coat (omega (arith, many)) (λ (i, lt, at). none (suc i, omega (arith, lt), at))
 
-kept_old : (marked : List Marked) (coats : List Coat) (e : Marked) (coat : Coat) (q : ℕ) → length coats ≡ length marked
-    → e.number ≢ q → kept_coat (marked ++ e ∷ []) (coats ++ coat ∷ []) q ≡ kept_coat marked coats q
-kept_old [] [] e coat q many apart = is_other e.number q coat bare apart
+kept_old : (painted : List ℕ) (coats : List Coat) (e : ℕ) (coat : Coat) (q : ℕ) → length coats ≡ length painted
+    → e ≢ q → kept_coat (painted ++ e ∷ []) (coats ++ coat ∷ []) q ≡ kept_coat painted coats q
+kept_old [] [] e coat q many apart = is_other e q coat bare apart
 kept_old [] (x ∷ coats) e coat q many apart = absurd (omega (arith, many))
-kept_old (f ∷ marked) [] e coat q many apart = absurd (omega (arith, many))
-kept_old (f ∷ marked) (x ∷ coats) e coat q many apart =
-    ap (λ (y : Coat). if f.number == q then x else y) (kept_old marked coats e coat q (omega (arith, many)) apart)
+kept_old (f ∷ painted) [] e coat q many apart = absurd (omega (arith, many))
+kept_old (f ∷ painted) (x ∷ coats) e coat q many apart =
+    ap (λ (y : Coat). if f == q then x else y) (kept_old painted coats e coat q (omega (arith, many)) apart)
 
-pub kept_pushed : (marked : List Marked) (coats : List Coat) (e : Marked) (coat : Coat) → ¬ IsMarked marked e.number
-    → AreKeptCoats marked coats → AreKeptCoats (marked ++ e ∷ []) (coats ++ coat ∷ [])
-kept_pushed marked coats e coat none are = record {
-  as_many = omega (arith, are.as_many, length_push marked e, length_push coats coat);
+pub kept_pushed : (painted : List ℕ) (coats : List Coat) (e : ℕ) (coat : Coat) → ¬ IsListed painted e
+    → AreKeptCoats painted coats → AreKeptCoats (painted ++ e ∷ []) (coats ++ coat ∷ [])
+kept_pushed painted coats e coat none are = record {
+  as_many = omega (arith, are.as_many, length_push painted e, length_push coats coat);
   once = λ i j lt lt' same.
       ⊎_elim
-      (λ (lo : i < length marked).
+      (λ (lo : i < length painted).
       ⊎_elim
-      (λ (lo' : j < length marked). are.once i j lo lo' (sym (commit_old marked e i lo) ∙ same ∙ commit_old marked e j lo'))
-      (λ (hi' : j ≡ length marked). absurd (none (i, lo, sym (commit_old marked e i lo) ∙ same ∙ commit_new marked e j hi')))
-      (cases_pushed marked e j lt'))
-      (λ (hi : i ≡ length marked).
+      (λ (lo' : j < length painted). are.once i j lo lo' (sym (old_place painted e i lo) ∙ same ∙ old_place painted e j lo'))
+      (λ (hi' : j ≡ length painted). absurd (none (i, lo, sym (old_place painted e i lo) ∙ same ∙ new_place painted e j hi')))
+      (place_cases painted e j lt'))
+      (λ (hi : i ≡ length painted).
       ⊎_elim
-      (λ (lo' : j < length marked).
-      absurd (none (j, lo', sym (commit_old marked e j lo') ∙ sym same ∙ commit_new marked e i hi)))
-      (λ (hi' : j ≡ length marked). hi ∙ sym hi')
-      (cases_pushed marked e j lt'))
-      (cases_pushed marked e i lt);
+      (λ (lo' : j < length painted).
+      absurd (none (j, lo', sym (old_place painted e j lo') ∙ sym same ∙ new_place painted e i hi)))
+      (λ (hi' : j ≡ length painted). hi ∙ sym hi')
+      (place_cases painted e j lt'))
+      (place_cases painted e i lt);
 }
 
-pub kept_replaced : (marked : List Marked) (coats : List Coat) (place : ℕ) (coat : Coat) → AreKeptCoats marked coats
-    → AreKeptCoats marked (set coats place coat)
-kept_replaced marked coats place coat are = record { as_many = length-set coats place coat ∙ are.as_many; once = are.once }
+pub kept_replaced : (painted : List ℕ) (coats : List Coat) (place : ℕ) (coat : Coat) → AreKeptCoats painted coats
+    → AreKeptCoats painted (set coats place coat)
+kept_replaced painted coats place coat are = record { as_many = length-set coats place coat ∙ are.as_many; once = are.once }
 
-pub kept_nothing : (marked : List Marked) (coats : List Coat) → marked ≡ [] → coats ≡ [] → AreKeptCoats marked coats
-kept_nothing marked coats none bare' = record {
+pub kept_nothing : (painted : List ℕ) (coats : List Coat) → painted ≡ [] → coats ≡ [] → AreKeptCoats painted coats
+kept_nothing painted coats none bare' = record {
   as_many = ap length bare' ∙ sym (ap length none);
   once = λ i j lt lt' same. absurd (omega (arith, lt, ap length none));
 }
@@ -214,42 +213,42 @@ made_set f g count p coat inside here there =
         (cases_eq k p)
 
 -- of a sheet of so many coats
-module _ (marked : List Marked) (coats : List Coat) (count : ℕ) where
-  pub sheet_len : length (sheet_of marked coats count) ≡ count
-  sheet_len = made_len (kept_coat marked coats) count
+module _ (painted : List ℕ) (coats : List Coat) (count : ℕ) where
+  pub sheet_len : length (sheet_of painted coats count) ≡ count
+  sheet_len = made_len (kept_coat painted coats) count
 
-  pub sheet_bare : marked ≡ [] → (p : ℕ) → coat_at (sheet_of marked coats count) p ≡ bare
+  pub sheet_bare : painted ≡ [] → (p : ℕ) → coat_at (sheet_of painted coats count) p ≡ bare
   sheet_bare none p =
       ⊎_elim
-      (λ (lt : p < length (sheet_of marked coats count)).
-      made_at (kept_coat marked coats) count p lt
-      ∙ kept_none marked coats p (λ (i, in', at). absurd (omega (arith, in', ap length none))))
-      (λ (le : length (sheet_of marked coats count) ≤ p). get_or_past (sheet_of marked coats count) p bare le)
-      (cases_lt p (length (sheet_of marked coats count)))
+      (λ (lt : p < length (sheet_of painted coats count)).
+      made_at (kept_coat painted coats) count p lt
+      ∙ kept_none painted coats p (λ (i, in', at). absurd (omega (arith, in', ap length none))))
+      (λ (le : length (sheet_of painted coats count) ≤ p). get_or_past (sheet_of painted coats count) p bare le)
+      (cases_lt p (length (sheet_of painted coats count)))
 
-  module _ (p : ℕ) (inside : p < length (sheet_of marked coats count)) where
-    pub sheet_none : ¬ IsMarked marked p → coat_at (sheet_of marked coats count) p ≡ bare
-    sheet_none none = made_at (kept_coat marked coats) count p inside ∙ kept_none marked coats p none
+  module _ (p : ℕ) (inside : p < length (sheet_of painted coats count)) where
+    pub sheet_none : ¬ IsListed painted p → coat_at (sheet_of painted coats count) p ≡ bare
+    sheet_none none = made_at (kept_coat painted coats) count p inside ∙ kept_none painted coats p none
 
-    module _ (are : AreKeptCoats marked coats) where
-      pub sheet_place : (place : ℕ) → place < length marked → number_in marked place ≡ p
-          → coat_at (sheet_of marked coats count) p ≡ get_or coats place bare
+    module _ (are : AreKeptCoats painted coats) where
+      pub sheet_place : (place : ℕ) → place < length painted → get_or painted place 0 ≡ p
+          → coat_at (sheet_of painted coats count) p ≡ get_or coats place bare
       sheet_place place lt at =
-          made_at (kept_coat marked coats) count p inside ∙ kept_place marked coats place p are lt at
+          made_at (kept_coat painted coats) count p inside ∙ kept_place painted coats place p are lt at
 
-      pub sheet_replaced : (place : ℕ) (coat : Coat) → place < length marked → number_in marked place ≡ p
-          → sheet_of marked (set coats place coat) count ≡ set (sheet_of marked coats count) p coat
+      pub sheet_replaced : (place : ℕ) (coat : Coat) → place < length painted → get_or painted place 0 ≡ p
+          → sheet_of painted (set coats place coat) count ≡ set (sheet_of painted coats count) p coat
       sheet_replaced place coat lt at =
           let within : place < length coats = omega (arith, lt, are.as_many) in
-          made_set (kept_coat marked coats) (kept_coat marked (set coats place coat)) count p coat inside
-          (kept_place marked (set coats place coat) place p (kept_replaced marked coats place coat are) lt at
+          made_set (kept_coat painted coats) (kept_coat painted (set coats place coat)) count p coat inside
+          (kept_place painted (set coats place coat) place p (kept_replaced painted coats place coat are) lt at
           ∙ get_or-set_same coats place coat bare within)
-          (λ q apart. kept_others marked coats place q coat within (λ same. apart (sym at ∙ same)))
+          (λ q apart. kept_others painted coats place q coat within (λ same. apart (sym at ∙ same)))
 
-      pub sheet_pushed : (e : Marked) (coat : Coat) → ¬ IsMarked marked p → e.number ≡ p
-          → sheet_of (marked ++ e ∷ []) (coats ++ coat ∷ []) count ≡ set (sheet_of marked coats count) p coat
+      pub sheet_pushed : (e : ℕ) (coat : Coat) → ¬ IsListed painted p → e ≡ p
+          → sheet_of (painted ++ e ∷ []) (coats ++ coat ∷ []) count ≡ set (sheet_of painted coats count) p coat
       sheet_pushed e coat none at =
-          made_set (kept_coat marked coats) (kept_coat (marked ++ e ∷ []) (coats ++ coat ∷ [])) count p coat inside
-          (ap (kept_coat (marked ++ e ∷ []) (coats ++ coat ∷ [])) (sym at)
-          ∙ kept_new marked coats e coat are.as_many (λ m. none (subst (IsMarked marked) at m)))
-          (λ q apart. kept_old marked coats e coat q are.as_many (λ same. apart (sym at ∙ same)))
+          made_set (kept_coat painted coats) (kept_coat (painted ++ e ∷ []) (coats ++ coat ∷ [])) count p coat inside
+          (ap (kept_coat (painted ++ e ∷ []) (coats ++ coat ∷ [])) (sym at)
+          ∙ kept_new painted coats e coat are.as_many (λ m. none (subst (IsListed painted) at m)))
+          (λ q apart. kept_old painted coats e coat q are.as_many (λ same. apart (sym at ∙ same)))

@@ -11,6 +11,10 @@ slot_for slots n step = bit_and (n + step) (slots - 1)
 abbrev pub at_slot : List ℕ → ℕ → ℕ → ℕ
 at_slot table n step = slice_index_or table (slot_for (length table) n step) 0
 
+-- n is one of the commits
+abbrev pub IsListed : List ℕ → ℕ → Type 0
+IsListed commits n = (p : ℕ) × (p < length commits) × (slice_index_or commits p 0 ≡ n)
+
 -- Place p is found where n is looked for, as long as no slot is empty.
 pub record StandsIn (table : List ℕ) (n p : ℕ) : Type 0 where
   pub step : ℕ

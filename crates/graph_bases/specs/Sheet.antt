@@ -2,8 +2,6 @@
 use Rattle.std.specs.Prelude.{◌≡◌, ◌⊎◌, ◌==◌, if◌then◌else◌, ℕ, ◌<◌, false, List, [], ◌∷◌, All, Contains, length, map}
 use Rattle.std.specs.Prelude.{slice_index_or}
 use Rattle.std.specs.List.{range_with_len}
-use Rattle.commit_search.specs.Marks.{number_in}
-use Rattle.commit_search.specs.declared.marks.Marked.{Marked}
 use Rattle.graph_bases.specs.declared.paint.Coat.{Coat}
 use Rattle.graph_bases.specs.declared.paint.Paint.TheVariants.{Bare}
 
@@ -19,17 +17,18 @@ pub record AreChanged (coats : List Coat) (changed : List ℕ) : Type 0 where
   pub within : All (λ n. n < length coats) changed
   pub those : (p : ℕ) → (coat_at coats p ≡ bare) ⊎ Contains changed p
 
--- the coat of a commit, where those of the commits that are marked are kept in their order, and all others are bare
-abbrev pub kept_coat : List Marked → List Coat → ℕ → Coat
+-- the coat of a commit, where those of some commits are kept in the order of these, and all others are bare
+abbrev pub kept_coat : List ℕ → List Coat → ℕ → Coat
 kept_coat [] coats p = bare
-kept_coat (e ∷ marked) [] p = bare
-kept_coat (e ∷ marked) (coat ∷ coats) p = if e.number == p then coat else kept_coat marked coats p
+kept_coat (n ∷ painted) [] p = bare
+kept_coat (n ∷ painted) (coat ∷ coats) p = if n == p then coat else kept_coat painted coats p
 
--- A coat is kept for each commit that is marked, and none is marked twice.
-pub record AreKeptCoats (marked : List Marked) (coats : List Coat) : Type 0 where
-  pub as_many : length coats ≡ length marked
-  pub once : (i j : ℕ) → i < length marked → j < length marked → number_in marked i ≡ number_in marked j → i ≡ j
+-- A coat is kept for each of these commits, and none stands there twice.
+pub record AreKeptCoats (painted : List ℕ) (coats : List Coat) : Type 0 where
+  pub as_many : length coats ≡ length painted
+  pub once : (i j : ℕ) → i < length painted → j < length painted
+      → slice_index_or painted i 0 ≡ slice_index_or painted j 0 → i ≡ j
 
 -- the coats of so many commits
-abbrev pub sheet_of : List Marked → List Coat → ℕ → List Coat
-sheet_of marked coats count = map (kept_coat marked coats) (range_with_len 0 count)
+abbrev pub sheet_of : List ℕ → List Coat → ℕ → List Coat
+sheet_of painted coats count = map (kept_coat painted coats) (range_with_len 0 count)

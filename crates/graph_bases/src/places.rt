@@ -1,8 +1,8 @@
 //! The places of few commits in a list of them, by a hash table.
 
-ghost use Rattle.std.specs.Prelude.{◌≡◌, ◌^◌, ◌<◌, ◌≤◌, ◌++◌, ◌∷◌, [], ℕ, Contains, IfNone, IfOk};
+ghost use Rattle.std.specs.Prelude.{◌≡◌, ◌^◌, ◌<◌, ◌≤◌, ◌++◌, ◌∷◌, [], ℕ, IfNone, IfOk};
 ghost use Rattle.std.specs.Prelude.{IfSome, OnErr, OnOk, true, false, length, slice_index_or};
-ghost use Rattle.graph_bases.specs.Places.{slot_for, at_slot, AreListed, PutsPlace};
+ghost use Rattle.graph_bases.specs.Places.{slot_for, at_slot, AreListed, IsListed, PutsPlace};
 ghost use Rattle.graph_bases.specs.declared.places.TheConstants.{STEPS};
 
 use std::alloc::{AllocError, Global};
@@ -56,7 +56,7 @@ impl Places {
     pub(crate) fn place_of(&self, commit: u32) -> Option<usize>
         ensures within { IfSome result (λ place. place < length self.now) }
         ensures some { IfSome result (λ place. slice_index_or self.now place 0 ≡ commit) }
-        ensures none { IfNone result (¬ Contains self.now commit) }
+        ensures none { IfNone result (¬ IsListed self.now commit) }
     {
         if self.table.is_empty() {
             return None;
@@ -128,7 +128,7 @@ fn found(table: &Vec<u32>, commits: &Vec<u32>, commit: u32) -> Option<usize>
     requires listed { AreListed table.now.items commits.now.items }
     ensures within { IfSome result (λ place. place < length commits.now.items) }
     ensures some { IfSome result (λ place. slice_index_or commits.now.items place 0 ≡ commit) }
-    ensures none { IfNone result (¬ Contains commits.now.items commit) }
+    ensures none { IfNone result (¬ IsListed commits.now.items commit) }
 {
     for step in 0..STEPS {
         let place = looked_at(table, commit, step) as usize;

@@ -1,10 +1,10 @@
 //! Tables of coats: one for searches that may reach many commits, and one for those that reach few.
 
-ghost use Rattle.std.specs.Prelude.{◌≡◌, []};
+ghost use Rattle.std.specs.Prelude.{◌≡◌};
 
 use crate::paint::{BARE, Coat};
+use crate::places::Places;
 use crate::sheet::CoatTable;
-use commit_search::{FewMarks, Marks};
 use std::alloc::{AllocError, Global};
 use std::marker::Model;
 
@@ -64,7 +64,7 @@ impl CoatTable for AllCoats {
 #[derive(Drop)]
 pub struct FewCoats {
     /// The commits that were painted.
-    painted: FewMarks,
+    painted: Places,
     /// Their coats, in the order in which they were painted.
     coats: Vec<Coat>,
     /// How many commits there are.
@@ -78,9 +78,9 @@ impl Model for FewCoats {
 
     ghost Value = { List Coat };
 
-    ghost view = { λ a. sheet_of a.painted.marked a.coats.items a.count };
+    ghost view = { λ a. sheet_of a.painted a.coats.items a.count };
 
-    ghost invariant = { λ a. AreKeptCoats a.painted.marked a.coats.items };
+    ghost invariant = { λ a. AreKeptCoats a.painted a.coats.items };
 }
 
 impl CoatTable for FewCoats {
@@ -88,7 +88,7 @@ impl CoatTable for FewCoats {
 
     fn new(alloc: Global, commits: u32) -> Result<Self, AllocError> {
         Ok(FewCoats {
-            painted: FewMarks::new(alloc),
+            painted: Places::new(alloc),
             coats: Vec::new(alloc),
             count: commits,
         })
@@ -110,27 +110,18 @@ impl CoatTable for FewCoats {
             self.coats[place] = coat;
             return Ok(());
         }
-        self.painted.grow_to(self.count)?;
         self.coats.push(coat)?;
-        match self.painted.set(commit, 0) {
+        match self.painted.push(commit) {
             Ok(()) => Ok(()),
             Err(error) => {
-                forget(&mut self.painted, &mut self.coats);
+                self.coats.pop();
                 Err(error)
             }
         }
     }
 
     fn clear(&mut self) {
-        forget(&mut self.painted, &mut self.coats);
+        self.painted.clear();
+        self.coats.clear();
     }
-}
-
-/// Forgets which commits were painted, and their coats.
-fn forget(painted: &mut FewMarks, coats: &mut Vec<Coat>)
-    ensures painted { painted.new.marked ≡ [] }
-    ensures coats { coats.new.items ≡ [] }
-{
-    painted.clear();
-    coats.clear();
 }

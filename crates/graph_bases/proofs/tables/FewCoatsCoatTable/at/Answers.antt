@@ -16,7 +16,7 @@ returns-in-Some c =
     let inside = subst (λ (l : List Coat). p < length l) (sym c.self.view_is) c.requires in
     let within : place < length a.coats.items = omega (arith, c.in-Some.ensures.within, c.self.invariant.as_many) in
     get_or_read a.coats.items place c.index.result.now within c.index.ensures bare
-    ∙ sym (sheet_place a.painted.marked a.coats.items a.count p inside c.self.invariant place c.in-Some.ensures.within
+    ∙ sym (sheet_place a.painted a.coats.items a.count p inside c.self.invariant place c.in-Some.ensures.within
     c.in-Some.ensures.some)
     ∙ ap (λ (l : List Coat). coat_at l p) c.self.view_is
 
@@ -25,5 +25,5 @@ returns-in-None c =
     let a = c.self.inside in
     let p = c.args.commit in
     let inside = subst (λ (l : List Coat). p < length l) (sym c.self.view_is) c.requires in
-    sym (sheet_none a.painted.marked a.coats.items a.count p inside (rw c.in-None.is at c.place_of.ensures.none))
+    sym (sheet_none a.painted a.coats.items a.count p inside (rw c.in-None.is at c.place_of.ensures.none))
     ∙ ap (λ (l : List Coat). coat_at l p) c.self.view_is
