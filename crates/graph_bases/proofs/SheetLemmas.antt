@@ -53,29 +53,31 @@ pub changed_popped : (coats : List Coat) (rest : List ℕ) (n : ℕ) → AreChan
     → (n < length coats) × AreChanged (set coats n bare) rest
 changed_popped coats rest n are =
     let inside : n < length coats =
-    All-contains (λ (m : ℕ). m < length coats) (rest ++ n ∷ []) n are.within (Contains-push rest n) in
-    (inside, record {
-      within = λ i d lt.
-          omega (
-            arith,
-            All-contains (λ (m : ℕ). m < length coats) (rest ++ n ∷ []) (get_or rest i d) are.within
-                (Contains-append_left rest (n ∷ []) (get_or rest i d) (Contains-get_or rest i d lt)),
-            length-set coats n bare,
-          );
-      those = λ q.
-          ⊎_elim
-          (λ (e : q ≡ n). inl (ap (coat_at (set coats n bare)) e ∙ get_or-set_same coats n bare bare inside))
-          (λ (apart : q ≢ n).
-          ⊎_elim
-          (λ (b : coat_at coats q ≡ bare). inl (get_or-set_other coats n q bare bare apart ∙ b))
-          (λ (was : Contains (rest ++ n ∷ []) q).
-          ⊎_elim
-          (λ (left : Contains rest q). inr left)
-          (λ (e : n ≡ q). absurd (apart (sym e)))
-          (Contains-push_cases rest n q was))
-          (are.those q))
-          (cases_eq q n);
-    })
+    All-contains (λ (m : ℕ). m < length coats) (rest ++ n ∷ []) n are.within (Contains-push rest n) in (
+      inside,
+      record {
+        within = λ i d lt.
+            omega (
+              arith,
+              All-contains (λ (m : ℕ). m < length coats) (rest ++ n ∷ []) (get_or rest i d) are.within
+                  (Contains-append_left rest (n ∷ []) (get_or rest i d) (Contains-get_or rest i d lt)),
+              length-set coats n bare,
+            );
+        those = λ q.
+            ⊎_elim
+            (λ (e : q ≡ n). inl (ap (coat_at (set coats n bare)) e ∙ get_or-set_same coats n bare bare inside))
+            (λ (apart : q ≢ n).
+            ⊎_elim
+            (λ (b : coat_at coats q ≡ bare). inl (get_or-set_other coats n q bare bare apart ∙ b))
+            (λ (was : Contains (rest ++ n ∷ []) q).
+            ⊎_elim
+            (λ (left : Contains rest q). inr left)
+            (λ (e : n ≡ q). absurd (apart (sym e)))
+            (Contains-push_cases rest n q was))
+            (are.those q))
+            (cases_eq q n);
+      },
+    )
 
 -- none is left
 pub changed_empty : (coats : List Coat) (changed : List ℕ) → length changed ≡ 0 → AreChanged coats changed → (p : ℕ)

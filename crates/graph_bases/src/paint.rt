@@ -182,12 +182,7 @@ impl<T: CoatTable> Coats<T> {
     }
 
     /// Changes the coat of a commit, which was this old one.
-    pub(crate) fn set(
-        &mut self,
-        commit: Position,
-        old: Coat,
-        coat: Coat,
-    ) -> Result<(), AllocError>
+    pub(crate) fn set(&mut self, commit: Position, old: Coat, coat: Coat) -> Result<(), AllocError>
         requires counted { IsCounted self.old }
         requires within { commit.0 < length self.old.all }
         requires old { old ≡ coat_at self.old.all commit.0 }
