@@ -32,7 +32,7 @@ abbrev pub coat_with : Paint → Bool → Coat
 coat_with paint queued = record { paint = paint; queued = queued }
 
 -- Members of a list that begins with one.
-pub head_or_tail : {X : Type 0} (x y : X) (xs : List X) → Contains (x ∷ xs) y → (x ≡ y) ⊎ Contains xs y
+head_or_tail : {X : Type 0} (x y : X) (xs : List X) → Contains (x ∷ xs) y → (x ≡ y) ⊎ Contains xs y
 head_or_tail x y xs (zero, lt, at) = inl at
 head_or_tail x y xs (suc k, lt, at) = inr (k, omega arith, at)
 

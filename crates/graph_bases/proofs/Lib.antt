@@ -1,9 +1,9 @@
 pub mod ReachLemmas
 pub mod TrailLemmas
+pub mod PlaceLemmas
 pub mod SheetLemmas
 pub mod PaintLemmas
 pub mod CoatLemmas
-pub mod TouchLemmas
 pub mod PassLemmas
 pub mod BaseLemmas
 pub mod FoundLemmas

@@ -249,7 +249,6 @@ passes_with count says s t p x r = record {
     };
     waiting = r.painting.waiting;
     candidates = r.painting.candidates;
-    touched = r.painting.touched;
     visits = r.painting.visits;
   };
   within = r.within;

@@ -1,5 +1,6 @@
 pub mod Bases
 pub mod Comparison
+pub mod Places
 pub mod Sheet
 pub mod Trails
 pub mod Paint

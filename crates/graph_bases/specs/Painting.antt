@@ -19,7 +19,7 @@ use Rattle.commit_search.specs.EdgeLists.{named_by}
 use Rattle.commit_search.specs.Source.{Told}
 use Rattle.graph_bases.specs.Paint.{is_on_one_side, is_visited, IsSo}
 use Rattle.graph_bases.specs.Paint.{first_leads, others_lead, is_stale, is_painted, is_ahead, is_behind, is_base, passed}
-use Rattle.graph_bases.specs.Paint.{known, unknown, bare}
+use Rattle.graph_bases.specs.Paint.{known, unknown}
 use Rattle.graph_bases.specs.Paint.{paint_at, coat_at, is_queued, Grows, IsCounted, IsPaint}
 use Rattle.graph_bases.specs.Trails.{trail_at, trail_in}
 use Rattle.graph_bases.specs.declared.paint.Coat.{Coat}
@@ -117,13 +117,6 @@ pub record IsVisitCount (coats : List Coat) (visits : ℕ) : Type 0 where
   pub most : visits + count_by (λ coat. coat.queued) coats ≤ sum_by (λ coat. known coat.paint) coats
   pub least : count_by is_visited coats ≤ visits
 
--- nothing is known of p, or it was taken from the queue, or is there
-abbrev pub IsTouched : List Coat → List ℕ → List (ℕ × ℕ) → ℕ → Type 0
-IsTouched coats taken queue p = (coat_at coats p ≡ bare) ⊎ (Contains taken p ⊎ ((g : ℕ) × Contains queue (g, p)))
-
-abbrev pub AreTouched : List Coat → List ℕ → List (ℕ × ℕ) → Type 0
-AreTouched coats taken queue = (p : ℕ) → IsTouched coats taken queue p
-
 -- what is left to do: a bound on how often a commit is taken from the queue
 abbrev pub work : List Coat → List (ℕ × ℕ) → ℕ
 work coats queue = 2 * sum_by (λ coat. unknown coat.paint) coats + length queue
@@ -135,7 +128,6 @@ pub record IsPainting {T : Type 0} (count : ℕ) (s : Painting T) : Type 0 where
   pub counted : IsCounted s.coats
   pub waiting : IsWaiting count s.coats.all (heap_items s.queue)
   pub candidates : AreCandidates s.coats.all s.candidates.items
-  pub touched : AreTouched s.coats.all s.taken.items (heap_items s.queue)
   pub visits : IsVisitCount s.coats.all s.visits
 
 -- What it knows is so in this history.

@@ -12,6 +12,7 @@ pub mod law;
 mod paint;
 mod painting;
 mod passing;
+mod places;
 mod sheet;
 mod tables;
 mod trails;

@@ -1,6 +1,6 @@
 //! What is known of the ways to the commits of a graph from a commit and some others.
 
-ghost use Rattle.std.specs.Prelude.{◌≡◌, ◌≢◌, ◌↔◌, ◌+◌, ◌<◌, ◌≤◌, ◌^◌, ℕ, cond, length, slice_set};
+ghost use Rattle.std.specs.Prelude.{◌≡◌, ◌↔◌, ◌+◌, ◌<◌, ◌≤◌, ◌^◌, ℕ, cond, length, slice_set};
 ghost use Rattle.std.specs.Prelude.{IfOk, IsTrue, OnOk};
 ghost use Rattle.graph_bases.specs.Paint.{first_leads, others_lead, is_stale, is_ahead};
 ghost use Rattle.graph_bases.specs.Paint.{is_behind, is_base, covers, joined, passed};
@@ -181,44 +181,32 @@ impl<T: CoatTable> Coats<T> {
         self.all.at(commit.0)
     }
 
-    /// Changes the coat of a commit.
-    pub(crate) fn set(&mut self, commit: Position, coat: Coat) -> Result<(), AllocError>
+    /// Changes the coat of a commit, which was this old one.
+    pub(crate) fn set(&mut self, commit: Position, old: Coat, coat: Coat) -> Result<(), AllocError>
         requires counted { IsCounted self.old }
         requires within { commit.0 < length self.old.all }
+        requires old { old ≡ coat_at self.old.all commit.0 }
         requires few { length self.old.all < 2 ^ 32 }
         ensures coats { OnOk result (self.new.all ≡ slice_set self.old.all commit.0 coat) }
         ensures trails { self.new.trails ≡ self.old.trails }
         ensures counted { OnOk result (IsCounted self.new) }
     {
-        let old = self.at(commit);
         self.fresh = recounted(self.fresh, old.is_fresh(), coat.is_fresh());
         self.ahead = recounted(self.ahead, old.paint.is_ahead(), coat.paint.is_ahead());
         self.behind = recounted(self.behind, old.paint.is_behind(), coat.paint.is_behind());
         self.all.set(commit.0, coat)
     }
 
-    /// Makes the coat of a commit bare, where there is one. The counts stay.
-    pub(crate) fn uncover(&mut self, number: u32)
-        ensures len { length self.new.all ≡ length self.old.all }
-        ensures here { coat_at self.new.all number ≡ bare }
-        ensures there { (p : ℕ) → p ≢ number
-            → coat_at self.new.all p ≡ coat_at self.old.all p }
-    {
-        if (number as usize) < self.all.len() {
-            self.all.uncover(number);
-        }
-    }
-
-    /// The same coats, where all of them are bare, with right counts. Words are bare again.
+    /// The same coats, all of them bare again, with right counts. Words are bare again.
     pub(crate) fn into_idle(self) -> Coats<T>
-        requires { (p : ℕ) → coat_at self.all p ≡ bare }
         ensures { AreIdle (length self.all) result }
     {
         let Coats {
-            all,
+            mut all,
             mut trails,
             ..
         } = self;
+        all.clear();
         trails.clear();
         Coats {
             all,

@@ -16,7 +16,7 @@ ghost use Rattle.graph_bases.specs.Paint.{IsCounted, IsPaint, AreIdle};
 ghost use Rattle.graph_bases.specs.Painting.{IsSpread, IsLevel, Joins, JoinsNumbered, Adds};
 ghost use Rattle.graph_bases.specs.Painting.{ArePassed, IsPassed, MayAdd, IsPaintingOf};
 ghost use Rattle.graph_bases.specs.Painting.{AreCandidates, IsDone, IsPainting, IsPainted};
-ghost use Rattle.graph_bases.specs.Painting.{AreBases, AreTouched, entry_cmp, work};
+ghost use Rattle.graph_bases.specs.Painting.{AreBases, entry_cmp, work};
 ghost use Rattle.graph_bases.specs.Trails.{trail_in};
 
 use crate::bases::Divergence;
@@ -41,8 +41,6 @@ pub(crate) struct Painting<'p, T: CoatTable> {
     /// The positions of commits to which both sides lead: each merge base is one of them. Others
     /// turn out to be ancestors of another.
     candidates: Vec<u32>,
-    /// The positions of the commits that were taken from the queue.
-    taken: Vec<u32>,
     /// How many commits were taken from the queue.
     visits: u64,
 }
@@ -73,26 +71,26 @@ impl<'p, T: CoatTable> Painting<'p, T> {
             coats,
             queue: BinaryHeap::new(alloc),
             candidates: Vec::new(alloc),
-            taken: Vec::new(alloc),
             visits: 0,
         }
     }
 
-    /// Puts a commit into the queue, where it is not there.
+    /// Puts a commit into the queue, unless it is there.
     fn enqueue<S: CommitSource>(
         &mut self,
         commits: &mut S,
         commit: Position,
+        is_there: bool,
     ) -> Result<(), S::Error>
         requires painting { IsPainting (S.count (S.known commits.old)) self.old }
         requires within { commit.0 < S.count (S.known commits.old) }
+        requires there { is_there ≡ is_queued self.old.coats.all commit.0 }
         ensures known { S.known commits.new ≡ S.known commits.old }
         ensures kept { (t : Told) → S.says commits.new t → S.says commits.old t }
         ensures first { self.new.first ≡ self.old.first }
         ensures others { self.new.others.now ≡ self.old.others.now }
         ensures coats { self.new.coats ≡ self.old.coats }
         ensures candidates { self.new.candidates.items ≡ self.old.candidates.items }
-        ensures taken { self.new.taken.items ≡ self.old.taken.items }
         ensures visits { self.new.visits ≡ self.old.visits }
         ensures len { OnOk result (length (heap_items self.new.queue)
             ≡ length (heap_items self.old.queue)
@@ -105,7 +103,7 @@ impl<'p, T: CoatTable> Painting<'p, T> {
         ensures failed { IfErr result (λ e. S.may_fail (S.known commits.old) e
             ⊎ S.Error.from_gives alloc_error e) }
     {
-        if self.coats.at(commit).queued {
+        if is_there {
             return Ok(());
         }
         let generation = commits.generation_number(commit)?;
@@ -119,7 +117,6 @@ impl<'p, T: CoatTable> Painting<'p, T> {
         ensures others { self.new.others.now ≡ self.old.others.now }
         ensures coats { self.new.coats ≡ self.old.coats }
         ensures queue { heap_items self.new.queue ≡ heap_items self.old.queue }
-        ensures taken { self.new.taken.items ≡ self.old.taken.items }
         ensures visits { self.new.visits ≡ self.old.visits }
         ensures candidates { OnOk result (self.new.candidates.items
             ≡ (if is_base paint then self.old.candidates.items ++ commit.0 ∷ []
@@ -161,15 +158,15 @@ impl<'p, T: CoatTable> Painting<'p, T> {
         ensures failed { IfErr result (λ e. S.may_fail (S.known commits.old) e
             ⊎ S.Error.from_gives alloc_error e) }
     {
-        let known = self.coats.at(commit).paint;
-        if known.covers(paint) {
+        let known = self.coats.at(commit);
+        if known.paint.covers(paint) {
             return Ok(());
         }
-        let paint = known.join(paint);
-        self.enqueue(commits, commit)?;
+        let paint = known.paint.join(paint);
+        self.enqueue(commits, commit, known.queued)?;
         self.add_candidate(commit, paint)?;
         let queued = true;
-        self.coats.set(commit, Coat { paint, queued })?;
+        self.coats.set(commit, known, Coat { paint, queued })?;
         Ok(())
     }
 
@@ -190,8 +187,6 @@ impl<'p, T: CoatTable> Painting<'p, T> {
         ensures len { OnOk result
             (length self.new.coats.all ≡ S.count (S.known commits.old)) }
         ensures counted { OnOk result (IsCounted self.new.coats) }
-        ensures touched { OnOk result (AreTouched self.new.coats.all self.new.taken.items
-            (heap_items self.new.queue)) }
         ensures candidates { OnOk result (AreCandidates self.new.coats.all
             self.new.candidates.items) }
         ensures paint { OnOk result ((t : Told) → S.says commits.new t
@@ -212,15 +207,15 @@ impl<'p, T: CoatTable> Painting<'p, T> {
     {
         generations_never_rise_along_walks();
         while let Some(next) = self.queue.pop() {
-            push_number(&mut self.taken, next.1)?;
             let is_below_cap = next.0 < GENERATION_NUMBER_MAX;
             if self.coats.fresh == 0 && is_below_cap {
                 return Ok(());
             }
             let commit = Position(next.1);
-            let paint = self.coats.at(commit).paint;
+            let known = self.coats.at(commit);
+            let paint = known.paint;
             let queued = false;
-            self.coats.set(commit, Coat { paint, queued })?;
+            self.coats.set(commit, known, Coat { paint, queued })?;
             self.visits = self.visits.saturating_add(1);
             self.visit(commits, commit, paint)?;
         }
@@ -253,7 +248,6 @@ impl<'p, T: CoatTable> Painting<'p, T> {
         requires { AreCandidates self.old.coats.all self.old.candidates.items }
         ensures coats { self.new.coats ≡ self.old.coats }
         ensures queue { heap_items self.new.queue ≡ heap_items self.old.queue }
-        ensures taken { self.new.taken.items ≡ self.old.taken.items }
         ensures visits { self.new.visits ≡ self.old.visits }
         ensures bases { IfOk result (λ bases. AreBases self.old.coats.all
             (numbers_of bases.items)) }
@@ -269,24 +263,11 @@ impl<'p, T: CoatTable> Painting<'p, T> {
         Ok(bases)
     }
 
-    /// The coats, all of them bare again. Only the commits that were painted are gone over.
+    /// The coats, all of them bare again.
     pub(crate) fn into_coats(self) -> Coats<T>
-        requires { AreTouched self.coats.all self.taken.items (heap_items self.queue) }
         ensures { AreIdle (length self.entry.coats.all) result }
     {
-        let Painting {
-            mut coats,
-            mut queue,
-            mut taken,
-            ..
-        } = self;
-        while let Some(next) = queue.pop() {
-            coats.uncover(next.1);
-        }
-        while let Some(number) = taken.pop() {
-            coats.uncover(number);
-        }
-        coats.into_idle()
+        self.coats.into_idle()
     }
 }
 
@@ -305,8 +286,6 @@ pub(crate) fn paint_from<'p, T: CoatTable, S: CommitSource>(
     ensures kept { (t : Told) → S.says commits.new t → S.says commits.old t }
     ensures len { IfOk result (λ s. length s.coats.all ≡ S.count (S.known commits.old)) }
     ensures counted { IfOk result (λ s. IsCounted s.coats) }
-    ensures touched { IfOk result (λ s. AreTouched s.coats.all s.taken.items
-        (heap_items s.queue)) }
     ensures candidates { IfOk result (λ s. AreCandidates s.coats.all s.candidates.items) }
     ensures paint { IfOk result (λ s. (t : Told) → S.says commits.new t
         → IsPaint t.history first.0 (numbers_of others.now) s.coats.all) }
@@ -339,13 +318,5 @@ fn push_entry(queue: &mut BinaryHeap<(u32, u32)>, entry: (u32, u32)) -> Result<(
         (IsPermutation (entry ∷ heap_items queue.old) (heap_items queue.new)) }
 {
     queue.push(entry)?;
-    Ok(())
-}
-
-/// Adds a number.
-fn push_number(numbers: &mut Vec<u32>, number: u32) -> Result<(), AllocError>
-    ensures { OnOk result (numbers.new.items ≡ numbers.old.items ++ number ∷ []) }
-{
-    numbers.push(number)?;
     Ok(())
 }

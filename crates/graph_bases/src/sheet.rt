@@ -45,10 +45,10 @@ pub trait CoatTable: Drop {
         requires { commit < length (coats self.old) }
         ensures { OnOk result (coats self.new ≡ slice_set (coats self.old) commit coat) };
 
-    /// Makes the coat of a commit bare.
-    fn uncover(&mut self, commit: u32)
-        requires { commit < length (coats self.old) }
-        ensures { coats self.new ≡ slice_set (coats self.old) commit bare };
+    /// Makes all coats bare. No more of them are gone over than were changed.
+    fn clear(&mut self)
+        ensures len { length (coats self.new) ≡ length (coats self.old) }
+        ensures bare { (p : ℕ) → coat_at (coats self.new) p ≡ bare };
 }
 
 /// A table of coats, which a contract sees as a list whatever its kind is.
@@ -99,11 +99,11 @@ impl<T: CoatTable> Sheet<T> {
         self.table.set(commit, coat)
     }
 
-    /// Makes the coat of a commit bare.
-    pub(crate) fn uncover(&mut self, commit: u32)
-        requires { commit < length self.old }
-        ensures { self.new ≡ slice_set self.old commit bare }
+    /// Makes all coats bare.
+    pub(crate) fn clear(&mut self)
+        ensures len { length self.new ≡ length self.old }
+        ensures bare { (p : ℕ) → coat_at self.new p ≡ bare }
     {
-        self.table.uncover(commit)
+        self.table.clear()
     }
 }

@@ -3,24 +3,29 @@
 ghost use Rattle.std.specs.Prelude.{◌≡◌};
 
 use crate::paint::{BARE, Coat};
+use crate::places::Places;
 use crate::sheet::CoatTable;
 use std::alloc::{AllocError, Global};
-use std::collections::HashMap;
 use std::marker::Model;
 
-/// Coats that take two bytes for each commit.
+/// Coats that take two bytes for each commit, and four for each that was painted.
 #[derive(Drop)]
 pub struct AllCoats {
     coats: Vec<Coat>,
+    /// The commits that were painted since all coats were bare.
+    painted: Vec<u32>,
 }
 
 impl Model for AllCoats {
     ghost use Rattle.std.specs.Prelude.{List};
+    ghost use Rattle.graph_bases.specs.Sheet.{AreChanged};
     ghost use Rattle.graph_bases.specs.declared.paint.Coat.{Coat};
 
     ghost Value = { List Coat };
 
     ghost view = { λ a. a.coats.items };
+
+    ghost invariant = { λ a. AreChanged a.coats.items a.painted.items };
 }
 
 impl CoatTable for AllCoats {
@@ -28,7 +33,8 @@ impl CoatTable for AllCoats {
 
     fn new(alloc: Global, commits: u32) -> Result<Self, AllocError> {
         let coats = vec![in alloc; BARE; commits as usize]?;
-        Ok(AllCoats { coats })
+        let painted = Vec::new(alloc);
+        Ok(AllCoats { coats, painted })
     }
 
     fn len(&self) -> usize {
@@ -40,62 +46,82 @@ impl CoatTable for AllCoats {
     }
 
     fn set(&mut self, commit: u32, coat: Coat) -> Result<(), AllocError> {
+        if self.coats[commit as usize].paint.is_bare() {
+            self.painted.push(commit)?;
+        }
         self.coats[commit as usize] = coat;
         Ok(())
     }
 
-    fn uncover(&mut self, commit: u32) {
-        self.coats[commit as usize] = BARE;
+    fn clear(&mut self) {
+        while let Some(commit) = self.painted.pop() {
+            self.coats[commit as usize] = BARE;
+        }
     }
 }
 
-/// Coats that take some twenty bytes for each commit that is not bare, and none for the others.
+/// Coats that take some twenty bytes for each commit that was painted, and none for the others.
 #[derive(Drop)]
 pub struct FewCoats {
-    /// The coats that are not bare, by the commit.
-    few: HashMap<u32, Coat>,
+    /// The commits that were painted.
+    painted: Places,
+    /// Their coats, in the order in which they were painted.
+    coats: Vec<Coat>,
     /// How many commits there are.
-    count: usize,
+    count: u32,
 }
 
 impl Model for FewCoats {
     ghost use Rattle.std.specs.Prelude.{List};
-    ghost use Rattle.graph_bases.specs.Sheet.{sheet_of};
+    ghost use Rattle.graph_bases.specs.Sheet.{AreKeptCoats, sheet_of};
     ghost use Rattle.graph_bases.specs.declared.paint.Coat.{Coat};
 
     ghost Value = { List Coat };
 
-    ghost view = { λ a. sheet_of a.few a.count };
+    ghost view = { λ a. sheet_of a.painted a.coats.items a.count };
+
+    ghost invariant = { λ a. AreKeptCoats a.painted a.coats.items };
 }
 
 impl CoatTable for FewCoats {
     ghost coats = { λ coats. coats };
 
     fn new(alloc: Global, commits: u32) -> Result<Self, AllocError> {
-        let few = HashMap::new(alloc);
-        let count = commits as usize;
-        Ok(FewCoats { few, count })
+        Ok(FewCoats {
+            painted: Places::new(alloc),
+            coats: Vec::new(alloc),
+            count: commits,
+        })
     }
 
     fn len(&self) -> usize {
-        self.count
+        self.count as usize
     }
 
     fn at(&self, commit: u32) -> Coat {
-        match self.few.get(&commit) {
-            Some(coat) => *coat,
+        match self.painted.place_of(commit) {
+            Some(place) => self.coats[place],
             None => BARE,
         }
     }
 
     fn set(&mut self, commit: u32, coat: Coat) -> Result<(), AllocError> {
-        match self.few.insert(commit, coat) {
-            Ok(_) => Ok(()),
-            Err(_) => Err(AllocError),
+        if let Some(place) = self.painted.place_of(commit) {
+            self.coats[place] = coat;
+            return Ok(());
+        }
+        self.coats.push(coat)?;
+        match self.painted.push(commit) {
+            Ok(()) => Ok(()),
+            Err(error) => {
+                self.coats.pop();
+                Err(error)
+            }
         }
     }
 
-    fn uncover(&mut self, commit: u32) {
-        self.few.remove(&commit);
+    fn clear(&mut self) {
+        self.painted.clear();
+        self.coats.clear();
     }
 }

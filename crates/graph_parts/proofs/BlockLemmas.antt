@@ -17,7 +17,7 @@ use Rattle.graph_parts.specs.PieceBlocks.{stretch_start}
 use Rattle.graph_parts.specs.declared.pieces.TheConstants.{BLOCK_LEN}
 use Rattle.graph_parts.specs.declared.pieces.Kept.{Kept}
 use Rattle.graph_parts.specs.declared.pieces.Pieces.{Pieces}
-use Rattle.graph_parts.specs.declared.pieces.Place.{Place}
+use Rattle.graph_parts.specs.declared.pieces.Series.{Series}
 use Rattle.graph_parts.specs.declared.pieces.Stretch.{Stretch}
 use Rattle.graph_parts.specs.declared.pieces.Stretch.TheVariants.{Alone, Block}
 
@@ -25,23 +25,23 @@ use Rattle.graph_parts.specs.declared.pieces.Stretch.TheVariants.{Alone, Block}
 pub piece-in : (size at some : ℕ) → at < some → size * at + size ≤ size * some
 piece-in size at some h = omega (arith, mul-add size at 1, mul-le-mul_left {m = at + 1} {n = some} size (omega arith))
 
-pub piece-fits : (place : Place) (index : ℕ) → index < place.count
-    → place.size * (index % BLOCK_LEN) + place.size ≤ stretch_len place (Block (index / BLOCK_LEN))
-piece-fits place index within =
-    piece-in place.size (index % BLOCK_LEN) (min BLOCK_LEN (place.count - BLOCK_LEN * (index / BLOCK_LEN))) (omega arith)
+pub piece-fits : (series : Series) (index : ℕ) → index < series.count
+    → series.size * (index % BLOCK_LEN) + series.size ≤ stretch_len series (Block (index / BLOCK_LEN))
+piece-fits series index within =
+    piece-in series.size (index % BLOCK_LEN) (min BLOCK_LEN (series.count - BLOCK_LEN * (index / BLOCK_LEN))) (omega arith)
 
 -- the bytes of a stretch are those of a file
-abbrev IsStretchOf : List ℕ → Stretch → List ℕ → Place → Type 0
-IsStretchOf file stretch bytes place =
-    slice_range file (stretch_start place stretch) (stretch_start place stretch + stretch_len place stretch) ≡ bytes
+abbrev IsStretchOf : List ℕ → Stretch → List ℕ → Series → Type 0
+IsStretchOf file stretch bytes series =
+    slice_range file (stretch_start series stretch) (stretch_start series stretch + stretch_len series stretch) ≡ bytes
 
 module _ (old new : Pieces) (added : Stretch) (bytes : List ℕ) (adds : AddsStretch old new added bytes) where
   adds-kept : (file : List ℕ) → AreOf new file → AreOf old file
-  adds-kept file of s b keeps = subst (IsStretchOf file s b) adds.place (of s b (adds.stays s b keeps))
+  adds-kept file of s b keeps = subst (IsStretchOf file s b) adds.series (of s b (adds.stays s b keeps))
 
-  adds-of : (file : List ℕ) → AreOf old file → IsStretchOf file added bytes old.place → AreOf new file
+  adds-of : (file : List ℕ) → AreOf old file → IsStretchOf file added bytes old.series → AreOf new file
   adds-of file of part s b keeps =
-      subst (IsStretchOf file s b) (sym adds.place)
+      subst (IsStretchOf file s b) (sym adds.series)
       (elim (adds.only s b keeps) [
         | inl kept ↦ of s b kept
         | inr is ↦ rw (is.0, is.1) part
@@ -50,7 +50,7 @@ module _ (old new : Pieces) (added : Stretch) (bytes : List ℕ) (adds : AddsStr
 -- the same is kept
 pub same-start : (pieces : Pieces) → KeepsSame pieces pieces
 same-start pieces = record {
-  place = refl;
+  series = refl;
   alone = refl;
   bytes = refl;
   blocks = λ number block. ((λ has. has), (λ has. has));
@@ -59,37 +59,37 @@ same-start pieces = record {
 module _ (old new : Pieces) (is : KeepsSame old new) where
   same-there : (s : Stretch) (b : List ℕ) → HasStretch old s b → HasStretch new s b
   same-there (Block number) b keeps = (keeps.0, (is.blocks number keeps.0).1 keeps.1, keeps.2)
-  same-there (Alone index) b keeps = (keeps.0, rw is.alone keeps.1, rw (is.bytes, is.place) keeps.2)
+  same-there (Alone index) b keeps = (keeps.0, rw is.alone keeps.1, rw (is.bytes, is.series) keeps.2)
 
   same-back : (s : Stretch) (b : List ℕ) → HasStretch new s b → HasStretch old s b
   same-back (Block number) b keeps = (keeps.0, (is.blocks number keeps.0).0 keeps.1, keeps.2)
-  same-back (Alone index) b keeps = (keeps.0, rw is.alone at keeps.1, rw (is.bytes, is.place) at keeps.2)
+  same-back (Alone index) b keeps = (keeps.0, rw is.alone at keeps.1, rw (is.bytes, is.series) at keeps.2)
 
   pub same-sized : AreSized old → AreSized new
   same-sized sized = record {
-    blocks = λ number block has. rw is.place (sized.blocks number block ((is.blocks number block).0 has));
-    alone = rw (is.bytes, is.place, is.alone) sized.alone;
+    blocks = λ number block has. rw is.series (sized.blocks number block ((is.blocks number block).0 has));
+    alone = rw (is.bytes, is.series, is.alone) sized.alone;
   }
 
 -- nothing was read
 pub reads-same : (known : Option Tree) (path : List ℕ) (old new : Pieces) → KeepsSame old new → AreSized old
     → ReadsMore known path old new
 reads-same known path old new is sized = record {
-  place = is.place;
+  series = is.series;
   sized = same-sized old new is sized;
-  kept = λ file of s b keeps. subst (IsStretchOf file s b) is.place (of s b (same-there old new is s b keeps));
+  kept = λ file of s b keeps. subst (IsStretchOf file s b) is.series (of s b (same-there old new is s b keeps));
   told = λ tree known_as file stands of s b keeps.
-      subst (IsStretchOf file s b) (sym is.place) (of s b (same-back old new is s b keeps));
+      subst (IsStretchOf file s b) (sym is.series) (of s b (same-back old new is s b keeps));
 }
 
 -- a stretch was read
 pub reads-stretch : (known : Option Tree) (path : List ℕ) (old new : Pieces) (added : Stretch) (bytes : List ℕ)
     → AddsStretch old new added bytes → AreSized new
-    → ForSome known (λ (tree : Tree). IsSomeAnd (file_at tree path) (λ file. slice_range file (stretch_start old.place added)
-    (stretch_start old.place added + stretch_len old.place added) ≡ bytes))
+    → ForSome known (λ (tree : Tree). IsSomeAnd (file_at tree path) (λ file. slice_range file (stretch_start old.series added)
+    (stretch_start old.series added + stretch_len old.series added) ≡ bytes))
     → ReadsMore known path old new
 reads-stretch known path old new added bytes adds sized part = record {
-  place = adds.place;
+  series = adds.series;
   sized = sized;
   kept = adds-kept old new added bytes adds;
   told = λ tree is file stands of.
@@ -110,10 +110,10 @@ get-push [] k x is = let clash : None ≡ Some (Some x) = is in cc
 get-push (y ∷ ys) zero x is = is
 get-push (y ∷ ys) (suc k) x is = get-push ys k x is
 
-same-push : (old now new : Pieces) → KeepsSame old now → new.place ≡ now.place → new.alone ≡ now.alone → new.bytes ≡ now.bytes
+same-push : (old now new : Pieces) → KeepsSame old now → new.series ≡ now.series → new.alone ≡ now.alone → new.bytes ≡ now.bytes
     → new.blocks.items ≡ now.blocks.items ++ None ∷ [] → KeepsSame old new
-same-push old now new before place alone bytes is = record {
-  place = place ∙ before.place;
+same-push old now new before series alone bytes is = record {
+  series = series ∙ before.series;
   alone = alone ∙ before.alone;
   bytes = ap (λ (v : Vec ℕ Global). v.items) bytes ∙ before.bytes;
   blocks = λ k block. (
@@ -122,10 +122,10 @@ same-push old now new before place alone bytes is = record {
   );
 }
 
-same-items : (old now new : Pieces) → KeepsSame old now → new.place ≡ now.place → new.alone ≡ now.alone → new.bytes ≡ now.bytes
+same-items : (old now new : Pieces) → KeepsSame old now → new.series ≡ now.series → new.alone ≡ now.alone → new.bytes ≡ now.bytes
     → new.blocks.items ≡ now.blocks.items → KeepsSame old new
-same-items old now new before place alone bytes is = record {
-  place = place ∙ before.place;
+same-items old now new before series alone bytes is = record {
+  series = series ∙ before.series;
   alone = alone ∙ before.alone;
   bytes = ap (λ (v : Vec ℕ Global). v.items) bytes ∙ before.bytes;
   blocks = λ k block. (
@@ -135,11 +135,11 @@ same-items old now new before place alone bytes is = record {
 }
 
 -- room for one block more, unless there was no memory for it
-pub same-unless : (old now new : Pieces) (b : Bool) → KeepsSame old now → new.place ≡ now.place → new.alone ≡ now.alone
+pub same-unless : (old now new : Pieces) (b : Bool) → KeepsSame old now → new.series ≡ now.series → new.alone ≡ now.alone
     → new.bytes ≡ now.bytes → new.blocks.items ≡ (if b then now.blocks.items ++ None ∷ [] else now.blocks.items)
     → KeepsSame old new
-same-unless old now new true before place alone bytes is = same-push old now new before place alone bytes is
-same-unless old now new false before place alone bytes is = same-items old now new before place alone bytes is
+same-unless old now new true before series alone bytes is = same-push old now new before series alone bytes is
+same-unless old now new false before series alone bytes is = same-items old now new before series alone bytes is
 
 set-there : {X : Type 0} (xs : List X) (i : ℕ) (x : X) → i < length xs → slice_get (set xs i x) i ≡ Some x
 set-there [] i x h = absurd (omega (arith, h))
@@ -167,11 +167,11 @@ set-stays (z ∷ zs) (suc i) (suc j) x y is other = set-stays zs i j x y is (λ 
 
 -- a block is put where none is kept
 module _ (old grown new : Pieces) (number : ℕ) (block : Vec ℕ Global) (before : KeepsSame old grown)
-    (room : number < length grown.blocks.items) (none : LacksBlock old number) (place : new.place ≡ grown.place)
+    (room : number < length grown.blocks.items) (none : LacksBlock old number) (series : new.series ≡ grown.series)
     (alone : new.alone ≡ grown.alone) (bytes : new.bytes ≡ grown.bytes)
     (is : new.blocks.items ≡ set grown.blocks.items number (Some block)) where
-  same-place : new.place ≡ old.place
-  same-place = place ∙ before.place
+  same-series : new.series ≡ old.series
+  same-series = series ∙ before.series
 
   same-alone : new.alone ≡ old.alone
   same-alone = alone ∙ before.alone
@@ -196,7 +196,7 @@ module _ (old grown new : Pieces) (number : ℕ) (block : Vec ℕ Global) (befor
 
   stays : (s : Stretch) (b : List ℕ) → HasStretch old s b → HasStretch new s b
   stays (Block k) b keeps = (keeps.0, block-stays k keeps.0 keeps.1, keeps.2)
-  stays (Alone k) b keeps = (keeps.0, rw same-alone keeps.1, rw (same-bytes, same-place) keeps.2)
+  stays (Alone k) b keeps = (keeps.0, rw same-alone keeps.1, rw (same-bytes, same-series) keeps.2)
 
   only : (s : Stretch) (b : List ℕ) → HasStretch new s b
       → HasStretch old s b ⊎ ((s ≡ Block number) × (b ≡ block.items))
@@ -205,20 +205,20 @@ module _ (old grown new : Pieces) (number : ℕ) (block : Vec ℕ Global) (befor
         | inl here ↦ inl (keeps.0, here, keeps.2)
         | inr at ↦ inr (ap Block at.0, sym keeps.2 ∙ ap (λ (v : Vec ℕ Global). v.items) at.1)
       ]
-  only (Alone k) b keeps = inl (keeps.0, rw same-alone at keeps.1, rw (same-bytes, same-place) at keeps.2)
+  only (Alone k) b keeps = inl (keeps.0, rw same-alone at keeps.1, rw (same-bytes, same-series) at keeps.2)
 
   pub adds-block : AddsStretch old new (Block number) block.items
-  adds-block = record { place = same-place; stays = stays; only = only; there = (block, block-there, refl) }
+  adds-block = record { series = same-series; stays = stays; only = only; there = (block, block-there, refl) }
 
-  pub block-sized : AreSized old → length block.items ≡ stretch_len old.place (Block number) → AreSized new
+  pub block-sized : AreSized old → length block.items ≡ stretch_len old.series (Block number) → AreSized new
   block-sized sized long = record {
     blocks = λ k b has.
-        rw same-place
+        rw same-series
         (elim (block-only k b has) [
           | inl here ↦ sized.blocks k b here
           | inr at ↦ rw (at.0, at.1) long
         ]);
-    alone = rw (same-bytes, same-place, same-alone) sized.alone;
+    alone = rw (same-bytes, same-series, same-alone) sized.alone;
   }
 
 -- a piece of a block that was put
@@ -261,49 +261,49 @@ get-either (z ∷ zs) x y (suc k) is =
 
 -- a piece that is kept alone lies among the bytes
 pub alone-within : (pieces : Pieces) (number index : ℕ) → AreSized pieces → slice_get pieces.alone number ≡ Some index
-    → pieces.place.size * number + pieces.place.size ≤ length pieces.bytes.items
+    → pieces.series.size * number + pieces.series.size ≤ length pieces.bytes.items
 alone-within pieces number index sized at =
     omega (
       arith,
       sized.alone,
-      piece-in pieces.place.size number (length pieces.alone) (slice_get_within pieces.alone number index at),
+      piece-in pieces.series.size number (length pieces.alone) (slice_get_within pieces.alone number index at),
     )
 
 -- a piece is put after those that are kept alone
-module _ (old new : Pieces) (index : ℕ) (piece : List ℕ) (long : length piece ≡ old.place.size) (sized : AreSized old)
-    (place : new.place ≡ old.place) (blocks : new.blocks ≡ old.blocks) (alone : new.alone ≡ old.alone ++ index ∷ [])
+module _ (old new : Pieces) (index : ℕ) (piece : List ℕ) (long : length piece ≡ old.series.size) (sized : AreSized old)
+    (series : new.series ≡ old.series) (blocks : new.blocks ≡ old.blocks) (alone : new.alone ≡ old.alone ++ index ∷ [])
     (bytes : new.bytes.items ≡ old.bytes.items ++ piece) where
   alone-stays : (s : Stretch) (b : List ℕ) → HasStretch old s b → HasStretch new s b
   alone-stays (Block k) b keeps = (keeps.0, rw blocks keeps.1, keeps.2)
   alone-stays (Alone k) b keeps = (
     keeps.0,
     rw alone (get-left old.alone (index ∷ []) keeps.0 k keeps.1),
-    rw (bytes, place)
-        (slice-left old.bytes.items piece (old.place.size * keeps.0) (old.place.size * keeps.0 + old.place.size) (omega arith)
+    rw (bytes, series)
+        (slice-left old.bytes.items piece (old.series.size * keeps.0) (old.series.size * keeps.0 + old.series.size) (omega arith)
         (alone-within old keeps.0 k sized keeps.1)
         ∙ keeps.2),
   )
 
-  piece-last : slice_range (old.bytes.items ++ piece) (old.place.size * length old.alone)
-      (old.place.size * length old.alone + old.place.size)
+  piece-last : slice_range (old.bytes.items ++ piece) (old.series.size * length old.alone)
+      (old.series.size * length old.alone + old.series.size)
       ≡ piece
   piece-last =
-      slice-right old.bytes.items piece (old.place.size * length old.alone)
-      (old.place.size * length old.alone + old.place.size) (sym sized.alone) (omega (arith, sized.alone, long))
+      slice-right old.bytes.items piece (old.series.size * length old.alone)
+      (old.series.size * length old.alone + old.series.size) (sym sized.alone) (omega (arith, sized.alone, long))
 
   alone-only : (s : Stretch) (b : List ℕ) → HasStretch new s b
       → HasStretch old s b ⊎ ((s ≡ Alone index) × (b ≡ piece))
   alone-only (Block k) b keeps = inl (keeps.0, rw blocks at keeps.1, keeps.2)
   alone-only (Alone k) b keeps =
-      let part : slice_range (old.bytes.items ++ piece) (old.place.size * keeps.0) (old.place.size * keeps.0 + old.place.size)
+      let part : slice_range (old.bytes.items ++ piece) (old.series.size * keeps.0) (old.series.size * keeps.0 + old.series.size)
       ≡ b =
-      rw (bytes, place) at keeps.2 in
+      rw (bytes, series) at keeps.2 in
       elim (get-either old.alone index k keeps.0 (rw alone at keeps.1)) [
         | inl here ↦
             inl (
               keeps.0,
               here,
-              sym (slice-left old.bytes.items piece (old.place.size * keeps.0) (old.place.size * keeps.0 + old.place.size)
+              sym (slice-left old.bytes.items piece (old.series.size * keeps.0) (old.series.size * keeps.0 + old.series.size)
                   (omega arith) (alone-within old keeps.0 k sized here))
                   ∙ part,
             )
@@ -311,8 +311,8 @@ module _ (old new : Pieces) (index : ℕ) (piece : List ℕ) (long : length piec
             inr (
               ap Alone at.1,
               sym part
-                  ∙ ap (λ (n : ℕ). slice_range (old.bytes.items ++ piece) (old.place.size * n)
-                  (old.place.size * n + old.place.size)) at.0
+                  ∙ ap (λ (n : ℕ). slice_range (old.bytes.items ++ piece) (old.series.size * n)
+                  (old.series.size * n + old.series.size)) at.0
                   ∙ piece-last,
             )
       ]
@@ -322,22 +322,22 @@ module _ (old new : Pieces) (index : ℕ) (piece : List ℕ) (long : length piec
 
   pub adds-alone : AddsStretch old new (Alone index) piece
   adds-alone = record {
-    place = place;
+    series = series;
     stays = alone-stays;
     only = alone-only;
-    there = (length old.alone, alone-kept, rw (bytes, place) piece-last);
+    there = (length old.alone, alone-kept, rw (bytes, series) piece-last);
   }
 
   pub alone-sized : AreSized new
   alone-sized = record {
-    blocks = λ k b has. rw place (sized.blocks k b (rw blocks at has));
+    blocks = λ k b has. rw series (sized.blocks k b (rw blocks at has));
     alone =
         ap length bytes
         ∙ length-append old.bytes.items piece
-        ∙ omega (arith, sized.alone, long, mul-add old.place.size (length old.alone) 1)
-        ∙ sym (ap (λ (xs : List ℕ). new.place.size * length xs) alone
-        ∙ ap (λ (n : ℕ). new.place.size * n) (length_push old.alone index)
-        ∙ ap (λ (p : Place). p.size * (length old.alone + 1)) place);
+        ∙ omega (arith, sized.alone, long, mul-add old.series.size (length old.alone) 1)
+        ∙ sym (ap (λ (xs : List ℕ). new.series.size * length xs) alone
+        ∙ ap (λ (n : ℕ). new.series.size * n) (length_push old.alone index)
+        ∙ ap (λ (p : Series). p.size * (length old.alone + 1)) series);
   }
 
 -- bytes that were appended
@@ -351,27 +351,27 @@ pub numbered : (old new : List ℕ) (index n : ℕ) → n ≡ length old → new
 numbered old new index n last is = rw (last, is) (get-last old index)
 
 -- a piece of a block that is a file's is the file's
-pub piece-of : (pieces : Pieces) (file block : List ℕ) (index : ℕ) → index < pieces.place.count
-    → slice_range file (stretch_start pieces.place (Block (index / BLOCK_LEN)))
-    (stretch_start pieces.place (Block (index / BLOCK_LEN)) + stretch_len pieces.place (Block (index / BLOCK_LEN)))
+pub piece-of : (pieces : Pieces) (file block : List ℕ) (index : ℕ) → index < pieces.series.count
+    → slice_range file (stretch_start pieces.series (Block (index / BLOCK_LEN)))
+    (stretch_start pieces.series (Block (index / BLOCK_LEN)) + stretch_len pieces.series (Block (index / BLOCK_LEN)))
     ≡ block
-    → slice_range block (pieces.place.size * (index % BLOCK_LEN)) (pieces.place.size * (index % BLOCK_LEN) + pieces.place.size)
-    ≡ slice_range file (pieces.place.start + pieces.place.size * index)
-    (pieces.place.start + pieces.place.size * index + pieces.place.size)
+    → slice_range block (pieces.series.size * (index % BLOCK_LEN)) (pieces.series.size * (index % BLOCK_LEN) + pieces.series.size)
+    ≡ slice_range file (pieces.series.start + pieces.series.size * index)
+    (pieces.series.start + pieces.series.size * index + pieces.series.size)
 piece-of pieces file block index within is =
-    let size = pieces.place.size in
+    let size = pieces.series.size in
     let number = index / BLOCK_LEN in
     let at = index % BLOCK_LEN in
-    let start = stretch_start pieces.place (Block number) in
-    let long = stretch_len pieces.place (Block number) in
-    let room = piece-fits pieces.place index within in
+    let start = stretch_start pieces.series (Block number) in
+    let long = stretch_len pieces.series (Block number) in
+    let room = piece-fits pieces.series index within in
     let whole : index ≡ BLOCK_LEN * number + at = omega arith in
     let shift : size * index ≡ size * (BLOCK_LEN * number) + size * at =
     ap (λ (n : ℕ). size * n) whole ∙ mul-add size (BLOCK_LEN * number) at in
     ap (λ (b : List ℕ). slice_range b (size * at) (size * at + size)) (sym is)
     ∙ slice_range-slice_range file start (start + long) (size * at) (size * at + size) (omega (arith, room))
     ∙ ap (λ (n : ℕ). slice_range file n (start + (size * at + size))) (omega (arith, shift))
-    ∙ ap (λ (n : ℕ). slice_range file (pieces.place.start + size * index) n) (omega (arith, shift))
+    ∙ ap (λ (n : ℕ). slice_range file (pieces.series.start + size * index) n) (omega (arith, shift))
 
 -- a block was found, or none
 pub some-there : (pieces : Pieces) (number : ℕ) (o : Option (Vec ℕ Global)) (block : Vec ℕ Global)
@@ -422,12 +422,12 @@ kept-alone new stretch one (Err e) is at = tt
 -- the bytes of a piece that is kept alone are those of a file
 pub alone-of : (pieces : Pieces) (number index : ℕ) (file : List ℕ) → AreOf pieces file
     → slice_get pieces.alone number ≡ Some index
-    → slice_range pieces.bytes.items (pieces.place.size * number) (pieces.place.size * number + pieces.place.size)
-    ≡ slice_range file (pieces.place.start + pieces.place.size * index)
-    (pieces.place.start + pieces.place.size * index + pieces.place.size)
+    → slice_range pieces.bytes.items (pieces.series.size * number) (pieces.series.size * number + pieces.series.size)
+    ≡ slice_range file (pieces.series.start + pieces.series.size * index)
+    (pieces.series.start + pieces.series.size * index + pieces.series.size)
 alone-of pieces number index file of at =
     sym (of (Alone index) _ (number, at, refl))
-    ∙ ap (λ (n : ℕ). slice_range file (pieces.place.start + pieces.place.size * index) n) (omega arith)
+    ∙ ap (λ (n : ℕ). slice_range file (pieces.series.start + pieces.series.size * index) n) (omega arith)
 
 -- nothing was read
 pub nothing-kept : (pieces : Pieces) → pieces.blocks.items ≡ [] → pieces.alone ≡ [] → KeepsNothing pieces

@@ -59,12 +59,12 @@ module _ (known : Option Tree) (part : LayerParts) (layer : Layer) (is : IsLayer
 
   -- the id at a position
   pub shown-id : (pos : ℕ) (bytes : List ℕ) → pos < commits_in part.file
-      → bytes ≡ slice_range shows.of.file (part.ids.place.start + part.ids.place.size * pos)
-      (part.ids.place.start + part.ids.place.size * pos + part.ids.place.size)
+      → bytes ≡ slice_range shows.of.file (part.ids.series.start + part.ids.series.size * pos)
+      (part.ids.series.start + part.ids.series.size * pos + part.ids.series.size)
       → slice_get layer.ids pos ≡ Some bytes
   shown-id pos bytes within here =
       let head = part.file.head in
-      let size = part.ids.place.size in
+      let size = part.ids.series.size in
       view-sized_id shows.of.file (string_bytes part.file.path) head.layout layer pos size kept (sym shows.of.decoded)
       (omega (arith, within, counted-ids))
       (is.ids.size ∙ ap id_len same-kind)
@@ -73,12 +73,12 @@ module _ (known : Option Tree) (part : LayerParts) (layer : Layer) (is : IsLayer
 
   -- the record at a position
   pub shown-record : (pos : ℕ) (bytes : List ℕ) → pos < commits_in part.file
-      → bytes ≡ slice_range shows.of.file (part.records.place.start + part.records.place.size * pos)
-      (part.records.place.start + part.records.place.size * pos + part.records.place.size)
+      → bytes ≡ slice_range shows.of.file (part.records.series.start + part.records.series.size * pos)
+      (part.records.series.start + part.records.series.size * pos + part.records.series.size)
       → record_at layer pos ≡ record_of part.file.head.layout.kind bytes
   shown-record pos bytes within here =
       let head = part.file.head in
-      let size = part.records.place.size in
+      let size = part.records.series.size in
       view-record_at shows.of.file (string_bytes part.file.path) head.layout layer kept (sym shows.of.decoded) pos size
       (omega (arith, within, counted-ids))
       (is.records.size ∙ ap (λ (k : Kind). id_len k + 16) same-kind)
@@ -90,7 +90,7 @@ module _ (known : Option Tree) (part : LayerParts) (layer : Layer) (is : IsLayer
       part_of start size = slice_range shows.of.file start (start + size)
 
   word-of : (chunk : Option ChunkRange) (index : ℕ) → IsChunkRange shows.of.file edges_id chunk
-      → index < option_map_or (λ place. size_at place / 4) chunk 0
+      → index < option_map_or (λ part. size_at part / 4) chunk 0
       → slice_index (option_map_or words (option_map (λ p. slice_range shows.of.file p.start p.end) chunk) []) index
       ≡ from_be_bytes w32 (slice_range shows.of.file (chunk_start chunk + 4 * index) (chunk_start chunk + 4 * index + 4))
   word-of None index lies within = absurd (omega (arith, within))
@@ -104,7 +104,7 @@ module _ (known : Option Tree) (part : LayerParts) (layer : Layer) (is : IsLayer
 
   words-long : (chunk : Option ChunkRange) → IsChunkRange shows.of.file edges_id chunk
       → length (option_map_or words (option_map (λ p. slice_range shows.of.file p.start p.end) chunk) [])
-      ≡ option_map_or (λ place. size_at place / 4) chunk 0
+      ≡ option_map_or (λ part. size_at part / 4) chunk 0
   words-long None lies = refl
   words-long (Some chunk) lies =
       length-words (slice_range shows.of.file chunk.start chunk.end)
@@ -121,8 +121,8 @@ module _ (known : Option Tree) (part : LayerParts) (layer : Layer) (is : IsLayer
 
   -- the word of an index in the extra edge list
   pub shown-word : (index : ℕ) (bytes : List ℕ) → index < edge_count part.file
-      → bytes ≡ slice_range shows.of.file (part.edges.place.start + part.edges.place.size * index)
-      (part.edges.place.start + part.edges.place.size * index + part.edges.place.size)
+      → bytes ≡ slice_range shows.of.file (part.edges.series.start + part.edges.series.size * index)
+      (part.edges.series.start + part.edges.series.size * index + part.edges.series.size)
       → slice_index (edge_words layer) index ≡ from_be_bytes w32 (slice_range bytes 0 4)
   shown-word index bytes within here =
       let head = part.file.head in
@@ -141,8 +141,8 @@ module _ (known : Option Tree) (part : LayerParts) (layer : Layer) (is : IsLayer
           (chunk_start part.file.head.layout.chunks.edges + 4 * index + 4)
       moved =
           here
-          ∙ ap (λ (n : ℕ). slice_range shows.of.file (part.edges.place.start + n * index)
-          (part.edges.place.start + n * index + n))
+          ∙ ap (λ (n : ℕ). slice_range shows.of.file (part.edges.series.start + n * index)
+          (part.edges.series.start + n * index + n))
           is.edges.size
           ∙ ap (λ (n : ℕ). slice_range shows.of.file (n + 4 * index) (n + 4 * index + 4)) is.edges.start
 
@@ -182,7 +182,7 @@ module _ (known : Option Tree) (part : LayerParts) (more : Pieces) where
       → IsLayerParts (record part { ids = more })
   parts-ids reads is = record {
     head = is.head;
-    ids = rw reads.place is.ids;
+    ids = rw reads.series is.ids;
     records = is.records;
     edges = is.edges;
     sized_ids = reads.sized;
@@ -213,7 +213,7 @@ module _ (known : Option Tree) (part : LayerParts) (more : Pieces) where
   parts-records reads is = record {
     head = is.head;
     ids = is.ids;
-    records = rw reads.place is.records;
+    records = rw reads.series is.records;
     edges = is.edges;
     sized_ids = is.sized_ids;
     sized_records = reads.sized;
@@ -244,7 +244,7 @@ module _ (known : Option Tree) (part : LayerParts) (more : Pieces) where
     head = is.head;
     ids = is.ids;
     records = is.records;
-    edges = rw reads.place is.edges;
+    edges = rw reads.series is.edges;
     sized_ids = is.sized_ids;
     sized_records = is.sized_records;
     sized_edges = reads.sized;

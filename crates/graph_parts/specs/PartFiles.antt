@@ -8,7 +8,7 @@ use Rattle.graph_format.specs.Layer.{Layer}
 use Rattle.graph_find.specs.declared.chain.ChainLayer.{ChainLayer}
 use Rattle.graph_find.specs.declared.head.Head.{Head}
 use Rattle.graph_parts.specs.PieceBlocks.{FitsIn}
-use Rattle.graph_parts.specs.declared.pieces.Place.{Place}
+use Rattle.graph_parts.specs.declared.pieces.Series.{Series}
 
 -- how many commits a file has
 abbrev pub commits_in : ChainLayer → ℕ
@@ -27,22 +27,22 @@ abbrev pub edge_words : Layer → List ℕ
 edge_words layer = option_map_or words layer.edges []
 
 -- The ids lie here ("OID Lookup").
-pub record AreIds (head : Head) (place : Place) : Type 0 where
-  pub start : place.start ≡ head.layout.chunks.ids.start
-  pub size : place.size ≡ id_len head.layout.kind
-  pub count : place.count ≡ head.layout.commits
-  pub fits : FitsIn place head.len
+pub record AreIds (head : Head) (series : Series) : Type 0 where
+  pub start : series.start ≡ head.layout.chunks.ids.start
+  pub size : series.size ≡ id_len head.layout.kind
+  pub count : series.count ≡ head.layout.commits
+  pub fits : FitsIn series head.len
 
 -- The records lie here ("Commit Data").
-pub record AreRecords (head : Head) (place : Place) : Type 0 where
-  pub start : place.start ≡ head.layout.chunks.records.start
-  pub size : place.size ≡ record_len head.layout.kind
-  pub count : place.count ≡ head.layout.commits
-  pub fits : FitsIn place head.len
+pub record AreRecords (head : Head) (series : Series) : Type 0 where
+  pub start : series.start ≡ head.layout.chunks.records.start
+  pub size : series.size ≡ record_len head.layout.kind
+  pub count : series.count ≡ head.layout.commits
+  pub fits : FitsIn series head.len
 
 -- The words of the extra edge list lie here ("Extra Edge List").
-pub record AreEdges (head : Head) (place : Place) : Type 0 where
-  pub start : place.start ≡ chunk_start head.layout.chunks.edges
-  pub size : place.size ≡ 4
-  pub count : place.count ≡ option_map_or (λ chunk. size_at chunk / 4) head.layout.chunks.edges 0
-  pub fits : FitsIn place head.len
+pub record AreEdges (head : Head) (series : Series) : Type 0 where
+  pub start : series.start ≡ chunk_start head.layout.chunks.edges
+  pub size : series.size ≡ 4
+  pub count : series.count ≡ option_map_or (λ chunk. size_at chunk / 4) head.layout.chunks.edges 0
+  pub fits : FitsIn series head.len

@@ -8,7 +8,7 @@ use Rattle.graph_parts.specs.declared.pieces.TheConstants.{BLOCK_LEN}
 use Rattle.graph_parts.specs.declared.pieces.Kept.{Kept}
 use Rattle.graph_parts.specs.declared.pieces.Kept.TheVariants.{InBlock, ByNumber}
 use Rattle.graph_parts.specs.declared.pieces.Pieces.{Pieces}
-use Rattle.graph_parts.specs.declared.pieces.Place.{Place}
+use Rattle.graph_parts.specs.declared.pieces.Series.{Series}
 use Rattle.graph_parts.specs.declared.pieces.Stretch.{Stretch}
 use Rattle.graph_parts.specs.declared.pieces.Stretch.TheVariants.{Alone, Block}
 
@@ -18,21 +18,21 @@ stretch_first (Block number) = BLOCK_LEN * number
 stretch_first (Alone index) = index
 
 -- how many pieces it has: the last block has those that are left
-abbrev pub stretch_count : Place → Stretch → ℕ
-stretch_count place (Block number) = min BLOCK_LEN (place.count - BLOCK_LEN * number)
-stretch_count place (Alone index) = 1
+abbrev pub stretch_count : Series → Stretch → ℕ
+stretch_count series (Block number) = min BLOCK_LEN (series.count - BLOCK_LEN * number)
+stretch_count series (Alone index) = 1
 
 -- where it begins in the file
-abbrev pub stretch_start : Place → Stretch → ℕ
-stretch_start place stretch = place.start + place.size * stretch_first stretch
+abbrev pub stretch_start : Series → Stretch → ℕ
+stretch_start series stretch = series.start + series.size * stretch_first stretch
 
 -- how many bytes it has
-abbrev pub stretch_len : Place → Stretch → ℕ
-stretch_len place stretch = place.size * stretch_count place stretch
+abbrev pub stretch_len : Series → Stretch → ℕ
+stretch_len series stretch = series.size * stretch_count series stretch
 
 -- a file of this length has room for the pieces
-abbrev pub FitsIn : Place → ℕ → Type 0
-FitsIn place len = place.start + place.size * place.count ≤ len
+abbrev pub FitsIn : Series → ℕ → Type 0
+FitsIn series len = series.start + series.size * series.count ≤ len
 
 -- the piece of an index is one of a stretch
 abbrev pub IsPieceOf : Stretch → ℕ → Type 0
@@ -52,7 +52,7 @@ abbrev pub HasStretch : Pieces → Stretch → List ℕ → Type 0
 HasStretch pieces (Block number) bytes = (block : Vec ℕ Global) × HasBlock pieces number block × (block.items ≡ bytes)
 HasStretch pieces (Alone index) bytes =
     (number : ℕ) × (slice_get pieces.alone number ≡ Some index)
-    × (slice_range pieces.bytes.items (pieces.place.size * number) (pieces.place.size * number + pieces.place.size) ≡ bytes)
+    × (slice_range pieces.bytes.items (pieces.series.size * number) (pieces.series.size * number + pieces.series.size) ≡ bytes)
 
 -- nothing is kept
 abbrev pub KeepsNothing : Pieces → Type 0
@@ -71,26 +71,26 @@ IsPieceKept pieces index (ByNumber number) = slice_get pieces.alone number ≡ S
 -- Each block that is kept has its length, and the pieces that are kept alone have theirs.
 pub record AreSized (pieces : Pieces) : Type 0 where
   pub blocks : (number : ℕ) (block : Vec ℕ Global) → HasBlock pieces number block
-      → length block.items ≡ stretch_len pieces.place (Block number)
-  pub alone : length pieces.bytes.items ≡ pieces.place.size * length pieces.alone
+      → length block.items ≡ stretch_len pieces.series (Block number)
+  pub alone : length pieces.bytes.items ≡ pieces.series.size * length pieces.alone
 
 -- the stretches that are kept are those of a file
 abbrev pub AreOf : Pieces → List ℕ → Type 0
 AreOf pieces file = (stretch : Stretch) (bytes : List ℕ) → HasStretch pieces stretch bytes
-    → slice_range file (stretch_start pieces.place stretch)
-    (stretch_start pieces.place stretch + stretch_len pieces.place stretch)
+    → slice_range file (stretch_start pieces.series stretch)
+    (stretch_start pieces.series stretch + stretch_len pieces.series stretch)
     ≡ bytes
 
 -- The same is kept of the same pieces.
 pub record KeepsSame (old new : Pieces) : Type 0 where
-  pub place : new.place ≡ old.place
+  pub series : new.series ≡ old.series
   pub alone : new.alone ≡ old.alone
   pub bytes : new.bytes.items ≡ old.bytes.items
   pub blocks : (number : ℕ) (block : Vec ℕ Global) → HasBlock new number block ↔ HasBlock old number block
 
 -- One stretch more is kept of the same pieces.
 pub record AddsStretch (old new : Pieces) (added : Stretch) (bytes : List ℕ) : Type 0 where
-  pub place : new.place ≡ old.place
+  pub series : new.series ≡ old.series
   pub stays : (stretch : Stretch) (b : List ℕ) → HasStretch old stretch b → HasStretch new stretch b
   pub only : (stretch : Stretch) (b : List ℕ) → HasStretch new stretch b
       → HasStretch old stretch b ⊎ ((stretch ≡ added) × (b ≡ bytes))
@@ -98,7 +98,7 @@ pub record AddsStretch (old new : Pieces) (added : Stretch) (bytes : List ℕ) :
 
 -- More may be kept: where the tree is known, of the file at the path.
 pub record ReadsMore (known : Option Tree) (path : List ℕ) (old new : Pieces) : Type 0 where
-  pub place : new.place ≡ old.place
+  pub series : new.series ≡ old.series
   pub sized : AreSized new
   pub kept : (file : List ℕ) → AreOf new file → AreOf old file
   pub told : ForSome known (λ (tree : Tree). (file : List ℕ) → file_at tree path ≡ Some file → AreOf old file → AreOf new file)

@@ -12,9 +12,9 @@ use Rattle.graph_parts.specs.declared.layer.LayerParts.{LayerParts}
 -- The parts of a layer's file lie where its head says, and each stretch has its length.
 pub record IsLayerParts (part : LayerParts) : Type 0 where
   pub head : IsHead part.file.head
-  pub ids : AreIds part.file.head part.ids.place
-  pub records : AreRecords part.file.head part.records.place
-  pub edges : AreEdges part.file.head part.edges.place
+  pub ids : AreIds part.file.head part.ids.series
+  pub records : AreRecords part.file.head part.records.series
+  pub edges : AreEdges part.file.head part.edges.series
   pub sized_ids : AreSized part.ids
   pub sized_records : AreSized part.records
   pub sized_edges : AreSized part.edges

@@ -15,7 +15,7 @@ ghost use Rattle.graph_parts.specs.PartFiles.{edge_words};
 ghost use Rattle.graph_parts.specs.Stored.{StoresCommit};
 ghost use Rattle.graph_parts.specs.ShownLayer.{IsLayerParts, SeesMoreOfLayer, ShowsAll, ShowsLayer};
 
-use crate::pieces::{Kept, Pieces, Place};
+use crate::pieces::{Kept, Pieces, Series};
 use gix_hash_core::{Kind, ObjectId, oid};
 use graph_find::chain::ChainLayer;
 use graph_find::head::Head;
@@ -53,11 +53,11 @@ pub(crate) struct LayerParts {
 }
 
 /// Where the ids of the file with this head lie ("OID Lookup").
-fn ids_of(head: &Head) -> Place
+fn ids_of(head: &Head) -> Series
     requires { IsHead head.now }
     ensures { AreIds head.now result }
 {
-    Place {
+    Series {
         start: head.layout.chunks.ids.start,
         size: head.layout.kind.len_in_bytes(),
         count: head.layout.commits as usize,
@@ -65,11 +65,11 @@ fn ids_of(head: &Head) -> Place
 }
 
 /// Where its records lie ("Commit Data").
-fn records_of(head: &Head) -> Place
+fn records_of(head: &Head) -> Series
     requires { IsHead head.now }
     ensures { AreRecords head.now result }
 {
-    Place {
+    Series {
         start: head.layout.chunks.records.start,
         size: record_len(head.layout.kind),
         count: head.layout.commits as usize,
@@ -77,17 +77,17 @@ fn records_of(head: &Head) -> Place
 }
 
 /// Where the words of its extra edge list lie, none where it has no such list ("Extra Edge List").
-fn edges_in(head: &Head) -> Place
+fn edges_in(head: &Head) -> Series
     requires { IsHead head.now }
     ensures { AreEdges head.now result }
 {
     match head.layout.chunks.edges {
-        Some(chunk) => Place {
+        Some(chunk) => Series {
             start: chunk.start,
             size: WORD_LEN,
             count: (chunk.end - chunk.start) / WORD_LEN,
         },
-        None => Place {
+        None => Series {
             start: 0,
             size: WORD_LEN,
             count: 0,
@@ -214,7 +214,7 @@ impl LayerParts {
         requires { IsLayerParts self.now }
         ensures { result ≡ edge_count self.now.file }
     {
-        self.edges.place.count
+        self.edges.series.count
     }
 
     /// What the word of an index in the extra edge list of the layer says. `None` where its file no

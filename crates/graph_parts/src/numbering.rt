@@ -6,24 +6,24 @@ ghost use Rattle.std.specs.Prelude.{slice_get};
 use std::alloc::{AllocError, Global};
 use std::marker::Model;
 
-/// What stands in a place of the table that has no number.
+/// What stands in a slot of the table that has no number.
 const NO_NUMBER: u32 = u32::MAX;
 
-/// How many places the table has at first.
-const FIRST_PLACES: usize = 64;
+/// How many slots the table has at first, a power of two.
+const FIRST_SLOTS: usize = 64;
 
-/// An odd factor, by which indices near to each other come to places far apart.
+/// An odd factor, by which indices near to each other come to slots far apart.
 const FACTOR: u64 = 0x9E37_79B9_7F4A_7C15;
 
-/// How many places are looked at for an index. One that stands at none of them is not found, so no
+/// How many slots are looked at for an index. One that stands at none of them is not found, so no
 /// indices make a search long.
 const MOST_STEPS: usize = 64;
 
 /// Indices, each of which has a number: the first that was put in has 0. A contract sees them as
 /// the list of the indices.
 ///
-/// The number of an index is found by a table, in which it stands at the place that the index
-/// gives, or soon after it. At most three quarters of the places are taken.
+/// The number of an index is found by a table, in which it stands in the slot that the index
+/// gives, or soon after it. At most three quarters of the slots are taken.
 #[derive(Drop)]
 pub(crate) struct Numbering {
     alloc: Global,
@@ -62,20 +62,20 @@ impl Numbering {
     pub(crate) fn number_of(&self, index: usize) -> Option<usize>
         ensures { IfSome result (λ number. slice_get self.now number ≡ Some index) }
     {
-        let places = self.table.len();
-        if places == 0 {
+        let slots = self.table.len();
+        if slots == 0 {
             return None;
         }
-        let mut place = place_of(index, places);
+        let mut slot = slot_of(index, slots);
         for _ in 0..MOST_STEPS {
-            let number = self.table[place] as usize;
+            let number = self.table[slot] as usize;
             if self.indices.len() <= number {
                 return None;
             }
             if self.indices[number] == index {
                 return Some(number);
             }
-            place = place_after(place, places);
+            slot = slot_after(slot, slots);
         }
         None
     }
@@ -94,11 +94,11 @@ impl Numbering {
         Ok(())
     }
 
-    /// A table with twice as many places, in which all indices stand.
+    /// A table with twice as many slots, in which all indices stand.
     fn larger_table(&self) -> Result<Vec<u32>, AllocError> {
         let alloc = self.alloc;
-        let places = FIRST_PLACES.max(self.table.len().saturating_mul(2));
-        let mut table = vec![in alloc; NO_NUMBER; places]?;
+        let slots = FIRST_SLOTS.max(self.table.len().saturating_mul(2));
+        let mut table = vec![in alloc; NO_NUMBER; slots]?;
         for (number, index) in self.indices.iter().enumerate() {
             put(&mut table, *index, number);
         }
@@ -106,35 +106,35 @@ impl Numbering {
     }
 }
 
-/// Puts the number of an index at the first place that is not taken, if there is one.
+/// Puts the number of an index into the first slot that is not taken, if there is one.
 fn put(table: &mut [u32], index: usize, number: usize) {
-    let places = table.len();
-    if places == 0 {
+    let slots = table.len();
+    if slots == 0 {
         return;
     }
-    let mut place = place_of(index, places);
+    let mut slot = slot_of(index, slots);
     for _ in 0..MOST_STEPS {
-        if table[place] == NO_NUMBER {
-            table[place] = u32::try_from(number).unwrap_or(NO_NUMBER);
+        if table[slot] == NO_NUMBER {
+            table[slot] = u32::try_from(number).unwrap_or(NO_NUMBER);
             return;
         }
-        place = place_after(place, places);
+        slot = slot_after(slot, slots);
     }
 }
 
-/// The place of an index in a table with so many places.
-fn place_of(index: usize, places: usize) -> usize
-    requires { 0 < places }
-    ensures { result < places }
+/// The slot of an index in a table with so many slots.
+fn slot_of(index: usize, slots: usize) -> usize
+    requires { 0 < slots }
+    ensures { result < slots }
 {
     let spread = (index as u64).wrapping_mul(FACTOR) >> 32;
-    spread as usize % places
+    spread as usize & (slots - 1)
 }
 
-/// The next place, the first one after the last.
-fn place_after(place: usize, places: usize) -> usize
-    requires { place < places }
-    ensures { result < places }
+/// The next slot, the first one after the last.
+fn slot_after(slot: usize, slots: usize) -> usize
+    requires { slot < slots }
+    ensures { result < slots }
 {
-    if place + 1 < places { place + 1 } else { 0 }
+    (slot + 1) & (slots - 1)
 }

@@ -21,9 +21,10 @@ use std::alloc::Global;
 /// How many pieces a block has, but for the last one.
 pub const BLOCK_LEN: usize = 128;
 
-/// Where pieces lie: how many there are, each of so many bytes, from which byte of the file on.
+/// Pieces of one size that lie one after another: from which byte of the file on, how many bytes
+/// each has, and how many there are.
 #[derive(Clone, Copy)]
-pub(crate) struct Place {
+pub(crate) struct Series {
     pub(crate) start: usize,
     pub(crate) size: usize,
     pub(crate) count: usize,
@@ -47,11 +48,11 @@ pub(crate) enum Kept {
     ByNumber(usize),
 }
 
-/// Pieces at a place, and those of them that were read: first one by one, so many of them, and then
-/// by blocks. So few pieces are read quickly and take little memory, and many take few reads.
+/// A series of pieces, and those of them that were read: first one by one, so many of them, and
+/// then by blocks. So few pieces are read quickly and take little memory, and many take few reads.
 #[derive(Drop)]
 pub(crate) struct Pieces {
-    pub(crate) place: Place,
+    pub(crate) series: Series,
     most_alone: usize,
     /// Which pieces were read alone, by their indices.
     alone: Numbering,
@@ -61,15 +62,15 @@ pub(crate) struct Pieces {
 }
 
 impl Pieces {
-    /// The pieces at a place, of which none was read, and so many are to be read one by one.
+    /// The pieces of a series, of which none was read, and so many are to be read one by one.
     /// Nothing is allocated.
-    pub(crate) fn new(alloc: Global, place: Place, most_alone: usize) -> Pieces
-        ensures place { result.place ≡ place }
+    pub(crate) fn new(alloc: Global, series: Series, most_alone: usize) -> Pieces
+        ensures series { result.series ≡ series }
         ensures none { KeepsNothing result }
         ensures sized { AreSized result }
     {
         Pieces {
-            place,
+            series,
             most_alone,
             alone: Numbering::new(alloc),
             bytes: Vec::new(alloc),
@@ -87,8 +88,8 @@ impl Pieces {
         file_len: usize,
         index: usize,
     ) -> Result<Option<Kept>, ReadError>
-        requires index { index < self.old.place.count }
-        requires fits { FitsIn self.old.place file_len }
+        requires index { index < self.old.series.count }
+        requires fits { FitsIn self.old.series file_len }
         requires sized { AreSized self.old }
         ensures reads { ReadsMore (T.tree folder.old) path.now self.old self.new }
         ensures kept { IfOk result (λ answer. IfSome answer (IsPieceKept self.new index)) }
@@ -102,7 +103,7 @@ impl Pieces {
         }
         let stretch = self.stretch_of(index);
         match self
-            .place
+            .series
             .read_stretch(alloc, folder, path, file_len, stretch)?
         {
             Some(bytes) => {
@@ -115,36 +116,36 @@ impl Pieces {
 
     /// A piece that is kept so.
     pub(crate) fn piece(&self, index: usize, kept: Kept) -> &[u8]
-        requires index { index < self.now.place.count }
+        requires index { index < self.now.series.count }
         requires sized { AreSized self.now }
         requires kept { IsPieceKept self.now index kept }
-        ensures size { length result.now ≡ self.now.place.size }
+        ensures size { length result.now ≡ self.now.series.size }
         ensures piece { (file : List ℕ) → AreOf self.now file → result.now
-            ≡ slice_range file (self.now.place.start + self.now.place.size * index)
-            (self.now.place.start + self.now.place.size * index + self.now.place.size) }
+            ≡ slice_range file (self.now.series.start + self.now.series.size * index)
+            (self.now.series.start + self.now.series.size * index + self.now.series.size) }
     {
         match kept {
             Kept::InBlock => self.piece_of_block(index),
             Kept::ByNumber(number) => {
-                let start = self.place.size * number;
-                &self.bytes[start..start + self.place.size]
+                let start = self.series.size * number;
+                &self.bytes[start..start + self.series.size]
             }
         }
     }
 
     /// A piece whose block is kept.
     fn piece_of_block(&self, index: usize) -> &[u8]
-        requires index { index < self.now.place.count }
+        requires index { index < self.now.series.count }
         requires sized { AreSized self.now }
         requires kept { (block : Vec ℕ Global) × HasBlock self.now (index / BLOCK_LEN) block }
-        ensures size { length result.now ≡ self.now.place.size }
+        ensures size { length result.now ≡ self.now.series.size }
         ensures piece { (file : List ℕ) → AreOf self.now file → result.now
-            ≡ slice_range file (self.now.place.start + self.now.place.size * index)
-            (self.now.place.start + self.now.place.size * index + self.now.place.size) }
+            ≡ slice_range file (self.now.series.start + self.now.series.size * index)
+            (self.now.series.start + self.now.series.size * index + self.now.series.size) }
     {
-        let start = self.place.size * (index % BLOCK_LEN);
+        let start = self.series.size * (index % BLOCK_LEN);
         match self.block(index / BLOCK_LEN) {
-            Some(block) => &block[start..start + self.place.size],
+            Some(block) => &block[start..start + self.series.size],
             None => unreachable!(),
         }
     }
@@ -192,7 +193,7 @@ impl Pieces {
     /// Keeps the bytes of a stretch, and answers how its pieces are kept now.
     fn keep(&mut self, stretch: Stretch, bytes: Vec<u8>) -> Result<Kept, ReadError>
         requires new { CanKeep self.old stretch }
-        requires long { length bytes.items ≡ stretch_len self.old.place stretch }
+        requires long { length bytes.items ≡ stretch_len self.old.series stretch }
         requires sized { AreSized self.old }
         ensures adds { OnOk result (AddsStretch self.old self.new stretch bytes.items) }
         ensures kept { IfOk result (λ kept. (index : ℕ) → IsPieceOf stretch index
@@ -210,7 +211,7 @@ impl Pieces {
     /// Keeps a block that is not kept.
     fn keep_block(&mut self, number: usize, block: Vec<u8>) -> Result<Kept, ReadError>
         requires new { LacksBlock self.old number }
-        requires long { length block.items ≡ stretch_len self.old.place (Block number) }
+        requires long { length block.items ≡ stretch_len self.old.series (Block number) }
         requires sized { AreSized self.old }
         ensures adds { OnOk result (AddsStretch self.old self.new (Block number) block.items) }
         ensures kept { IfOk result (λ kept. (index : ℕ) → number ≡ index / BLOCK_LEN
@@ -238,7 +239,7 @@ impl Pieces {
 
     /// Keeps a piece alone.
     fn keep_alone(&mut self, index: usize, piece: &[u8]) -> Result<Kept, ReadError>
-        requires long { length piece.now ≡ self.old.place.size }
+        requires long { length piece.now ≡ self.old.series.size }
         requires sized { AreSized self.old }
         ensures adds { OnOk result (AddsStretch self.old self.new (Alone index) piece.now) }
         ensures kept { IfOk result (λ kept. IsPieceKept self.new index kept) }
@@ -260,7 +261,7 @@ impl Pieces {
     }
 }
 
-impl Place {
+impl Series {
     /// How many blocks have all their pieces.
     pub(crate) fn whole_blocks(self) -> usize {
         self.count / BLOCK_LEN

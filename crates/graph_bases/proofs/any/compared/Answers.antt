@@ -28,11 +28,6 @@ returns-clause-exact g c = λ t said right.
       behind = behind_number h a bs coats painted c.divergence-divergence.result.behind c.divergence-divergence.ensures.behind;
     }
 
-pub into_coats-requires : goal.into_coats-requires
-into_coats-requires g c =
-    let e = c.bases.ensures in
-    rw (e.coats, e.queue, e.taken) c.in_ok-painting.ensures.touched
-
 pub returns-clause-idle : goal.returns-clause-idle
 returns-clause-idle g c =
     let idle = c.into_coats.ensures in

@@ -6,12 +6,12 @@ use Rattle.graph_bases.proofs.paint.Coats.into_idle.Goals as goal
 
 pub returns : goal.returns
 returns g c =
-    let coats = c.args.self.all in
+    let coats = c.clear.new.self in
     let none : (t : Coat → Bool) → t bare ≡ false → 0 ≡ count_by t coats = λ t unmet.
-    sym (none_counted [] 0 [] coats c.requires t unmet) in
+    sym (none_counted [] 0 [] coats c.clear.ensures.bare t unmet) in
     record {
-      coats_len = refl;
-      bare = c.requires;
+      coats_len = c.clear.ensures.len;
+      bare = c.clear.ensures.bare;
       trails = search;
       counted = record {
         fresh = none is_fresh refl;

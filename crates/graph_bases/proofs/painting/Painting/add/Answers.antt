@@ -1,12 +1,11 @@
 use Rattle.std.proofs.Common.{◌<◌, true, length, set, sym, ap, ◌∙◌, heap_items, arith}
 use Rattle.commit_search.specs.Positions.{numbers_of}
-use Rattle.graph_bases.specs.Paint.{joined, covers}
+use Rattle.graph_bases.specs.Paint.{coat_at, joined, covers}
 use Rattle.graph_bases.specs.declared.paint.Coat.{Coat}
 use Rattle.graph_bases.specs.declared.paint.Coats.{Coats}
 use Rattle.graph_bases.specs.declared.paint.Paint.{Paint}
 use Rattle.graph_bases.proofs.CoatLemmas.{coat_with, added_by, added_paint, added_level}
 use Rattle.graph_bases.proofs.EdgeLemmas.{visiting_added}
-use Rattle.graph_bases.proofs.TouchLemmas.{touched_added}
 use Rattle.graph_bases.proofs.VisitCountLemmas.{count_added}
 use Rattle.graph_bases.proofs.painting.Painting.add.Goals as goal
 
@@ -19,6 +18,11 @@ set-requires-clause-few g c =
       c.requires.painting.coats_len,
       ap (λ (m : Coats _). length m.all) same,
     )
+
+pub set-requires-clause-old : goal.set-requires-clause-old
+set-requires-clause-old g c =
+    c.at-known.ensures
+    ∙ ap (λ (ms : Coats _). coat_at ms.all c.args.commit.0) (sym (c.add_candidate.ensures.coats ∙ c.enqueue.ensures.coats))
 
 pub returns : goal.returns
 returns g c =
@@ -35,7 +39,6 @@ returns g c =
     let same = c.add_candidate.ensures.coats ∙ c.enqueue.ensures.coats in
     let is_after = c.in_ok-set.ensures.coats ∙ ap (λ (ms : Coats _). set ms.all p new) same in
     let uncovered = ap (λ (m : Coat). covers m.paint x) (sym known) ∙ sym c.covers.ensures ∙ c.if-covers.false in
-    let taken = c.add_candidate.ensures.taken ∙ c.enqueue.ensures.taken in
     let visits = c.add_candidate.ensures.visits ∙ c.enqueue.ensures.visits in
     let first = c.add_candidate.ensures.first ∙ c.enqueue.ensures.first in
     let others = c.add_candidate.ensures.others ∙ c.enqueue.ensures.others in
@@ -59,10 +62,6 @@ returns g c =
         candidates =
             rw (c.in_ok-add_candidate.ensures.candidates, c.enqueue.ensures.candidates, c.join-paint.ensures, known)
             after.candidates;
-        touched =
-            rw (taken, c.add_candidate.ensures.queue)
-            (touched_added coats c.set.new.self.all s.taken.items (heap_items s.queue)
-            (heap_items c.enqueue.new.self.queue) p joins after.adds.others r.painting.touched);
         visits =
             rw visits
             (count_added coats c.set.new.self.all p x s.visits new inside is_new is_after uncovered r.painting.visits);

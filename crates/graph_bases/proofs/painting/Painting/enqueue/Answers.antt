@@ -1,7 +1,6 @@
 use Rattle.std.proofs.Common.{◌≡◌, ℕ, Bool, false, ◌∷◌, cond, heap_items, sym, ap, ◌∙◌, arith}
 use Rattle.std.proofs.lemmas.List.Sorted.{length_permutation}
 use Rattle.graph_bases.specs.Paint.{is_queued}
-use Rattle.graph_bases.specs.declared.paint.Coat.{Coat}
 use Rattle.graph_bases.proofs.CoatLemmas.{joins_pushed, numbered_pushed}
 use Rattle.graph_bases.proofs.painting.Painting.enqueue.Goals as goal
 
@@ -19,7 +18,7 @@ pub returns-clause-len : goal.returns-clause-len
 returns-clause-len g c =
     let p = c.args.commit.0 in
     let coats = c.args.self.now.coats.all in
-    let settled : is_queued coats p ≡ false = ap (λ (m : Coat). m.queued) (sym c.at.ensures) ∙ c.if-at.false in
+    let settled : is_queued coats p ≡ false = sym c.requires.there ∙ c.if-is_there.false in
     let one : cond {A = ℕ} (is_queued coats p) 0 1 ≡ 1 = ap (λ (b : Bool). cond {A = ℕ} b 0 1) settled in
     let len =
     length_permutation ((c.in_ok-generation.generation, p) ∷ heap_items c.args.self.now.queue)

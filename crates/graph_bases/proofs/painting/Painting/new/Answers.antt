@@ -3,7 +3,6 @@ use Rattle.commit_search.specs.Positions.{numbers_of}
 use Rattle.graph_bases.proofs.CoatLemmas.{candidates_none}
 use Rattle.graph_bases.proofs.EdgeLemmas.{paint_none, waiting_none, numbered_none, visiting_none}
 use Rattle.graph_bases.proofs.PassLemmas.{passed_none}
-use Rattle.graph_bases.proofs.TouchLemmas.{touched_none}
 use Rattle.graph_bases.proofs.VisitCountLemmas.{count_none}
 use Rattle.graph_bases.proofs.painting.Painting.new.Goals as goal
 
@@ -17,7 +16,6 @@ returns-clause-painting g c =
       counted = e.counted;
       waiting = waiting_none [] 0 [] coats e.bare _ (heap_items c.new.result) c.new.ensures.items c.new.ensures.heap_order;
       candidates = rw c.new-2.ensures.items (candidates_none coats e.bare);
-      touched = touched_none coats c.new-3.result.items (heap_items c.new.result) e.bare;
       visits = count_none coats e.bare;
     }
 

@@ -1,4 +1,4 @@
-use Rattle.std.proofs.Common.{◌≡◌, ◌+◌, ◌<◌, count_by, false, length, refl, sym, ap, ◌∙◌, subst, lt_of_le_of_lt}
+use Rattle.std.proofs.Common.{◌≡◌, ◌+◌, ◌<◌, count_by, false, length, sym, ap, ◌∙◌, subst, lt_of_le_of_lt}
 use Rattle.std.proofs.Common.{heap_items, arith}
 use Rattle.std.proofs.lemmas.List.Sums.{count_by-le-length}
 use Rattle.graph_walks.specs.declared.TheConstants.{GENERATION_NUMBER_MAX}
@@ -12,7 +12,6 @@ use Rattle.graph_bases.proofs.CoatLemmas.{next_number, rest_numbered, taken_pain
 use Rattle.graph_bases.proofs.CoatLemmas.{candidates_same}
 use Rattle.graph_bases.proofs.PaintLemmas.{grows_refl}
 use Rattle.graph_bases.proofs.PassLemmas.{passed_kept}
-use Rattle.graph_bases.proofs.TouchLemmas.{touched_taken}
 use Rattle.graph_bases.proofs.VisitCountLemmas.{count_taken}
 use Rattle.graph_bases.proofs.painting.Painting.run.Goals as goal
 use Rattle.graph_bases.proofs.painting.Painting.run.Given.{Over}
@@ -35,8 +34,8 @@ next g c =
       greatest = c.in-Some.ensures.below_top waiting.order;
     }
 
-pub at-paint-requires : goal.at-paint-requires
-at-paint-requires g c = next_inside (next g (goal.at.at-paint-requires g c).In-Some)
+pub at-known-requires : goal.at-known-requires
+at-known-requires g c = next_inside (next g (goal.at.at-known-requires g c).In-Some)
 
 pub set-requires-clause-within : goal.set-requires-clause-within
 set-requires-clause-within g c = next_inside (next g (goal.at.set-requires-clause-within g c).In-Some)
@@ -52,7 +51,7 @@ visit-requires-clause-lists g c =
     let now = c.set.new.self.all in
     let i = c.loop-next.invariant in
     let first = next g (goal.at.visit-requires-clause-lists g c).In-Some in
-    let is_coat = ap (λ (m : Coat). coat_with m.paint false) c.at-paint.ensures in
+    let is_coat = ap (λ (m : Coat). coat_with m.paint false) c.at-known.ensures in
     let after = taken_by first is_coat c.in_ok-set.ensures.coats (next_queued first) in
     λ t said l.
     rw c.set.ensures.trails
@@ -71,8 +70,8 @@ visit-requires-clause-passes g c =
     let first = next g (goal.at.visit-requires-clause-passes g c).In-Some in
     let inside = next_inside first in
     let queued = next_queued first in
-    let new = coat_with c.at-paint.result.paint false in
-    let is_coat = ap (λ (m : Coat). coat_with m.paint false) c.at-paint.ensures in
+    let new = coat_with c.at-known.result.paint false in
+    let is_coat = ap (λ (m : Coat). coat_with m.paint false) c.at-known.ensures in
     let after = taken_by first is_coat c.in_ok-set.ensures.coats queued in
     let few = count_by-le-length is_visited coats in
     rw i.known
@@ -83,9 +82,6 @@ visit-requires-clause-passes g c =
         counted = c.in_ok-set.ensures.counted;
         waiting = after.waiting;
         candidates = candidates_same coats now s.candidates.items after.same i.painting.candidates;
-        touched =
-            touched_taken coats now s.taken.items c.push_number.new.numbers.items (heap_items s.queue) (heap_items c.pop.new.self)
-            c.in-Some.next c.in-Some.ensures.permutation after.there i.painting.touched c.in_ok-push_number.ensures;
         visits =
             (let old = i.painting.visits.least in
             count_taken coats now p s.visits c.saturating_add-self.result new inside is_coat c.in_ok-set.ensures.coats queued
@@ -93,7 +89,7 @@ visit-requires-clause-passes g c =
             (omega (arith, c.saturating_add-self.ensures, old, few, i.painting.few, i.painting.coats_len)) i.painting.visits);
       };
       within = next_within first;
-      same = λ settled. after.same p ∙ sym (ap (λ (m : Coat). m.paint) c.at-paint.ensures);
+      same = λ settled. after.same p ∙ sym (ap (λ (m : Coat). m.paint) c.at-known.ensures);
       told = λ t said.
           (let h = t.history in
           let of = i.told t said in
@@ -118,7 +114,7 @@ visit-requires-clause-passes g c =
                   omega (arith, c.saturating_add-self.ensures, old.count, few, i.painting.few, i.painting.coats_len) in
                   rw visits (visiting_taken first of.numbered is_coat c.in_ok-set.ensures.coats after queued some old));
             };
-            so = subst (IsSo h a bs p) (sym (ap (λ (m : Coat). m.paint) c.at-paint.ensures)) (of.paint.each p);
+            so = subst (IsSo h a bs p) (sym (ap (λ (m : Coat). m.paint) c.at-known.ensures)) (of.paint.each p);
             spread = taken_spread after h a bs spread;
             in_order = λ right.
                 (let level = i.level t said right in
@@ -127,7 +123,7 @@ visit-requires-clause-passes g c =
                   uncapped = λ below.
                       painted_below_cap of.paint (λ q r. c.generations_never_rise_along_walks.ensures h q r right) below p
                       (painted below);
-                  painted = λ below. ap (λ (m : Coat). is_painted m.paint) c.at-paint.ensures ∙ painted below;
+                  painted = λ below. ap (λ (m : Coat). is_painted m.paint) c.at-known.ensures ∙ painted below;
                   own = λ below. after.here;
                   level = taken_level first h of.numbered level.1 after;
                 });
@@ -137,7 +133,7 @@ visit-requires-clause-passes g c =
 pub loop-next-smaller : goal.loop-next-smaller
 loop-next-smaller g c =
     let first = next g (goal.at.loop-next-smaller g c).In-Some in
-    let is_coat = ap (λ (m : Coat). coat_with m.paint false) c.at-paint.ensures in
+    let is_coat = ap (λ (m : Coat). coat_with m.paint false) c.at-known.ensures in
     lt_of_le_of_lt c.in_ok-visit.ensures.work (taken_by first is_coat c.in_ok-set.ensures.coats (next_queued first)).work
 
 pub loop-next-preserved : goal.loop-next-preserved
@@ -168,13 +164,6 @@ returns-then-is_below_cap-clause-done g c = λ t said right.
     let level = i.level t said right in
     stops (next g (goal.at.returns-then-is_below_cap-clause-done g c).In-Some) t.history (i.told t said).numbered level.1 stale
     below
-
-pub returns-then-is_below_cap-clause-touched : goal.returns-then-is_below_cap-clause-touched
-returns-then-is_below_cap-clause-touched g c =
-    let s = c.loop-next.self in
-    touched_taken s.coats.all s.coats.all s.taken.items c.push_number.new.numbers.items (heap_items s.queue)
-    (heap_items c.pop.new.self) c.in-Some.next c.in-Some.ensures.permutation (λ q apart. refl)
-    c.loop-next.invariant.painting.touched c.in_ok-push_number.ensures
 
 pub returns-then-is_below_cap-clause-paint : goal.returns-then-is_below_cap-clause-paint
 returns-then-is_below_cap-clause-paint g c = λ t said.

@@ -6,4 +6,4 @@ use Rattle.graph_bases.proofs.tables.FewCoatsCoatTable.len.Goals as goal
 pub returns : goal.returns
 returns c =
     let a = c.self.inside in
-    sym (sheet_len a.few a.count) ∙ ap (λ (l : List Coat). length l) c.self.view_is
+    sym (sheet_len a.painted a.coats.items a.count) ∙ ap (λ (l : List Coat). length l) c.self.view_is

@@ -1,7 +1,7 @@
 -- The record is that of the position.
 use Rattle.std.proofs.Common.{string_bytes, ap, ◌∙◌}
 use Rattle.graph_parts.specs.PieceBlocks.{ReadsMore}
-use Rattle.graph_parts.specs.declared.pieces.Place.{Place}
+use Rattle.graph_parts.specs.declared.pieces.Series.{Series}
 use Rattle.graph_parts.proofs.LayerPartLemmas.{parts-records, sees-records, shown-record}
 use Rattle.graph_parts.proofs.layer.LayerParts.commit_at.Goals as goal
 
@@ -11,7 +11,7 @@ piece-fields-requires-clause-kept g c = rw c.in-Some.is at c.in_ok-kept.ensures.
 pub commit_of-requires : goal.commit_of-requires
 commit_of-requires g c =
     c.piece-fields.ensures.size
-    ∙ ap (λ (p : Place). p.size) c.in_ok-kept.ensures.reads.place
+    ∙ ap (λ (p : Series). p.size) c.in_ok-kept.ensures.reads.series
     ∙ c.requires.parts.records.size
 
 pub returns-in_err-kept-clause-sees : goal.returns-in_err-kept-clause-sees

@@ -2,7 +2,7 @@
 use Rattle.std.proofs.Common.{string_bytes, sym, ap, ◌∙◌, arith}
 use Rattle.graph_format.specs.Parents.{extra_edge_of}
 use Rattle.graph_parts.specs.PieceBlocks.{ReadsMore}
-use Rattle.graph_parts.specs.declared.pieces.Place.{Place}
+use Rattle.graph_parts.specs.declared.pieces.Series.{Series}
 use Rattle.graph_parts.proofs.LayerPartLemmas.{parts-edges, sees-edges, shown-word}
 use Rattle.graph_parts.proofs.layer.LayerParts.edge_at.Goals as goal
 
@@ -11,7 +11,7 @@ piece-word-requires-clause-kept g c = rw c.in-Some.is at c.in_ok-kept.ensures.ke
 
 pub word_at-requires : goal.word_at-requires
 word_at-requires g c =
-    let size = ap (λ (p : Place). p.size) c.in_ok-kept.ensures.reads.place in
+    let size = ap (λ (p : Series). p.size) c.in_ok-kept.ensures.reads.series in
     omega (arith, c.piece-word.ensures.size, size, c.requires.parts.edges.size)
 
 pub returns-in_err-kept-clause-sees : goal.returns-in_err-kept-clause-sees

@@ -1,6 +1,6 @@
--- The place is one of the table.
+-- The slot is one of the table.
 use Rattle.std.proofs.Common.{◌<◌}
 use Rattle.graph_parts.proofs.numbering.Numbering.number_of.Given as goal
 
 abbrev pub invariant-loop : goal.invariant-loop
-invariant-loop l = l.place < l.places
+invariant-loop l = l.slot < l.slots

@@ -6,7 +6,7 @@ pub returns-clause-none : goal.returns-clause-none
 returns-clause-none c =
     nothing-kept
     (record {
-      place = c.args.place;
+      series = c.args.series;
       most_alone = c.args.most_alone;
       alone = c.new.result;
       bytes = c.new-2.result;
@@ -18,7 +18,7 @@ pub returns-clause-sized : goal.returns-clause-sized
 returns-clause-sized c =
     nothing-sized
     (record {
-      place = c.args.place;
+      series = c.args.series;
       most_alone = c.args.most_alone;
       alone = c.new.result;
       bytes = c.new-2.result;

@@ -8,13 +8,13 @@ pub overflow_mul-start : goal.overflow_mul-start
 overflow_mul-start c =
     let kept = c.requires.kept in
     let long = c.requires.sized.blocks (c.args.index / 128) kept.0 kept.1 in
-    omega (arith, piece-fits c.args.self.now.place c.args.index c.requires.index, long, kept.0.ok, kept.0.small)
+    omega (arith, piece-fits c.args.self.now.series c.args.index c.requires.index, long, kept.0.ok, kept.0.small)
 
 pub overflow_add-result : goal.overflow_add-result
 overflow_add-result c =
     let kept = c.requires.kept in
     let long = c.requires.sized.blocks (c.args.index / 128) kept.0 kept.1 in
-    omega (arith, piece-fits c.args.self.now.place c.args.index c.requires.index, long, kept.0.ok, kept.0.small)
+    omega (arith, piece-fits c.args.self.now.series c.args.index c.requires.index, long, kept.0.ok, kept.0.small)
 
 pub slice_bounds-result-end : goal.slice_bounds-result-end
 slice_bounds-result-end c =
@@ -22,7 +22,7 @@ slice_bounds-result-end c =
     let long = c.requires.sized.blocks (c.args.index / 128) kept.0 kept.1 in
     omega (
       arith,
-      piece-fits c.args.self.now.place c.args.index c.requires.index,
+      piece-fits c.args.self.now.series c.args.index c.requires.index,
       long,
       ap (λ (xs : List ℕ). length xs) kept.2,
     )

@@ -10,7 +10,7 @@ returns-then-is_some-clause-reads g c =
 
 pub read_stretch-requires-clause-within : goal.read_stretch-requires-clause-within
 read_stretch-requires-clause-within g c =
-    stretch-within c.stretch_of-stretch.result c.args.index c.args.self.now.place.count c.stretch_of-stretch.ensures
+    stretch-within c.stretch_of-stretch.result c.args.index c.args.self.now.series.count c.stretch_of-stretch.ensures
     c.requires.index
 
 pub returns-in_err-bytes-clause-reads : goal.returns-in_err-bytes-clause-reads

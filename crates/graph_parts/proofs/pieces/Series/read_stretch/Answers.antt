@@ -1,5 +1,5 @@
 -- As many bytes are read as the stretch has.
-use Rattle.graph_parts.proofs.pieces.Place.read_stretch.Goals as goal
+use Rattle.graph_parts.proofs.pieces.Series.read_stretch.Goals as goal
 
 pub returns-clause-part : goal.returns-clause-part
 returns-clause-part g c = λ tree is.
