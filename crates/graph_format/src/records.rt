@@ -73,7 +73,7 @@ impl Records {
     }
 }
 
-/// The generation number and the committer's time that the bytes of a record say, in its last eight.
+/// The generation number and the committer's time that the bytes of a record say, the last eight.
 #[tactic(auto, unfolding(crate::specs::Format::record_of))]
 pub fn generation_and_time(kind: Kind, bytes: &[u8]) -> (u32, u64)
     requires { length bytes.now ≡ record_len kind }
