@@ -44,8 +44,10 @@ static seen iterate(cg_graph graph) {
 /* The first parent of each commit. */
 static seen firsts(cg_graph graph) {
     seen found = { 0, 0 };
-    for (uint32_t pos = 0, first, end = cg_num_commits(graph); pos < end; pos++)
-        if (cg_first_parents(graph, pos, &first, 1).count) add(&found, first);
+    for (uint32_t pos = 0, end = cg_num_commits(graph); pos < end; pos++) {
+        uint32_t first = cg_first_parent(graph, pos).position;
+        if (first != CG_NOWHERE) add(&found, first);
+    }
     return found;
 }
 

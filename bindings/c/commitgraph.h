@@ -385,6 +385,16 @@ cg_parent_count cg_parents(cg_graph graph, uint32_t pos, uint32_t *out, size_t l
  * file has words. */
 cg_parent_count cg_first_parents(cg_graph graph, uint32_t pos, uint32_t *out, size_t len);
 
+/* A commit's first parent: its position, or CG_NOWHERE with the code
+ *   CG_OK                  where the commit has no parent;
+ *   361, 362               where the first one cannot be decoded;
+ *   CG_NO_SUCH_POSITION    where the position is none; and CG_CLOSED_GRAPH. */
+typedef struct cg_parent { uint32_t code, position; } cg_parent;
+
+/* The first parent of a commit. What the commit's record says of the others is not told: it is the fastest way along first
+ * parents. */
+cg_parent cg_first_parent(cg_graph graph, uint32_t pos);
+
 /* Of how many commits a block tells, and how many parents they have. */
 typedef struct cg_block { uint32_t commits; uint64_t length; } cg_block;
 

@@ -154,6 +154,8 @@ static cg_block block_from(cg_graph graph, uint32_t first, cg_parent_count *answ
 /* Whether the call for the first parents of a commit answers the same in each room up to one too many. */
 static bool answers_first(cg_graph graph, uint32_t pos, cg_parent_count all, const uint32_t *parents) {
     uint32_t out[ROOM + 2];
+    cg_parent alone = cg_first_parent(graph, pos);
+    if (alone.position != (all.count ? parents[0] : CG_NOWHERE) || alone.code != (all.count ? CG_OK : all.code)) return false;
     for (uint64_t room = 0; room <= all.count + 1; room++) {
         out[room] = 7;
         cg_parent_count first = cg_first_parents(graph, pos, out, room);
@@ -231,6 +233,7 @@ static int list(cg_graph graph) {
         first += block.commits;
     }
     if (cg_first_parents(graph, count, out, 1).code != CG_NO_SUCH_POSITION) return 9;
+    if (cg_first_parent(graph, count).code != CG_NO_SUCH_POSITION) return 9;
     if (cg_matches(graph, count, NULL_BYTES, 0).code != CG_NO_SUCH_POSITION) return 9;
     return cg_commits(graph, count, commits, 1) || cg_parents_from(graph, count, answers, 1, out, ROOM).commits ? 9 : 0;
 }
@@ -567,7 +570,8 @@ static bool closed_answers(void) {
         && cg_id_at(CG_CLOSED, 0, id, 20) == 0 && cg_tree_at(CG_CLOSED, 0, id, 20) == 0 && !cg_commit_at(CG_CLOSED, 0, &commit)
         && !cg_lend_id(CG_CLOSED, 0, &lent) && !cg_lend_tree(CG_CLOSED, 0, &lent) && lent.len == 0
         && cg_commits(CG_CLOSED, 0, &commit, 1) == 0 && cg_parents(CG_CLOSED, 0, out, 1).code == CG_CLOSED_GRAPH
-        && cg_first_parents(CG_CLOSED, 0, out, 1).code == CG_CLOSED_GRAPH && cg_matches(CG_CLOSED, 0, id, 1).code == CG_CLOSED_GRAPH
+        && cg_first_parents(CG_CLOSED, 0, out, 1).code == CG_CLOSED_GRAPH && cg_first_parent(CG_CLOSED, 0).code == CG_CLOSED_GRAPH
+        && cg_matches(CG_CLOSED, 0, id, 1).code == CG_CLOSED_GRAPH
         && cg_parents_from(CG_CLOSED, 0, &answer, 1, out, 1).commits == 0
         && cg_verify(CG_CLOSED, true, &verdict, &count, 1) == CG_CLOSED_GRAPH && verdict.code == CG_CLOSED_GRAPH && verdict.called == 0
         && cg_ancestor_walk(CG_CLOSED, 0, 0, out, 1).code == CG_CLOSED_GRAPH && cg_is_ancestor(CG_CLOSED, 0, 0).code == CG_CLOSED_GRAPH

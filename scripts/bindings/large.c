@@ -88,6 +88,7 @@ static void tell_parents(cg_graph graph, FILE *file, uint32_t count) {
         cg_parent_count first = cg_first_parents(graph, pos, two, 1);
         agree(first.count == (one.count > 0) && first.code == (one.count > 1 ? CG_MORE_PARENTS : CG_OK));
         agree(!memcmp(two, out + length, first.count * sizeof *two));
+        agree(cg_first_parent(graph, pos).position == (one.count ? two[0] : CG_NOWHERE));
         length += one.count;
     }
     put(file, counts, block.commits, sizeof *counts);

@@ -20,6 +20,7 @@ AT(cg_layer_verdict, min_generation, 8); AT(cg_layer_verdict, max_generation, 12
 AT(cg_layer_verdict, position, 20); AT(cg_layer_verdict, byte, 24);
 SIZE(cg_commit, 16); AT(cg_commit, time, 0); AT(cg_commit, generation, 8);
 SIZE(cg_parent_count, 16); AT(cg_parent_count, code, 0); AT(cg_parent_count, count, 8);
+SIZE(cg_parent, 8); AT(cg_parent, code, 0); AT(cg_parent, position, 4);
 SIZE(cg_block, 16); AT(cg_block, commits, 0); AT(cg_block, length, 8);
 SIZE(cg_verdict, 56); AT(cg_verdict, code, 0); AT(cg_verdict, num_commits, 4); AT(cg_verdict, longest, 8);
 AT(cg_verdict, has_longest, 12); AT(cg_verdict, position, 16); AT(cg_verdict, other, 20); AT(cg_verdict, called, 24);

@@ -122,12 +122,12 @@ impl<'g> Commit<'g> {
         if let Some(few) = self.known {
             return Ok((few.count > 0).then_some(few.positions[0]));
         }
-        let mut first = [Position(0)];
-        let told = write_first_parents(self.graph, self.pos, &mut first);
-        match told.count {
-            0 if told.code == codes::OK => Ok(None),
-            0 => Err(ParentError::of_fault(told.code)),
-            _ => Ok(Some(first[0])),
+        // SAFETY: `raw` is open.
+        let told = unsafe { sys::cg_first_parent(self.graph.raw, self.pos.0) };
+        match (told.code, told.position) {
+            (codes::OK, u32::MAX) => Ok(None),
+            (codes::OK, position) => Ok(Some(Position(position))),
+            (code, _) => Err(ParentError::of_fault(code)),
         }
     }
 

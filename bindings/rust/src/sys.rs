@@ -120,6 +120,13 @@ pub struct ParentCount {
 
 #[repr(C)]
 #[derive(Clone, Copy)]
+pub struct Parent {
+    pub code: u32,
+    pub position: u32,
+}
+
+#[repr(C)]
+#[derive(Clone, Copy)]
 pub struct Block {
     pub commits: u32,
     pub length: u64,
@@ -313,6 +320,7 @@ extern "C" {
     pub fn cg_commits(graph: Graph, first: u32, out: *mut Commit, len: usize) -> u32;
     pub fn cg_parents(graph: Graph, pos: u32, out: *mut u32, len: usize) -> ParentCount;
     pub fn cg_first_parents(graph: Graph, pos: u32, out: *mut u32, len: usize) -> ParentCount;
+    pub fn cg_first_parent(graph: Graph, pos: u32) -> Parent;
     pub fn cg_matches(graph: Graph, pos: u32, contents: *const u8, len: usize) -> Matched;
     pub fn cg_parents_from(
         graph: Graph,
@@ -408,6 +416,7 @@ mod layout {
     laid_out!(Commit, 16, time 0, generation 8);
     laid_out!(Lent, 16, bytes 0, len 8);
     laid_out!(ParentCount, 16, code 0, count 8);
+    laid_out!(Parent, 8, code 0, position 4);
     laid_out!(Block, 16, commits 0, length 8);
     laid_out!(Verdict, 56, code 0, num_commits 4, longest 8, has_longest 12, position 16, other 20, called 24);
     laid_out!(Verdict, 56, layer 32, index 40, kinds 48);

@@ -59,6 +59,22 @@ impl CgGraph {
         if opened { Some(address.opened()) } else { None }
     }
 
+    /// Whether there is a graph.
+    pub fn is_open(&self) -> bool
+        ensures { result ≡ is_some self.now.address.held }
+    {
+        self.opened
+    }
+
+    /// The graph, which is there: by the same step as `graph`, but without a choice.
+    pub fn open_graph(self) -> &'static Graph
+        requires { IsSome self.address.held }
+        ensures { layers_of self.address.held ≡ Some result.now }
+    {
+        let CgGraph { address, opened: _ } = self;
+        address.opened().graph()
+    }
+
     /// The graph, if there is one.
     pub fn graph(self) -> Option<&'static Graph>
         ensures { layers_of self.address.held ≡ option_map (λ graph. graph.now) result }

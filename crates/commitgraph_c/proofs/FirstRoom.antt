@@ -1,20 +1,24 @@
 -- the first parents of a commit, as many as there is room for
-use Rattle.std.proofs.Common.{◌≡◌, refl, sym, ap, ◌∙◌, ℕ, ◌+◌, ◌-◌, ◌^◌, ◌<◌, ◌≤◌, List, [], ◌∷◌, ◌++◌, length}
+use Rattle.std.proofs.Common.{◌≡◌, refl, sym, ap, subst, ◌∙◌, ℕ, ◌+◌, ◌-◌, ◌^◌, ◌<◌, ◌≤◌, List, [], ◌∷◌, ◌++◌, length}
 use Rattle.std.proofs.Common.{arith, set, min, Bool, false, Option, Result, Ok, if◌then◌else◌, length-append}
 use Rattle.std.proofs.lemmas.Bool.{le-leb}
 use Rattle.std.proofs.lemmas.Bool.Decides.{leb_tells}
 use Rattle.std.specs.Bool.{nat_le}
 use Rattle.std.specs.Option.{option_map}
-use Rattle.std.specs.Prelude.{unwrap_or}
-use Rattle.graph_format.specs.Parents.{DecodedParents, both_parents}
+use Rattle.std.specs.Prelude.{IsSomeAnd, None, Some, slice_get, unwrap_or}
+use Rattle.graph_format.specs.Layer.{Layer, record_at}
+use Rattle.graph_format.specs.Parents.{DecodedParents, both_parents, edge_of, first_of, items_of}
 use Rattle.graph_format.specs.declared.Position.{Position}
 use Rattle.graph_format.specs.declared.parents.ParentEdge.{ParentEdge}
 use Rattle.graph_format.specs.declared.parents.ParentEdge.TheVariants as edge
 use Rattle.graph_format.specs.declared.parents.ParentError.{ParentError}
 use Rattle.commit_search.specs.Positions.{numbers_of}
-use Rattle.c_opening.specs.Answers.{written}
+use Rattle.gix_commitgraph.specs.Graph.{graph_commits}
+use Rattle.c_opening.specs.Answers.{HasCommit, HasRecord, written}
 use Rattle.c_opening.specs.Codes.{more_parents, parent_code}
-use Rattle.commitgraph_c.specs.FirstParents.{TellsFirstParents}
+use Rattle.commitgraph_c.specs.FirstParents.{TellsFirstParents, told_first}
+use Rattle.commitgraph_c.specs.QueryAnswers.{parents_in}
+use Rattle.commitgraph_c.specs.declared.first_parent.CgParent.{CgParent}
 use Rattle.commitgraph_c.specs.declared.parents.CgParents.{CgParents}
 use Rattle.commitgraph_c.proofs.ParentRoom.{AreSeen, AreTold, next_of}
 use Rattle.c_opening.proofs.Written.{numbers_length, none_written, one_written, two_written}
@@ -87,3 +91,33 @@ module _ (first second : ParentEdge) (edges : Option (List ℕ)) (room : List �
       → TellsFirstParents (both_parents first second edges) told room (set (set room 0 pos.0) 1 next.0)
   two_first pos next f s count code = rw (f, s)
       (record { count_of = count; code_of = code; room = two_written pos.0 next.0 room })
+
+-- what holds where a property does that it follows from
+some_and : {T : Type 0} (m : Option T) (P Q : T → Type 0) → ((x : T) → P x → Q x) → IsSomeAnd m P → IsSomeAnd m Q
+some_and (Some x) P Q follows holds = follows x holds
+some_and None P Q follows holds = holds
+
+-- what is told of parents by what both fields of a record say is told of those of its commit
+pub told_by_record : (layers : List Layer) (pos : ℕ) (first second : ParentEdge) (told : CgParents) (old new : List ℕ)
+    → HasRecord (Some layers) pos (λ r. (first ≡ edge_of r.parent1) × (second ≡ edge_of r.parent2))
+    → ((edges : Option (List ℕ)) → TellsFirstParents (both_parents first second edges) told old new)
+    → HasCommit (Some layers) pos (λ commit. TellsFirstParents (parents_in commit) told old new)
+told_by_record layers pos first second told old new has tells =
+    some_and (slice_get (graph_commits layers) pos)
+    (λ c. let r = record_at c.0 c.1 in (first ≡ edge_of r.parent1) × (second ≡ edge_of r.parent2))
+    (λ c. TellsFirstParents (parents_in c) told old new) (λ c is. let r = record_at c.0 c.1 in
+    subst (λ (edge : ParentEdge). TellsFirstParents (both_parents edge (edge_of r.parent2) c.0.edges) told old new) is.0
+    (subst (λ (edge : ParentEdge). TellsFirstParents (both_parents first edge c.0.edges) told old new) is.1
+    (tells c.0.edges))) has
+
+-- the first parent is what the first field says, where that is a position
+pub told_by_first_field : (layers : List Layer) (pos : ℕ) (first : Position) (second : ParentEdge) (told : CgParent)
+    → HasRecord (Some layers) pos (λ r. (edge.GraphPosition first ≡ edge_of r.parent1) × (second ≡ edge_of r.parent2))
+    → told ≡ record { code = 0; position = first.0 }
+    → HasCommit (Some layers) pos (λ commit. told ≡ told_first (first_of (items_of (parents_in commit))))
+told_by_first_field layers pos first second told has tells =
+    some_and (slice_get (graph_commits layers) pos)
+    (λ c. let r = record_at c.0 c.1 in (edge.GraphPosition first ≡ edge_of r.parent1) × (second ≡ edge_of r.parent2))
+    (λ c. told ≡ told_first (first_of (items_of (parents_in c)))) (λ c is. let r = record_at c.0 c.1 in
+    subst (λ (edge : ParentEdge). told ≡ told_first (first_of (items_of (both_parents edge (edge_of r.parent2) c.0.edges)))) is.0
+    tells) has

@@ -2,7 +2,7 @@
 
 ghost use Rattle.std.specs.Prelude.{◌≡◌, ◌≢◌, ◌↔◌, ◌≤◌, ◌⊎◌, IfSome, IsSomeAnd, List, None};
 ghost use Rattle.std.specs.Prelude.{Option, Some, if◌then◌else◌, length, min, nat_le, ℕ};
-ghost use Rattle.graph_format.specs.Parents.{second_parents};
+ghost use Rattle.graph_format.specs.Parents.{both_parents, second_parents};
 ghost use Rattle.graph_layer.specs.Commit.{commit_parents};
 ghost use Rattle.gix_commitgraph.specs.Graph.{total};
 ghost use Rattle.c_opening.specs.Answers.{HasCommit, layers_of};
@@ -10,7 +10,7 @@ ghost use Rattle.commitgraph_c.specs.QueryAnswers.{parents_in};
 ghost use Rattle.c_opening.specs.Codes.{closed_graph, more_parents, no_such_position};
 ghost use Rattle.commitgraph_c.specs.FirstParents.{TellsFirstParents};
 
-use crate::commit_at::{commit_in_chain, commit_in_layer};
+use crate::commit_at::{commit_in, usual_edges};
 use crate::parents::{CgParents, write_at};
 use c_opening::CgGraph;
 use c_opening::codes::{CLOSED_GRAPH, MORE_PARENTS, NO_SUCH_POSITION, parent_code};
@@ -31,23 +31,26 @@ pub fn cg_first_parents(graph: CgGraph, pos: u32, out: &mut [u32]) -> CgParents
     ensures kept { (result.code ≡ no_such_position) ⊎ (result.code ≡ closed_graph)
         → (out.new ≡ out.old) × (result.count ≡ 0) }
 {
-    let Some(graph) = graph.graph() else {
+    if !graph.is_open() {
         return CgParents {
             code: CLOSED_GRAPH,
             count: 0,
         };
-    };
-    if graph.layers().len() == 1 {
+    }
+    let graph = graph.open_graph();
+    if out.len() == 1 && graph.layers().len() == 1 {
         first_in_layer(graph, pos, out)
     } else {
-        first_in_chain(graph, pos, out)
+        first_in_graph(graph, pos, out)
     }
 }
 
-/// The same of a graph of one layer.
+/// The same of a graph of one layer, where there is room for one parent.
 #[inline(always)]
+#[tactic(auto, using(crate::proofs::FirstRoom::told_by_record))]
 fn first_in_layer(graph: &Graph, pos: u32, out: &mut [u32]) -> CgParents
-    requires { length graph.now ≡ 1 }
+    requires layer { length graph.now ≡ 1 }
+    requires room { length out.old ≡ 1 }
     ensures parents { result.code ≢ no_such_position → HasCommit (Some graph.now) pos (λ commit.
         TellsFirstParents (parents_in commit) result out.old out.new) }
     ensures nowhere { result.code ≡ no_such_position ↔ total graph.now ≤ pos }
@@ -55,19 +58,18 @@ fn first_in_layer(graph: &Graph, pos: u32, out: &mut [u32]) -> CgParents
     ensures kept { result.code ≡ no_such_position
         → (out.new ≡ out.old) × (result.count ≡ 0) }
 {
-    match commit_in_layer(graph, pos) {
-        Some(commit) => write_first(commit, out),
-        None => CgParents {
-            code: NO_SUCH_POSITION,
-            count: 0,
-        },
+    if let Some((first, second)) = usual_edges(graph, pos)
+        && let Some(code) = write_one(first, second, out)
+    {
+        return CgParents { code, count: 1 };
     }
+    first_in_graph(graph, pos, out)
 }
 
-/// The same of any graph. This stays a call of its own, so that where there is one layer no
-/// register is saved for the search of a layer.
+/// The same of any graph and any room. This stays a call of its own, so that where there is one
+/// layer and room for one parent no register is saved for it.
 #[inline(never)]
-fn first_in_chain(graph: &Graph, pos: u32, out: &mut [u32]) -> CgParents
+fn first_in_graph(graph: &Graph, pos: u32, out: &mut [u32]) -> CgParents
     ensures parents { result.code ≢ no_such_position → HasCommit (Some graph.now) pos (λ commit.
         TellsFirstParents (parents_in commit) result out.old out.new) }
     ensures nowhere { result.code ≡ no_such_position ↔ total graph.now ≤ pos }
@@ -75,7 +77,7 @@ fn first_in_chain(graph: &Graph, pos: u32, out: &mut [u32]) -> CgParents
     ensures kept { result.code ≡ no_such_position
         → (out.new ≡ out.old) × (result.count ≡ 0) }
 {
-    match commit_in_chain(graph, pos) {
+    match commit_in(graph, pos) {
         Some(commit) => write_first(commit, out),
         None => CgParents {
             code: NO_SUCH_POSITION,
@@ -90,36 +92,43 @@ fn write_first(commit: Commit<'_>, out: &mut [u32]) -> CgParents
     ensures { TellsFirstParents (commit_parents commit.entry) result out.old out.new }
 {
     if out.len() == 1 {
-        write_one(commit, out)
-    } else {
-        write_some(commit, out)
+        let (first, second) = parent_edges(&commit);
+        if let Some(code) = write_one(first, second, out) {
+            return CgParents { code, count: 1 };
+        }
     }
+    write_some(commit, out)
 }
 
-/// Writes the position of a commit's first parent, for which alone there is room.
+/// Writes the position of a first parent, for which alone there is room, if both fields tell all of
+/// it, and answers what is told after it.
 #[inline(always)]
-fn write_one(commit: Commit<'_>, out: &mut [u32]) -> CgParents
+fn write_one(first: ParentEdge, second: ParentEdge, out: &mut [u32]) -> Option<u32>
     requires { length out.old ≡ 1 }
-    ensures { TellsFirstParents (commit_parents commit.entry) result out.old out.new }
+    ensures told { IfSome result (λ code. (edges : Option (List ℕ))
+        → TellsFirstParents (both_parents first second edges) (record { code = code; count = 1 })
+        out.old out.new) }
+    ensures codes { IfSome result (λ code. (code ≡ 0) ⊎ (code ≡ more_parents)) }
+    ensures kept { result ≡ None → out.new ≡ out.old }
 {
-    let (first, second) = parent_edges(&commit);
     if let ParentEdge::GraphPosition(pos) = first
         && let Some(code) = code_after(second)
     {
         out[0] = pos.0;
-        return CgParents { code, count: 1 };
+        return Some(code);
     }
-    write_items(commit, out)
+    None
 }
 
 /// What is told after the first parent where there is no room for more, by the second field; `None`
 /// where the extra edge list has to say it.
 #[inline(always)]
 fn code_after(second: ParentEdge) -> Option<u32>
-    ensures { IfSome result (λ code. (edges : Option (List ℕ))
+    ensures after { IfSome result (λ code. (edges : Option (List ℕ))
         → ((second_parents second edges).fault ≡ None)
         × (code ≡ (if nat_le (length (second_parents second edges).positions) 0
         then 0 else more_parents))) }
+    ensures codes { IfSome result (λ code. (code ≡ 0) ⊎ (code ≡ more_parents)) }
 {
     if matches!(second, ParentEdge::ExtraEdgeIndex(_)) {
         return None;
