@@ -245,7 +245,7 @@ const OF_MERGE: &str =
 
 /// The debug text of the only commit of a layer.
 fn compare_commit(rt: &impl Abort, alloc: Global, rows: &[Row<'_>], want: &str) {
-    let layer = file(rt, alloc, rows);
+    let layer = file(rt, alloc, &[], rows);
     assert!(rt; layer.num_commits() == 1);
     compare_debug(rt, alloc, &[(layer.commit_at(layers::Position(0)), want)]);
 }

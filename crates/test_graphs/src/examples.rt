@@ -1,7 +1,6 @@
 //! The examples of calls of `graph_uses`, on the diamond.
 
-use crate::folders::{id_of, ids_of};
-use crate::queries::fixtures::{checked_with, divergence_of};
+use crate::fixtures::{checked_with, divergence_of, id_of, ids_of, layer};
 use gix_commitgraph::opening::OpenError;
 use gix_commitgraph::verify::VerifyOptions;
 use gix_commitgraph::{FileError, Position};
@@ -15,7 +14,7 @@ use graph_uses::parents::parents_of;
 use graph_uses::query::parents_at_path;
 use graph_uses::reaching::{merged, reaches};
 use graph_uses::walking::ancestors;
-use graph_vectors::{DIAMOND, Row, file_of_rows};
+use graph_vectors::{DIAMOND, Row};
 use std::alloc::Global;
 use std::fs;
 use std::process::Abort;
@@ -37,8 +36,9 @@ const FIVES: &str = "5555555555555555555555555555555555555555";
 
 /// The checked graph of the diamond, whose ids are asked to be distinct or not.
 fn diamond(rt: &impl Abort, alloc: Global, distinct_ids: bool) -> CheckedGraph {
-    let bytes = file_of_rows(alloc, &[], DIAMOND).expect(rt, "a file");
-    let graph = open_bytes(alloc, bytes).ok().expect(rt, "a graph");
+    let graph = open_bytes(alloc, layer(rt, alloc, DIAMOND))
+        .ok()
+        .expect(rt, "a graph");
     checked_with(rt, alloc, VerifyOptions { distinct_ids }, graph)
 }
 
@@ -167,8 +167,7 @@ fn compare_refused<R: Files + Abort>(rt: &R, alloc: Global, rows: &[(&str, &str)
 
 /// Writes a file of these commits.
 fn put<R: Files + Abort>(rt: &R, alloc: Global, path: &str, rows: &[Row<'_>]) {
-    let bytes = file_of_rows(alloc, &[], rows).expect(rt, "a file");
-    fs::write(rt, path, bytes.as_slice()).expect(rt, "a file");
+    fs::write(rt, path, layer(rt, alloc, rows).as_slice()).expect(rt, "a file");
 }
 
 /// The checked graph at a path.

@@ -1,10 +1,10 @@
-//! How little near commits read.
+//! How little is read of near commits, by parts.
 
 ghost use Rattle.graph_parts.specs.Shown.{AreGraphParts};
 
-use crate::parts::blank::Blank;
-use crate::parts::opened::{commit_of, opened_file};
+use crate::watched::Vast;
 use gix_commitgraph::Position;
+use graph_parts::opening::open_file_parts;
 use graph_parts::parts::GraphParts;
 use graph_vectors::{END, file_of_parts, words};
 use std::alloc::Global;
@@ -28,12 +28,7 @@ const MILLION: u64 = 56_001_100;
 /// The first bytes of a SHA-1 file of 1,000,000 commits. Its ids begin at 1080, and 20 bytes each
 /// take 20,000,000; so do 36 bytes for each record 36,000,000. The file ends 20 bytes later.
 fn million_head(rt: &impl Abort, alloc: Global) -> Vec<u8> {
-    let mut fan = [1_000_000; 256];
-    for (byte, number) in fan.iter_mut().enumerate() {
-        *number = (byte % 256 + 1) as u32 * 3906;
-    }
-    fan[255] = 1_000_000;
-    let fan = words(alloc, &fan).expect(rt, "memory for a fan");
+    let fan = words(alloc, &[1_000_000; 256]).expect(rt, "memory for a fan");
     let entries: [(&[u8; 4], u64); 4] = [
         (b"OIDF", 56),
         (b"OIDL", 1080),
@@ -47,11 +42,37 @@ fn million_head(rt: &impl Abort, alloc: Global) -> Vec<u8> {
 /// So many commits, from the first position on each so many after the one before.
 type Steps = (u32, u32, u32);
 
+/// The parts of a file. The contract of the opener is long, and here it ends: what is left is that
+/// they are those of a graph.
+fn opened(rt: &impl Abort, alloc: Global, folder: &mut Vast<'_>) -> GraphParts
+    ensures { AreGraphParts result }
+{
+    let parts = open_file_parts(alloc, folder, "g").expect(rt, "memory");
+    parts.expect(rt, "a graph")
+}
+
+/// Reads the commit at a position, whose numbers are 0.
+fn read_one(
+    rt: &impl Abort,
+    alloc: Global,
+    folder: &mut Vast<'_>,
+    parts: &mut GraphParts,
+    pos: Position,
+)
+    requires { AreGraphParts parts.old }
+    ensures { AreGraphParts parts.new }
+{
+    assert!(rt; pos.0 < parts.commits());
+    let read = parts.commit_at(alloc, folder, pos).expect(rt, "memory");
+    let commit = read.expect(rt, "a commit");
+    assert!(rt; commit.generation == 0 && commit.time == 0);
+}
+
 /// Reads some commits.
 fn read_some(
     rt: &impl Abort,
     alloc: Global,
-    folder: &mut Blank<'_>,
+    folder: &mut Vast<'_>,
     parts: &mut GraphParts,
     steps: Steps,
 )
@@ -61,9 +82,7 @@ fn read_some(
     let (first, count, step) = steps;
     for number in 0..count {
         let pos = number.saturating_mul(step).saturating_add(first);
-        let commit = commit_of(rt, alloc, folder, parts, Position(pos));
-        assert!(rt; commit.generation == 0);
-        assert!(rt; commit.time == 0);
+        read_one(rt, alloc, folder, parts, Position(pos));
     }
 }
 
@@ -73,8 +92,9 @@ type Asked = (Steps, u32, u64);
 /// Compares what a folder with a file of 1,000,000 commits is asked for where these are read.
 fn compare_asked(rt: &impl Abort, alloc: Global, rows: &[Asked]) {
     let head = million_head(rt, alloc);
-    let mut folder = Blank::new(&head, MILLION);
-    let mut parts = opened_file(rt, alloc, &mut folder, "g");
+    let fronts: [(u64, &[u8]); 1] = [(0, &head)];
+    let mut folder = Vast::new(MILLION, &fronts);
+    let mut parts = opened(rt, alloc, &mut folder);
     for (steps, asked, bytes) in rows {
         read_some(rt, alloc, &mut folder, &mut parts, *steps);
         assert!(rt; folder.parts == *asked && folder.bytes == *bytes);
