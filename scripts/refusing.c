@@ -1,5 +1,6 @@
 /* Refuses one allocation of a process: `cc -shared -fPIC refusing.c -o refusing.so` makes it, and LD_PRELOAD puts it into the
- * process. REFUSED is the number of the allocation, counted from 1 after the first write. A block that grows is one more.
+ * process. REFUSED is the number of the allocation, counted from 1 after the first write, or where FROM_THE_FIRST is set, from the
+ * first allocation on. A block that grows is one more.
  */
 #define _GNU_SOURCE
 #include <dlfcn.h>
@@ -16,6 +17,7 @@ __attribute__((constructor)) static void begin(void)
 {
     const char *number = getenv("REFUSED");
     left = number ? atol(number) : 0;
+    counts = getenv("FROM_THE_FIRST");
 }
 
 static bool is_refused(void)

@@ -49,6 +49,8 @@ NAME is a file of the folder `checks`, such as show_checks; without one, all are
 - `git cgraph write`, beside `git commit-graph write --reachable` in a copy of the same repository: the files are the same, bit by
   bit, and Git answers from them as before. Two writers at once, and no room on the disk; and all processes killed before each
   system call that changes a file, by killing.c: the old commit-graph or the new one is there.
+- reads of files that give few bytes, fail or end early, by reading.c, and how many reads there are.
+- how long walks, merge bases and checks take where two lines of commits share one list of parents, and where a chain is opened anew.
 - a file of 300,000 commits, asked by each command, and with one fault late in it, which is named at its position.
 - the tables of the folder `tables`: what every command writes for a command line, over small files, to the letter; also byte by byte,
   and where reads of standard input and writes fail. And graphs of every size up to ten, and of 600 commits; dates and filters of as

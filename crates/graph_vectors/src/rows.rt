@@ -21,14 +21,6 @@ pub const DIAMOND: &[Row<'static>] = &[
     (0x44, &[1, 2], 3),
 ];
 
-/// Three commits in a line, and a merge of the first, the first again and the third.
-pub const OCTOPUS: &[Row<'static>] = &[
-    (0x11, &[], 1),
-    (0x22, &[0], 2),
-    (0x33, &[1], 3),
-    (0x44, &[0, 0, 2], 4),
-];
-
 /// Ten commits in a line.
 pub const TEN: &[Row<'static>] = &[
     (0x11, &[], 1),
@@ -49,7 +41,7 @@ pub const TEN: &[Row<'static>] = &[
 /// # Errors
 ///
 /// `AllocError` where an allocation failed.
-pub fn planned_commit(
+fn planned_commit(
     alloc: Global,
     id: ObjectId,
     parents: &[u32],

@@ -1,5 +1,5 @@
 -- From a walk by positions to one by ids.
-use Rattle.std.proofs.Common.{◌≡◌, ℕ, ◌<◌, List, [], ◌∷◌, All, IfNone, IfOk, IfSome, Option, Some, None, Result, Ok, Err, Vec}
+use Rattle.std.proofs.Common.{◌≡◌, ℕ, ◌<◌, List, [], ◌∷◌, All, IfNone, IfSome, Option, Some, None, Vec}
 use Rattle.std.proofs.Common.{length, map, refl, ap, sym, subst, ◌∙◌}
 use Rattle.std.specs.Global.{Global}
 use Rattle.std.specs.List.{flat_map}

@@ -21,9 +21,9 @@ ghost use Rattle.history_commands.specs.MergeBases.{merge_base_line};
 ghost use Rattle.history_commands.specs.MergeBases.{merge_base_text, merge_base_status};
 ghost use Rattle.history_commands.specs.MergeBases.{merge_base_ids_text, unknown_line};
 
+use crate::opening::open_checked;
 use crate::walk::{tell_none, write_ids};
 use gix_commitgraph::Position;
-use gix_commitgraph::opening::open_in;
 use gix_hash_core::{IdError, ObjectId, oid};
 use graph_commands::block::Block;
 use graph_commands::line::{WriteFailed, write_line};
@@ -145,7 +145,7 @@ fn ask_of_all<T: Folder>(
 {
     let first = ObjectId::from_hex(first.as_bytes())?;
     let others = read_ids(alloc, others)?;
-    let graph = CheckedGraph::new(alloc, open_in(alloc, folder, path)?)?;
+    let graph = open_checked(alloc, folder, path)?;
     Ok((graph, first, others))
 }
 

@@ -4,7 +4,7 @@ ghost use Rattle.std.specs.Prelude.{◌≡◌, IfErr, IfOk};
 ghost use Rattle.graph_commands.specs.OpenerAnswer.{MayOpen};
 ghost use Rattle.history_commands.specs.Question.{MayBeAsked, MayBeRefused};
 
-use gix_commitgraph::opening::open_in;
+use crate::opening::open_checked;
 use gix_hash_core::ObjectId;
 use graph_commands::refusal::Refusal;
 use graph_folder::folder::Folder;
@@ -50,7 +50,7 @@ pub(crate) fn ask<T: Folder>(
 {
     let first = ObjectId::from_hex(first.as_bytes())?;
     let second = ObjectId::from_hex(second.as_bytes())?;
-    let graph = CheckedGraph::new(alloc, open_in(alloc, folder, path)?)?;
+    let graph = open_checked(alloc, folder, path)?;
     Ok(Question {
         graph,
         first,

@@ -10,19 +10,30 @@ use Rattle.history_program.specs.HistorytoolCommands.{AreQuestionWords, AskAfter
 use Rattle.history_program.specs.declared.command.Command.{Command}
 use Rattle.history_program.specs.declared.command.Command.TheVariants as command
 
+-- the words of a question are its name and two more or others
+long : (name path one : List ℕ) (unchecked : Bool) (more words : List (List ℕ))
+    → AreQuestionWords name unchecked path (one ∷ more) words
+    → (second third : List ℕ) × (others : List (List ℕ)) × (words ≡ name ∷ second ∷ third ∷ others)
+long name path one false more words is = (path, one, more, is.0)
+long name path one true more words is = (codes "--unchecked", path, one ∷ more, is)
+
 -- a name that asks alone
 pub named_alone : (help version name : List ℕ) (asked : Command) → AskAfterName help version (name ∷ []) asked
     → (name ≡ codes "--help") ⊎ (name ≡ codes "-h") ⊎ (name ≡ codes "--version") ⊎ (name ≡ codes "write")
 named_alone help version name (command.Help text) is = elim is.0 [ inl e ↦ inl cc | inr e ↦ inr (inl cc) ]
 named_alone help version name (command.Version text) is = let e = is.0 in inr (inr (inl cc))
-named_alone help version name (command.IsAncestor path first second) is = let e = is.0 in cc
-named_alone help version name (command.IsAncestorUnchecked pair) is = let e = is in cc
-named_alone help version name (command.Walk path first second) is = let e = is.0 in cc
-named_alone help version name (command.WalkUnchecked pair) is = let e = is in cc
-named_alone help version name (command.MergeBase path first others) is = let e = is.0.0 in cc
-named_alone help version name (command.MergeBaseUnchecked group) is = let e = is.0 in cc
-named_alone help version name (command.MergeBaseIds path first others) is = let e = is.0.0 in cc
-named_alone help version name (command.MergeBaseIdsUnchecked group) is = let e = is.0 in cc
+named_alone help version name (command.IsAncestor pair) is =
+    let more = pair.second.now ∷ [] in
+    let e = (long (codes "is-ancestor") pair.path.now pair.first.now pair.unchecked more (name ∷ []) is).3 in cc
+named_alone help version name (command.Walk pair) is =
+    let more = pair.second.now ∷ [] in
+    let e = (long (codes "walk") pair.path.now pair.first.now pair.unchecked more (name ∷ []) is).3 in cc
+named_alone help version name (command.MergeBase group) is =
+    let more = map string_bytes group.others.now in
+    let e = (long (codes "merge-base") group.path.now group.first.now group.unchecked more (name ∷ []) is.0).3 in cc
+named_alone help version name (command.MergeBaseIds group) is =
+    let more = map string_bytes group.others.now in
+    let e = (long (codes "merge-base-ids") group.path.now group.first.now group.unchecked more (name ∷ []) is.0).3 in cc
 named_alone help version name (command.Check path) is = let e = is in cc
 named_alone help version name (command.Show path) is = let e = is in cc
 named_alone help version name (command.Ask path) is = let e = is.0 in cc
@@ -42,14 +53,18 @@ pub named_with_path : (help version name path : List ℕ) (asked : Command) → 
     ⊎ (name ≡ codes "write") ⊎ (name ≡ codes "merge")
 named_with_path help version name path (command.Help text) is = elim is.0 [ inl e ↦ cc | inr e ↦ cc ]
 named_with_path help version name path (command.Version text) is = let e = is.0 in cc
-named_with_path help version name path (command.IsAncestor at first second) is = let e = is.0 in cc
-named_with_path help version name path (command.IsAncestorUnchecked pair) is = let e = is in cc
-named_with_path help version name path (command.Walk at first second) is = let e = is.0 in cc
-named_with_path help version name path (command.WalkUnchecked pair) is = let e = is in cc
-named_with_path help version name path (command.MergeBase at first others) is = let e = is.0.0 in cc
-named_with_path help version name path (command.MergeBaseUnchecked group) is = let e = is.0 in cc
-named_with_path help version name path (command.MergeBaseIds at first others) is = let e = is.0.0 in cc
-named_with_path help version name path (command.MergeBaseIdsUnchecked group) is = let e = is.0 in cc
+named_with_path help version name path (command.IsAncestor pair) is =
+    let more = pair.second.now ∷ [] in
+    let e = (long (codes "is-ancestor") pair.path.now pair.first.now pair.unchecked more (name ∷ path ∷ []) is).3 in cc
+named_with_path help version name path (command.Walk pair) is =
+    let more = pair.second.now ∷ [] in
+    let e = (long (codes "walk") pair.path.now pair.first.now pair.unchecked more (name ∷ path ∷ []) is).3 in cc
+named_with_path help version name path (command.MergeBase group) is =
+    let more = map string_bytes group.others.now in
+    let e = (long (codes "merge-base") group.path.now group.first.now group.unchecked more (name ∷ path ∷ []) is.0).3 in cc
+named_with_path help version name path (command.MergeBaseIds group) is =
+    let more = map string_bytes group.others.now in
+    let e = (long (codes "merge-base-ids") group.path.now group.first.now group.unchecked more (name ∷ path ∷ []) is.0).3 in cc
 named_with_path help version name path (command.Check at) is = let e = is in inl cc
 named_with_path help version name path (command.Show at) is = let e = is in inr (inl cc)
 named_with_path help version name path (command.Ask at) is =
@@ -64,77 +79,91 @@ named_with_path help version name path (command.Write None) is = let e = is in c
 named_with_path help version name path (command.Write (Some at)) is = let e = is in inr (inr (inr (inr (inr (inl cc)))))
 named_with_path help version name path (command.Merge at) is = let e = is in inr (inr (inr (inr (inr (inr cc)))))
 
-some_of : {A : Type 0} (xs : List A) → (xs ≡ [] → ⊥) → 1 ≤ length xs
-some_of [] some = absurd (some refl)
-some_of (x ∷ xs) some = omega arith
-
 just_one : (others : List (String Global)) (other : List ℕ) → map string_bytes others ≡ other ∷ [] → length others ≡ 1
 just_one others other are = sym (length-map others string_bytes) ∙ ap length are
-
-as_many : (others more : List (String Global)) → map string_bytes others ≡ map string_bytes more → (more ≡ [] → ⊥)
-    → 1 ≤ length others
-as_many others more same some =
-    let least = some_of more some in
-    let equal : length (map string_bytes others) ≡ length (map string_bytes more) = ap length same in
-    omega (arith, length-map others string_bytes, length-map more string_bytes)
-
--- the name of a question about two ids
-abbrev pub IsOfTwo : List ℕ → Type 0
-IsOfTwo name = (name ≡ codes "is-ancestor") ⊎ (name ≡ codes "walk")
-
--- its words
-abbrev pub AskOfTwo : List ℕ → List (List ℕ) → Type 0
-AskOfTwo name words = (unchecked : Bool) × (at one other : List ℕ) × AreQuestionWords name unchecked at (one ∷ other ∷ []) words
-
--- the name of a question about one id and some others
-abbrev pub IsOfMany : List ℕ → Type 0
-IsOfMany name = (name ≡ codes "merge-base") ⊎ (name ≡ codes "merge-base-ids")
-
--- its words
-abbrev pub AskOfMany : List ℕ → List (List ℕ) → Type 0
-AskOfMany name words =
-    (unchecked : Bool) × (at one : List ℕ) × (more : List (String Global))
-    × AreQuestionWords name unchecked at (one ∷ map string_bytes more) words × (more ≢ [])
-
--- which name asks with a path and ids, and with which words
-abbrev pub NamedWithIds : List ℕ → List ℕ → List ℕ → List (String Global) → Type 0
-NamedWithIds name path first others =
-    (IsOfTwo name × AskOfTwo name (name ∷ path ∷ first ∷ map string_bytes others))
-    ⊎ (((name ≡ codes "ids") ⊎ (name ≡ codes "objects")) × (length others ≡ 1)
-    × ((to : List ℕ) × (range : PositionRange) × (map string_bytes others ≡ to ∷ []) × SpellsRange first to range))
-    ⊎ (IsOfMany name × AskOfMany name (name ∷ path ∷ first ∷ map string_bytes others))
-    ⊎ ((name ≡ codes "ask") × (path ≡ codes "--unchecked") × (others ≡ []))
 
 no_others : (others : List (String Global)) → map string_bytes others ≡ [] → others ≡ []
 no_others [] none = refl
 no_others (other ∷ others) none = cc
 
+-- the name of a question about two ids, and its words
+abbrev pub IsOfTwo : List ℕ → Type 0
+IsOfTwo name = (name ≡ codes "is-ancestor") ⊎ (name ≡ codes "walk")
+
+abbrev pub AskOfTwo : List ℕ → List (List ℕ) → Type 0
+AskOfTwo name words =
+    (at : List ℕ) × (unchecked : Bool) × (one other : List ℕ) × AreQuestionWords name unchecked at (one ∷ other ∷ []) words
+
+-- the same of a question about one id and some others
+abbrev pub IsOfMany : List ℕ → Type 0
+IsOfMany name = (name ≡ codes "merge-base") ⊎ (name ≡ codes "merge-base-ids")
+
+abbrev pub AskOfMany : List ℕ → List (List ℕ) → Type 0
+AskOfMany name words =
+    (at : List ℕ) × (unchecked : Bool) × (one other : List ℕ) × (more : List (List ℕ))
+    × AreQuestionWords name unchecked at (one ∷ other ∷ more) words
+
+-- the name of a command that takes a range, and that it is one
+abbrev pub IsOfRange : List ℕ → Type 0
+IsOfRange name = (name ≡ codes "ids") ⊎ (name ≡ codes "objects")
+
+abbrev pub AskOfRange : List ℕ → List (String Global) → Type 0
+AskOfRange first others =
+    (to : List ℕ) × (range : PositionRange) × (map string_bytes others ≡ to ∷ []) × SpellsRange first to range
+
+-- which name asks with a path and ids, and with which words
+abbrev pub NamedWithIds : List ℕ → List ℕ → List ℕ → List (String Global) → Type 0
+NamedWithIds name path first others =
+    (IsOfTwo name × AskOfTwo name (name ∷ path ∷ first ∷ map string_bytes others))
+    ⊎ (IsOfRange name × AskOfRange first others)
+    ⊎ (IsOfMany name × AskOfMany name (name ∷ path ∷ first ∷ map string_bytes others))
+    ⊎ ((name ≡ codes "ask") × (path ≡ codes "--unchecked") × (others ≡ []))
+
+-- the name of a question is the first of its words
+named : (name other at one : List ℕ) (unchecked : Bool) (more rest : List (List ℕ))
+    → AreQuestionWords other unchecked at (one ∷ more) (name ∷ rest)
+    → (name ≡ other) × AreQuestionWords name unchecked at (one ∷ more) (name ∷ rest)
+named name other at one false more rest is = let e = is.0 in (cc, (cc, is.1))
+named name other at one true more rest is = (cc, cc)
+
+-- where there are others, there is a first of them
+many : (name at one : List ℕ) (unchecked : Bool) (others : List (String Global)) (words : List (List ℕ))
+    → AreQuestionWords name unchecked at (one ∷ map string_bytes others) words → (others ≡ [] → ⊥) → AskOfMany name words
+many name at one unchecked [] words is some = absurd (some refl)
+many name at one unchecked (other ∷ others) words is some =
+    (at, unchecked, one, string_bytes other, map string_bytes others, is)
+
+range_asked : (name first from to other : List ℕ) (path at : List ℕ) (others : List (String Global)) (range : PositionRange)
+    → name ∷ path ∷ first ∷ map string_bytes others ≡ other ∷ at ∷ from ∷ to ∷ [] → SpellsRange from to range
+    → (name ≡ other) × AskOfRange first others
+range_asked name first from to other path at others range words spells =
+    let same : from ≡ first = cc in
+    (cc, (to, range, cc, subst (λ (t : List ℕ). SpellsRange t to range) same spells))
+
 pub named_with_ids : (help version name path first : List ℕ) (others : List (String Global)) (asked : Command)
     → AskAfterName help version (name ∷ path ∷ first ∷ map string_bytes others) asked → NamedWithIds name path first others
 named_with_ids help version name path first others (command.Help text) is = elim is.0 [ inl e ↦ cc | inr e ↦ cc ]
 named_with_ids help version name path first others (command.Version text) is = let e = is.0 in cc
-named_with_ids help version name path first others (command.IsAncestor at one other) is =
-    let e = is.0 in let same : name ≡ codes "is-ancestor" = cc in
-    inl (inl same, (false, at.now, one.now, other.now, (cc, is.1)))
-named_with_ids help version name path first others (command.IsAncestorUnchecked pair) is =
-    let same : name ≡ codes "is-ancestor" = cc in inl (inl same, (true, pair.path.now, pair.first.now, pair.second.now, cc))
-named_with_ids help version name path first others (command.Walk at one other) is =
-    let e = is.0 in let same : name ≡ codes "walk" = cc in
-    inl (inr same, (false, at.now, one.now, other.now, (cc, is.1)))
-named_with_ids help version name path first others (command.WalkUnchecked pair) is =
-    let same : name ≡ codes "walk" = cc in inl (inr same, (true, pair.path.now, pair.first.now, pair.second.now, cc))
-named_with_ids help version name path first others (command.MergeBase at one more) is =
-    let e = is.0.0 in let same : name ≡ codes "merge-base" = cc in
-    inr (inr (inl (inl same, (false, at.now, one.now, more.now, (cc, is.0.1), is.1))))
-named_with_ids help version name path first others (command.MergeBaseUnchecked group) is =
-    let e = is.0 in let same : name ≡ codes "merge-base" = cc in
-    inr (inr (inl (inl same, (true, group.path.now, group.first.now, group.others.now, cc, is.1))))
-named_with_ids help version name path first others (command.MergeBaseIds at one more) is =
-    let e = is.0.0 in let same : name ≡ codes "merge-base-ids" = cc in
-    inr (inr (inl (inr same, (false, at.now, one.now, more.now, (cc, is.0.1), is.1))))
-named_with_ids help version name path first others (command.MergeBaseIdsUnchecked group) is =
-    let e = is.0 in let same : name ≡ codes "merge-base-ids" = cc in
-    inr (inr (inl (inr same, (true, group.path.now, group.first.now, group.others.now, cc, is.1))))
+named_with_ids help version name path first others (command.IsAncestor pair) is =
+    let both =
+    named name (codes "is-ancestor") pair.path.now pair.first.now pair.unchecked (pair.second.now ∷ [])
+    (path ∷ first ∷ map string_bytes others) is in
+    inl (inl both.0, (pair.path.now, pair.unchecked, pair.first.now, pair.second.now, both.1))
+named_with_ids help version name path first others (command.Walk pair) is =
+    let both =
+    named name (codes "walk") pair.path.now pair.first.now pair.unchecked (pair.second.now ∷ [])
+    (path ∷ first ∷ map string_bytes others) is in
+    inl (inr both.0, (pair.path.now, pair.unchecked, pair.first.now, pair.second.now, both.1))
+named_with_ids help version name path first others (command.MergeBase group) is =
+    let both =
+    named name (codes "merge-base") group.path.now group.first.now group.unchecked (map string_bytes group.others.now)
+    (path ∷ first ∷ map string_bytes others) is.0 in
+    inr (inr (inl (inl both.0, many name group.path.now group.first.now group.unchecked group.others.now _ both.1 is.1)))
+named_with_ids help version name path first others (command.MergeBaseIds group) is =
+    let both =
+    named name (codes "merge-base-ids") group.path.now group.first.now group.unchecked (map string_bytes group.others.now)
+    (path ∷ first ∷ map string_bytes others) is.0 in
+    inr (inr (inl (inr both.0, many name group.path.now group.first.now group.unchecked group.others.now _ both.1 is.1)))
 named_with_ids help version name path first others (command.Check at) is = let e = is in cc
 named_with_ids help version name path first others (command.Show at) is = let e = is in cc
 named_with_ids help version name path first others (command.Ask at) is = let e = is.0 in cc
@@ -142,16 +171,12 @@ named_with_ids help version name path first others (command.AskUnchecked at) is 
     let none : map string_bytes others ≡ [] = cc in inr (inr (inr (cc, cc, no_others others none)))
 named_with_ids help version name path first others (command.Ids at None) is = let e = is in cc
 named_with_ids help version name path first others (command.Ids at (Some range)) is =
-    let e = is.2 in let rest : map string_bytes others ≡ is.1 ∷ [] = cc in
-    let from : is.0 ≡ first = cc in
-    let spells = subst (λ (t : List ℕ). SpellsRange t is.1 range) from is.3 in
-    inr (inl (inl cc, just_one others is.1 rest, (is.1, range, rest, spells)))
+    let both = range_asked name first is.0 is.1 (codes "ids") path at.now others range is.2 is.3 in
+    inr (inl (inl both.0, both.1))
 named_with_ids help version name path first others (command.Objects at None) is = let e = is in cc
 named_with_ids help version name path first others (command.Objects at (Some range)) is =
-    let e = is.2 in let rest : map string_bytes others ≡ is.1 ∷ [] = cc in
-    let from : is.0 ≡ first = cc in
-    let spells = subst (λ (t : List ℕ). SpellsRange t is.1 range) from is.3 in
-    inr (inl (inr cc, just_one others is.1 rest, (is.1, range, rest, spells)))
+    let both = range_asked name first is.0 is.1 (codes "objects") path at.now others range is.2 is.3 in
+    inr (inl (inr both.0, both.1))
 named_with_ids help version name path first others (command.Write None) is = let e = is in cc
 named_with_ids help version name path first others (command.Write (Some at)) is = let e = is in cc
 named_with_ids help version name path first others (command.Merge at) is = let e = is in cc
@@ -166,104 +191,13 @@ as_many_words name path at true false ids those words is asks =
     let e = asks.0 in let same : at ≡ codes "--unchecked" = cc in absurd (asks.1 same)
 as_many_words name path at true true ids those words is asks = cc
 
--- a name of other letters is no such name
-no_name : (name other : List ℕ) → IsOfTwo name → name ≡ other → (length other ≡ 11 → ⊥) → (length other ≡ 4 → ⊥) → ⊥
-no_name name other (inl is) same eleven four = eleven (sym (ap length same) ∙ ap length is)
-no_name name other (inr is) same eleven four = four (sym (ap length same) ∙ ap length is)
-
--- of such a name, the words are those of such a question
-of_two : (name path first : List ℕ) (others : List (String Global)) → NamedWithIds name path first others → IsOfTwo name
-    → AskOfTwo name (name ∷ path ∷ first ∷ map string_bytes others)
-of_two name path first others (inl two) is = two.1
-of_two name path first others (inr (inl (inl ids, one, to))) is =
-    absurd (no_name name (codes "ids") is ids (λ e. omega (arith, e)) (λ e. omega (arith, e)))
-of_two name path first others (inr (inl (inr objects, one, to))) is =
-    absurd (no_name name (codes "objects") is objects (λ e. omega (arith, e)) (λ e. omega (arith, e)))
-of_two name path first others (inr (inr (inl (inl base, some)))) is =
-    absurd (no_name name (codes "merge-base") is base (λ e. omega (arith, e)) (λ e. omega (arith, e)))
-of_two name path first others (inr (inr (inl (inr ids, some)))) is =
-    absurd (no_name name (codes "merge-base-ids") is ids (λ e. omega (arith, e)) (λ e. omega (arith, e)))
-of_two name path first others (inr (inr (inr (ask, option, none)))) is =
-    absurd (no_name name (codes "ask") is ask (λ e. omega (arith, e)) (λ e. omega (arith, e)))
-
--- the same of a question about one id and some others
-no_name_of_many : (name other : List ℕ) → IsOfMany name → name ≡ other → (length other ≡ 10 → ⊥) → (length other ≡ 14 → ⊥) → ⊥
-no_name_of_many name other (inl is) same ten fourteen = ten (sym (ap length same) ∙ ap length is)
-no_name_of_many name other (inr is) same ten fourteen = fourteen (sym (ap length same) ∙ ap length is)
-
-of_many : (name path first : List ℕ) (others : List (String Global)) → NamedWithIds name path first others → IsOfMany name
-    → AskOfMany name (name ∷ path ∷ first ∷ map string_bytes others)
-of_many name path first others (inl (inl ancestor, two)) is =
-    absurd (no_name_of_many name (codes "is-ancestor") is ancestor (λ e. omega (arith, e)) (λ e. omega (arith, e)))
-of_many name path first others (inl (inr walk, two)) is =
-    absurd (no_name_of_many name (codes "walk") is walk (λ e. omega (arith, e)) (λ e. omega (arith, e)))
-of_many name path first others (inr (inl (inl ids, one, to))) is =
-    absurd (no_name_of_many name (codes "ids") is ids (λ e. omega (arith, e)) (λ e. omega (arith, e)))
-of_many name path first others (inr (inl (inr objects, one, to))) is =
-    absurd (no_name_of_many name (codes "objects") is objects (λ e. omega (arith, e)) (λ e. omega (arith, e)))
-of_many name path first others (inr (inr (inl many))) is = many.1
-of_many name path first others (inr (inr (inr (ask, option, none)))) is =
-    absurd (no_name_of_many name (codes "ask") is ask (λ e. omega (arith, e)) (λ e. omega (arith, e)))
-
-no_two : (name path first at one other : List ℕ) (unchecked : Bool) → path ≡ codes "--unchecked"
-    → AreQuestionWords name unchecked at (one ∷ other ∷ []) (name ∷ path ∷ first ∷ []) → ⊥
-no_two name path first at one other false option is = let e = is.0 in cc
-no_two name path first at one other true option is = cc
-
--- a question about two ids has no others
-pub two_asked : (help version name path first at one : List ℕ) (unchecked : Bool) (others those : List (String Global))
-    (asked : Command) → IsOfTwo name
-    → AreQuestionWords name unchecked at (one ∷ map string_bytes those) (name ∷ path ∷ first ∷ map string_bytes others)
-    → AskAfterName help version (name ∷ path ∷ first ∷ map string_bytes others) asked → length those ≡ 1
-two_asked help version name path first at one unchecked others those asked named is asks =
-    let two = of_two name path first others (named_with_ids help version name path first others asked asks) named in
-    let same = as_many_words name at two.1 unchecked two.0 (one ∷ map string_bytes those) (two.2 ∷ two.3 ∷ []) _ is two.4 in
-    just_one those two.3 cc
-
-no_many : (name path first at one : List ℕ) (unchecked : Bool) (more : List (String Global)) → path ≡ codes "--unchecked"
-    → (more ≡ [] → ⊥) → AreQuestionWords name unchecked at (one ∷ map string_bytes more) (name ∷ path ∷ first ∷ []) → ⊥
-no_many name path first at one unchecked [] option some is = some refl
-no_many name path first at one false (other ∷ more) option some is = let e = is.0 in cc
-no_many name path first at one true (other ∷ more) option some is = cc
-
--- a question about one id and some others has some
-pub many_asked : (help version name path first at one : List ℕ) (unchecked : Bool) (others those : List (String Global))
-    (asked : Command) → IsOfMany name
-    → AreQuestionWords name unchecked at (one ∷ map string_bytes those) (name ∷ path ∷ first ∷ map string_bytes others)
-    → AskAfterName help version (name ∷ path ∷ first ∷ map string_bytes others) asked → 1 ≤ length those
-many_asked help version name path first at one unchecked others those asked named is asks =
-    let many = of_many name path first others (named_with_ids help version name path first others asked asks) named in
-    let same =
-    as_many_words name at many.1 unchecked many.0 (one ∷ map string_bytes those) (many.2 ∷ map string_bytes many.3) _ is many.4 in
-    let rest : map string_bytes those ≡ map string_bytes many.3 = cc in
-    as_many those many.3 rest many.5
-
--- where `--unchecked` and one word more follow its name, a question has too few words
-pub too_few_asked : (help version name path first : List ℕ) (others : List (String Global)) (asked : Command) → IsOfTwo name
-    → path ≡ codes "--unchecked" → others ≡ []
-    → AskAfterName help version (name ∷ path ∷ first ∷ map string_bytes others) asked → ⊥
-too_few_asked help version name path first others asked named option none asks =
-    let two = of_two name path first others (named_with_ids help version name path first others asked asks) named in
-    no_two name path first two.1 two.2 two.3 two.0 option
-    (subst (λ (w : List (String Global)).
-    AreQuestionWords name two.0 two.1 (two.2 ∷ two.3 ∷ []) (name ∷ path ∷ first ∷ map string_bytes w)) none two.4)
-
-pub too_few_of_many_asked : (help version name path first : List ℕ) (others : List (String Global)) (asked : Command)
-    → IsOfMany name → path ≡ codes "--unchecked" → others ≡ []
-    → AskAfterName help version (name ∷ path ∷ first ∷ map string_bytes others) asked → ⊥
-too_few_of_many_asked help version name path first others asked named option none asks =
-    let many = of_many name path first others (named_with_ids help version name path first others asked asks) named in
-    no_many name path first many.1 many.2 many.0 many.3 option many.5
-    (subst (λ (w : List (String Global)).
-    AreQuestionWords name many.0 many.1 (many.2 ∷ map string_bytes many.3) (name ∷ path ∷ first ∷ map string_bytes w)) none
-    many.4)
-
--- the same words, where it is known what they are
-pub known_words : (name at one : List ℕ) (unchecked taken : Bool) (those ids words : List (List ℕ)) → unchecked ≡ taken
-    → those ≡ ids → AreQuestionWords name unchecked at (one ∷ those) words → AreQuestionWords name taken at (one ∷ ids) words
-known_words name at one unchecked taken those ids words is same asked =
-    subst (λ (b : Bool). AreQuestionWords name b at (one ∷ ids) words) is
-    (subst (λ (t : List (List ℕ)). AreQuestionWords name unchecked at (one ∷ t) words) same asked)
+-- where one other id is asked for, there is just one
+pub two_words : (name path at first one other : List ℕ) (unchecked taken : Bool) (others : List (String Global))
+    (words : List (List ℕ)) → AreQuestionWords name unchecked path (first ∷ map string_bytes others) words
+    → AreQuestionWords name taken at (one ∷ other ∷ []) words → length others ≡ 1
+two_words name path at first one other unchecked taken others words is asks =
+    let same = as_many_words name path at unchecked taken (first ∷ map string_bytes others) (one ∷ other ∷ []) words is asks in
+    just_one others other cc
 
 -- one word and others
 pub first_word : (words : List (String Global)) (b : String Global) → 1 ≤ length words → b ≡ get_or words 0 b
@@ -275,14 +209,18 @@ first_word (w ∷ words) b least first = let all = take_all (length (w ∷ words
 pub none_asked : (help version : List ℕ) (asked : Command) → AskAfterName help version [] asked → ⊥
 none_asked help version (command.Help text) is = elim is.0 [ inl e ↦ cc | inr e ↦ cc ]
 none_asked help version (command.Version text) is = let e = is.0 in cc
-none_asked help version (command.IsAncestor path first second) is = let e = is.0 in cc
-none_asked help version (command.IsAncestorUnchecked pair) is = let e = is in cc
-none_asked help version (command.Walk path first second) is = let e = is.0 in cc
-none_asked help version (command.WalkUnchecked pair) is = let e = is in cc
-none_asked help version (command.MergeBase path first others) is = let e = is.0.0 in cc
-none_asked help version (command.MergeBaseUnchecked group) is = let e = is.0 in cc
-none_asked help version (command.MergeBaseIds path first others) is = let e = is.0.0 in cc
-none_asked help version (command.MergeBaseIdsUnchecked group) is = let e = is.0 in cc
+none_asked help version (command.IsAncestor pair) is =
+    let more = pair.second.now ∷ [] in
+    let e = (long (codes "is-ancestor") pair.path.now pair.first.now pair.unchecked more [] is).3 in cc
+none_asked help version (command.Walk pair) is =
+    let more = pair.second.now ∷ [] in
+    let e = (long (codes "walk") pair.path.now pair.first.now pair.unchecked more [] is).3 in cc
+none_asked help version (command.MergeBase group) is =
+    let more = map string_bytes group.others.now in
+    let e = (long (codes "merge-base") group.path.now group.first.now group.unchecked more [] is.0).3 in cc
+none_asked help version (command.MergeBaseIds group) is =
+    let more = map string_bytes group.others.now in
+    let e = (long (codes "merge-base-ids") group.path.now group.first.now group.unchecked more [] is.0).3 in cc
 none_asked help version (command.Check path) is = let e = is in cc
 none_asked help version (command.Show path) is = let e = is in cc
 none_asked help version (command.Ask path) is = let e = is.0 in cc

@@ -38,24 +38,16 @@ abbrev pub AskAfterName : List ℕ → List ℕ → List (List ℕ) → Command 
 AskAfterName help version words (command.Help text) =
     ((words ≡ codes "--help" ∷ []) ⊎ (words ≡ codes "-h" ∷ [])) × (text.now ≡ help)
 AskAfterName help version words (command.Version text) = (words ≡ codes "--version" ∷ []) × (text.now ≡ version)
-AskAfterName help version words (command.IsAncestor path first second) =
-    AreQuestionWords (codes "is-ancestor") false path.now (first.now ∷ second.now ∷ []) words
-AskAfterName help version words (command.Walk path first second) =
-    AreQuestionWords (codes "walk") false path.now (first.now ∷ second.now ∷ []) words
-AskAfterName help version words (command.MergeBase path first others) =
-    AreQuestionWords (codes "merge-base") false path.now (first.now ∷ map string_bytes others.now) words × (others.now ≢ [])
-AskAfterName help version words (command.MergeBaseIds path first others) =
-    AreQuestionWords (codes "merge-base-ids") false path.now (first.now ∷ map string_bytes others.now) words × (others.now ≢ [])
-AskAfterName help version words (command.IsAncestorUnchecked pair) =
-    AreQuestionWords (codes "is-ancestor") true pair.path.now (pair.first.now ∷ pair.second.now ∷ []) words
-AskAfterName help version words (command.WalkUnchecked pair) =
-    AreQuestionWords (codes "walk") true pair.path.now (pair.first.now ∷ pair.second.now ∷ []) words
-AskAfterName help version words (command.MergeBaseUnchecked group) =
-    AreQuestionWords (codes "merge-base") true group.path.now (group.first.now ∷ map string_bytes group.others.now) words
-    × (group.others.now ≢ [])
-AskAfterName help version words (command.MergeBaseIdsUnchecked group) =
-    AreQuestionWords (codes "merge-base-ids") true group.path.now (group.first.now ∷ map string_bytes group.others.now) words
-    × (group.others.now ≢ [])
+AskAfterName help version words (command.IsAncestor pair) =
+    AreQuestionWords (codes "is-ancestor") pair.unchecked pair.path.now (pair.first.now ∷ pair.second.now ∷ []) words
+AskAfterName help version words (command.Walk pair) =
+    AreQuestionWords (codes "walk") pair.unchecked pair.path.now (pair.first.now ∷ pair.second.now ∷ []) words
+AskAfterName help version words (command.MergeBase group) =
+    AreQuestionWords (codes "merge-base") group.unchecked group.path.now (group.first.now ∷ map string_bytes group.others.now)
+    words × (group.others.now ≢ [])
+AskAfterName help version words (command.MergeBaseIds group) =
+    AreQuestionWords (codes "merge-base-ids") group.unchecked group.path.now
+    (group.first.now ∷ map string_bytes group.others.now) words × (group.others.now ≢ [])
 AskAfterName help version words (command.Check path) = words ≡ codes "check" ∷ path.now ∷ []
 AskAfterName help version words (command.Show path) = words ≡ codes "show" ∷ path.now ∷ []
 AskAfterName help version words (command.Ask path) = AreQuestionWords (codes "ask") false path.now [] words
@@ -79,6 +71,37 @@ AskHistorytool help version words asked =
 abbrev pub TellsOfItself : List ℕ → Option (List ℕ) → Option (List ℕ) → ℕ → Type 0
 TellsOfItself text old new status = Appends old new (text ⧺ newline) × (status ≡ 0)
 
+-- an answer to a question about two commits, of which the texts of ids are given, or about one and some others: one that its
+-- command may give, or where the graph is not checked, one that it may give then
+abbrev pub TellsOfAncestor : Bool → List ℕ → List ℕ → Type 0 → (Result (List Layer) OpenError → Type 0) → ℕ → ℕ
+    → Option (List ℕ) → Option (List ℕ) → ℕ → Type 0
+TellsOfAncestor false first second IsLeftAlone MayOpen before after old new status =
+    WritesAnswer is_ancestor_text is_ancestor_status (MayAnswer IsTold first second IsLeftAlone MayOpen) old new status
+TellsOfAncestor true first second IsLeftAlone MayOpen before after old new status =
+    WritesAnswer is_ancestor_text is_ancestor_status (MayTellUnchecked first second IsLeftAlone MayOpen before after)
+    old new status
+
+abbrev pub TellsOfWalk : Bool → List ℕ → List ℕ → Type 0 → (Result (List Layer) OpenError → Type 0) → ℕ → ℕ
+    → Option (List ℕ) → Option (List ℕ) → ℕ → Type 0
+TellsOfWalk false first second IsLeftAlone MayOpen before after old new status =
+    WritesAnswer walk_text walk_status (MayAnswer IsWalkOfIds first second IsLeftAlone MayOpen) old new status
+TellsOfWalk true first second IsLeftAlone MayOpen before after old new status =
+    WritesAnswer walk_text walk_status (MayWalkUnchecked first second IsLeftAlone MayOpen before after) old new status
+
+abbrev pub TellsOfBases : Bool → List (List ℕ) → Type 0 → (Result (List Layer) OpenError → Type 0) → ℕ → ℕ
+    → Option (List ℕ) → Option (List ℕ) → ℕ → Type 0
+TellsOfBases false ids IsLeftAlone MayOpen before after old new status =
+    WritesAnswer merge_base_text merge_base_status (MayCompare ids IsLeftAlone MayOpen) old new status
+TellsOfBases true ids IsLeftAlone MayOpen before after old new status =
+    WritesAnswer told_bases_text told_bases_status (MayCompareUnchecked ids IsLeftAlone MayOpen before after) old new status
+
+abbrev pub TellsOfBaseIds : Bool → List (List ℕ) → Type 0 → (Result (List Layer) OpenError → Type 0) → ℕ → ℕ
+    → Option (List ℕ) → Option (List ℕ) → ℕ → Type 0
+TellsOfBaseIds false ids IsLeftAlone MayOpen before after old new status =
+    WritesAnswer merge_base_ids_text merge_base_status (MayCompare ids IsLeftAlone MayOpen) old new status
+TellsOfBaseIds true ids IsLeftAlone MayOpen before after old new status =
+    WritesAnswer told_ids_text told_bases_status (MayCompareUnchecked ids IsLeftAlone MayOpen before after) old new status
+
 -- an answer that the command may give is written, with its status: help and version leave the folder alone; each other command
 -- answers of what the opener may answer at its path, while the count of failures goes from `before` to `after`, where it has a
 -- path; `ask` of what it may answer in several calls, one after another. `objects`, `ask` and `write` answer of what the input
@@ -89,34 +112,18 @@ HistorytoolMayWrite (command.Help text) input unread IsLeftAlone MayOpenAt befor
     IsLeftAlone × TellsOfItself text.now old new status
 HistorytoolMayWrite (command.Version text) input unread IsLeftAlone MayOpenAt before after old new status =
     IsLeftAlone × TellsOfItself text.now old new status
-HistorytoolMayWrite (command.IsAncestor path first second) input unread IsLeftAlone MayOpenAt before after old new status =
-    WritesAnswer is_ancestor_text is_ancestor_status
-    (MayAnswer IsTold first.now second.now IsLeftAlone (MayOpenAt path.now before after)) old new status
-HistorytoolMayWrite (command.Walk path first second) input unread IsLeftAlone MayOpenAt before after old new status =
-    WritesAnswer walk_text walk_status
-    (MayAnswer IsWalkOfIds first.now second.now IsLeftAlone (MayOpenAt path.now before after)) old new status
-HistorytoolMayWrite (command.MergeBase path first others) input unread IsLeftAlone MayOpenAt before after old new status =
-    WritesAnswer merge_base_text merge_base_status
-    (MayCompare (first.now ∷ map string_bytes others.now) IsLeftAlone (MayOpenAt path.now before after)) old new status
-HistorytoolMayWrite (command.MergeBaseIds path first others) input unread IsLeftAlone MayOpenAt before after old new status =
-    WritesAnswer merge_base_ids_text merge_base_status
-    (MayCompare (first.now ∷ map string_bytes others.now) IsLeftAlone (MayOpenAt path.now before after)) old new status
-HistorytoolMayWrite (command.IsAncestorUnchecked pair) input unread IsLeftAlone MayOpenAt before after old new status =
-    WritesAnswer is_ancestor_text is_ancestor_status
-    (MayTellUnchecked pair.first.now pair.second.now IsLeftAlone (MayOpenAt pair.path.now before after) before after)
-    old new status
-HistorytoolMayWrite (command.WalkUnchecked pair) input unread IsLeftAlone MayOpenAt before after old new status =
-    WritesAnswer walk_text walk_status
-    (MayWalkUnchecked pair.first.now pair.second.now IsLeftAlone (MayOpenAt pair.path.now before after) before after)
-    old new status
-HistorytoolMayWrite (command.MergeBaseUnchecked group) input unread IsLeftAlone MayOpenAt before after old new status =
-    WritesAnswer told_bases_text told_bases_status
-    (MayCompareUnchecked (group.first.now ∷ map string_bytes group.others.now) IsLeftAlone
-    (MayOpenAt group.path.now before after) before after) old new status
-HistorytoolMayWrite (command.MergeBaseIdsUnchecked group) input unread IsLeftAlone MayOpenAt before after old new status =
-    WritesAnswer told_ids_text told_bases_status
-    (MayCompareUnchecked (group.first.now ∷ map string_bytes group.others.now) IsLeftAlone
-    (MayOpenAt group.path.now before after) before after) old new status
+HistorytoolMayWrite (command.IsAncestor pair) input unread IsLeftAlone MayOpenAt before after old new status =
+    TellsOfAncestor pair.unchecked pair.first.now pair.second.now IsLeftAlone
+    (MayOpenAt pair.path.now before after) before after old new status
+HistorytoolMayWrite (command.Walk pair) input unread IsLeftAlone MayOpenAt before after old new status =
+    TellsOfWalk pair.unchecked pair.first.now pair.second.now IsLeftAlone
+    (MayOpenAt pair.path.now before after) before after old new status
+HistorytoolMayWrite (command.MergeBase group) input unread IsLeftAlone MayOpenAt before after old new status =
+    TellsOfBases group.unchecked (group.first.now ∷ map string_bytes group.others.now) IsLeftAlone
+    (MayOpenAt group.path.now before after) before after old new status
+HistorytoolMayWrite (command.MergeBaseIds group) input unread IsLeftAlone MayOpenAt before after old new status =
+    TellsOfBaseIds group.unchecked (group.first.now ∷ map string_bytes group.others.now) IsLeftAlone
+    (MayOpenAt group.path.now before after) before after old new status
 HistorytoolMayWrite (command.Check path) input unread IsLeftAlone MayOpenAt before after old new status =
     WritesAnswer check_text check_status (MayFindInAll (MayOpenAt path.now before after)) old new status
 HistorytoolMayWrite (command.Show path) input unread IsLeftAlone MayOpenAt before after old new status =

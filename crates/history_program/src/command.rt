@@ -1,18 +1,12 @@
 //! The commands of `historytool`, by the words of a command line.
 
-ghost use Rattle.std.specs.Prelude.{◌≡◌, ◌∷◌, [], ℕ, List, IfOk, IfSome, IsNone};
+ghost use Rattle.std.specs.Prelude.{◌≡◌, ◌≢◌, ◌∷◌, [], ℕ, List, Bool, IfOk, IfSome, IsNone};
 ghost use Rattle.std.specs.Prelude.{codes, map, string_bytes};
 ghost use Rattle.history_program.specs.HistorytoolCommands.{AreQuestionWords, AskAfterName};
-ghost use Rattle.history_program.specs.HistorytoolCommands.{AskHistorytool};
+ghost use Rattle.history_program.specs.HistorytoolCommands.{AskHistorytool, TellsOfItself};
+ghost use Rattle.history_program.specs.HistorytoolCommands.{TellsOfAncestor, TellsOfWalk};
+ghost use Rattle.history_program.specs.HistorytoolCommands.{TellsOfBases, TellsOfBaseIds};
 ghost use Rattle.graph_commands.specs.OpenerAnswer.{MayOpen};
-ghost use Rattle.graph_commands.specs.WrittenAnswer.{WritesAnswer};
-ghost use Rattle.history_commands.specs.IsAncestor.{is_ancestor_text, is_ancestor_status};
-ghost use Rattle.history_commands.specs.Walk.{walk_text, walk_status};
-ghost use Rattle.unchecked_commands.specs.UncheckedAncestor.{MayTellUnchecked};
-ghost use Rattle.unchecked_commands.specs.UncheckedBases.{MayCompareUnchecked, told_bases_text};
-ghost use Rattle.unchecked_commands.specs.UncheckedBases.{told_bases_status, told_ids_text};
-ghost use Rattle.unchecked_commands.specs.UncheckedWalk.{MayWalkUnchecked};
-ghost use Rattle.history_program.specs.HistorytoolCommands.{TellsOfItself};
 ghost use Rattle.object_commands.specs.AskedRange.{SpellsRange};
 ghost use Rattle.object_commands.specs.declared.range.PositionRange as declared;
 ghost use Rattle.history_program.specs.declared.command.Command.{Command};
@@ -51,59 +45,23 @@ pub enum Command<'a> {
     },
     /// It is to be told whether the first commit is an ancestor of the second.
     IsAncestor {
-        /// The path of the graph.
-        path: &'a str,
-        /// The first id, in hexadecimal digits.
-        first: &'a str,
-        /// The second id.
-        second: &'a str,
+        /// The graph and the commits.
+        pair: Pair<'a>,
     },
     /// A walk along parents from the first commit to the second is to be found.
     Walk {
-        /// The path of the graph.
-        path: &'a str,
-        /// The first id, in hexadecimal digits.
-        first: &'a str,
-        /// The second id.
-        second: &'a str,
+        /// The graph and the commits.
+        pair: Pair<'a>,
     },
     /// What the first commit and the others have in common is to be told.
     MergeBase {
-        /// The path of the graph.
-        path: &'a str,
-        /// The first id, in hexadecimal digits.
-        first: &'a str,
-        /// The other ids, of which there is one at least.
-        others: &'a [String],
+        /// The graph and the commits.
+        group: Group<'a>,
     },
     /// The ids of the merge bases of the first commit and the others are to be told.
     MergeBaseIds {
-        /// The path of the graph.
-        path: &'a str,
-        /// The first id, in hexadecimal digits.
-        first: &'a str,
-        /// The other ids, of which there is one at least.
-        others: &'a [String],
-    },
-    /// The same as by `IsAncestor` is to be told of a graph that is trusted.
-    IsAncestorUnchecked {
         /// The graph and the commits.
-        pair: UncheckedPair<'a>,
-    },
-    /// The same as by `Walk` is to be found in a graph that is trusted.
-    WalkUnchecked {
-        /// The graph and the commits.
-        pair: UncheckedPair<'a>,
-    },
-    /// The same as by `MergeBase` is to be told of a graph that is trusted.
-    MergeBaseUnchecked {
-        /// The graph and the commits.
-        group: UncheckedGroup<'a>,
-    },
-    /// The same as by `MergeBaseIds` is to be told of a graph that is trusted.
-    MergeBaseIdsUnchecked {
-        /// The graph and the commits.
-        group: UncheckedGroup<'a>,
+        group: Group<'a>,
     },
     /// The graph is to be checked, with its dates and its filters.
     Check {
@@ -151,9 +109,11 @@ pub enum Command<'a> {
     },
 }
 
-/// A graph that is trusted, and two commits that it is asked about.
+/// A graph, and two commits that it is asked about.
 #[derive(Clone, Copy, Debug)]
-pub struct UncheckedPair<'a> {
+pub struct Pair<'a> {
+    /// Whether the graph is trusted, and not checked.
+    pub unchecked: bool,
     /// The path of the graph.
     pub path: &'a str,
     /// The first id, in hexadecimal digits.
@@ -162,55 +122,17 @@ pub struct UncheckedPair<'a> {
     pub second: &'a str,
 }
 
-/// A graph that is trusted, and two commits or more that it is asked about.
+/// A graph, and two commits or more that it is asked about.
 #[derive(Clone, Copy, Debug)]
-pub struct UncheckedGroup<'a> {
+pub struct Group<'a> {
+    /// Whether the graph is trusted, and not checked.
+    pub unchecked: bool,
     /// The path of the graph.
     pub path: &'a str,
     /// The first id, in hexadecimal digits.
     pub first: &'a str,
     /// The other ids, of which there is one at least.
     pub others: &'a [String],
-}
-
-/// The words of a question after its name.
-#[derive(Clone, Copy)]
-struct QuestionWords<'a> {
-    /// Whether the word `--unchecked` stands before the path.
-    unchecked: bool,
-    path: &'a str,
-    first: &'a str,
-    others: &'a [String],
-}
-
-impl<'a> QuestionWords<'a> {
-    /// The words, of which the first is the path, or else the word before it; none where too few
-    /// follow that.
-    fn of(path: &'a str, first: &'a str, others: &'a [String]) -> Option<QuestionWords<'a>>
-        ensures some { IfSome result (λ words. (name : List ℕ)
-            → AreQuestionWords name words.unchecked words.path.now
-            (words.first.now ∷ map string_bytes words.others.now)
-            (name ∷ path.now ∷ first.now ∷ map string_bytes others.now)) }
-        ensures none { IsNone result → (path.now ≡ codes "--unchecked") × (others.now ≡ []) }
-    {
-        match path {
-            "--unchecked" => match others {
-                [] => None,
-                [next, rest @ ..] => Some(QuestionWords {
-                    unchecked: true,
-                    path: first,
-                    first: next,
-                    others: rest,
-                }),
-            },
-            _ => Some(QuestionWords {
-                unchecked: false,
-                path,
-                first,
-                others,
-            }),
-        }
-    }
 }
 
 /// What `historytool` tells of itself.
@@ -295,26 +217,30 @@ impl<'a> Command<'a> {
     {
         match name {
             "ask" => Command::ask_unchecked(path, first, others),
-            "is-ancestor" => Command::is_ancestor(path, first, others),
-            "walk" => Command::walk(path, first, others),
-            "ids" => match others {
-                [] => None,
-                [to] => Command::ids_in(path, first, to),
-                _ => None,
-            },
-            "objects" => match others {
-                [] => None,
-                [to] => Command::objects_in(path, first, to),
-                _ => None,
-            },
-            "merge-base" => Command::merge_base(path, first, others),
-            "merge-base-ids" => Command::merge_base_ids(path, first, others),
+            "is-ancestor" => Some(Command::IsAncestor {
+                pair: Pair::of(path, first, others)?,
+            }),
+            "walk" => Some(Command::Walk {
+                pair: Pair::of(path, first, others)?,
+            }),
+            "merge-base" => Some(Command::MergeBase {
+                group: Group::of(path, first, others)?,
+            }),
+            "merge-base-ids" => Some(Command::MergeBaseIds {
+                group: Group::of(path, first, others)?,
+            }),
+            "ids" => {
+                let range = Some(range_of(first, others)?);
+                Some(Command::Ids { path, range })
+            }
+            "objects" => {
+                let range = Some(range_of(first, others)?);
+                Some(Command::Objects { path, range })
+            }
             _ => None,
         }
     }
-}
 
-impl<'a> Command<'a> {
     /// `ask`, if the word after it is no option.
     fn ask(path: &'a str) -> Option<Command<'a>>
         ensures asked { (help version : List ℕ)
@@ -341,31 +267,30 @@ impl<'a> Command<'a> {
             _ => None,
         }
     }
+}
 
-    /// `is-ancestor`, if there is one other id.
-    fn is_ancestor(path: &'a str, first: &'a str, others: &'a [String]) -> Option<Command<'a>>
-        ensures asked { (help version : List ℕ) → IfSome result (AskAfterName help version
-            (codes "is-ancestor" ∷ path.now ∷ first.now ∷ map string_bytes others.now)) }
-        ensures other { IsNone result → (help version : List ℕ) (command : Command)
-            → ¬ AskAfterName help version
-            (codes "is-ancestor" ∷ path.now ∷ first.now ∷ map string_bytes others.now) command }
+impl<'a> Pair<'a> {
+    /// What the words after the name of a question about two commits say, if there are as many as
+    /// it takes.
+    fn of(path: &'a str, first: &'a str, others: &'a [String]) -> Option<Pair<'a>>
+        ensures some { IfSome result (λ pair. (name : List ℕ)
+            → AreQuestionWords name pair.unchecked pair.path.now
+            (pair.first.now ∷ pair.second.now ∷ [])
+            (name ∷ path.now ∷ first.now ∷ map string_bytes others.now)) }
+        ensures none { IsNone result → (name path_asked : List ℕ) (unchecked : Bool)
+            (one other : List ℕ) → ¬ AreQuestionWords name unchecked path_asked (one ∷ other ∷ [])
+            (name ∷ path.now ∷ first.now ∷ map string_bytes others.now) }
     {
-        let QuestionWords {
+        let Group {
             unchecked,
             path,
             first,
             others,
-        } = QuestionWords::of(path, first, others)?;
+        } = Group::of(path, first, others)?;
         match others {
             [] => None,
-            [second] if unchecked => Some(Command::IsAncestorUnchecked {
-                pair: UncheckedPair {
-                    path,
-                    first,
-                    second,
-                },
-            }),
-            [second] => Some(Command::IsAncestor {
+            [second] => Some(Pair {
+                unchecked,
                 path,
                 first,
                 second,
@@ -373,127 +298,58 @@ impl<'a> Command<'a> {
             _ => None,
         }
     }
+}
 
-    /// `walk`, if there is one other id.
-    fn walk(path: &'a str, first: &'a str, others: &'a [String]) -> Option<Command<'a>>
-        ensures asked { (help version : List ℕ) → IfSome result (AskAfterName help version
-            (codes "walk" ∷ path.now ∷ first.now ∷ map string_bytes others.now)) }
-        ensures other { IsNone result → (help version : List ℕ) (command : Command)
-            → ¬ AskAfterName help version
-            (codes "walk" ∷ path.now ∷ first.now ∷ map string_bytes others.now) command }
+impl<'a> Group<'a> {
+    /// What the words after the name of a question about two commits or more say, if there are as
+    /// many as it takes: the path, or else the word `--unchecked`, and what follows it.
+    fn of(path: &'a str, first: &'a str, others: &'a [String]) -> Option<Group<'a>>
+        ensures some { IfSome result (λ group. (name : List ℕ)
+            → AreQuestionWords name group.unchecked group.path.now
+            (group.first.now ∷ map string_bytes group.others.now)
+            (name ∷ path.now ∷ first.now ∷ map string_bytes others.now)) }
+        ensures others { IfSome result (λ group. group.others.now ≢ []) }
+        ensures none { IsNone result → (name path_asked : List ℕ) (unchecked : Bool)
+            (one other : List ℕ) (more : List (List ℕ))
+            → ¬ AreQuestionWords name unchecked path_asked (one ∷ other ∷ more)
+            (name ∷ path.now ∷ first.now ∷ map string_bytes others.now) }
     {
-        let QuestionWords {
-            unchecked,
-            path,
-            first,
-            others,
-        } = QuestionWords::of(path, first, others)?;
-        match others {
-            [] => None,
-            [second] if unchecked => Some(Command::WalkUnchecked {
-                pair: UncheckedPair {
-                    path,
-                    first,
-                    second,
-                },
-            }),
-            [second] => Some(Command::Walk {
-                path,
-                first,
-                second,
-            }),
-            _ => None,
-        }
-    }
-
-    /// `merge-base`, if there are others.
-    fn merge_base(path: &'a str, first: &'a str, others: &'a [String]) -> Option<Command<'a>>
-        ensures asked { (help version : List ℕ) → IfSome result (AskAfterName help version
-            (codes "merge-base" ∷ path.now ∷ first.now ∷ map string_bytes others.now)) }
-        ensures other { IsNone result → (help version : List ℕ) (command : Command)
-            → ¬ AskAfterName help version
-            (codes "merge-base" ∷ path.now ∷ first.now ∷ map string_bytes others.now) command }
-    {
-        let QuestionWords {
-            unchecked,
-            path,
-            first,
-            others,
-        } = QuestionWords::of(path, first, others)?;
-        match others {
-            [] => None,
-            _ if unchecked => Some(Command::MergeBaseUnchecked {
-                group: UncheckedGroup {
+        match path {
+            "--unchecked" => match others {
+                [] => None,
+                [_] => None,
+                [next, rest @ ..] => Some(Group {
+                    unchecked: true,
+                    path: first,
+                    first: next,
+                    others: rest,
+                }),
+            },
+            _ => match others {
+                [] => None,
+                _ => Some(Group {
+                    unchecked: false,
                     path,
                     first,
                     others,
-                },
-            }),
-            _ => Some(Command::MergeBase {
-                path,
-                first,
-                others,
-            }),
+                }),
+            },
         }
     }
+}
 
-    /// `merge-base-ids`, if there are others.
-    fn merge_base_ids(path: &'a str, first: &'a str, others: &'a [String]) -> Option<Command<'a>>
-        ensures asked { (help version : List ℕ) → IfSome result (AskAfterName help version
-            (codes "merge-base-ids" ∷ path.now ∷ first.now ∷ map string_bytes others.now)) }
-        ensures other { IsNone result → (help version : List ℕ) (command : Command)
-            → ¬ AskAfterName help version
-            (codes "merge-base-ids" ∷ path.now ∷ first.now ∷ map string_bytes others.now) command }
-    {
-        let QuestionWords {
-            unchecked,
-            path,
-            first,
-            others,
-        } = QuestionWords::of(path, first, others)?;
-        match others {
-            [] => None,
-            _ if unchecked => Some(Command::MergeBaseIdsUnchecked {
-                group: UncheckedGroup {
-                    path,
-                    first,
-                    others,
-                },
-            }),
-            _ => Some(Command::MergeBaseIds {
-                path,
-                first,
-                others,
-            }),
-        }
-    }
-
-    /// `ids` for the positions that two texts spell, if they spell a range.
-    fn ids_in(path: &'a str, from: &str, to: &str) -> Option<Command<'a>>
-        ensures asked { (help version : List ℕ) → IfSome result (AskAfterName help version
-            (codes "ids" ∷ path.now ∷ from.now ∷ to.now ∷ [])) }
-        ensures other { IsNone result → (range : declared.PositionRange)
-            → ¬ SpellsRange from.now to.now range }
-    {
-        let range = PositionRange::from_texts(from, to)?;
-        Some(Command::Ids {
-            path,
-            range: Some(range),
-        })
-    }
-
-    /// `objects` for the positions that two texts spell, if they spell a range.
-    fn objects_in(path: &'a str, from: &str, to: &str) -> Option<Command<'a>>
-        ensures asked { (help version : List ℕ) → IfSome result (AskAfterName help version
-            (codes "objects" ∷ path.now ∷ from.now ∷ to.now ∷ [])) }
-        ensures other { IsNone result → (range : declared.PositionRange)
-            → ¬ SpellsRange from.now to.now range }
-    {
-        let compared = PositionRange::from_texts(from, to)?;
-        Some(Command::Objects {
-            path,
-            range: Some(compared),
-        })
+/// The range of positions that two texts spell, of which the second is the only other one, if they
+/// spell a range.
+fn range_of(from: &str, others: &[String]) -> Option<PositionRange>
+    ensures some { IfSome result (λ range. (to : List ℕ)
+        × (map string_bytes others.now ≡ to ∷ []) × SpellsRange from.now to range) }
+    ensures none { IsNone result → (to : List ℕ) (range : declared.PositionRange)
+        → map string_bytes others.now ≡ to ∷ [] → ¬ SpellsRange from.now to range }
+{
+    match others {
+        [] => None,
+        [to] => PositionRange::from_texts(from, to),
+        _ => None,
     }
 }
 
@@ -511,30 +367,10 @@ impl Run for Command<'_> {
     ) -> Result<u8, WriteFailed> {
         match self {
             Command::Help { text } | Command::Version { text } => tell(output, text),
-            Command::IsAncestor {
-                path,
-                first,
-                second,
-            } => run_is_ancestor(alloc, folder, path, first, second, output),
-            Command::Walk {
-                path,
-                first,
-                second,
-            } => run_walk(alloc, folder, path, first, second, output),
-            Command::MergeBase {
-                path,
-                first,
-                others,
-            } => run_merge_base(alloc, folder, path, first, others, output),
-            Command::MergeBaseIds {
-                path,
-                first,
-                others,
-            } => run_merge_base_ids(alloc, folder, path, first, others, output),
-            Command::IsAncestorUnchecked { pair } => pair.is_ancestor(alloc, folder, output),
-            Command::WalkUnchecked { pair } => pair.walk(alloc, folder, output),
-            Command::MergeBaseUnchecked { group } => group.bases(alloc, folder, output),
-            Command::MergeBaseIdsUnchecked { group } => group.base_ids(alloc, folder, output),
+            Command::IsAncestor { pair } => pair.is_ancestor(alloc, folder, output),
+            Command::Walk { pair } => pair.walk(alloc, folder, output),
+            Command::MergeBase { group } => group.bases(alloc, folder, output),
+            Command::MergeBaseIds { group } => group.base_ids(alloc, folder, output),
             Command::Check { path } => run_check(alloc, folder, path, output),
             Command::Show { path } => run_show(alloc, folder, path, output),
             Command::Ask { path } => Ok(run_ask(alloc, input, folder, path, output)?.status),
@@ -549,101 +385,118 @@ impl Run for Command<'_> {
     }
 }
 
-impl UncheckedPair<'_> {
-    /// Runs `is-ancestor --unchecked`, and answers the exit status. `WriteFailed` comes where the
-    /// output fails.
+impl Pair<'_> {
+    /// Runs `is-ancestor`, and answers the exit status. `WriteFailed` comes where the output fails.
     fn is_ancestor<T: Folder, W: Write>(
         self,
         alloc: Global,
         folder: &mut T,
         output: &mut W,
     ) -> Result<u8, WriteFailed>
-        ensures written { IfOk result (WritesAnswer is_ancestor_text is_ancestor_status
-            (MayTellUnchecked self.entry.first.now self.entry.second.now (folder.new ≡ folder.old)
+        ensures written { IfOk result (TellsOfAncestor self.entry.unchecked
+            self.entry.first.now self.entry.second.now (folder.new ≡ folder.old)
             (MayOpen (T.tree folder.old) self.entry.path.now (T.failure_count folder.old)
-            (T.failure_count folder.new)) (T.failure_count folder.old) (T.failure_count folder.new))
+            (T.failure_count folder.new)) (T.failure_count folder.old) (T.failure_count folder.new)
             (W.contents output.old) (W.contents output.new)) }
         ensures tree { T.tree folder.new ≡ T.tree folder.old }
     {
-        let UncheckedPair {
+        let Pair {
+            unchecked,
             path,
             first,
             second,
         } = self;
-        run_is_ancestor_unchecked(alloc, folder, path, first, second, output)
+        if unchecked {
+            run_is_ancestor_unchecked(alloc, folder, path, first, second, output)
+        } else {
+            run_is_ancestor(alloc, folder, path, first, second, output)
+        }
     }
 
-    /// Runs `walk --unchecked`, and answers the exit status. `WriteFailed` comes where the output
-    /// fails.
+    /// Runs `walk`, and answers the exit status. `WriteFailed` comes where the output fails.
     fn walk<T: Folder, W: Write>(
         self,
         alloc: Global,
         folder: &mut T,
         output: &mut W,
     ) -> Result<u8, WriteFailed>
-        ensures written { IfOk result (WritesAnswer walk_text walk_status
-            (MayWalkUnchecked self.entry.first.now self.entry.second.now (folder.new ≡ folder.old)
+        ensures written { IfOk result (TellsOfWalk self.entry.unchecked
+            self.entry.first.now self.entry.second.now (folder.new ≡ folder.old)
             (MayOpen (T.tree folder.old) self.entry.path.now (T.failure_count folder.old)
-            (T.failure_count folder.new)) (T.failure_count folder.old) (T.failure_count folder.new))
+            (T.failure_count folder.new)) (T.failure_count folder.old) (T.failure_count folder.new)
             (W.contents output.old) (W.contents output.new)) }
         ensures tree { T.tree folder.new ≡ T.tree folder.old }
     {
-        let UncheckedPair {
+        let Pair {
+            unchecked,
             path,
             first,
             second,
         } = self;
-        run_walk_unchecked(alloc, folder, path, first, second, output)
+        if unchecked {
+            run_walk_unchecked(alloc, folder, path, first, second, output)
+        } else {
+            run_walk(alloc, folder, path, first, second, output)
+        }
     }
 }
 
-impl UncheckedGroup<'_> {
-    /// Runs `merge-base --unchecked`, and answers the exit status. `WriteFailed` comes where the
-    /// output fails.
+impl Group<'_> {
+    /// Runs `merge-base`, and answers the exit status. `WriteFailed` comes where the output fails.
     fn bases<T: Folder, W: Write>(
         self,
         alloc: Global,
         folder: &mut T,
         output: &mut W,
     ) -> Result<u8, WriteFailed>
-        ensures written { IfOk result (WritesAnswer told_bases_text told_bases_status
-            (MayCompareUnchecked (self.entry.first.now ∷ map string_bytes self.entry.others.now)
+        ensures written { IfOk result (TellsOfBases self.entry.unchecked
+            (self.entry.first.now ∷ map string_bytes self.entry.others.now)
             (folder.new ≡ folder.old)
             (MayOpen (T.tree folder.old) self.entry.path.now (T.failure_count folder.old)
-            (T.failure_count folder.new)) (T.failure_count folder.old) (T.failure_count folder.new))
+            (T.failure_count folder.new)) (T.failure_count folder.old) (T.failure_count folder.new)
             (W.contents output.old) (W.contents output.new)) }
         ensures tree { T.tree folder.new ≡ T.tree folder.old }
     {
-        let UncheckedGroup {
+        let Group {
+            unchecked,
             path,
             first,
             others,
         } = self;
-        run_merge_base_unchecked(alloc, folder, path, first, others, output)
+        if unchecked {
+            run_merge_base_unchecked(alloc, folder, path, first, others, output)
+        } else {
+            run_merge_base(alloc, folder, path, first, others, output)
+        }
     }
 
-    /// Runs `merge-base-ids --unchecked`, and answers the exit status. `WriteFailed` comes where
-    /// the output fails.
+    /// Runs `merge-base-ids`, and answers the exit status. `WriteFailed` comes where the output
+    /// fails.
     fn base_ids<T: Folder, W: Write>(
         self,
         alloc: Global,
         folder: &mut T,
         output: &mut W,
     ) -> Result<u8, WriteFailed>
-        ensures written { IfOk result (WritesAnswer told_ids_text told_bases_status
-            (MayCompareUnchecked (self.entry.first.now ∷ map string_bytes self.entry.others.now)
+        ensures written { IfOk result (TellsOfBaseIds self.entry.unchecked
+            (self.entry.first.now ∷ map string_bytes self.entry.others.now)
             (folder.new ≡ folder.old)
             (MayOpen (T.tree folder.old) self.entry.path.now (T.failure_count folder.old)
-            (T.failure_count folder.new)) (T.failure_count folder.old) (T.failure_count folder.new))
+            (T.failure_count folder.new)) (T.failure_count folder.old) (T.failure_count folder.new)
             (W.contents output.old) (W.contents output.new)) }
         ensures tree { T.tree folder.new ≡ T.tree folder.old }
     {
-        let UncheckedGroup {
+        let Group {
+            unchecked,
             path,
             first,
             others,
         } = self;
-        run_merge_base_ids_unchecked(alloc, folder, path, first, others, output)
+        if unchecked {
+            run_merge_base_ids_unchecked(alloc, folder, path, first, others, output)
+        } else {
+            run_merge_base_ids(alloc, folder, path, first, others, output)
+        }
     }
 }
 

@@ -10,6 +10,9 @@ use graph_vectors::{DIAMOND, Row, Sink, file_of_rows};
 use std::alloc::Global;
 use std::io;
 use std::process::Abort;
+use unchecked_commands::ancestor::run_is_ancestor_unchecked;
+use unchecked_commands::bases::run_merge_base_ids_unchecked;
+use unchecked_commands::walk::run_walk_unchecked;
 
 pub const ONES: &str = "1111111111111111111111111111111111111111";
 
@@ -233,8 +236,21 @@ fn line_of(rt: &impl Abort, alloc: Global, words: &[&str]) -> Vec<String> {
     line
 }
 
-/// What a program answers to these words after its own name, and what it writes to the output and
-/// to standard error. The input is empty.
+/// What a folder is asked.
+#[derive(Clone, Copy)]
+pub enum Asked<'a> {
+    /// By these words of `graphtool`, after its own name.
+    Words(&'a [&'a str]),
+    /// Whether the first of two commits is an ancestor of the second, in a graph that is trusted:
+    /// by its path and both ids.
+    IsAncestor(&'a str, &'a str, &'a str),
+    /// The same, for the walk from the first to the second.
+    Walk(&'a str, &'a str, &'a str),
+    /// The same, for the ids of their merge bases.
+    MergeBaseIds(&'a str, &'a str, &'a str),
+}
+
+/// What a command answers, and what it writes.
 ///
 /// The contracts of the commands are long, and here they end: this function has none, so the proof
 /// of a test does not go over them once more.
@@ -242,9 +258,32 @@ pub fn answer<T: Folder>(
     rt: &impl Abort,
     alloc: Global,
     folder: &mut T,
+    asked: Asked<'_>,
+    out: &mut Sink,
+) -> Result<u8, WriteFailed> {
+    match asked {
+        Asked::Words(words) => answer_to_words(rt, alloc, folder, words, out),
+        Asked::IsAncestor(path, first, second) => {
+            run_is_ancestor_unchecked(alloc, folder, path, first, second, out)
+        }
+        Asked::Walk(path, first, second) => {
+            run_walk_unchecked(alloc, folder, path, first, second, out)
+        }
+        Asked::MergeBaseIds(path, first, other) => {
+            let others = [owned(rt, alloc, other)];
+            run_merge_base_ids_unchecked(alloc, folder, path, first, &others, out)
+        }
+    }
+}
+
+/// What `graphtool` answers to these words, where its input is empty. Nothing is written to
+/// standard error.
+fn answer_to_words<T: Folder>(
+    rt: &impl Abort,
+    alloc: Global,
+    folder: &mut T,
     words: &[&str],
-    output: &mut Sink,
-    errors: &mut Sink,
+    out: &mut Sink,
 ) -> Result<u8, WriteFailed> {
     let line = line_of(rt, alloc, words);
     let command = Command::from_words(&line);
@@ -253,9 +292,18 @@ pub fn answer<T: Folder>(
         write_failed: "failed",
     };
     let mut input = io::empty();
-    respond(
-        alloc, command, complaints, &mut input, folder, output, errors,
-    )
+    let mut errors = Sink::new(alloc, usize::MAX, None);
+    let answered = respond(
+        alloc,
+        command,
+        complaints,
+        &mut input,
+        folder,
+        out,
+        &mut errors,
+    );
+    assert!(rt; errors.bytes.is_empty());
+    answered
 }
 
 /// Asserts that something holds of an answer, of which this is wanted. A proof has little to go
@@ -264,22 +312,15 @@ pub fn ensure(rt: &impl Abort, want: &str, holds: bool) {
     assert!(rt; holds, "{want}");
 }
 
-/// Asserts the status of an answer to these words, and what is written to the output, and that
-/// nothing is written to standard error.
+/// Asserts the status of an answer, and what is written.
 pub fn expect<T: Folder>(
     rt: &impl Abort,
     alloc: Global,
     folder: &mut T,
-    words: &[&str],
+    asked: Asked<'_>,
     (status, written): (u8, &str),
 ) {
-    let mut output = Sink::new(alloc, usize::MAX, None);
-    let mut errors = Sink::new(alloc, usize::MAX, None);
-    let answered = answer(rt, alloc, folder, words, &mut output, &mut errors);
-    ensure(rt, written, answered == Ok(status));
-    ensure(
-        rt,
-        written,
-        output.text() == written && errors.text().is_empty(),
-    );
+    let mut out = Sink::new(alloc, usize::MAX, None);
+    let answered = answer(rt, alloc, folder, asked, &mut out);
+    ensure(rt, written, answered == Ok(status) && out.text() == written);
 }

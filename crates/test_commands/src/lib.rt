@@ -1,5 +1,5 @@
-//! Tests of the commands that no run of a program can be: readers, folders and memory that fail at
-//! one call, folders that change between two reads, and reads that are counted.
+//! Tests of commands that no run of a program can be: folders and memory that fail at one call,
+//! files that change between two reads, reads that are counted, and writers that are flushed.
 //!
 //! What the programs answer is tested by the tables of `scripts/real_data`. [`fixtures`] has the
 //! folder of graphs that the commands are asked about, and [`watched`] folders that count what is
@@ -7,7 +7,7 @@
 #![tactic(auto)]
 
 #[cfg(test)]
-mod alone;
+mod asking;
 #[cfg(test)]
 mod failing;
 #[cfg(test)]
@@ -15,8 +15,8 @@ mod fixtures;
 #[cfg(test)]
 mod lines;
 #[cfg(test)]
-mod reads;
+mod near;
 #[cfg(test)]
-mod unchecked;
+mod reads;
 #[cfg(test)]
 mod watched;

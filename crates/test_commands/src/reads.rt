@@ -1,8 +1,10 @@
 //! How little a search reads, and what it finds in a file that changes meanwhile.
 
-use crate::fixtures::{FIVES, FOURS, LONG, ONES, SIXES, THREES, TWOS, built, ensure, expect, put};
-use crate::watched::{Vast, watched_graphs};
-use graph_vectors::{DIAMOND, END, Row, file_of_parts, words};
+use crate::fixtures::{
+    Asked, FIVES, FOURS, LONG, ONES, SIXES, THREES, TWOS, answer, built, ensure, expect, put,
+};
+use crate::watched::{Vast, Watched, watched_graphs};
+use graph_vectors::{DIAMOND, END, Row, Sink, file_of_parts, words};
 use std::alloc::Global;
 use std::process::Abort;
 
@@ -87,8 +89,8 @@ const SEARCHES: &[Search] = &[
 fn compare_searches(rt: &impl Abort, alloc: Global, rows: &[Search]) {
     for (path, id, status, written, whole, parts, bytes) in rows {
         let mut folder = watched_graphs(rt, alloc);
-        let words = ["find", *path, *id];
-        expect(rt, alloc, &mut folder, &words, (*status, written));
+        let asked = Asked::Words(&["find", *path, *id]);
+        expect(rt, alloc, &mut folder, asked, (*status, written));
         ensure(
             rt,
             written,
@@ -145,18 +147,15 @@ const VAST_RECORD: &[u8; 36] =
 fn a_search_reads_as_little_of_the_largest_file(rt: HostRuntime) {
     let alloc = rt.alloc();
     let head = vast_head(&rt, alloc);
-    let mut folder = Vast {
-        len: 105_226_699_796,
-        fronts: &[
-            (0, &head),
-            (20_000_001_080, VAST_BUCKET),
-            (73_580_964_936, VAST_RECORD),
-        ],
-        parts: 0,
-        bytes: 0,
-    };
+    let fronts: [(u64, &[u8]); 3] = [
+        (0, &head),
+        (20_000_001_080, VAST_BUCKET),
+        (73_580_964_936, VAST_RECORD),
+    ];
+    let mut folder = Vast::new(105_226_699_796, &fronts);
     let want = (0, "position 1000000001 generation 3 time 7\n");
-    expect(&rt, alloc, &mut folder, &["find", "g", FOURS], want);
+    let asked = Asked::Words(&["find", "g", FOURS]);
+    expect(&rt, alloc, &mut folder, asked, want);
     assert!(rt; folder.parts == 3 && folder.bytes == HEAD + 3 * ID + RECORD);
 }
 
@@ -206,40 +205,30 @@ const CHANGES: &[Change] = &[
     (FIVE, DIAMOND, FOUR_THREES, &[NONE, NONE, NONE, ADDED]),
 ];
 
-/// Asserts what a search answers where another file takes the place of the old one after so many
-/// reads.
-fn expect_found(
+/// The folder of the graphs with a file `g`, in whose place another one comes after so many reads.
+fn changing(
     rt: &impl Abort,
     alloc: Global,
-    (old, new, id): (&[Row<'_>], &[Row<'_>], &str),
+    (old, new): (&[Row<'_>], &[Row<'_>]),
     reads: u32,
-    want: (u8, &str),
-) {
+) -> Watched {
     let mut folder = watched_graphs(rt, alloc);
-    put(
-        rt,
-        alloc,
-        &mut folder.memory,
-        "g",
-        built(rt, alloc, &[], old),
-    );
-    put(
-        rt,
-        alloc,
-        &mut folder.later,
-        "g",
-        built(rt, alloc, &[], new),
-    );
+    let (old, new) = (built(rt, alloc, &[], old), built(rt, alloc, &[], new));
+    put(rt, alloc, &mut folder.memory, "g", old);
+    put(rt, alloc, &mut folder.later, "g", new);
     folder.reads_before = reads;
-    expect(rt, alloc, &mut folder, &["find", "g", id], want);
+    folder
 }
 
-/// Asserts what searches answer.
+/// Asserts what searches answer where another file takes the place of the old one after each number
+/// of reads.
 fn compare_changes(rt: &impl Abort, alloc: Global, rows: &[Change]) {
     for (old, new, id, answers) in rows {
         let mut reads = 0;
         for want in *answers {
-            expect_found(rt, alloc, (old, new, id), reads, *want);
+            let mut folder = changing(rt, alloc, (old, new), reads);
+            let asked = Asked::Words(&["find", "g", *id]);
+            expect(rt, alloc, &mut folder, asked, *want);
             reads = reads.saturating_add(1);
         }
     }
@@ -248,4 +237,86 @@ fn compare_changes(rt: &impl Abort, alloc: Global, rows: &[Change]) {
 #[test]
 fn a_file_that_changes_its_length_is_read_anew(rt: HostRuntime) {
     compare_changes(&rt, rt.alloc(), CHANGES);
+}
+
+/// A merge of three, and the same commits where each parent of the merge is 0x22, so that there are
+/// as many words; and these with one commit more.
+const MERGE: &[Row<'static>] = &[
+    (0x11, &[], 1),
+    (0x22, &[0], 2),
+    (0x33, &[0], 2),
+    (0x44, &[1, 2, 0], 3),
+];
+
+const OTHER: &[Row<'static>] = &[
+    (0x11, &[], 1),
+    (0x22, &[0], 2),
+    (0x33, &[0], 2),
+    (0x44, &[1, 1, 1], 3),
+];
+
+const MORE: &[Row<'static>] = &[
+    (0x11, &[], 1),
+    (0x22, &[0], 2),
+    (0x33, &[0], 2),
+    (0x44, &[1, 1, 1], 3),
+    (0x66, &[], 1),
+];
+
+/// A question about a graph that is trusted, and what is told where it is the merge of three, and
+/// where that was exchanged.
+type Question = (Asked<'static>, &'static str, &'static str);
+
+const QUESTIONS: &[Question] = &[
+    (Asked::IsAncestor("g", THREES, FOURS), "yes\n", "no\n"),
+    (
+        Asked::Walk("g", FOURS, THREES),
+        "4444444444444444444444444444444444444444\n\
+        3333333333333333333333333333333333333333\n",
+        "none\n",
+    ),
+    (
+        Asked::MergeBaseIds("g", FOURS, THREES),
+        "3333333333333333333333333333333333333333\n",
+        "1111111111111111111111111111111111111111\n",
+    ),
+];
+
+/// Whether a question is answered of the first file, where another one takes its place after so
+/// many reads. Otherwise it is answered of that one.
+fn is_of_the_first(
+    rt: &impl Abort,
+    alloc: Global,
+    new: &[Row<'_>],
+    (asked, first, second): Question,
+    reads: u32,
+) -> bool {
+    let mut folder = changing(rt, alloc, (MERGE, new), reads);
+    let mut out = Sink::new(alloc, usize::MAX, None);
+    let answered = answer(rt, alloc, &mut folder, asked, &mut out);
+    let is_first = out.text() == first;
+    ensure(
+        rt,
+        first,
+        answered.is_ok() && (is_first || out.text() == second),
+    );
+    is_first
+}
+
+/// Asserts that some answers are of the first file and some of the other one, and none of a
+/// mixture.
+fn compare_exchanged(rt: &impl Abort, alloc: Global, new: &[Row<'_>], rows: &[Question]) {
+    for row in rows {
+        let mut firsts = 0u32;
+        for reads in 0..12 {
+            firsts = firsts.saturating_add(u32::from(is_of_the_first(rt, alloc, new, *row, reads)));
+        }
+        ensure(rt, row.1, firsts > 0 && firsts < 12);
+    }
+}
+
+#[test]
+fn a_trusted_file_that_is_exchanged_is_not_mixed_with_the_other(rt: HostRuntime) {
+    compare_exchanged(&rt, rt.alloc(), OTHER, QUESTIONS);
+    compare_exchanged(&rt, rt.alloc(), MORE, QUESTIONS);
 }

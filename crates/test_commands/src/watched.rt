@@ -121,6 +121,18 @@ pub struct Vast<'a> {
     pub bytes: u64,
 }
 
+impl<'a> Vast<'a> {
+    /// Such a folder, of which nothing was asked yet.
+    pub fn new(len: u64, fronts: &'a [(u64, &'a [u8])]) -> Vast<'a> {
+        Vast {
+            len,
+            fronts,
+            parts: 0,
+            bytes: 0,
+        }
+    }
+}
+
 impl Folder for Vast<'_> {
     ghost tree = { λ _. None };
 

@@ -1,22 +1,16 @@
-//! Tests of what no contract says of ids, folders, commits' bytes, layers and graphs: texts, calls
-//! on a disk, reads that fail, a processor that refuses, and how many steps a call takes.
+//! Tests of what no contract says of ids, commits' bytes, layers, graphs and the examples of calls:
+//! texts, that calls succeed, and how long one takes.
 //!
 //! The module `fixtures` has what several tests share.
 #![tactic(auto)]
 
 #[cfg(test)]
-mod checking;
-#[cfg(test)]
-mod comparisons;
-#[cfg(test)]
 mod digests;
 #[cfg(test)]
-mod disk;
+mod examples;
 #[cfg(test)]
 mod fixtures;
 #[cfg(test)]
-mod host;
-#[cfg(test)]
-mod opening;
+mod pushing;
 #[cfg(test)]
 mod texts;

@@ -237,15 +237,17 @@ const ROOT: &[Row<'static>] = &[(0x11, &[], 1)];
 
 const MERGE: &[Row<'static>] = &[(0x11, &[5, 3, 2], 1)];
 
-const OF_ROOT: &str =
-    "Commit { id: 1111111111111111111111111111111111111111, lex_pos: 0, generation: 1, root_tree_id: 9999999999999999999999999999999999999999, parent1: None, parent2: None }";
+const OF_ROOT: &str = "Commit { id: 1111111111111111111111111111111111111111, lex_pos: 0, \
+    generation: 1, root_tree_id: 9999999999999999999999999999999999999999, parent1: None, \
+    parent2: None }";
 
-const OF_MERGE: &str =
-    "Commit { id: 1111111111111111111111111111111111111111, lex_pos: 0, generation: 1, root_tree_id: 9999999999999999999999999999999999999999, parent1: GraphPosition(Position(5)), parent2: ExtraEdgeIndex(0) }";
+const OF_MERGE: &str = "Commit { id: 1111111111111111111111111111111111111111, lex_pos: 0, \
+    generation: 1, root_tree_id: 9999999999999999999999999999999999999999, \
+    parent1: GraphPosition(Position(5)), parent2: ExtraEdgeIndex(0) }";
 
 /// The debug text of the only commit of a layer.
 fn compare_commit(rt: &impl Abort, alloc: Global, rows: &[Row<'_>], want: &str) {
-    let layer = file(rt, alloc, rows);
+    let layer = file(rt, alloc, &[], rows);
     assert!(rt; layer.num_commits() == 1);
     compare_debug(rt, alloc, &[(layer.commit_at(layers::Position(0)), want)]);
 }

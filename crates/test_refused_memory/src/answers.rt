@@ -1,23 +1,16 @@
 //! Makes a call, and writes what it answered.
 
-use crate::calls::{Call, Command, HostOpener, Opener};
-use crate::inputs::{bytes_of, graph, layer, layers, memory, owned, room};
+use crate::calls::{Call, HostOpener};
+use crate::inputs::{bytes_of, graph, layer, layers, owned};
 use crate::questions::ask;
-use crate::told::{begin, tell, tell_run};
+use crate::told::{begin, tell};
 use anyhow::{Result, ensure};
 use gix_commitgraph::file::Commit;
-use gix_commitgraph::opening::{
-    OpenError, open_chain_dir_in, open_file_in, open_in, open_info_dir_in,
-};
+use gix_commitgraph::opening::OpenError;
 use gix_commitgraph::verify::VerifyOptions;
 use gix_commitgraph::{File, Graph, at};
-use graph_chunks::dates::CorrectedDates;
-use graph_chunks::filters::GraphFilters;
-use graph_commands::line::WriteFailed;
-use graph_commands::run::{run_ancestor, run_distinct, run_find, run_list, run_verify};
 use graph_folder::folder::{Folder, Memory};
 use graph_history::CheckedGraph;
-use graph_objects::check_objects;
 use graph_vectors::{Row, build, plan_of_rows};
 use std::alloc::{AllocError, Global};
 use std::convert::Infallible;
@@ -35,12 +28,6 @@ pub fn make(rt: &HostRuntime, alloc: Global, call: Call) -> Result<()> {
         Call::PutDir => put_dir(rt, alloc),
         Call::Push => push(rt, alloc),
         Call::Query(query, path) => ask(rt, alloc, query, path),
-        Call::Dates => dates(rt, alloc),
-        Call::Filters => filters(rt, alloc),
-        Call::CheckObjects => compare(rt, alloc),
-        Call::List => list(rt, alloc),
-        Call::Run(command) => run(rt, alloc, command),
-        Call::Open(opener, path) => open(rt, alloc, opener, path),
         Call::OpenAt(opener) => open_at(rt, alloc, opener),
         Call::OpenLayer => open_layer(rt, alloc),
     }
@@ -134,30 +121,6 @@ fn verify_integrity(rt: &HostRuntime, alloc: Global, distinct_ids: bool, path: &
     }
 }
 
-fn dates(rt: &HostRuntime, alloc: Global) -> Result<()> {
-    let graph = graph(rt, alloc, "dated")?;
-    begin(rt)?;
-    let answer = CorrectedDates::of_graph(alloc, &graph);
-    tell(rt, &answer.map(|dates| dates.is_some()))
-}
-
-fn filters(rt: &HostRuntime, alloc: Global) -> Result<()> {
-    let graph = graph(rt, alloc, "dated")?;
-    begin(rt)?;
-    let answer = GraphFilters::of_graph(alloc, &graph);
-    tell(rt, &answer.map(|filters| filters.computed()))
-}
-
-/// Compares a graph with the stream of its commits.
-fn compare(rt: &HostRuntime, alloc: Global) -> Result<()> {
-    let graph = graph(rt, alloc, "long")?;
-    let stream = bytes_of(rt, "stream")?;
-    begin(rt)?;
-    let commits = graph.num_commits();
-    let answer = check_objects(alloc, &graph, &mut stream.as_slice(), 0, commits);
-    tell(rt, &answer)
-}
-
 /// Puts the upper layer of the chain on top of the lower one, which was checked, and tells how many
 /// commits the graph has after that.
 fn push(rt: &HostRuntime, alloc: Global) -> Result<()> {
@@ -170,7 +133,7 @@ fn push(rt: &HostRuntime, alloc: Global) -> Result<()> {
 
 /// Puts a file into a folder, and tells what stands there.
 fn put_file(rt: &HostRuntime, alloc: Global) -> Result<()> {
-    let (path, bytes) = (owned(alloc, "f")?, room(alloc)?);
+    let (path, bytes) = (owned(alloc, "f")?, Vec::new(alloc));
     begin(rt)?;
     let mut memory = Memory::new(alloc);
     let answer = memory.put_file(path, bytes);
@@ -191,64 +154,6 @@ type Standing = (Result<bool, AllocError>, Result<bool, AllocError>);
 
 fn standing(alloc: Global, memory: &mut Memory) -> Standing {
     (memory.is_file(alloc, "f"), memory.is_dir(alloc, "f"))
-}
-
-/// Lists the file `f`.
-fn list(rt: &HostRuntime, alloc: Global) -> Result<()> {
-    let (bytes, mut out) = (bytes_of(rt, "f")?, room(alloc)?);
-    begin(rt)?;
-    let answer = run_list(alloc, &mut bytes.as_slice(), &mut out);
-    tell_run(rt, answer, &out)
-}
-
-/// Runs another command of `graphtool`.
-fn run(rt: &HostRuntime, alloc: Global, command: Command) -> Result<()> {
-    let (mut memory, mut out) = (memory(rt, alloc)?, room(alloc)?);
-    begin(rt)?;
-    let answer = answered(alloc, command, &mut memory, &mut out);
-    tell_run(rt, answer, &out)
-}
-
-/// The contracts of the commands are long, and here they end.
-fn answered<T: Folder>(
-    alloc: Global,
-    command: Command,
-    folder: &mut T,
-    out: &mut Vec<u8>,
-) -> Result<u8, WriteFailed> {
-    match command {
-        Command::Verify { path } => run_verify(alloc, folder, path, out),
-        Command::Distinct => run_distinct(alloc, folder, "chain", out),
-        Command::Find => run_find(alloc, folder, "chain", SECOND, out),
-        Command::Ancestor => run_ancestor(alloc, folder, "chain", SECOND, FIRST, out),
-    }
-}
-
-/// The id of the chain's first commit.
-const FIRST: &str = "0101010101010101010101010101010101010101";
-
-/// The id of the second.
-const SECOND: &str = "0202020202020202020202020202020202020202";
-
-/// Opens by a path in memory.
-fn open(rt: &HostRuntime, alloc: Global, opener: Opener, path: &str) -> Result<()> {
-    let mut memory = memory(rt, alloc)?;
-    begin(rt)?;
-    tell(rt, &opened_in(alloc, &mut memory, opener, path))
-}
-
-fn opened_in(
-    alloc: Global,
-    memory: &mut Memory,
-    opener: Opener,
-    path: &str,
-) -> Result<u32, OpenError> {
-    commits(match opener {
-        Opener::File => open_file_in(alloc, memory, path),
-        Opener::ChainDir => open_chain_dir_in(alloc, memory, path),
-        Opener::InfoDir => open_info_dir_in(alloc, memory, path),
-        Opener::Any => open_in(alloc, memory, path),
-    })
 }
 
 /// Opens by a path on disk.

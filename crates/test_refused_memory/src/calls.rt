@@ -14,13 +14,6 @@ pub enum Call {
     Push,
     /// A question, and the path of the graph.
     Query(Query, &'static str),
-    Dates,
-    Filters,
-    CheckObjects,
-    List,
-    Run(Command),
-    /// An opener, and the path in memory.
-    Open(Opener, &'static str),
     OpenAt(HostOpener),
     OpenLayer,
 }
@@ -33,24 +26,6 @@ pub enum Query {
     Walk,
     WalkTwice,
     CompareTwice,
-}
-
-/// A command of `graphtool`.
-#[derive(Clone, Copy)]
-pub enum Command {
-    Verify { path: &'static str },
-    Distinct,
-    Find,
-    Ancestor,
-}
-
-/// A way to open a graph in memory.
-#[derive(Clone, Copy)]
-pub enum Opener {
-    File,
-    ChainDir,
-    InfoDir,
-    Any,
 }
 
 /// A way to open a graph on disk.
@@ -82,29 +57,6 @@ const CALLS: &[(&str, Call)] = &[
     ("CheckedGraph::push", Call::Push),
     ("put_file", Call::PutFile),
     ("put_dir", Call::PutDir),
-    ("CorrectedDates::of_graph", Call::Dates),
-    ("GraphFilters::of_graph", Call::Filters),
-    ("check_objects", Call::CheckObjects),
-    ("run_list", Call::List),
-    ("run_verify", Call::Run(Command::Verify { path: "chain" })),
-    (
-        "run_verify_info",
-        Call::Run(Command::Verify { path: "info" }),
-    ),
-    ("run_distinct", Call::Run(Command::Distinct)),
-    ("run_find", Call::Run(Command::Find)),
-    ("run_ancestor", Call::Run(Command::Ancestor)),
-    ("open_file_in", Call::Open(Opener::File, "f")),
-    ("open_chain_dir_in", Call::Open(Opener::ChainDir, "chain")),
-    ("open_info_dir_in", Call::Open(Opener::InfoDir, "info")),
-    (
-        "open_info_dir_in damaged",
-        Call::Open(Opener::InfoDir, "damaged"),
-    ),
-    ("open_in file", Call::Open(Opener::Any, "f")),
-    ("open_in chain", Call::Open(Opener::Any, "chain")),
-    ("open_in info", Call::Open(Opener::Any, "info")),
-    ("open_in damaged", Call::Open(Opener::Any, "damaged")),
     ("Graph::from_file", Call::OpenAt(HostOpener::FromFile)),
     (
         "Graph::from_info_dir",

@@ -12,7 +12,7 @@ mod inputs;
 mod questions;
 mod told;
 
-use anyhow::Result;
+use anyhow::{Result, bail};
 use calls::Call;
 use std::io::Read;
 
@@ -24,6 +24,6 @@ fn main(rt: HostRuntime) -> Result<()> {
     let len = rt.reader().read(&mut name)?;
     match Call::named(&name[..len]) {
         Some(call) => answers::make(&rt, rt.alloc(), call),
-        None => questions::run_history(&rt, rt.alloc(), &name[..len]),
+        None => bail!("no such call"),
     }
 }

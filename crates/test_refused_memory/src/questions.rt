@@ -1,15 +1,11 @@
-//! Questions about the commits of graphs, and commands of `historytool`.
+//! Questions about the commits of graphs.
 
 use crate::calls::Query;
-use crate::inputs::{bytes_of, graph, memory, room, words};
-use crate::told::{begin, tell, tell_run};
-use anyhow::{Result, bail};
+use crate::inputs::graph;
+use crate::told::{begin, tell};
+use anyhow::Result;
 use gix_commitgraph::{Graph, Position};
-use graph_commands::line::WriteFailed;
-use graph_commands::program::Run;
-use graph_folder::folder::Memory;
 use graph_history::{Checked, Comparer, Searcher};
-use history_program::command::{Command, Texts};
 use std::alloc::{AllocError, Global};
 
 /// Checks the graph at a path for queries, then asks once or twice of its last commit and its
@@ -92,40 +88,4 @@ fn bases_by(comparer: &mut Comparer<'_, '_>) -> Option<Result<Vec<Position>, All
         Ok(comparison) => Some(Ok(comparison.bases.positions)),
         Err(error) => Some(Err(error)),
     }
-}
-
-/// Runs the command of `historytool` that the words of a line ask for. It reads questions if it is
-/// `ask`, and else the stream of the graph `long`.
-pub fn run_history(rt: &HostRuntime, alloc: Global, line: &[u8]) -> Result<()> {
-    let texts = Texts {
-        help: "help",
-        version: "version",
-    };
-    let words = words(alloc, line)?;
-    let Some(command) = Command::from_words(&words, texts) else {
-        bail!("no such command");
-    };
-    let input = match command {
-        Command::Ask { .. } | Command::AskUnchecked { .. } => bytes_of(rt, "questions")?,
-        _ => bytes_of(rt, "stream")?,
-    };
-    run_command(rt, alloc, command, &input)
-}
-
-fn run_command(rt: &HostRuntime, alloc: Global, command: Command<'_>, input: &[u8]) -> Result<()> {
-    let (mut memory, mut out) = (memory(rt, alloc)?, room(alloc)?);
-    begin(rt)?;
-    let answer = history_answered(alloc, command, input, &mut memory, &mut out);
-    tell_run(rt, answer, &out)
-}
-
-/// The contract of a run is long, and here it ends.
-fn history_answered(
-    alloc: Global,
-    command: Command<'_>,
-    mut input: &[u8],
-    memory: &mut Memory,
-    out: &mut Vec<u8>,
-) -> Result<u8, WriteFailed> {
-    command.run(alloc, &mut input, memory, out)
 }

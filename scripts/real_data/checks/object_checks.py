@@ -5,6 +5,7 @@ Where `git commit-graph verify` refuses a graph for the sake of a commit, `objec
 
 import os
 import shutil
+import socket
 import subprocess
 import zlib
 from functools import partial
@@ -28,6 +29,9 @@ from wrappers.clone import run
 
 STRANGE = (0, 0x09, 0x0A, 0x20, 0x30, 0x39, 0x41, 0x67, 0xFF)
 """Bytes that may mean something else in the line of an entry."""
+
+PIECE = 128 * 1024
+"""So many bytes a read of a stream asks for."""
 
 FIXTURES = "/usr/share/doc/libgit2-fixtures/examples"
 """Where Debian has the repositories by which libgit2 is tested."""
@@ -80,6 +84,8 @@ def check_history(histories, results, repository, name, history):
         agrees = answer.status == 1 and repository.git_verdict().status
         results.check(title + ", objects refuses it as Git does", None if agrees else "it does not")
         return
+    if len(stream) <= PIECE:
+        results.check(title + ", objects in one message", judge.verdict(right, in_one_message(histories, path, stream)))
     half, runs, after = count // 2, [], count + 1
     for part in ((0, half), (half, count), (0, 0), (count, count), (0, count), (0, after), (half + 1, half), (after, after)):
         text = listed([layer], part)
@@ -87,6 +93,15 @@ def check_history(histories, results, repository, name, history):
         some = batch(repository, ids[part[0] : part[1]])
         runs.append((partial(histories.objects, path, some, *part), partial(judge.verdict, compared(Graph([layer]), some, part))))
     check_runs(results, title + ", ids and objects of a part", runs)
+
+
+def in_one_message(histories, path, stream):
+    """The answer to a stream that comes in one message. What a read does not take of it is lost."""
+    writer, reader = socket.socketpair(socket.AF_UNIX, socket.SOCK_SEQPACKET)
+    with reader:
+        with writer:
+            writer.send(stream)
+        return histories.run("objects", path, stdin=reader)
 
 
 def check_chain(histories, results, repository):

@@ -260,6 +260,8 @@ def histories():
         "outside": file((0x11, (), 1), (0xCC, (7,), 2)),
         "bytes": b"bytes",
         "asked": "\n".join(ASKED).encode(),
+        # The space before the second line's end belongs to the question.
+        "asked-with-carriage-returns": b"parents %s\r\nparents %s \r\n" % (2 * (b"1" * 40,)),
     }
 
 

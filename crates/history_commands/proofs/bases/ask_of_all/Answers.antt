@@ -2,6 +2,7 @@
 use Rattle.std.proofs.Common.{◌≡◌, ◌∷◌, map, refl, string_bytes}
 use Rattle.std.proofs.lemmas.Result.{err_from_is_err_and}
 use Rattle.graph_commands.specs.OpenerAnswer.{MayOpen}
+use Rattle.history_commands.proofs.AskLemmas.{all_refused_to_start}
 use Rattle.history_commands.proofs.BasesLemmas.{refused_reading}
 use Rattle.history_commands.proofs.bases.ask_of_all.Goals as goal
 
@@ -16,26 +17,14 @@ returns-in_err-others-clause-refused g c =
     (g.T.Folder.failure_count c.args.folder.now))
     c.in_err-others.field-0.0 first refl c.in_err-others.ensures.refused)
 
-pub returns-in_err-open_in-clause-refused : goal.returns-in_err-open_in-clause-refused
-returns-in_err-open_in-clause-refused g c =
-    let answered = err_from_is_err_and c.from_residual-in_err-open_in.result c.from_residual-in_err-open_in.ensures.1 in
-    let first = rw c.as_bytes.ensures.value at c.in_ok-first.ensures.ok in
-    let opened = c.in_err-open_in.ensures in
-    rw (answered.1, answered.2) (
-      c.in_ok-first.first ∷ c.in_ok-others.others.items,
-      (first, c.in_ok-others.ensures.spelled),
-      (opened.opens, opened.graph, opened.device),
-    )
-
 pub returns-in_err-graph-clause-refused : goal.returns-in_err-graph-clause-refused
 returns-in_err-graph-clause-refused g c =
     let answered = err_from_is_err_and c.from_residual-in_err-graph.result c.from_residual-in_err-graph.ensures.1 in
     let first = rw c.as_bytes.ensures.value at c.in_ok-first.ensures.ok in
-    let opened = c.in_ok-open_in.ensures in
-    rw (answered.1, answered.2) (
-      c.in_ok-first.first ∷ c.in_ok-others.others.items,
-      c.in_ok-open_in.field-0,
-      (first, c.in_ok-others.ensures.spelled),
-      (opened.opens, opened.graph, opened.device),
-      c.in_err-graph.ensures.refusal,
-    )
+    rw (answered.1, answered.2)
+    (all_refused_to_start (c.args.first.now ∷ map string_bytes c.args.others.now)
+    (c.in_ok-first.first ∷ c.in_ok-others.others.items)
+    (c.open_checked.new.folder ≡ c.args.folder.now)
+    (MayOpen (g.T.Folder.tree c.args.folder.now) c.args.path.now (g.T.Folder.failure_count c.args.folder.now)
+    (g.T.Folder.failure_count c.open_checked.new.folder))
+    c.in_err-graph.field-0.0 (first, c.in_ok-others.ensures.spelled) c.in_err-graph.ensures.refused)

@@ -2,7 +2,6 @@
 use Rattle.std.proofs.Common.{◌≡◌, ℕ, List, [], ap, refl, subst, sym}
 use Rattle.std.specs.Prelude.{IfOk}
 use Rattle.std.specs.Io.KnownBytes.{Appends}
-use Rattle.graph_format.specs.declared.Position.{Position}
 use Rattle.graph_bases.specs.declared.bases.Comparison.{Comparison}
 use Rattle.graph_commands.proofs.ToldLemmas.{told, told_at, wanted}
 use Rattle.history_commands.specs.MergeBases.{MayHaveBases, bases_status, bases_text, base_id_line}

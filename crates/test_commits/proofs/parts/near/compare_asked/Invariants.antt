@@ -1,5 +1,0 @@
-use Rattle.graph_parts.specs.Shown.{AreGraphParts}
-use Rattle.test_commits.proofs.parts.near.compare_asked.Given as goal
-
-abbrev pub invariant-loop-steps : goal.invariant-loop-steps
-invariant-loop-steps g l = AreGraphParts l.parts

@@ -1,5 +1,0 @@
-use Rattle.graph_parts.specs.Shown.{AreGraphParts}
-use Rattle.test_commits.proofs.parts.near.read_some.Given as goal
-
-abbrev pub invariant-loop-number : goal.invariant-loop-number
-invariant-loop-number g l = AreGraphParts l.parts
