@@ -197,6 +197,7 @@ diagnose() {
     'refused read '*) is_absent=yes ;;
     'refused open 1' | 'refused open 2' | 'refused open 3') diagnose_opening ;;
     'refused objects '*) diagnose_object ;;
+    'the commits of this repository could not be listed') diagnose_listing ;;
     'refused '*)
         name_file
         is_hindered || { advise && cure=$(anew); }

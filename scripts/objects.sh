@@ -236,7 +236,7 @@ diagnose_missing() {
         is_absent=yes
         advice='this is a partial clone, in which the commit is not here, and nothing was fetched: let Git fetch it, and ask again'
         cure="    git cat-file -e $commit"
-    elif [ "$question" = write ]; then
+    elif [ "$question" = write ] || [ "$question" = show ]; then
         advice='the commit is missing: take it from another copy of the repository, and ask again' cure='    git fsck'
     else
         advice='where no branch leads to it, Git removed it: write the commit-graph anew. Where Git says then that it is missing, take it from another copy of the repository'

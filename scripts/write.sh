@@ -370,6 +370,7 @@ diagnose_write() {
     'refused write '*) ;;
     'refused '*)
         name_file
+        [ -n "$where" ] || find_obstacle
         write_one_file
         ;;
     esac
@@ -387,9 +388,13 @@ name_commit() {
     [ -n "$commit" ]
 }
 
-# The same of a list that Git could not write to its end: what it says names the object, or a reference.
+# The same of a list that Git could not write to its end, for `write` or for `show`: what it says names the object, or a
+# reference.
 diagnose_listing() {
-    why=$(export LC_ALL=C && plain_git rev-list --quiet --glob='refs/*' 2>&1)
+    case $question in
+    show) why=$(export LC_ALL=C && plain_git rev-list --quiet --all 2>&1) ;;
+    *) why=$(export LC_ALL=C && plain_git rev-list --quiet --glob='refs/*' 2>&1) ;;
+    esac
     commit=$(printf '%s\n' "$why" | grep -Eo '\<([0-9a-f]{64}|[0-9a-f]{40})\>' | head -n 1)
     reference=$(printf '%s\n' "$why" | sed -n 's/^fatal: bad object \(refs\/.*\)$/\1/p')
     [ -n "$commit" ] || commit=$(plain_git rev-parse -q --verify "$reference" 2>/dev/null)
