@@ -72,6 +72,7 @@ def our_program(folder, name, libraries):
             file.write("%s: %s\n" % (library, " ".join(uses)))
     for library in used:
         copy_crate(library, repository)
+    # It ends with .txt where it is kept: what ends with .rt is taken for a part of the repository's crates.
     shutil.copyfile(os.path.join(sources(name), "main.rt.txt"), os.path.join(crate, "src", "main.rt"))
     built = os.path.join(crate, "out", program)
     if os.path.exists(built):

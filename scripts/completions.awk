@@ -34,8 +34,8 @@ END {
 }
 
 # Notes the options of an item: their names, what they take, what they do, and the commands that they are for, if they are for
-# some alone.
-function end_item(    colon, terms, number, at, text, own, parts, count) {
+# some alone, or the one that they are not for.
+function end_item(    colon, terms, number, at, text, own, never, parts, count) {
     if (item == "") return
     colon = index(item, ": ")
     text = substr(item, colon + 2)
@@ -45,6 +45,10 @@ function end_item(    colon, terms, number, at, text, own, parts, count) {
         count = split(substr(text, 1, RLENGTH), parts, "`")
         text = substr(text, RLENGTH + 1)
         for (at = 2; at <= count; at += 2) own = own " " first_word(parts[at])
+    } else if (match(text, /^With all commands but `[^`]*`, /)) {
+        split(substr(text, 1, RLENGTH), parts, "`")
+        text = substr(text, RLENGTH + 1)
+        never = parts[2]
     }
     for (at = 2; at <= number; at += 2) {
         options++
@@ -52,6 +56,7 @@ function end_item(    colon, terms, number, at, text, own, parts, count) {
         takes[options] = substr(terms[at], length(name[options]) + 2)
         does[options] = short(text)
         is_for[options] = substr(own, 2)
+        is_not_for[options] = never
         others[options] = substr(item_names(terms, number), 2)
     }
 }
@@ -88,7 +93,25 @@ function is_own(option, command) {
     return index(" " is_for[option] " ", " " command " ") > 0
 }
 
-function write_bash(    at, of, all, with_commits, shared, own, with_folder) {
+# Whether an option that is for all other commands is not for this one.
+function is_kept_from(option, command) {
+    return command != "" && is_not_for[option] == command
+}
+
+# The options that are for all commands, but for those that are not for this one.
+function shared_with(command,    at, words) {
+    for (at = 1; at <= options; at++)
+        if (is_for[at] == "" && !is_kept_from(at, command) && (name[at] ~ /^--/ || name[at] == others[at])) words = words " " name[at]
+    return substr(words, 2)
+}
+
+# Whether there is such an option.
+function is_left_out(command,    at) {
+    for (at = 1; at <= options; at++) if (is_kept_from(at, command)) return 1
+    return 0
+}
+
+function write_bash(    at, of, all, with_commits, own, with_folder) {
     for (at = 1; at <= count; at++) {
         all = all " " commands[at]
         if (takes_commits[commands[at]]) with_commits = with_commits " | " commands[at] ",*"
@@ -96,16 +119,16 @@ function write_bash(    at, of, all, with_commits, shared, own, with_folder) {
     for (at = 1; at <= options; at++) {
         if (takes[at] == "<folder>") with_folder = with_folder " | " name[at]
         if (name[at] !~ /^--/ && name[at] != others[at]) continue
-        if (is_for[at] == "") shared = shared " " name[at]
-        else for (of = 1; of <= count; of++) if (is_own(at, commands[of])) own[commands[of]] = own[commands[of]] " " name[at]
+        for (of = 1; of <= count; of++) if (is_own(at, commands[of])) own[commands[of]] = own[commands[of]] name[at] " "
     }
     print "# Completion of `git cgraph` for bash, which Git's own completion finds by the name of this function.\n"
-    printf "_git_cgraph() {\n    local commands=%s options=%s\n", quoted(substr(all, 2)), quoted(substr(shared, 2))
+    printf "_git_cgraph() {\n    local commands=%s options=%s\n", quoted(substr(all, 2)), quoted(shared_with(""))
     print "    local command\n    command=$(__git_find_on_cmdline \"$commands\")\n    case $prev in"
     printf "    %s)\n        compopt -o filenames 2>/dev/null\n", substr(with_folder, 4)
     print "        mapfile -t COMPREPLY < <(compgen -d -- \"$cur\")\n        return\n        ;;\n    esac\n    case $command,$cur in"
     for (at = 1; at <= count; at++)
-        if (commands[at] in own) printf "    %s,-*) __gitcomp \"%s $options\" ;;\n", commands[at], substr(own[commands[at]], 2)
+        if (is_left_out(commands[at])) printf "    %s,-*) __gitcomp \"%s%s\" ;;\n", commands[at], own[commands[at]], shared_with(commands[at])
+        else if (commands[at] in own) printf "    %s,-*) __gitcomp \"%s$options\" ;;\n", commands[at], own[commands[at]]
     print "    *,-*) __gitcomp \"$options\" ;;\n    ,*) __gitcomp \"$commands\" ;;"
     printf "    %s) __git_complete_refs ;;\n    esac\n}\n\n", substr(with_commits, 4)
     print "if declare -F __git_complete >/dev/null; then\n    __git_complete git-cgraph _git_cgraph\nfi"
@@ -131,7 +154,13 @@ function write_zsh(    at) {
 function write_zsh_command(command,    at, own) {
     for (at = 1; at <= options; at++) if (is_own(at, command)) own = own " " zsh_option(at)
     if (takes_commits[command]) own = own " '*: :->commits'"
-    printf "    %s) operands=(%s) ;;\n", command, substr(own, 2)
+    printf "    %s) operands=(%s)", command, substr(own, 2)
+    if (is_left_out(command)) {
+        printf " options=("
+        for (at = 1; at <= options; at++) if (is_for[at] == "" && !is_kept_from(at, command)) printf "%s ", zsh_option(at)
+        printf ")"
+    }
+    print " ;;"
 }
 
 function zsh_option(at,    text) {
@@ -163,6 +192,7 @@ function write_fish(    at, all) {
 
 function fish_option(at,    text) {
     if (is_for[at] != "") text = " -n " quoted("__fish_seen_subcommand_from " is_for[at])
+    if (is_not_for[at] != "") text = " -n " quoted("not __fish_seen_subcommand_from " is_not_for[at])
     text = text (name[at] ~ /^--/ ? " -l " substr(name[at], 3) : " -s " substr(name[at], 2))
     if (takes[at] == "<folder>") text = text " -x -a '(__fish_complete_directories)'"
     else if (takes[at] != "") text = text " -x"

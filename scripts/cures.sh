@@ -127,6 +127,12 @@ git_there() {
     ! has_replacements || printf ' --no-replace-objects'
 }
 
+# `git`, as it is called for the repository of the question: by -C where that folder is not the shell's.
+git_here() {
+    printf git
+    [ -z "$moved" ] || printf ' -C %s' "$(quoted "$(pwd -P)")"
+}
+
 # Turns from the commit-graph of another repository, if it is one, to that which this repository may have of its own.
 turn_to_own() {
     [ "$home" = "$objects" ] || [ -n "$named" ] || { home=$objects folder=$objects/info kind=file; }
@@ -167,13 +173,13 @@ removes() {
 is_hindered() {
     if has_grafts; then
         advice="Git writes no commit-graph where '$common/info/grafts' has commits: make replacements of them, and write it"
-        cure="    git replace --convert-graft-file$newline    git --no-replace-objects commit-graph write --reachable"
+        cure="    $(git_here) replace --convert-graft-file$newline    $(git_here) --no-replace-objects commit-graph write --reachable"
     elif [ "$is_shallow" != false ]; then
         advice='Git writes no commit-graph in a shallow repository: fetch the whole history, and write it'
-        cure="    git fetch --unshallow$newline    git commit-graph write --reachable"
+        cure="    $(git_here) fetch --unshallow$newline    $(git_here) commit-graph write --reachable"
     elif ! has_commits; then
         advice='no branch or tag leads to a commit yet: make one, and write it'
-        cure='    git commit-graph write --reachable'
+        cure="    $(git_here) commit-graph write --reachable"
     else
         return 1
     fi
@@ -197,6 +203,7 @@ diagnose() {
     'refused read '*) is_absent=yes ;;
     'refused open 1' | 'refused open 2' | 'refused open 3') diagnose_opening ;;
     'refused objects '*) diagnose_object ;;
+    'the commits of this repository could not be listed') diagnose_listing ;;
     'refused '*)
         name_file
         is_hindered || { advise && cure=$(anew); }

@@ -10,7 +10,8 @@ name_files() {
     make_shared_folder "$target/info" || return
     [ -z "$split" ] || make_shared_folder "${chain%/*}" || return
     for path in "$single" "$chain"; do
-        [ ! -d "$path" ] || refuse_writing "'$path' is a folder, not a file" || return
+        [ ! -d "$path" ] ||
+            refuse_writing "'$path' is a folder, not a file" 'remove the folder, and ask again' "    rm -rf $(quoted "$path")" || return
     done
     [ ! -L "$single" ] || single=$(readlink -f "$single")
     [ ! -L "$chain" ] || chain=$(readlink -f "$chain")

@@ -231,13 +231,13 @@ diagnose_missing() {
     elif [ "$is_shallow" != false ]; then
         is_absent=yes
         advice='this repository is shallow, and the commit lies past its end: fetch the whole history, and ask again'
-        cure='    git fetch --unshallow'
+        cure="    $(git_here) fetch --unshallow"
     elif is_partial; then
         is_absent=yes
         advice='this is a partial clone, in which the commit is not here, and nothing was fetched: let Git fetch it, and ask again'
-        cure="    git cat-file -e $commit"
-    elif [ "$question" = write ]; then
-        advice='the commit is missing: take it from another copy of the repository, and ask again' cure='    git fsck'
+        cure="    $(git_here) cat-file -e $commit"
+    elif [ "$question" = write ] || [ "$question" = show ]; then
+        advice='the commit is missing: take it from another copy of the repository, and ask again' cure="    $(git_here) fsck"
     else
         advice='where no branch leads to it, Git removed it: write the commit-graph anew. Where Git says then that it is missing, take it from another copy of the repository'
         is_hindered || cure=$(anew)
@@ -249,7 +249,7 @@ diagnose_damaged() {
     file=$(loose_file)
     [ -z "$file" ] || where="the object is '$file'"
     advice='see which objects are damaged, and take them from another copy of the repository'
-    cure='    git fsck'
+    cure="    $(git_here) fsck"
 }
 
 # The file of the object by itself, if it stands in one.

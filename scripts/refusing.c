@@ -1,6 +1,6 @@
 /* Refuses one allocation of a process: `cc -shared -fPIC refusing.c -o refusing.so` makes it, and LD_PRELOAD puts it into the
  * process. REFUSED is the number of the allocation, counted from 1 after the first write, or where FROM_THE_FIRST is set, from the
- * first allocation on. A block that grows is one more.
+ * first allocation on. A vector that grows makes one more.
  */
 #define _GNU_SOURCE
 #include <dlfcn.h>

@@ -35,21 +35,22 @@ refuse_writing() {
 # Whether Git uses a commit-graph here. Else it writes none.
 is_used() {
     if [ "$(git config --type=bool core.commitGraph 2>/dev/null)" = false ]; then
-        refuse_unused 'core.commitGraph is false' 'write it all the same' 'git -c core.commitGraph=true cgraph write'
+        refuse_unused 'core.commitGraph is false' 'write it all the same' '-c core.commitGraph=true cgraph write'
     elif [ "$is_shallow" != false ]; then
-        refuse_unused 'this repository is shallow' 'fetch the whole history, and write it' 'git cgraph write' 'git fetch --unshallow'
+        refuse_unused 'this repository is shallow' 'fetch the whole history, and write it' 'cgraph write' 'fetch --unshallow'
     elif has_grafts; then
         refuse_unused "'$common/info/grafts' gives commits other parents" 'make replacements of them, and write it' \
-            'git --no-replace-objects cgraph write' 'git replace --convert-graft-file'
+            '--no-replace-objects cgraph write' 'replace --convert-graft-file'
     elif [ -z "${GIT_NO_REPLACE_OBJECTS-}" ] && has_replacements; then
         refuse_unused 'some commits are replaced (git replace)' 'write it without the replacements' \
-            'git --no-replace-objects cgraph write'
+            '--no-replace-objects cgraph write'
     fi
 }
 
-# Notes that Git uses none, and the command by which it is written, after another one if there is one.
+# Notes that Git uses none, and the words of the command of Git by which it is written, after another one if there is one.
 refuse_unused() {
-    fail 'Git uses no commit-graph here' "the reason is that $1" "$2" "${4:+    $4$newline}    $3${split:+ --split}"
+    fail 'Git uses no commit-graph here' "the reason is that $1" "$2" \
+        "${4:+    $(git_here) $4$newline}    $(git_here) $3${split:+ --split}"
 }
 
 # Whether the folder that is named is one of those in which Git looks for objects.
@@ -59,7 +60,7 @@ is_object_folder() {
     lines=''
     for place in "$@"; do
         [ ! "$place" -ef "$named" ] || return 0
-        lines="$lines${lines:+$newline}    git cgraph write${split:+ --split} --object-dir=$(quoted "$place")"
+        lines="$lines${lines:+$newline}    $(git_here) cgraph write${split:+ --split} --object-dir=$(quoted "$place")"
     done
     refuse_writing "'$named' is none of the object folders of this repository" 'name one that is' "$lines"
 }
@@ -370,13 +371,14 @@ diagnose_write() {
     'refused write '*) ;;
     'refused '*)
         name_file
+        [ -n "$where" ] || find_obstacle
         write_one_file
         ;;
     esac
 }
 
 write_one_file() {
-    advice='write it anew as one file' cure='    git cgraph write'
+    advice='write it anew as one file' cure="    $(git_here) cgraph write"
 }
 
 # Sets `commit` to the one of which a refusal speaks by its number. The answer is false where there is none of this number.
@@ -387,9 +389,13 @@ name_commit() {
     [ -n "$commit" ]
 }
 
-# The same of a list that Git could not write to its end: what it says names the object, or a reference.
+# The same of a list that Git could not write to its end, for `write` or for `show`: what it says names the object, or a
+# reference.
 diagnose_listing() {
-    why=$(export LC_ALL=C && plain_git rev-list --quiet --glob='refs/*' 2>&1)
+    case $question in
+    show) why=$(export LC_ALL=C && plain_git rev-list --quiet --all 2>&1) ;;
+    *) why=$(export LC_ALL=C && plain_git rev-list --quiet --glob='refs/*' 2>&1) ;;
+    esac
     commit=$(printf '%s\n' "$why" | grep -Eo '\<([0-9a-f]{64}|[0-9a-f]{40})\>' | head -n 1)
     reference=$(printf '%s\n' "$why" | sed -n 's/^fatal: bad object \(refs\/.*\)$/\1/p')
     [ -n "$commit" ] || commit=$(plain_git rev-parse -q --verify "$reference" 2>/dev/null)

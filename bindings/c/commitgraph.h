@@ -191,13 +191,12 @@ typedef struct cg_error { uint32_t code; uint64_t layer; } cg_error;
 /* Opens the graph of these layers, the lowest first: one file, or the files of a chain (see cg_chain_line). On CG_OK *out is the
  * graph, which is the caller's to close; else *out is left as it was. What *out was before is not freed: let it be CG_CLOSED.
  *
- * The bytes and the paths are copied, and none are kept in place of that: no reference outlives a call, and whoever changed bytes
- * that were lent, as another process changes a mapped file, would change a graph that was checked. They may go once the call has
- * returned; a graph takes 20 bytes a commit, and 4 a
- * word of the extra edge list, besides the bytes. What is no layer is refused before it is copied. All that is read of a graph
- * is read of the copy: where a mapped file changes meanwhile, the graph is one of the bytes that were copied, but no proof says
- * so. A mapped file that gets shorter meanwhile ends the program by SIGBUS, as any read of it does; who fears a change reads the
- * file instead. */
+ * The bytes and the paths are copied, and may go once the call has returned. No call keeps the caller's own: whoever changed
+ * bytes that were lent, as another process changes a mapped file, would change a graph that was checked. A graph takes 20 bytes
+ * a commit, and 4 a word of the extra edge list, besides the bytes. What is no layer is refused before it is copied. All that is
+ * read of a graph is read of the copy: where a mapped file changes meanwhile, the graph is one of the bytes that were copied, but
+ * no proof says so. A mapped file that gets shorter meanwhile ends the program by SIGBUS, as any read of it does. Whoever fears a
+ * change reads the file instead. */
 cg_error cg_open(const cg_file *files, size_t count, cg_graph *out);
 
 /* What cg_open_known is to open. */

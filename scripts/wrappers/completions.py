@@ -31,6 +31,7 @@ ASKED = {
     "git cgraph merge-base --unch": {"--unchecked"},
     "git cgraph ask --unch": {"--unchecked"},
     "git cgraph find --unch": set(),
+    "git cgraph ask --js": set(),
     "git cgraph w": {"walk", "write"},
     "git cgraph write --sp": {"--split"},
     "git cgraph write --k": {"--keep-filters"},

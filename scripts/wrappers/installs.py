@@ -204,6 +204,7 @@ def check_completion(results, clone, repository):
         ("merge-base", "--u"): {"--unchecked"},
         ("ask", "--u"): {"--unchecked"},
         ("find", "--u"): set(),
+        ("ask", "--js"): set(),
         ("find", "-q", "anno"): {"annotated"},
         ("--object-dir", "su"): {"sub"},
     }.items():
