@@ -13,37 +13,22 @@ use Rattle.graph_folder.specs.Tree.{Tree}
 use Rattle.graph_folder.specs.declared.folder.ReadError.{ReadError}
 use Rattle.graph_folder.specs.declared.folder.ReadError.TheVariants.{NotOpened}
 use Rattle.graph_format.specs.Layer.{Layer}
-use Rattle.graph_layer.specs.declared.opening.error.OpenError.{OpenError}
 use Rattle.graph_commands.specs.Block.{with_block}
 use Rattle.graph_commands.specs.OpenerAnswer.{MayOpen}
 use Rattle.graph_commands.specs.Text.{newline}
-use Rattle.graph_commands.specs.declared.refusal.Refusal.{Refusal}
-use Rattle.graph_commands.specs.declared.refusal.Refusal.TheVariants as refusal
-use Rattle.graph_reload.specs.TakenAnew.{MayNotTake}
-use Rattle.history_commands.specs.Check.{MayRefuseToStart}
 use Rattle.question_commands.specs.Asking.{AreTurns, MayAsk, MayTurn, Reloads, Session, Standing}
 use Rattle.question_commands.specs.Asking.{Turn, all_checked, session_text, turn_text}
-use Rattle.question_answers.specs.Taken.{MayTake, Opener, end_text, end_status, taken_line}
+use Rattle.question_commands.specs.Taken.{MayTake, Opener, end_text, end_status, taken_line}
 use Rattle.question_commands.specs.Ending.{EndsAsked}
 use Rattle.question_commands.specs.declared.asking.Asked.{Asked}
-use Rattle.question_lines.specs.InputLines.{HasNoLine, TakesLine}
-use Rattle.question_lines.specs.ReadLines.{AreLinesOf, HasRead}
-use Rattle.question_lines.proofs.ReadLemmas.{lines_ended, lines_failed, reads_line, reads_more, reads_none}
-use Rattle.question_answers.proofs.BlockLemmas.{with_nothing}
+use Rattle.question_commands.specs.InputLines.{HasNoLine, TakesLine}
+use Rattle.question_commands.specs.ReadLines.{AreLinesOf, HasRead}
+use Rattle.question_commands.proofs.ReadLemmas.{lines_ended, lines_failed, reads_line, reads_more, reads_none}
+use Rattle.question_commands.proofs.BlockLemmas.{with_nothing}
 use Rattle.question_commands.specs.Proceeding.{Proceeds}
-use Rattle.question_answers.specs.Replies.{HasWords, MayTellFor}
-use Rattle.question_lines.specs.declared.question.Name.TheVariants.{Reload}
-use Rattle.question_answers.proofs.ReplyLemmas.{tells_kept}
-
--- a graph that is not taken is refused as at the start
-pub starts-not : (MayOpen : Result (List Layer) OpenError → Type 0) (x : Refusal) → MayNotTake MayOpen x
-    → MayRefuseToStart MayOpen x
-starts-not MayOpen (refusal.Open e) may = may
-starts-not MayOpen (refusal.Verify e) may = may
-starts-not MayOpen (refusal.Id e) may = absurd may
-starts-not MayOpen (refusal.Read e) may = absurd may
-starts-not MayOpen (refusal.File e) may = absurd may
-starts-not MayOpen refusal.Walk may = absurd may
+use Rattle.question_commands.specs.Replies.{HasWords, MayTellFor}
+use Rattle.question_commands.specs.declared.question.Name.TheVariants.{Reload}
+use Rattle.question_commands.proofs.ReplyLemmas.{tells_kept}
 
 all_append : {X : Type 0} (P : X → Type 0) (xs ys : List X) → AllByRecursion P xs → AllByRecursion P ys
     → AllByRecursion P (xs ++ ys)

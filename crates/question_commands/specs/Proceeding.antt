@@ -4,13 +4,13 @@ use Rattle.std.specs.Io.KnownBytes.{Appends}
 use Rattle.std.specs.List.{flat_map}
 use Rattle.graph_folder.specs.declared.folder.ReadError.TheVariants.{NotOpened}
 use Rattle.question_commands.specs.Asking.{AreTurns, Standing, Turn, commits_checked, turn_text}
-use Rattle.question_lines.specs.InputLines.{HasNoLine}
-use Rattle.question_lines.specs.ReadLines.{HasRead}
-use Rattle.question_answers.specs.Replies.{HasWords}
-use Rattle.question_answers.specs.Taken.{Opener}
+use Rattle.question_commands.specs.InputLines.{HasNoLine}
+use Rattle.question_commands.specs.ReadLines.{HasRead}
+use Rattle.question_commands.specs.Replies.{HasWords}
+use Rattle.question_commands.specs.Taken.{Opener}
 use Rattle.question_commands.specs.declared.asking.Next.{Next}
 use Rattle.question_commands.specs.declared.asking.Next.TheVariants as next
-use Rattle.question_lines.specs.declared.question.Name.TheVariants.{Reload}
+use Rattle.question_commands.specs.declared.question.Name.TheVariants.{Reload}
 
 -- some turns lead from one standing to another; their lines were read, their texts were written, and so many commits were checked
 abbrev pub Proceeds : Opener → Standing → Standing → Option (List ℕ) → Option (List ℕ) → Option (List ℕ) → Option (List ℕ) → ℕ

@@ -3,9 +3,9 @@ use Rattle.std.proofs.Common.{inl, refl, rules}
 use Rattle.std.specs.Prelude.{Err}
 use Rattle.graph_commands.specs.declared.refusal.Refusal.TheVariants as refusal
 use Rattle.history_commands.specs.MergeBases.{merge_base_text}
-use Rattle.question_answers.specs.Replies.{refused_line}
+use Rattle.question_commands.specs.Replies.{refused_line}
 use Rattle.question_commands.proofs.AskingLemmas.{finishes}
-use Rattle.question_answers.proofs.ReplyLemmas.{asks_reload, tells_asked, tells_unread}
+use Rattle.question_commands.proofs.ReplyLemmas.{asks_reload, tells_asked, tells_unread}
 use Rattle.question_commands.proofs.asking.answer.Goals as goal
 
 pub returns-in-Ok-Some-Reload-clause-reload : goal.returns-in-Ok-Some-Reload-clause-reload

@@ -2,9 +2,9 @@
 use Rattle.std.proofs.Common.{◌∙◌, rules}
 use Rattle.graph_commands.specs.OpenerAnswer.{MayOpen}
 use Rattle.question_commands.specs.Asking.{Standing}
-use Rattle.question_lines.proofs.ReadLemmas.{reads_line}
+use Rattle.question_commands.proofs.ReadLemmas.{reads_line}
 use Rattle.question_commands.proofs.AskingLemmas.{proceeds_more, proceeds_none, tells_line}
-use Rattle.question_answers.proofs.ReplyLemmas.{reload_kept}
+use Rattle.question_commands.proofs.ReplyLemmas.{reload_kept}
 use Rattle.question_commands.proofs.asking.answer_over.Goals as goal
 
 pub loop-init : goal.loop-init
