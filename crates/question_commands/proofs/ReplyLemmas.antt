@@ -1,6 +1,6 @@
 -- From what is found in a graph to what may be told.
-use Rattle.std.proofs.Common.{◌≡◌, ◌≢◌, ℕ, ◌<◌, ◌≤◌, Bool, List, [], ◌∷◌, Option, Some, refl, sym, subst, inl, inr}
-use Rattle.std.proofs.Common.{⊎_elim, ◌++◌, ◌∙◌, length, map, slice_get, unwrap_or, ap, append_assoc, append-nil, arith}
+use Rattle.std.proofs.Common.{◌≡◌, ◌≢◌, ℕ, ◌≤◌, Bool, List, [], ◌∷◌, Option, Some, refl, sym, subst, inl, inr}
+use Rattle.std.proofs.Common.{◌++◌, ◌∙◌, length, map, slice_get, unwrap_or, ap, append_assoc, append-nil, arith}
 use Rattle.std.proofs.KnownBytes.{Appends-trans}
 use Rattle.std.proofs.lemmas.List.Concat.{flat_map-append}
 use Rattle.std.specs.Prelude.{Result, Ok, Err, IfErr, IfOk, OnOk, ⊤, codes}
@@ -25,8 +25,9 @@ use Rattle.history_commands.specs.Question.{MayFindBoth}
 use Rattle.history_commands.specs.Walk.{IsWalkOfIds, id_in, walk_text}
 use Rattle.history_commands.specs.declared.bases.Compared.{Compared}
 use Rattle.history_commands.specs.declared.question.Answer.{Answer}
-use Rattle.question_commands.specs.InputLines.{IsKeptAs, most_line_bytes}
-use Rattle.question_commands.specs.Questions.{Asks, AsksForBases, AsksNothing, name_text, question_ids, question_name, words_of}
+use Rattle.question_commands.specs.AnsweredLines.{MayBeTold}
+use Rattle.question_commands.specs.InputLines.{IsKeptAs}
+use Rattle.question_commands.specs.Questions.{Asks, AsksForBases, name_text, question_ids, question_name, words_of}
 use Rattle.question_commands.specs.Replies.{AddsReply, AreParentsOf, HasWords, IsOf, MayTell, MayTellFor, TellsOfIds}
 use Rattle.question_commands.specs.Replies.{parent_text, parents_line}
 use Rattle.question_commands.specs.declared.question.Question.{Question}
@@ -109,26 +110,29 @@ module _ (layers : List Layer) where
   no_memory (id ∷ other ∷ ids) two texts all = tells_no_memory id (other ∷ ids) (λ none. cc) texts all
 
   -- there is no memory to read a question
-  pub tells_unread : (line : List ℕ) → AsksForBases line → MayTellFor layers line (merge_base_text (Err refusal.Walk))
+  tells_unread : (line : List ℕ) → AsksForBases line → MayTellFor layers line (merge_base_text (Err refusal.Walk))
   tells_unread line asks =
       inr (MergeBase, asks.0, (asks.2, asks.3), no_memory asks.1 asks.5 asks.0 asks.4)
 
   -- what is told for a question is told for its line
-  pub tells_asked : (line told : List ℕ) (asked : Question) → Asks line asked
+  tells_asked : (line told : List ℕ) (asked : Question) → Asks line asked
       → TellsOfIds layers (question_name asked) (question_ids asked) told → MayTellFor layers line told
   tells_asked line told asked asks tells =
       inr (question_name asked, asks.0, (asks.1, asks.2), tells asks.0 asks.3)
 
-  -- what is told for what is kept of a line is told for the line
-  pub tells_kept : (line kept told : List ℕ) → IsKeptAs line kept → MayTellFor layers kept told → MayTellFor layers line told
-  tells_kept line kept told is may = ⊎_elim
-      (λ (same : kept ≡ line). subst (λ (l : List ℕ). MayTellFor layers l told) same may)
-      (λ (long : (most_line_bytes < length line) × (most_line_bytes < length kept)). ⊎_elim
-      (λ (none : AsksNothing kept × (told ≡ _)).
-      inl ((λ asked asks. let fits = asks.1 in absurd (omega (arith, long.0))), none.1))
-      (λ some. let fits = some.2.0 in absurd (omega (arith, long.1)))
-      may)
-      is
+  -- what may be told for a line over the graph is told for the line
+  pub tells_over : (line told : List ℕ) → MayBeTold layers line told → MayTellFor layers line told
+  tells_over line told (inl none) = inl none
+  tells_over line told (inr (inl many)) = subst (MayTellFor layers line) (sym many.1) (tells_unread line many.0)
+  tells_over line told (inr (inr some)) = tells_asked line told some.0 some.1 some.2
+
+  -- what may be told for what is kept of a line may be told for the line
+  pub told_kept : (line kept told : List ℕ) → IsKeptAs line kept → MayBeTold layers kept told → MayBeTold layers line told
+  told_kept line kept told (inl same) may = subst (λ (l : List ℕ). MayBeTold layers l told) same may
+  told_kept line kept told (inr long) (inl none) =
+      inl ((λ asked asks. let fits = asks.1 in absurd (omega (arith, long.0, fits))), none.1)
+  told_kept line kept told (inr long) (inr (inl many)) = let fits = many.0.2 in absurd (omega (arith, long.1, fits))
+  told_kept line kept told (inr long) (inr (inr some)) = let fits = some.1.1 in absurd (omega (arith, long.1, fits))
 
 -- a line that asks for the graph to be opened anew has no word but that
 no_texts : (texts : List (List ℕ)) → AllZip SpellsId texts [] → texts ≡ []
@@ -139,13 +143,10 @@ pub asks_reload : (line : List ℕ) → Asks line question.Reload → HasWords l
 asks_reload line asks =
     (asks.1, subst (λ (texts : List (List ℕ)). words_of line ≡ name_text Reload ∷ texts) (no_texts asks.0 asks.3) asks.2)
 
--- the same of the line of which this is kept
-pub reload_kept : (line kept : List ℕ) → IsKeptAs line kept → HasWords kept Reload [] → HasWords line Reload []
-reload_kept line kept is has = ⊎_elim
-    (λ (same : kept ≡ line). subst (λ (l : List ℕ). HasWords l Reload []) same has)
-    (λ (long : (most_line_bytes < length line) × (most_line_bytes < length kept)).
-    let fits = has.0 in absurd (omega (arith, long.1)))
-    is
+-- the line of which this is kept asks the same
+pub asks_kept : (line kept : List ℕ) (asked : Question) → IsKeptAs line kept → Asks kept asked → Asks line asked
+asks_kept line kept asked (inl same) asks = subst (λ (l : List ℕ). Asks l asked) same asks
+asks_kept line kept asked (inr long) asks = let fits = asks.1 in absurd (omega (arith, long.1, fits))
 
 -- what is told was added, if it was
 pub adds : {T E : Type 0} (result : Result T E) (layers : List Layer) (name : Name) (ids : List (List ℕ))

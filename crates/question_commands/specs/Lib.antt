@@ -6,6 +6,7 @@ pub mod WordsLeft
 pub mod Replies
 pub mod Taken
 pub mod TakenAnew
+pub mod AnsweredLines
 pub mod Asking
 pub mod Ending
 pub mod Proceeding

@@ -12,7 +12,7 @@ AreLinesOf input unread asked None = IfSome input (λ bytes. (lines bytes ≡ as
 AreLinesOf input unread asked (Some error) =
     (error ≢ NotOpened) × IfSome input (λ bytes. (rest : List (List ℕ)) × (lines bytes ≡ asked ++ rest))
 
--- For private contracts: these lines of known bytes were read, and these bytes are left
+-- these lines of known bytes were read, and these bytes are left
 abbrev pub HasRead : Option (List ℕ) → Option (List ℕ) → List (List ℕ) → Type 0
 HasRead None left asked = ⊤
 HasRead (Some bytes) None asked = ⊥

@@ -12,7 +12,7 @@ returns-in-Err-clause-told g c =
 
 pub returns-clause-told : goal.returns-clause-told
 returns-clause-told g c =
-    let adds = c.in_ok-answer_over.ensures.told in
+    let adds = c.in_ok-answer_whole.ensures.told in
     (adds.0, inr (Ok c.in-Ok.whole.graph.layers, (c.in-Ok.ensures.opened, c.in-Ok.ensures.right), adds.1), adds.2)
 
 pub returns-clause-kept : goal.returns-clause-kept

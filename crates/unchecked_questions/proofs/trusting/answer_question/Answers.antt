@@ -76,5 +76,5 @@ pub returns-in-Whole-clause-told : goal.returns-in-Whole-clause-told
 returns-in-Whole-clause-told g c =
     let failures = g.T.Folder.failure_count c.args.folder.now in
     let stays = rw c.in-Whole.is at c.requires.kept in
-    adds_taken c.answer_over.result _ failures failures c.args.question.now _ _ _ (stays.0 failures, stays.1)
-    c.answer_over.ensures.told
+    adds_taken c.answer_whole.result _ failures failures c.args.question.now _ _ _ (stays.0 failures, stays.1)
+    c.answer_whole.ensures.told

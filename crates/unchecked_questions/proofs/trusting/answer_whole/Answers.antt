@@ -5,7 +5,7 @@ use Rattle.graph_history.specs.RightGraph.{CheckedLayers}
 use Rattle.question_commands.specs.Questions.{question_ids, question_name}
 use Rattle.question_commands.specs.Replies.{TellsOfIds}
 use Rattle.unchecked_questions.proofs.TrustingLemmas.{adds_told}
-use Rattle.unchecked_questions.proofs.trusting.answer_over.Goals as goal
+use Rattle.unchecked_questions.proofs.trusting.answer_whole.Goals as goal
 
 pub returns-clause-told : goal.returns-clause-told
 returns-clause-told g c =
