@@ -131,7 +131,7 @@ over_more layers input read left old written new kept told before takes may adde
 
 -- what was answered over the graph that stands are turns, in which nothing is checked
 module _ (MayOpen : Opener) (standing : Standing) where
-  turn_of : Told → Turn
+  abbrev turn_of : Told → Turn
   turn_of one = record { line = one.line; before = standing; told = one.told; after = standing; checked = 0 }
 
   are_turns : (told : List Told) → AllByRecursion (λ (t : Told). MayBeTold standing.layers t.line t.told) told

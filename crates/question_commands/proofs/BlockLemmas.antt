@@ -1,5 +1,5 @@
 -- A block that has nothing.
-use Rattle.std.proofs.Common.{◌≡◌, ℕ, List, [], ◌++◌, Option, Some, None, refl, ap, append-nil}
+use Rattle.std.proofs.Common.{◌≡◌, ℕ, List, [], Option, Some, None, refl, ap, append-nil}
 use Rattle.graph_commands.specs.Block.{with_block}
 
 pub with_nothing : (old : Option (List ℕ)) → with_block old [] ≡ old

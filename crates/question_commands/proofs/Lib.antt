@@ -3,6 +3,5 @@ pub mod ReadLemmas
 pub mod QuestionLemmas
 pub mod ReplyLemmas
 pub mod BlockLemmas
-pub mod ReloadLemmas
 pub mod TakingLemmas
 pub mod AskingLemmas

@@ -4,7 +4,6 @@ use Rattle.std.specs.Prelude.{map, min, sum_by}
 use Rattle.std.specs.List.{AllByRecursion, flat_map}
 use Rattle.graph_folder.specs.declared.folder.ReadError.{ReadError}
 use Rattle.graph_format.specs.Layer.{Layer}
-use Rattle.graph_layer.specs.declared.opening.error.OpenError.{OpenError}
 use Rattle.graph_commands.specs.RefusalLines.{refusal_text, refusal_status}
 use Rattle.graph_commands.specs.Text.{◌⧺◌, newline}
 use Rattle.graph_commands.specs.declared.refusal.Refusal.{Refusal}

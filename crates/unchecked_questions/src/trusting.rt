@@ -236,9 +236,7 @@ fn answer_lines<R: Read, T: Folder, W: Write>(
 {
     let mut kept = kept;
     for _ in 0..u64::MAX {
-        let next = answer_kept(
-            alloc, lines, reader, folder, path, &mut kept, block, writer,
-        )?;
+        let next = answer_kept(alloc, lines, reader, folder, path, &mut kept, block, writer)?;
         match next {
             Next::End => return Ok(None),
             Next::Failed(error) => return Ok(Some(error)),
