@@ -235,9 +235,9 @@ pub enum Next {
     Reload,
 }
 
-/// Answers lines over a graph, until none is left, or one asks for the graph to be opened anew. Each
-/// answer ends with an empty line, and is flushed with it. `WriteFailed` comes where the writer
-/// fails.
+/// Answers lines over a graph, until none is left, or one asks for the graph to be opened anew.
+/// Each answer ends with an empty line, and is flushed with it. `WriteFailed` comes where the
+/// writer fails.
 pub fn answer_over<R: Read, W: Write>(
     alloc: Global,
     graph: &CheckedGraph,
