@@ -4,46 +4,29 @@ use Rattle.std.proofs.Common.{append_assoc, append-nil, inl, inr, arith, min, �
 use Rattle.std.specs.Io.KnownBytes.{Appends, prepend_known}
 use Rattle.std.proofs.KnownBytes.{Appends-nil, Appends-trans}
 use Rattle.std.specs.List.{AllByRecursion, flat_map}
-use Rattle.std.specs.Str.Lines.{lines}
 use Rattle.std.proofs.lemmas.List.{map-append}
 use Rattle.std.proofs.lemmas.List.Concat.{flat_map-append}
 use Rattle.std.proofs.lemmas.List.Sums.{sum_by-append, sum_by-cons}
 use Rattle.std.specs.Prelude.{Bool, true, Result, Ok, Err, IfOk, OnOk, ◌≢◌}
-use Rattle.graph_folder.specs.Tree.{Tree}
 use Rattle.graph_folder.specs.declared.folder.ReadError.{ReadError}
 use Rattle.graph_folder.specs.declared.folder.ReadError.TheVariants.{NotOpened}
 use Rattle.graph_format.specs.Layer.{Layer}
-use Rattle.graph_layer.specs.declared.opening.error.OpenError.{OpenError}
 use Rattle.graph_commands.specs.Block.{with_block}
-use Rattle.graph_commands.specs.OpenerAnswer.{MayOpen}
 use Rattle.graph_commands.specs.Text.{newline}
-use Rattle.graph_commands.specs.declared.refusal.Refusal.{Refusal}
-use Rattle.graph_commands.specs.declared.refusal.Refusal.TheVariants as refusal
-use Rattle.graph_reload.specs.TakenAnew.{MayNotTake}
-use Rattle.history_commands.specs.Check.{MayRefuseToStart}
 use Rattle.question_commands.specs.Asking.{AreTurns, MayAsk, MayTurn, Reloads, Session, Standing}
-use Rattle.question_commands.specs.Asking.{Turn, all_checked, session_text, turn_text}
-use Rattle.question_answers.specs.Taken.{MayTake, Opener, end_text, end_status, taken_line}
+use Rattle.question_commands.specs.Asking.{Turn, all_checked, commits_checked, session_text, turn_text}
+use Rattle.question_commands.specs.Taken.{MayTake, Opener, end_text, end_status, taken_line}
 use Rattle.question_commands.specs.Ending.{EndsAsked}
 use Rattle.question_commands.specs.declared.asking.Asked.{Asked}
-use Rattle.question_lines.specs.InputLines.{HasNoLine, TakesLine}
-use Rattle.question_lines.specs.ReadLines.{AreLinesOf, HasRead}
-use Rattle.question_lines.proofs.ReadLemmas.{lines_ended, lines_failed, reads_line, reads_more, reads_none}
-use Rattle.question_answers.proofs.BlockLemmas.{with_nothing}
+use Rattle.question_commands.specs.InputLines.{HasNoLine, TakesLine}
+use Rattle.question_commands.specs.ReadLines.{AreLinesOf, HasRead}
+use Rattle.question_commands.proofs.ReadLemmas.{lines_ended, lines_failed, reads_line, reads_more, reads_none}
+use Rattle.question_commands.proofs.BlockLemmas.{with_nothing}
 use Rattle.question_commands.specs.Proceeding.{Proceeds}
-use Rattle.question_answers.specs.Replies.{HasWords, MayTellFor}
-use Rattle.question_lines.specs.declared.question.Name.TheVariants.{Reload}
-use Rattle.question_answers.proofs.ReplyLemmas.{tells_kept}
-
--- a graph that is not taken is refused as at the start
-pub starts-not : (MayOpen : Result (List Layer) OpenError → Type 0) (x : Refusal) → MayNotTake MayOpen x
-    → MayRefuseToStart MayOpen x
-starts-not MayOpen (refusal.Open e) may = may
-starts-not MayOpen (refusal.Verify e) may = may
-starts-not MayOpen (refusal.Id e) may = absurd may
-starts-not MayOpen (refusal.Read e) may = absurd may
-starts-not MayOpen (refusal.File e) may = absurd may
-starts-not MayOpen refusal.Walk may = absurd may
+use Rattle.question_commands.specs.AnsweredLines.{AnswersOver, MayBeTold, Told, told_text}
+use Rattle.question_commands.specs.Questions.{Asks}
+use Rattle.question_commands.specs.declared.question.Question.TheVariants as question
+use Rattle.question_commands.proofs.ReplyLemmas.{asks_reload, tells_over, told_kept}
 
 all_append : {X : Type 0} (P : X → Type 0) (xs ys : List X) → AllByRecursion P xs → AllByRecursion P ys
     → AllByRecursion P (xs ++ ys)
@@ -125,26 +108,73 @@ module _ (MayOpen : Opener) (first last : Standing) (input left unread old new :
       let asked = map (λ (turn : Turn). turn.line) proceeds.0 in
       (proceeds.0, last, proceeds.1, is, lines_failed input left unread asked error proceeds.2 failed, proceeds.3, counts_all)
 
--- a line was answered over the graph that stands
-pub tells_line : (known : Option Tree) (path : List ℕ) (failures : ℕ) (layers : List Layer)
-    (before left old new : Option (List ℕ)) (kept told : List ℕ) → TakesLine before left kept
-    → MayTellFor layers kept told → Appends old new (told ++ newline)
-    → let standing : Standing = record { layers = layers; failures = failures } in
-    Proceeds (MayOpen known path) standing standing before left old new 0
-tells_line known path failures layers before left old new kept told takes may written =
-    let standing : Standing = record { layers = layers; failures = failures } in
-    let turn : Turn = record { line = takes.0; before = standing; told = told; after = standing; checked = 0 } in
-    proceeds_turn (MayOpen known path) turn before left old new
-    (inl (tells_kept layers takes.0 kept told takes.2 may, refl, refl)) (reads_line before left takes.0 takes.1) written
+-- no line was answered over a graph yet
+pub over_none : (layers : List Layer) (input old : Option (List ℕ)) → AnswersOver layers input input old old
+over_none layers input old = ([], tt, reads_none input, Appends-nil old)
+
+-- one line more was
+pub over_more : (layers : List Layer) (input read left old written new : Option (List ℕ)) (kept told : List ℕ)
+    → AnswersOver layers input read old written → TakesLine read left kept → MayBeTold layers kept told
+    → Appends written new (told ++ newline) → AnswersOver layers input left old new
+over_more layers input read left old written new kept told before takes may added =
+    let turn : Told = record { line = takes.0; told = told } in
+    let line = λ (t : Told). t.line in (
+      before.0 ++ turn ∷ [],
+      all_append (λ (t : Told). MayBeTold layers t.line t.told) before.0 (turn ∷ []) before.1
+          (told_kept layers takes.0 kept told takes.2 may, tt),
+      subst (HasRead input left) (sym (map-append line before.0 (turn ∷ [])))
+          (reads_more input read left (map line before.0) (takes.0 ∷ []) before.2 (reads_line read left takes.0 takes.1)),
+      subst (Appends old new) (sym (flat_map-append told_text before.0 (turn ∷ [])))
+          (Appends-trans old written new (flat_map told_text before.0) (flat_map told_text (turn ∷ [])) before.3
+          (subst (Appends written new) (sym (append-nil (told_text turn))) added)),
+    )
+
+-- what was answered over the graph that stands are turns, in which nothing is checked
+module _ (MayOpen : Opener) (standing : Standing) where
+  abbrev turn_of : Told → Turn
+  turn_of one = record { line = one.line; before = standing; told = one.told; after = standing; checked = 0 }
+
+  are_turns : (told : List Told) → AllByRecursion (λ (t : Told). MayBeTold standing.layers t.line t.told) told
+      → AreTurns MayOpen standing standing (map turn_of told)
+  are_turns [] all = turns_none MayOpen standing
+  are_turns (one ∷ told) all =
+      turns_more MayOpen standing standing standing (turn_of one ∷ []) (map turn_of told)
+      (one_turn MayOpen (turn_of one) (inl (tells_over standing.layers one.line one.told all.0, refl, refl)))
+      (are_turns told all.1)
+
+  same_lines : (told : List Told) → map (λ (t : Turn). t.line) (map turn_of told) ≡ map (λ (t : Told). t.line) told
+  same_lines [] = refl
+  same_lines (one ∷ told) = ap (λ (ls : List (List ℕ)). one.line ∷ ls) (same_lines told)
+
+  same_text : (told : List Told) → flat_map turn_text (map turn_of told) ≡ flat_map told_text told
+  same_text [] = refl
+  same_text (one ∷ told) = ap (λ (l : List ℕ). told_text one ++ l) (same_text told)
+
+  none_checked : (told : List Told) → 0 ≡ commits_checked (map turn_of told)
+  none_checked [] = refl
+  none_checked (one ∷ told) =
+      let all : commits_checked (map turn_of (one ∷ told)) ≡ 0 + commits_checked (map turn_of told) =
+      sum_by-cons (λ (t : Turn). t.checked) (turn_of one) (map turn_of told) in
+      omega (arith, none_checked told, all)
+
+  pub proceeds_over : (input left old new : Option (List ℕ)) → AnswersOver standing.layers input left old new
+      → Proceeds MayOpen standing standing input left old new 0
+  proceeds_over input left old new over = (
+    map turn_of over.0,
+    are_turns over.0 over.1,
+    subst (HasRead input left) (sym (same_lines over.0)) over.2,
+    subst (Appends old new) (sym (same_text over.0)) over.3,
+    none_checked over.0,
+  )
 
 -- a line was read that asks for the graph to be opened anew, and it was
 pub reloads_line : (MayOpen : Opener) (before after : Standing) (line told : List ℕ) (checked : ℕ)
-    (read left old new : Option (List ℕ)) → HasRead read left (line ∷ []) → HasWords line Reload []
+    (read left old new : Option (List ℕ)) → HasRead read left (line ∷ []) → Asks line question.Reload
     → Reloads MayOpen before told checked after → Appends old new (told ++ newline)
     → Proceeds MayOpen before after read left old new checked
-reloads_line MayOpen before after line told checked read left old new reads has reloads written =
+reloads_line MayOpen before after line told checked read left old new reads asks reloads written =
     let turn : Turn = record { line = line; before = before; told = told; after = after; checked = checked } in
-    proceeds_turn MayOpen turn read left old new (inr (has, reloads)) reads written
+    proceeds_turn MayOpen turn read left old new (inr (asks_reload line asks, reloads)) reads written
 
 -- the text of a session was written, and why it ended
 pub asks : (MayOpen : Opener) (before opened after : ℕ) (input unread a b c d : Option (List ℕ)) (layers : List Layer)
@@ -194,10 +224,10 @@ asks_ended (Err error) MayOpen before opened after input unread a b c d layers t
 
 -- an answer and an empty line were written, if they were
 pub finishes : {E : Type 0} (result : Result Bool E) (layers : List Layer) (line text block : List ℕ)
-    (old middle new : Option (List ℕ)) → MayTellFor layers line text → block ≡ [] → Appends (with_block old block) middle text
+    (old middle new : Option (List ℕ)) → MayBeTold layers line text → block ≡ [] → Appends (with_block old block) middle text
     → OnOk result (Appends middle new newline)
     → IfOk result (λ (told : Bool). told ≡ true
-    → (text : List ℕ) × MayTellFor layers line text × Appends old new (text ++ newline))
+    → (text : List ℕ) × MayBeTold layers line text × Appends old new (text ++ newline))
 finishes (Ok told) layers line text block old middle new may none added written = λ is.
     let begun : Appends old middle text =
     subst (λ (front : Option (List ℕ)). Appends front middle text) (ap (λ (b : List ℕ). with_block old b) none ∙ with_nothing old)

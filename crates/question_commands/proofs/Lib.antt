@@ -1,1 +1,7 @@
+pub mod LineLemmas
+pub mod ReadLemmas
+pub mod QuestionLemmas
+pub mod ReplyLemmas
+pub mod BlockLemmas
+pub mod TakingLemmas
 pub mod AskingLemmas

@@ -4,16 +4,15 @@ use Rattle.std.specs.Prelude.{map, min, sum_by}
 use Rattle.std.specs.List.{AllByRecursion, flat_map}
 use Rattle.graph_folder.specs.declared.folder.ReadError.{ReadError}
 use Rattle.graph_format.specs.Layer.{Layer}
-use Rattle.graph_layer.specs.declared.opening.error.OpenError.{OpenError}
 use Rattle.graph_commands.specs.RefusalLines.{refusal_text, refusal_status}
 use Rattle.graph_commands.specs.Text.{◌⧺◌, newline}
 use Rattle.graph_commands.specs.declared.refusal.Refusal.{Refusal}
 use Rattle.graph_history.specs.Reload.{StandAboveShared}
 use Rattle.history_commands.specs.Check.{MayRefuseToStart}
-use Rattle.question_lines.specs.ReadLines.{AreLinesOf}
-use Rattle.question_answers.specs.Replies.{HasWords, MayTellFor}
-use Rattle.question_answers.specs.Taken.{MayTake, Opener, end_status, end_text, taken_line}
-use Rattle.question_lines.specs.declared.question.Name.TheVariants.{Reload}
+use Rattle.question_commands.specs.ReadLines.{AreLinesOf}
+use Rattle.question_commands.specs.Replies.{HasWords, MayTellFor}
+use Rattle.question_commands.specs.Taken.{MayTake, Opener, end_status, end_text, taken_line}
+use Rattle.question_commands.specs.declared.question.Name.TheVariants.{Reload}
 
 -- What stands between two lines: the graph that answers, and how many reads of the folder's device have failed.
 pub record Standing : Type 0 where

@@ -1,34 +1,30 @@
 //! The command `ask`: many questions about the graph at a path, one a line.
 
-ghost use Rattle.std.specs.Prelude.{◌≡◌, ◌≢◌, ◌⊎◌, [], ◌∷◌, ℕ, List, Option, Some, None, Ok, Err};
-ghost use Rattle.std.specs.Prelude.{IfOk, OnOk, map, true, false};
+ghost use Rattle.std.specs.Prelude.{◌≡◌, [], ℕ, List, Option, Ok, IfOk, OnOk, map, true, false};
 ghost use Rattle.std.specs.Io.KnownBytes.{Appends, prepend_known};
 ghost use Rattle.std.specs.List.{flat_map};
-ghost use Rattle.graph_folder.specs.Tree.{Tree};
-ghost use Rattle.graph_commands.specs.Block.{with_block};
 ghost use Rattle.graph_commands.specs.OpenerAnswer.{MayOpen};
 ghost use Rattle.graph_commands.specs.Text.{◌⧺◌, newline};
 ghost use Rattle.graph_history.specs.RightGraph.{plain_options};
-ghost use Rattle.question_lines.specs.ReadLines.{AreLinesOf};
-ghost use Rattle.question_lines.specs.declared.question.Name.TheVariants as named;
-ghost use Rattle.question_answers.specs.Replies.{HasWords, MayTellFor};
-ghost use Rattle.question_answers.specs.Taken.{end_text, end_status, taken_line};
+ghost use Rattle.question_commands.specs.AnsweredLines.{AnswersOver, MayBeTold, StopsAt};
 ghost use Rattle.question_commands.specs.Asking.{AreTurns, MayAsk, Reloads, all_checked};
-ghost use Rattle.question_commands.specs.Ending.{EndsAsked};
 ghost use Rattle.question_commands.specs.Asking.{Standing, Turn, turn_text};
-ghost use Rattle.question_commands.specs.Proceeding.{Proceeds, StopsAt};
+ghost use Rattle.question_commands.specs.Ending.{EndsAsked};
+ghost use Rattle.question_commands.specs.Questions.{Asks};
+ghost use Rattle.question_commands.specs.ReadLines.{AreLinesOf};
+ghost use Rattle.question_commands.specs.Taken.{end_text, end_status, taken_line};
 
+use crate::lines::LineReader;
+use crate::question::{Question, read_question};
+use crate::taking::take_anew;
+use crate::telling::Teller;
+use crate::turn::{end, finish, write_count, write_refused};
 use graph_commands::block::Block;
 use graph_commands::line::WriteFailed;
 use graph_commands::run::refuse;
 use graph_folder::folder::{Folder, ReadError};
 use graph_history::CheckedGraph;
-use graph_reload::taking::take_anew;
 use history_commands::opening::open_checked;
-use question_answers::telling::Teller;
-use question_answers::turn::{end, finish, write_count, write_refused};
-use question_lines::lines::LineReader;
-use question_lines::question::{Question, read_question};
 use std::alloc::Global;
 use std::io::{Read, Write};
 
@@ -229,7 +225,8 @@ fn reload<T: Folder, W: Write>(
 }
 
 /// Why lines are no longer answered over a graph.
-enum Next {
+#[derive(Drop)]
+pub enum Next {
     /// There is no line any more.
     End,
     /// No line could be read.
@@ -239,7 +236,9 @@ enum Next {
 }
 
 /// Answers lines over a graph, until none is left, or one asks for the graph to be opened anew.
-fn answer_over<R: Read, W: Write>(
+/// Each answer ends with an empty line, and is flushed with it. `WriteFailed` comes where the
+/// writer fails.
+pub fn answer_over<R: Read, W: Write>(
     alloc: Global,
     graph: &CheckedGraph,
     lines: &mut LineReader,
@@ -248,11 +247,9 @@ fn answer_over<R: Read, W: Write>(
     writer: &mut W,
 ) -> Result<Next, WriteFailed>
     requires { block.old ≡ [] }
-    ensures answered { IfOk result (λ next. (known : Option Tree) (path : List ℕ) (failures : ℕ)
-        → let standing : Standing = record { layers = graph.now.layers; failures = failures } in
-        (left : Option (List ℕ)) × Proceeds (MayOpen known path) standing standing
-        (prepend_known lines.old.ahead (R.remaining reader.old)) left
-        (W.contents writer.old) (W.contents writer.new) 0
+    ensures answered { IfOk result (λ next. (left : Option (List ℕ))
+        × AnswersOver graph.now.layers (prepend_known lines.old.ahead (R.remaining reader.old)) left
+        (W.contents writer.old) (W.contents writer.new)
         × StopsAt left (prepend_known lines.new.ahead (R.remaining reader.new)) next) }
     ensures block { OnOk result (block.new ≡ []) }
 {
@@ -283,9 +280,9 @@ fn answer<W: Write>(
 ) -> Result<bool, WriteFailed>
     requires { block.old ≡ [] }
     ensures told { IfOk result (λ told. told ≡ true → (text : List ℕ)
-        × MayTellFor teller.old line.now text
+        × MayBeTold teller.old line.now text
         × Appends (W.contents writer.old) (W.contents writer.new) (text ⧺ newline)) }
-    ensures reload { IfOk result (λ told. told ≡ false → HasWords line.now named.Reload []
+    ensures reload { IfOk result (λ told. told ≡ false → Asks line.now Question.Reload
         × (writer.new ≡ writer.old)) }
     ensures block { OnOk result (block.new ≡ []) }
     ensures teller { teller.new ≡ teller.old }

@@ -1,10 +1,16 @@
 //! Questions about graphs that were checked, one a line.
 //!
-//! [`asking`] has the command: its contract says what it may write. [`lines`] and [`question`] say
-//! which line asks which question, and [`telling`] has the answers over one graph.
+//! [`asking`] has the command: its contract says what it may write. [`lines`] reads the lines of an
+//! input, and [`question`] has which line asks which question. [`telling`] has the answers over one
+//! graph, [`turn`] what stands around them, and [`taking`] puts a graph that is opened anew in the
+//! place of the one that stands.
 #![tactic(auto)]
 
 pub mod asking;
-
-pub use question_answers::telling;
-pub use question_lines::{lines, question};
+pub mod lines;
+mod place;
+pub mod question;
+pub mod taking;
+pub mod telling;
+pub mod turn;
+mod words;

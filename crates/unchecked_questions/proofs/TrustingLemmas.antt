@@ -1,10 +1,10 @@
 -- From one line to all of them, over a graph that is trusted.
 use Rattle.std.proofs.Common.{◌≡◌, ◌≢◌, ℕ, List, [], ◌∷◌, ◌++◌, Option, Some, None, Result, Ok, Err, map, refl, sym}
 use Rattle.std.proofs.Common.{ap, subst, ◌∙◌, append_assoc, append-nil, inl, inr, arith}
-use Rattle.std.specs.Prelude.{IfOk, OnOk}
+use Rattle.std.specs.Prelude.{Bool, true, IfOk, OnOk}
 use Rattle.std.specs.Io.KnownBytes.{Appends, prepend_known}
 use Rattle.std.proofs.KnownBytes.{Appends-nil, Appends-trans}
-use Rattle.std.specs.List.{flat_map}
+use Rattle.std.specs.List.{AllByRecursion, flat_map}
 use Rattle.std.proofs.lemmas.List.{map-append}
 use Rattle.std.proofs.lemmas.List.Concat.{flat_map-append}
 use Rattle.graph_folder.specs.declared.folder.ReadError.{ReadError}
@@ -15,17 +15,20 @@ use Rattle.graph_commands.specs.Block.{with_block}
 use Rattle.graph_commands.specs.Text.{newline}
 use Rattle.graph_commands.specs.WrittenAnswer.{WritesAnswer, WritesRefusal}
 use Rattle.graph_commands.specs.declared.refusal.Refusal.{Refusal}
-use Rattle.question_answers.specs.Taken.{MayTake, Opener, end_status, end_text, opened_line}
-use Rattle.question_lines.specs.InputLines.{HasNoLine, IsKeptAs, TakesLine}
+use Rattle.question_commands.specs.AnsweredLines.{AnswersOver, MayBeTold, StopsAt, Told, told_text}
+use Rattle.question_commands.specs.Taken.{MayTake, Opener, end_status, end_text, opened_line}
+use Rattle.question_commands.specs.InputLines.{HasNoLine, IsKeptAs, TakesLine}
 use Rattle.unchecked_questions.specs.PartReplies.{AddsTold}
-use Rattle.question_lines.specs.ReadLines.{AreLinesOf, HasRead}
-use Rattle.question_lines.specs.Questions.{Asks}
-use Rattle.unchecked_questions.specs.Trusting.{AreTold, MayAskTrusted, MayCount, MayTellAsked, MayTellCount, MayTellTrusted, Told}
-use Rattle.unchecked_questions.specs.Trusting.{TellsOfTaken, TrustedSession, told_text, trusted_status, trusted_text}
-use Rattle.question_lines.specs.declared.question.Question.{Question}
-use Rattle.question_lines.specs.declared.question.Question.TheVariants as question
-use Rattle.question_lines.proofs.ReadLemmas.{lines_ended, lines_failed, reads_line, reads_more, reads_none}
-use Rattle.question_answers.proofs.BlockLemmas.{with_nothing}
+use Rattle.unchecked_questions.specs.TrustedLines.{AreAnswered}
+use Rattle.question_commands.specs.ReadLines.{AreLinesOf, HasRead}
+use Rattle.question_commands.specs.Questions.{Asks}
+use Rattle.unchecked_questions.specs.Trusting.{AreTold, MayAskTrusted, MayCount, MayTellAsked, MayTellCount, MayTellTrusted}
+use Rattle.unchecked_questions.specs.Trusting.{TellsOfTaken, TrustedSession, trusted_status, trusted_text}
+use Rattle.question_commands.specs.declared.asking.Next.{Next}
+use Rattle.question_commands.specs.declared.question.Question.{Question}
+use Rattle.question_commands.specs.declared.question.Question.TheVariants as question
+use Rattle.question_commands.proofs.ReadLemmas.{lines_ended, lines_failed, reads_line, reads_more, reads_none}
+use Rattle.question_commands.proofs.BlockLemmas.{with_nothing}
 
 -- what is told for what is kept of a line is told for the line
 told_kept : (MayOpen : Opener) (before after : ℕ) (line kept told : List ℕ) → IsKeptAs line kept
@@ -41,40 +44,85 @@ told_kept MayOpen before after line kept told (inr long) (inr (inr (inl anew))) 
 told_kept MayOpen before after line kept told (inr long) (inr (inr (inr some))) =
     let fits = some.1.1 in absurd (omega (arith, long.1, fits))
 
--- one line more was told
-told_more : (MayOpen : Opener) (first middle last : ℕ) (turns : List Told) (turn : Told) → AreTold MayOpen first middle turns
-    → MayTellTrusted MayOpen middle last turn.line turn.told → AreTold MayOpen first last (turns ++ turn ∷ [])
-told_more MayOpen first middle last [] turn are may =
-    (last, subst (λ (n : ℕ). MayTellTrusted MayOpen n last turn.line turn.told) are may, refl)
-told_more MayOpen first middle last (one ∷ turns) turn are may =
-    (are.0, are.1, told_more MayOpen are.0 middle last turns turn are.2 may)
+-- what may be told over a right graph that the opener may answer may be told for the line
+told_over : (MayOpen : Opener) (failures : ℕ) (layers : List Layer) (line told : List ℕ)
+    → MayTake (MayOpen failures failures) (Ok layers) → MayBeTold layers line told
+    → MayTellTrusted MayOpen failures failures line told
+told_over MayOpen failures layers line told taken (inl none) = inl (none.0, none.1, refl)
+told_over MayOpen failures layers line told taken (inr (inl many)) = inr (inl (many.0, many.1, refl))
+told_over MayOpen failures layers line told taken (inr (inr some)) =
+    inr (inr (inr (some.0, some.1, inr (Ok layers, taken, some.2))))
 
--- the lines that were read were answered
-abbrev pub Answered : Opener → ℕ → ℕ → Option (List ℕ) → Option (List ℕ) → Option (List ℕ) → Option (List ℕ) → Type 0
-Answered MayOpen first last input left old new =
-    (turns : List Told) × AreTold MayOpen first last turns × HasRead input left (map (λ turn. turn.line) turns)
-    × Appends old new (flat_map told_text turns)
+all_told_over : (MayOpen : Opener) (failures : ℕ) (layers : List Layer) (turns : List Told)
+    → MayTake (MayOpen failures failures) (Ok layers)
+    → AllByRecursion (λ (turn : Told). MayBeTold layers turn.line turn.told) turns → AreTold MayOpen failures failures turns
+all_told_over MayOpen failures layers [] taken all = refl
+all_told_over MayOpen failures layers (turn ∷ turns) taken all = (
+  failures,
+  told_over MayOpen failures layers turn.line turn.told taken all.0,
+  all_told_over MayOpen failures layers turns taken all.1,
+)
+
+-- some lines were told, and behind them others
+told_behind : (MayOpen : Opener) (first middle last : ℕ) (turns more : List Told) → AreTold MayOpen first middle turns
+    → AreTold MayOpen middle last more → AreTold MayOpen first last (turns ++ more)
+told_behind MayOpen first middle last [] more are behind = subst (λ (n : ℕ). AreTold MayOpen n last more) are behind
+told_behind MayOpen first middle last (turn ∷ turns) more are behind =
+    (are.0, are.1, told_behind MayOpen are.0 middle last turns more are.2 behind)
 
 pub answered_none : (MayOpen : Opener) (failures : ℕ) (input old : Option (List ℕ))
-    → Answered MayOpen failures failures input input old old
+    → AreAnswered MayOpen failures failures input input old old
 answered_none MayOpen failures input old = ([], refl, reads_none input, Appends-nil old)
 
 pub answered_more : (MayOpen : Opener) (first middle last : ℕ) (input read left old written new : Option (List ℕ))
-    (kept : List ℕ) → Answered MayOpen first middle input read old written → TakesLine read left kept
-    → AddsTold (MayTellTrusted MayOpen middle last kept) written new
-    → Answered MayOpen first last input left old new
-answered_more MayOpen first middle last input read left old written new kept before takes adds =
-    let turn : Told = record { line = takes.0; told = adds.0 } in
-    let line = λ (t : Told). t.line in (
-      before.0 ++ turn ∷ [],
-      told_more MayOpen first middle last before.0 turn before.1
-          (told_kept MayOpen middle last takes.0 kept adds.0 takes.2 adds.1),
-      subst (HasRead input left) (sym (map-append line before.0 (turn ∷ [])))
-          (reads_more input read left (map line before.0) (takes.0 ∷ []) before.2 (reads_line read left takes.0 takes.1)),
-      subst (Appends old new) (sym (flat_map-append told_text before.0 (turn ∷ [])))
-          (Appends-trans old written new (flat_map told_text before.0) (flat_map told_text (turn ∷ [])) before.3
-          (subst (Appends written new) (sym (append-nil (told_text turn))) adds.2)),
+    → AreAnswered MayOpen first middle input read old written → AreAnswered MayOpen middle last read left written new
+    → AreAnswered MayOpen first last input left old new
+answered_more MayOpen first middle last input read left old written new before behind =
+    let line = λ (turn : Told). turn.line in (
+      before.0 ++ behind.0,
+      told_behind MayOpen first middle last before.0 behind.0 before.1 behind.1,
+      subst (HasRead input left) (sym (map-append line before.0 behind.0))
+          (reads_more input read left (map line before.0) (map line behind.0) before.2 behind.2),
+      subst (Appends old new) (sym (flat_map-append told_text before.0 behind.0))
+          (Appends-trans old written new (flat_map told_text before.0) (flat_map told_text behind.0) before.3 behind.3),
     )
+
+answered_one : (MayOpen : Opener) (before after : ℕ) (turn : Told) (read left old new : Option (List ℕ))
+    → HasRead read left (turn.line ∷ []) → MayTellTrusted MayOpen before after turn.line turn.told
+    → Appends old new (told_text turn) → AreAnswered MayOpen before after read left old new
+answered_one MayOpen before after turn read left old new reads may added =
+    (turn ∷ [], (after, may, refl), reads, subst (Appends old new) (sym (append-nil (told_text turn))) added)
+
+-- a line was answered of which this was kept
+pub answered_line : (MayOpen : Opener) (before after : ℕ) (read left old new : Option (List ℕ)) (kept : List ℕ)
+    → TakesLine read left kept → AddsTold (MayTellTrusted MayOpen before after kept) old new
+    → AreAnswered MayOpen before after read left old new
+answered_line MayOpen before after read left old new kept takes adds =
+    let turn : Told = record { line = takes.0; told = adds.0 } in
+    answered_one MayOpen before after turn read left old new (reads_line read left takes.0 takes.1)
+    (told_kept MayOpen before after takes.0 kept adds.0 takes.2 adds.1) adds.2
+
+-- a line was answered that asks for the graph to be opened anew
+pub answered_anew : (MayOpen : Opener) (before after : ℕ) (line : List ℕ) (read left old new : Option (List ℕ))
+    → HasRead read left (line ∷ []) → Asks line question.Reload
+    → AddsTold (MayTellCount (MayOpen before after) before after) old new → AreAnswered MayOpen before after read left old new
+answered_anew MayOpen before after line read left old new reads asks adds =
+    let turn : Told = record { line = line; told = adds.0 } in
+    answered_one MayOpen before after turn read left old new reads (inr (inr (inl (asks, adds.1)))) adds.2
+
+-- behind others, lines were answered over a right graph that the opener may answer
+pub answered_over : {E : Type 0} (result : Result Next E) (MayOpen : Opener) (first failures : ℕ) (layers : List Layer)
+    (input read unread old written new : Option (List ℕ)) → AreAnswered MayOpen first failures input read old written
+    → MayTake (MayOpen failures failures) (Ok layers)
+    → IfOk result (λ (next : Next). (left : Option (List ℕ)) × AnswersOver layers read left written new
+    × StopsAt left unread next)
+    → IfOk result (λ (next : Next). (left : Option (List ℕ)) × AreAnswered MayOpen first failures input left old new
+    × StopsAt left unread next)
+answered_over (Ok next) MayOpen first failures layers input read unread old written new before taken over =
+    let turns : AreAnswered MayOpen failures failures read over.0 written new =
+    (over.1.0, all_told_over MayOpen failures layers over.1.0 taken over.1.1, over.1.2, over.1.3) in
+    (over.0, answered_more MayOpen first failures failures input read over.0 old written new before turns, over.2)
+answered_over (Err error) MayOpen first failures layers input read unread old written new before taken over = tt
 
 -- all lines were answered, or those before a failure
 abbrev pub AllAnswered : Opener → ℕ → ℕ → Option (List ℕ) → Option (List ℕ) → Option (List ℕ) → Option (List ℕ)
@@ -84,14 +132,14 @@ AllAnswered MayOpen first last input unread old new failed =
     × AreLinesOf input unread (map (λ turn. turn.line) turns) failed × Appends old new (flat_map told_text turns)
 
 pub answered_to_end : (MayOpen : Opener) (first last : ℕ) (input left unread old new : Option (List ℕ)) (ahead : List ℕ)
-    → Answered MayOpen first last input left old new → HasNoLine left (prepend_known ahead unread)
+    → AreAnswered MayOpen first last input left old new → HasNoLine left (prepend_known ahead unread)
     → AllAnswered MayOpen first last input unread old new None
 answered_to_end MayOpen first last input left unread old new ahead before none =
     let asked = map (λ (turn : Told). turn.line) before.0 in
     (before.0, before.1, lines_ended input left unread ahead asked before.2 none, before.3)
 
 pub answered_to_failure : (MayOpen : Opener) (first last : ℕ) (input left unread old new : Option (List ℕ)) (error : ReadError)
-    → Answered MayOpen first last input left old new → error ≢ NotOpened
+    → AreAnswered MayOpen first last input left old new → error ≢ NotOpened
     → AllAnswered MayOpen first last input unread old new (Some error)
 answered_to_failure MayOpen first last input left unread old new error before is =
     let asked = map (λ (turn : Told). turn.line) before.0 in
@@ -107,22 +155,13 @@ adds_told MayTell told block old middle new may none added written =
     added in
     (told, may, Appends-trans old middle new told newline begun written)
 
--- what may be told for a question may be told for the line that asks it
-pub adds_asked : {T E : Type 0} (result : Result T E) (MayOpen : Opener) (before after : ℕ) (line : List ℕ) (asked : Question)
-    (old new : Option (List ℕ)) → Asks line asked
-    → OnOk result (AddsTold (MayTellAsked (MayOpen before after) before after asked) old new)
-    → OnOk result (AddsTold (MayTellTrusted MayOpen before after line) old new)
-adds_asked (Ok value) MayOpen before after line asked old new asks adds =
-    (adds.0, inr (inr (inr (asked, asks, adds.1))), adds.2)
-adds_asked (Err error) MayOpen before after line asked old new asks adds = tt
-
--- and what is told of the graph that is opened anew
-pub adds_anew : {T E : Type 0} (result : Result T E) (MayOpen : Opener) (before after : ℕ) (line : List ℕ)
-    (old new : Option (List ℕ)) → Asks line question.Reload
-    → OnOk result (AddsTold (MayTellCount (MayOpen before after) before after) old new)
-    → OnOk result (AddsTold (MayTellTrusted MayOpen before after line) old new)
-adds_anew (Ok value) MayOpen before after line old new asks adds = (adds.0, inr (inr (inl (asks, adds.1))), adds.2)
-adds_anew (Err error) MayOpen before after line old new asks adds = tt
+-- the same, where that was told
+pub finishes : {E : Type 0} (result : Result Bool E) (MayTell : List ℕ → Type 0) (told block : List ℕ)
+    (old middle new : Option (List ℕ)) → MayTell told → block ≡ [] → Appends (with_block old block) middle told
+    → OnOk result (Appends middle new newline) → IfOk result (λ (is : Bool). is ≡ true → AddsTold MayTell old new)
+finishes (Ok is) MayTell told block old middle new may none added written =
+    λ yes. adds_told MayTell told block old middle new may none added written
+finishes (Err error) MayTell told block old middle new may none added written = tt
 
 -- what is told of a right graph that was taken may be told for the question
 pub adds_taken : {T E : Type 0} (result : Result T E) (MayOpen : Result (List Layer) OpenError → Type 0) (before after : ℕ)

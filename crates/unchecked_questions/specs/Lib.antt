@@ -1,3 +1,4 @@
 pub mod Trusting
 pub mod PartReplies
 pub mod KeptGraphs
+pub mod TrustedLines

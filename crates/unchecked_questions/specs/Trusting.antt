@@ -19,12 +19,13 @@ use Rattle.unchecked_commands.specs.UncheckedAncestor.{IsYesSo}
 use Rattle.unchecked_commands.specs.UncheckedAnswer.{IsFoundUnchecked}
 use Rattle.unchecked_commands.specs.UncheckedBases.{IsToldByParts, told_bases_text}
 use Rattle.unchecked_commands.specs.UncheckedWalk.{IsWalkThere}
-use Rattle.question_lines.specs.Questions.{Asks, AsksForBases, AsksNothing, question_ids, question_name}
-use Rattle.question_lines.specs.ReadLines.{AreLinesOf}
-use Rattle.question_lines.specs.declared.question.Question.{Question}
-use Rattle.question_lines.specs.declared.question.Question.TheVariants.{Find, IsAncestor, Walk, MergeBase, Parents, Reload}
-use Rattle.question_answers.specs.Replies.{TellsOfIds, parent_ids_at, parents_line, refused_line}
-use Rattle.question_answers.specs.Taken.{MayTake, Opener, opened_line, end_status, end_text}
+use Rattle.question_commands.specs.AnsweredLines.{Told, told_text}
+use Rattle.question_commands.specs.Questions.{Asks, AsksForBases, AsksNothing, question_ids, question_name}
+use Rattle.question_commands.specs.ReadLines.{AreLinesOf}
+use Rattle.question_commands.specs.declared.question.Question.{Question}
+use Rattle.question_commands.specs.declared.question.Question.TheVariants.{Find, IsAncestor, Walk, MergeBase, Parents, Reload}
+use Rattle.question_commands.specs.Replies.{TellsOfIds, parent_ids_at, parents_line, refused_line}
+use Rattle.question_commands.specs.Taken.{MayTake, Opener, opened_line, end_status, end_text}
 
 -- the ids of the parents of the commit with an id, at a position where a lookup finds it; or that it finds none
 abbrev pub AreParentsThere : List ℕ → List Layer → Option (List (List ℕ)) → Type 0
@@ -92,20 +93,11 @@ MayTellTrusted MayOpen before after line told =
     ⊎ (Asks line Reload × MayTellCount (MayOpen before after) before after told)
     ⊎ ((asked : Question) × Asks line asked × MayTellAsked (MayOpen before after) before after asked told)
 
--- A line, and what was told for it.
-pub record Told : Type 0 where
-  pub line : List ℕ
-  pub told : List ℕ
-
 -- lines are told one after another, while the count of failed reads goes from one number to another
 abbrev pub AreTold : Opener → ℕ → ℕ → List Told → Type 0
 AreTold MayOpen first last [] = last ≡ first
 AreTold MayOpen first last (turn ∷ turns) =
     (next : ℕ) × MayTellTrusted MayOpen first next turn.line turn.told × AreTold MayOpen next last turns
-
--- the text of one: what was told, and an empty line
-abbrev pub told_text : Told → List ℕ
-told_text turn = turn.told ⧺ newline
 
 -- What was asked of a path: how many commits its graph had, the lines, and why they ended, if not with the input.
 pub record TrustedSession : Type 0 where

@@ -1,8 +1,8 @@
 //! The command `ask --unchecked`: many questions about the graph at a path, which is trusted.
 
 ghost use Rattle.std.specs.Prelude.{◌≡◌, ◌≢◌, [], List, ℕ, Option, IfErr, IfOk, Ok, OnOk, map};
-ghost use Rattle.std.specs.Prelude.{true};
-ghost use Rattle.std.specs.Io.KnownBytes.{Appends};
+ghost use Rattle.std.specs.Prelude.{true, false};
+ghost use Rattle.std.specs.Io.KnownBytes.{Appends, prepend_known};
 ghost use Rattle.std.specs.List.{flat_map};
 ghost use Rattle.gix_commitgraph.specs.Opening.{MetNoFailure};
 ghost use Rattle.gix_commitgraph.specs.Sound.{Sound};
@@ -10,13 +10,15 @@ ghost use Rattle.graph_commands.specs.OpenerAnswer.{MayOpen};
 ghost use Rattle.graph_commands.specs.WrittenAnswer.{WritesAnswer};
 ghost use Rattle.graph_folder.specs.Tree.{Tree};
 ghost use Rattle.history_commands.specs.Check.{MayRefuseToStart};
-ghost use Rattle.question_lines.specs.Questions.{HasAllIds};
-ghost use Rattle.question_lines.specs.ReadLines.{AreLinesOf};
+ghost use Rattle.question_commands.specs.AnsweredLines.{StopsAt, Told, told_text};
+ghost use Rattle.question_commands.specs.Questions.{Asks, HasAllIds};
+ghost use Rattle.question_commands.specs.ReadLines.{AreLinesOf};
 ghost use Rattle.unchecked_questions.specs.KeptGraphs.{IsKeptAt, MayStay, opened_count};
 ghost use Rattle.unchecked_questions.specs.PartReplies.{AddsTold};
+ghost use Rattle.unchecked_questions.specs.TrustedLines.{AreAnswered};
 ghost use Rattle.unchecked_questions.specs.Trusting.{AreTold, MayAskTrusted, MayCount};
 ghost use Rattle.unchecked_questions.specs.Trusting.{MayTellAsked, MayTellCount};
-ghost use Rattle.unchecked_questions.specs.Trusting.{MayTellTrusted, TellsOfTaken, Told, told_text};
+ghost use Rattle.unchecked_questions.specs.Trusting.{MayTellTrusted, TellsOfTaken};
 ghost use Rattle.unchecked_questions.specs.Trusting.{trusted_status, trusted_text};
 
 use crate::by_parts::{ask_by_parts, push_reply};
@@ -30,10 +32,11 @@ use graph_history::CheckedGraph;
 use graph_unchecked::question::Unread;
 use graph_unchecked::trusted::TrustedGraph;
 use history_commands::opening::open_checked;
-use question_answers::telling::Teller;
-use question_answers::turn::{end, finish, write_count, write_refused};
-use question_lines::lines::LineReader;
-use question_lines::question::{Question, read_question};
+use question_commands::asking::{Next, answer_over};
+use question_commands::lines::LineReader;
+use question_commands::question::{Question, read_question};
+use question_commands::telling::Teller;
+use question_commands::turn::{end, finish, write_count, write_refused};
 use std::alloc::Global;
 use std::io::{Read, Write};
 
@@ -233,19 +236,59 @@ fn answer_lines<R: Read, T: Folder, W: Write>(
 {
     let mut kept = kept;
     for _ in 0..u64::MAX {
-        let more = match lines.read(reader) {
-            Ok(more) => more,
-            Err(error) => return Ok(Some(error)),
-        };
-        if !more {
-            return Ok(None);
+        let next = answer_kept(alloc, lines, reader, folder, path, &mut kept, block, writer)?;
+        match next {
+            Next::End => return Ok(None),
+            Next::Failed(error) => return Ok(Some(error)),
+            Next::Reload => reload(alloc, folder, path, &mut kept, writer)?,
         }
-        answer_line(alloc, folder, path, &mut kept, lines.line(), block, writer)?;
     }
     Ok(Some(ReadError::Device))
 }
 
-/// Answers a line.
+/// Answers lines over what is kept, until none is left, or one asks for the graph to be opened
+/// anew.
+fn answer_kept<R: Read, T: Folder, W: Write>(
+    alloc: Global,
+    lines: &mut LineReader,
+    reader: &mut R,
+    folder: &mut T,
+    path: &str,
+    kept: &mut Kept,
+    block: &mut Block,
+    writer: &mut W,
+) -> Result<Next, WriteFailed>
+    requires block { block.old ≡ [] }
+    requires kept { IsKeptAt (T.tree folder.old) path.now kept.old }
+    ensures answered { IfOk result (λ next. (left : Option (List ℕ))
+        × AreAnswered (MayOpen (T.tree folder.old) path.now) (T.failure_count folder.old)
+        (T.failure_count folder.new)
+        (prepend_known lines.old.ahead (R.remaining reader.old)) left
+        (W.contents writer.old) (W.contents writer.new)
+        × StopsAt left (prepend_known lines.new.ahead (R.remaining reader.new)) next) }
+    ensures block { OnOk result (block.new ≡ []) }
+    ensures kept { IsKeptAt (T.tree folder.old) path.now kept.new }
+    ensures tree { T.tree folder.new ≡ T.tree folder.old }
+{
+    for _ in 0..u64::MAX {
+        if let Kept::Whole(graph) = kept {
+            return answer_over(alloc, graph, lines, reader, block, writer);
+        }
+        let more = match lines.read(reader) {
+            Ok(more) => more,
+            Err(error) => return Ok(Next::Failed(error)),
+        };
+        if !more {
+            return Ok(Next::End);
+        }
+        if !answer_line(alloc, folder, path, kept, lines.line(), block, writer)? {
+            return Ok(Next::Reload);
+        }
+    }
+    Ok(Next::Failed(ReadError::Device))
+}
+
+/// Answers a line, unless it asks for the graph to be opened anew; and answers whether it does not.
 fn answer_line<T: Folder, W: Write>(
     alloc: Global,
     folder: &mut T,
@@ -254,30 +297,32 @@ fn answer_line<T: Folder, W: Write>(
     line: &[u8],
     block: &mut Block,
     writer: &mut W,
-) -> Result<(), WriteFailed>
+) -> Result<bool, WriteFailed>
     requires block { block.old ≡ [] }
     requires kept { IsKeptAt (T.tree folder.old) path.now kept.old }
-    ensures told { OnOk result (AddsTold (MayTellTrusted (MayOpen (T.tree folder.old) path.now)
+    ensures told { IfOk result (λ told. told ≡ true
+        → AddsTold (MayTellTrusted (MayOpen (T.tree folder.old) path.now)
         (T.failure_count folder.old) (T.failure_count folder.new) line.now)
         (W.contents writer.old) (W.contents writer.new)) }
+    ensures reload { IfOk result (λ told. told ≡ false → Asks line.now Question.Reload
+        × (writer.new ≡ writer.old) × (folder.new ≡ folder.old)) }
     ensures block { OnOk result (block.new ≡ []) }
     ensures kept { IsKeptAt (T.tree folder.old) path.now kept.new }
     ensures tree { T.tree folder.new ≡ T.tree folder.old }
 {
     match read_question(alloc, line) {
-        Ok(Some(Question::Reload)) => reload(alloc, folder, path, kept, writer),
+        Ok(Some(Question::Reload)) => Ok(false),
         Ok(Some(question)) => {
-            answer_question(alloc, folder, path, kept, &question, block, writer)
+            answer_question(alloc, folder, path, kept, &question, block, writer)?;
+            Ok(true)
         }
         Ok(None) => {
             block.push_text(writer, "refused question\n")?;
-            finish(block, writer)?;
-            Ok(())
+            finish(block, writer)
         }
         Err(_) => {
             block.push_text(writer, "refused walk\n")?;
-            finish(block, writer)?;
-            Ok(())
+            finish(block, writer)
         }
     }
 }
@@ -343,7 +388,7 @@ fn answer_question<T: Folder, W: Write>(
                 answer_checked(alloc, folder, path, kept, question, block, writer)
             }
         },
-        Kept::Whole(graph) => answer_over(alloc, graph, question, block, writer),
+        Kept::Whole(graph) => answer_whole(alloc, graph, question, block, writer),
         Kept::Nothing => answer_checked(alloc, folder, path, kept, question, block, writer),
     }
 }
@@ -375,13 +420,13 @@ fn answer_checked<T: Folder, W: Write>(
         Ok(whole) => whole,
         Err(refusal) => return write_refused(writer, &refusal),
     };
-    answer_over(alloc, &whole.graph, question, block, writer)?;
+    answer_whole(alloc, &whole.graph, question, block, writer)?;
     *kept = whole.keep();
     Ok(())
 }
 
 /// Answers a question over a graph that was checked.
-fn answer_over<W: Write>(
+fn answer_whole<W: Write>(
     alloc: Global,
     graph: &CheckedGraph,
     question: &Question,

@@ -1,17 +1,16 @@
 -- What is told may be told for the line.
-use Rattle.std.proofs.Common.{inl, refl, rules}
+use Rattle.std.proofs.Common.{inl, inr, refl, rules}
 use Rattle.std.specs.Prelude.{Err}
 use Rattle.graph_commands.specs.declared.refusal.Refusal.TheVariants as refusal
-use Rattle.history_commands.specs.MergeBases.{merge_base_text}
-use Rattle.question_answers.specs.Replies.{refused_line}
+use Rattle.question_commands.specs.Replies.{refused_line}
+use Rattle.question_commands.specs.Taken.{opened_line}
 use Rattle.question_commands.proofs.AskingLemmas.{finishes}
-use Rattle.question_answers.proofs.ReplyLemmas.{asks_reload, tells_asked, tells_unread}
 use Rattle.question_commands.proofs.asking.answer.Goals as goal
 
 pub returns-in-Ok-Some-Reload-clause-reload : goal.returns-in-Ok-Some-Reload-clause-reload
 returns-in-Ok-Some-Reload-clause-reload g c = λ no.
     let asks = rw (c.in-Ok-Some-Reload.field-0-is, c.in-Ok-Some-Reload.field-0-0-is) at c.in-Ok-Some-Reload.ensures.asked in
-    (asks_reload c.args.line.now asks, refl)
+    (asks, refl)
 
 pub returns-in_ok-tell-in-Ok-Some : goal.returns-in_ok-tell-in-Ok-Some
 returns-in_ok-tell-in-Ok-Some g c =
@@ -20,8 +19,7 @@ returns-in_ok-tell-in-Ok-Some g c =
     let added = c.in_ok-tell-in-Ok-Some.ensures.told in
     record {
       told = finishes c.finish.result layers c.args.line.now added.0 c.args.block.now _ _ _
-          (tells_asked layers c.args.line.now added.0 c.in-Ok-Some.question asks added.1) c.requires added.2
-          c.finish.ensures.written;
+          (inr (inr (c.in-Ok-Some.question, asks, added.1))) c.requires added.2 c.finish.ensures.written;
       reload = search rules;
       block = search rules;
       teller = search rules;
@@ -35,6 +33,5 @@ returns-in_ok-push_text-in-Ok-None-clause-told g c =
 
 pub returns-in_ok-push_text-in-Err-clause-told : goal.returns-in_ok-push_text-in-Err-clause-told
 returns-in_ok-push_text-in-Err-clause-told g c =
-    finishes c.finish-in-Err.result c.args.teller.now c.args.line.now (merge_base_text (Err refusal.Walk)) c.args.block.now _ _ _
-    (tells_unread c.args.teller.now c.args.line.now c.in-Err.ensures.memory) c.requires c.in_ok-push_text-in-Err.ensures
-    c.finish-in-Err.ensures.written
+    finishes c.finish-in-Err.result c.args.teller.now c.args.line.now (opened_line (Err refusal.Walk)) c.args.block.now _ _ _
+    (inr (inl (c.in-Err.ensures.memory, refl))) c.requires c.in_ok-push_text-in-Err.ensures c.finish-in-Err.ensures.written

@@ -3,11 +3,11 @@ use Rattle.std.proofs.Common.{◌≡◌, ◌∙◌, ◌+◌, List, ℕ, Option, 
 use Rattle.std.specs.Io.KnownBytes.{prepend_known}
 use Rattle.std.proofs.KnownBytes.{prepend_known-nil}
 use Rattle.graph_commands.specs.OpenerAnswer.{MayOpen}
-use Rattle.question_answers.specs.Taken.{Opener}
+use Rattle.question_commands.specs.Taken.{Opener}
 use Rattle.question_commands.specs.Asking.{Standing}
 use Rattle.question_commands.specs.Proceeding.{Proceeds}
 use Rattle.question_commands.proofs.AskingLemmas.{answered_to_end, answered_to_failure}
-use Rattle.question_commands.proofs.AskingLemmas.{proceeds_more, proceeds_none, reloads_line}
+use Rattle.question_commands.proofs.AskingLemmas.{proceeds_more, proceeds_none, proceeds_over, reloads_line}
 use Rattle.question_commands.proofs.asking.answer_lines.Goals as goal
 
 pub loop-init : goal.loop-init
@@ -37,11 +37,12 @@ returns-in-End-clause-answered g c =
     let opens : Opener = MayOpen tree c.args.path.now in
     let failures = g.T.Folder.failure_count c.loop.folder in
     let standing : Standing = record { layers = c.loop.graph.layers; failures = failures } in
-    let over = c.in_ok-next.ensures.answered tree c.args.path.now failures in
+    let over = c.in_ok-next.ensures.answered in
+    let turns = proceeds_over opens standing _ over.0 _ _ over.1 in
     let end = rw c.in-End.is at over.2 in
     let before = c.loop.invariant.answered in
     answered_to_end opens _ standing _ over.0 _ _ _ (before.0 + 0) c.loop.checked
-    (proceeds_more opens _ standing standing _ _ over.0 _ _ _ before.0 0 before.1 over.1) (omega (arith, before.2))
+    (proceeds_more opens _ standing standing _ _ over.0 _ _ _ before.0 0 before.1 turns) (omega (arith, before.2))
     c.answer_over.new.lines.ahead failures refl end
 
 pub returns-in-Failed-clause-answered : goal.returns-in-Failed-clause-answered
@@ -50,11 +51,12 @@ returns-in-Failed-clause-answered g c =
     let opens : Opener = MayOpen tree c.args.path.now in
     let failures = g.T.Folder.failure_count c.loop.folder in
     let standing : Standing = record { layers = c.loop.graph.layers; failures = failures } in
-    let over = c.in_ok-next.ensures.answered tree c.args.path.now failures in
+    let over = c.in_ok-next.ensures.answered in
+    let turns = proceeds_over opens standing _ over.0 _ _ over.1 in
     let failed = rw c.in-Failed.is at over.2 in
     let before = c.loop.invariant.answered in
     answered_to_failure opens _ standing _ over.0 (g.R.Read.remaining c.answer_over.new.reader) _ _ (before.0 + 0) c.loop.checked
-    (proceeds_more opens _ standing standing _ _ over.0 _ _ _ before.0 0 before.1 over.1) (omega (arith, before.2))
+    (proceeds_more opens _ standing standing _ _ over.0 _ _ _ before.0 0 before.1 turns) (omega (arith, before.2))
     c.in-Failed.error failures refl failed
 
 pub loop-preserved : goal.loop-preserved
@@ -65,7 +67,8 @@ loop-preserved g c =
     let standing : Standing = record { layers = c.loop.graph.layers; failures = failures } in
     let after : Standing =
     record { layers = c.reload.new.graph.layers; failures = g.T.Folder.failure_count c.reload.new.folder } in
-    let over = c.in_ok-next.ensures.answered tree c.args.path.now failures in
+    let over = c.in_ok-next.ensures.answered in
+    let turns = proceeds_over opens standing _ over.0 _ _ over.1 in
     let asks = rw c.in-Reload.is at over.2 in
     let told = rw c.loop.invariant.tree at c.in_ok-taken-in-Reload.ensures.told in
     let before = c.loop.invariant.answered in
@@ -74,7 +77,7 @@ loop-preserved g c =
       answered = (
         before.0 + 0 + checked,
         proceeds_more opens _ standing after _ over.0 _ _ _ _ (before.0 + 0) checked
-            (proceeds_more opens _ standing standing _ _ over.0 _ _ _ before.0 0 before.1 over.1)
+            (proceeds_more opens _ standing standing _ _ over.0 _ _ _ before.0 0 before.1 turns)
             (reloads_line opens standing after asks.0 told.0 checked over.0 _ _ _ asks.1 asks.2 told.1 told.2),
         omega (arith, before.2, c.saturating_add-checked.ensures),
       );

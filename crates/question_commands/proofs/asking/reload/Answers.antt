@@ -1,9 +1,7 @@
 -- The new graph stands, or the one before.
 use Rattle.std.proofs.Common.{refl}
 use Rattle.std.specs.Prelude.{Ok, Err}
-use Rattle.graph_commands.specs.OpenerAnswer.{MayOpen}
-use Rattle.question_answers.specs.Taken.{taken_line}
-use Rattle.question_commands.proofs.AskingLemmas.{starts-not}
+use Rattle.question_commands.specs.Taken.{taken_line}
 use Rattle.question_commands.proofs.asking.reload.Goals as goal
 
 pub returns-in_ok-write_taken-in-Ok-clause-told : goal.returns-in_ok-write_taken-in-Ok-clause-told
@@ -16,7 +14,4 @@ pub returns-in_ok-write_refused-in-Err-clause-told : goal.returns-in_ok-write_re
 returns-in_ok-write_refused-in-Err-clause-told g c =
     let taken = Err c.in-Err.refusal in
     let takes = c.in-Err.ensures.taken in
-    let opens = MayOpen (g.T.Folder.tree c.args.folder.now) c.args.path.now (g.T.Folder.failure_count c.args.folder.now)
-    (g.T.Folder.failure_count c.take_anew.new.folder) in
-    let refused = starts-not opens c.in-Err.refusal takes.0 in
-    (taken_line taken, (taken, refused, refl, takes.1, refl), c.in_ok-write_refused-in-Err.ensures)
+    (taken_line taken, (taken, takes.0, refl, takes.1, refl), c.in_ok-write_refused-in-Err.ensures)

@@ -1,7 +1,7 @@
 -- What the check finds may be told, and the graph may stay.
 use Rattle.std.proofs.Common.{inr, refl}
 use Rattle.std.specs.Prelude.{Ok, Err}
-use Rattle.question_answers.specs.Taken.{opened_line}
+use Rattle.question_commands.specs.Taken.{opened_line}
 use Rattle.unchecked_questions.proofs.TrustingLemmas.{adds_line}
 use Rattle.unchecked_questions.proofs.trusting.answer_checked.Goals as goal
 
@@ -12,7 +12,7 @@ returns-in-Err-clause-told g c =
 
 pub returns-clause-told : goal.returns-clause-told
 returns-clause-told g c =
-    let adds = c.in_ok-answer_over.ensures.told in
+    let adds = c.in_ok-answer_whole.ensures.told in
     (adds.0, inr (Ok c.in-Ok.whole.graph.layers, (c.in-Ok.ensures.opened, c.in-Ok.ensures.right), adds.1), adds.2)
 
 pub returns-clause-kept : goal.returns-clause-kept

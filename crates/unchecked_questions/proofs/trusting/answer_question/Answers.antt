@@ -5,7 +5,7 @@ use Rattle.graph_folder.specs.Tree.{Tree}
 use Rattle.graph_layer.specs.declared.opening.error.OpenError.TheVariants.{Device}
 use Rattle.graph_commands.specs.declared.refusal.Refusal.TheVariants.{Open, Walk}
 use Rattle.graph_unchecked.specs.Trusted.{IsTrustedAt}
-use Rattle.question_answers.specs.Taken.{opened_line}
+use Rattle.question_commands.specs.Taken.{opened_line}
 use Rattle.unchecked_commands.proofs.AnswerLemmas.{kept-unless}
 use Rattle.unchecked_questions.specs.PartReplies.{reply_text}
 use Rattle.unchecked_questions.proofs.PartReplyLemmas.{tells-failed, tells-wanting}
@@ -76,5 +76,5 @@ pub returns-in-Whole-clause-told : goal.returns-in-Whole-clause-told
 returns-in-Whole-clause-told g c =
     let failures = g.T.Folder.failure_count c.args.folder.now in
     let stays = rw c.in-Whole.is at c.requires.kept in
-    adds_taken c.answer_over.result _ failures failures c.args.question.now _ _ _ (stays.0 failures, stays.1)
-    c.answer_over.ensures.told
+    adds_taken c.answer_whole.result _ failures failures c.args.question.now _ _ _ (stays.0 failures, stays.1)
+    c.answer_whole.ensures.told

@@ -1,2 +1,0 @@
-pub mod ReloadLemmas
-pub mod TakingLemmas

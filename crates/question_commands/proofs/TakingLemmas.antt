@@ -1,0 +1,210 @@
+-- A graph that is opened anew beside one that stands.
+use Rattle.std.proofs.Common.{◌≡◌, ℕ, ◌-◌, ◌^◌, ◌<◌, ◌≤◌, List, [], ◌++◌, length, take, drop, Option, Some, None}
+use Rattle.std.proofs.Common.{Result, Ok, Err, IfOk, true, false, refl, sym, ap, subst, ◌∙◌, arith, get_or}
+use Rattle.std.specs.Prelude.{Bool, MatchOption, IsSomeAnd, Vec, if◌then◌else◌}
+use Rattle.std.specs.Option.{ForSome, ok_or}
+use Rattle.std.specs.Str.{is_utf8}
+use Rattle.std.proofs.Math.Seq.{drop-append_seam, take-append_seam}
+use Rattle.std.proofs.lemmas.List.{length-append, take_all}
+use Rattle.std.proofs.lemmas.Option.{slice_get-get_or, slice_get_within}
+use Rattle.gix_hash_core.specs.declared.kind.Kind.TheVariants.{Sha1}
+use Rattle.graph_folder.specs.Tree.{Tree, file_at}
+use Rattle.graph_format.specs.Layer.{Layer, IsLayer, IsOpened, bytes_of}
+use Rattle.graph_format.specs.Opened.{layer_of}
+use Rattle.graph_format.specs.declared.error.FileError.{FileError}
+use Rattle.graph_format.specs.declared.error.GraphError.{GraphError}
+use Rattle.graph_format.specs.declared.error.GraphError.TheVariants.{NoFiles, TooManyCommits, HashMismatch}
+use Rattle.graph_format.specs.declared.error.GraphError.TheVariants.{OutOfMemory as graph_OutOfMemory}
+use Rattle.graph_format.proofs.DecidedFileLemmas.{answered}
+use Rattle.graph_layer.specs.LayerOpening.{bytes_at, layer_at, layer_of_bytes}
+use Rattle.graph_layer.specs.OpenAnswer.{IsAsExpected, and_then, failures_after_opening, is_settled, result_map_err}
+use Rattle.graph_layer.specs.OpenRefusals.{layer_refused}
+use Rattle.graph_layer.specs.declared.opening.error.OpenError.{OpenError}
+use Rattle.graph_layer.specs.declared.opening.error.OpenError.TheVariants.{NothingFound, NotOpened, Device, ChainNotText}
+use Rattle.graph_layer.specs.declared.opening.error.OpenError.TheVariants.{Layer as layer_error, Graph as graph_error}
+use Rattle.graph_layer.specs.declared.opening.error.OpenError.TheVariants.{OutOfMemory}
+use Rattle.gix_commitgraph.specs.Graph.{IsGraph, MakesGraph, total}
+use Rattle.gix_commitgraph.specs.GraphLaw.{IsRefusal}
+use Rattle.gix_commitgraph.specs.GraphRefusal.{graph_refusal, kind_at}
+use Rattle.gix_commitgraph.specs.Opening.{InfoOpens, MetFailureIfDevice, StandingOpens, chain_opened, file_opened}
+use Rattle.gix_commitgraph.specs.Opening.{graph_of_layers, graph_unless_refused, layer_of_line, standing_at}
+use Rattle.gix_commitgraph.specs.Paths.{info_chain, info_file, layer_path}
+use Rattle.gix_commitgraph.specs.declared.opening.Standing.{Standing}
+use Rattle.gix_commitgraph.specs.declared.opening.Standing.TheVariants.{InfoDir}
+use Rattle.gix_commitgraph.proofs.layers.GraphLemmas.{judged}
+use Rattle.gix_commitgraph.proofs.layers.LayerListLemmas.{kind_at-is}
+use Rattle.gix_commitgraph.proofs.opening.InfoOpeningLemmas.{info_opens-chain, info_opens-file}
+use Rattle.graph_commands.specs.OpenerAnswer.{MayOpen, MayOpenBy}
+use Rattle.graph_commands.specs.declared.refusal.Refusal.{Refusal}
+use Rattle.graph_commands.specs.declared.refusal.Refusal.TheVariants as refusal
+use Rattle.graph_history.specs.Reload.{StandAboveShared}
+use Rattle.history_commands.specs.Check.{MayRefuseToStart}
+use Rattle.question_commands.specs.TakenAnew.{IsThisAnswer, OpensAbove, OpensChain, PutsAbove, Takes}
+
+no_layer : Layer
+no_layer = record { kind = Sha1; bases = []; fan = []; ids = []; records = []; edges = None; checksum = []; body = []; path = [] }
+
+module _ (layers : List Layer) (makes : MakesGraph layers) where
+  kind-of : (i : ℕ) → i < length layers → kind_at layers i ≡ (get_or layers i no_layer).kind
+  kind-of i within = kind_at-is layers i (get_or layers i no_layer) (slice_get-get_or layers i no_layer within)
+
+  unrefused_by : (o : Option GraphError) → MatchOption o (MakesGraph layers) (IsRefusal layers) → o ≡ None
+  unrefused_by None judgement = refl
+  unrefused_by (Some NoFiles) none = absurd (omega (arith, makes.some, ap length none))
+  unrefused_by (Some (TooManyCommits commits)) many = absurd (omega (arith, makes.few, many.1))
+  unrefused_by (Some (HashMismatch i)) judgement =
+      let mismatch = judgement.1 in
+      let before : i - 1 < length layers = omega (arith, mismatch.within) in
+      absurd (mismatch.differs (kind-of i mismatch.within
+      ∙ sym (makes.alike (i - 1) i no_layer (omega (arith, mismatch.after_one)) mismatch.within) ∙ sym (kind-of (i - 1) before)))
+  unrefused_by (Some graph_OutOfMemory) never = absurd never
+
+  -- layers that make a graph are not refused
+  pub unrefused : graph_refusal layers ≡ None
+  unrefused = unrefused_by (graph_refusal layers) (judged layers)
+
+-- what opens these layers opens the graph that they make
+pub opens_as : (expected : Result (List Layer) OpenError) (layers : List Layer) → expected ≡ graph_of_layers layers
+    → MakesGraph layers → Ok layers ≡ expected
+opens_as expected layers is makes =
+    sym (is ∙ ap (λ (o : Option GraphError). graph_unless_refused o layers) (unrefused layers makes))
+
+-- all layers of a graph are the lowest of another, and so many commits stand above them
+pub stand_above : (old files new : List Layer) (checked : ℕ) → new ≡ old ++ files → checked ≡ total files
+    → StandAboveShared old new checked
+stand_above old files new checked is counts =
+    let back : drop (length old) new ≡ files = ap (drop (length old)) is ∙ drop-append_seam old files in (
+      length old,
+      record {
+        in_old = omega arith;
+        in_new = omega (arith, ap length is, length-append old files);
+        same = take_all (length old) old (omega arith) ∙ sym (ap (take (length old)) is ∙ take-append_seam old files);
+        most = λ layer there also. absurd (omega (arith, slice_get_within old (length old) layer there));
+      },
+      counts ∙ ap total (sym back),
+    )
+
+-- a wider opener
+module _ (P Q : Result (List Layer) OpenError → Type 0)
+    (wider : (answer : Result (List Layer) OpenError) → P answer → Q answer) where
+  refuses_wider : (x : Refusal) → MayRefuseToStart P x → MayRefuseToStart Q x
+  refuses_wider (refusal.Open e) may = wider (Err e) may
+  refuses_wider (refusal.Verify e) may = (may.0, wider (Ok may.0) may.1, may.2)
+  refuses_wider (refusal.Id e) may = absurd may
+  refuses_wider (refusal.Read e) may = absurd may
+  refuses_wider (refusal.File e) may = absurd may
+  refuses_wider refusal.Walk may = absurd may
+
+  pub takes_wider : (before after : List Layer) (result : Result ℕ Refusal) → Takes P before after result
+      → Takes Q before after result
+  takes_wider before after (Ok checked) takes = ((wider (Ok after) takes.0.0, takes.0.1), takes.1)
+  takes_wider before after (Err x) takes = (refuses_wider x takes.0, takes.1)
+
+-- a count of failures that an opener leaves is no less than before
+failures-le : (answer : Result (List Layer) OpenError) (count : ℕ) → count < 2 ^ 64
+    → count ≤ failures_after_opening answer count
+failures-le (Ok layers) count small = omega arith
+failures-le (Err NothingFound) count small = omega arith
+failures-le (Err NotOpened) count small = omega arith
+failures-le (Err Device) count small = omega arith
+failures-le (Err (ChainNotText line)) count small = omega arith
+failures-le (Err (layer_error i error)) count small = omega arith
+failures-le (Err (graph_error error)) count small = omega arith
+failures-le (Err OutOfMemory) count small = omega arith
+
+-- a failed device is told only where the count rose
+failed : (answer : Result (List Layer) OpenError) (old mid new : ℕ) → (old < 2 ^ 64 - 1 → old ≤ mid)
+    → new ≡ failures_after_opening answer mid → MetFailureIfDevice answer old new
+failed answer old mid new before after is small =
+    let rose : new ≡ failures_after_opening {A = List Layer} (Err Device) mid =
+    after ∙ ap (λ (a : Result (List Layer) OpenError). failures_after_opening a mid) is in
+    let least : old ≤ mid = before small in
+    omega (arith, rose, least, small)
+
+-- what an info folder opens is what stands at its path
+pub info_stands : (known : Option Tree) (path : List ℕ) (old new : ℕ)
+    → ForSome known (λ tree. standing_at tree path ≡ InfoDir)
+    → (answer : Result (List Layer) OpenError) → MayOpenBy known (λ tree. InfoOpens tree path old new) old new answer
+    → MayOpen known path old new answer
+info_stands known path old new stands answer opens = (
+  λ tree is.
+      subst (λ (s : Standing). StandingOpens s tree path old new answer) (sym (stands tree is)) (opens.0 tree is),
+  opens.1,
+  opens.2,
+)
+
+-- where its file is refused, an info folder opens what its chain folder does
+pub chain_of_info : (known : Option Tree) (path : List ℕ) (old mid new : ℕ) (first : Result (List Layer) OpenError)
+    → is_settled first ≡ false
+    → ForSome known (λ tree. IsAsExpected first (file_opened tree (info_file path)))
+    → mid ≡ failures_after_opening first old
+    → (answer : Result (List Layer) OpenError) → OpensChain known (info_chain path) mid new answer
+    → MayOpenBy known (λ tree. InfoOpens tree path old new) old new answer
+chain_of_info known path old mid new first settled was counted answer opens = (
+  λ tree is.
+      info_opens-chain tree path answer (opens.0.0 tree is) old mid new first settled (was tree is) counted opens.1,
+  opens.0.1,
+  failed answer old mid new (λ small. omega (arith, failures-le first old (omega arith), counted)) opens.1,
+)
+
+-- what is opened by the file of an info folder
+pub file_of_info : (known : Option Tree) (path : List ℕ) (old new : ℕ) (first : Result (List Layer) OpenError)
+    → is_settled first ≡ true → ForSome known (λ tree. IsAsExpected first (file_opened tree (info_file path)))
+    → IfOk first IsGraph → new ≡ failures_after_opening first old
+    → (answer : Result (List Layer) OpenError) → IsThisAnswer first answer
+    → MayOpenBy known (λ tree. InfoOpens tree path old new) old new answer
+file_of_info known path old new first settled was graph counted answer is =
+    let opens : MayOpenBy known (λ tree. InfoOpens tree path old new) old new first = (
+      λ tree stands.
+          info_opens-file tree path old new first settled (was tree stands) counted,
+      graph,
+      failed first old old new (λ small. omega arith) counted,
+    ) in
+    subst (λ (a : Result (List Layer) OpenError). MayOpenBy known (λ tree. InfoOpens tree path old new) old new a) (sym is) opens
+
+-- a layer that was opened is what a line names, if that names its path and the file there has its bytes
+pub same_layer : (tree : Tree) (folder line : List ℕ) (i : ℕ) (layer : Layer) → IsOpened layer → is_utf8 line ≡ true
+    → layer.path ≡ layer_path folder line → file_at tree (layer_path folder line) ≡ Some (bytes_of layer)
+    → Ok layer ≡ layer_of_line tree folder i line
+same_layer tree folder line i layer opened text named same =
+    let path = layer_path folder line in
+    let bytes = bytes_of layer in
+    let read : bytes_at tree path ≡ Ok bytes = ap (λ (o : Option (List ℕ)). ok_or o NotOpened) same in
+    let is : layer_of bytes path ≡ Ok layer =
+    ((answered bytes path).layer layer).1 (subst (λ (at : List ℕ). IsLayer bytes at layer) named opened) in
+    let at : layer_at tree i path ≡ Ok layer =
+    ap (λ (r : Result (List ℕ) OpenError). and_then r (λ b. layer_of_bytes i b path)) read
+    ∙ ap (λ (r : Result Layer FileError). result_map_err (layer_refused i) r) is in
+    sym (ap (λ (b : Bool). if b then layer_at tree i path else Err (ChainNotText i)) text ∙ at)
+
+-- what came of layers that are put on top is what comes of opening the chain that names them above those of before
+pub takes_above : (known : Option Tree) (path : List ℕ) (old new : ℕ) (before above after : List Layer) → new ≡ old
+    → ForSome known (λ tree. chain_opened tree path ≡ graph_of_layers (before ++ above))
+    → (answer : Result ℕ Refusal) → PutsAbove before above after answer
+    → Takes (OpensChain known path old new) before after answer
+takes_above known path old new before above after same opens (Ok checked) puts =
+    let layers : ForSome known (λ tree. Ok after ≡ chain_opened tree path) = λ tree is.
+    subst (λ (ls : List Layer). Ok ls ≡ chain_opened tree path) (sym puts.0)
+    (opens_as (chain_opened tree path) (before ++ above) (opens tree is) (subst MakesGraph puts.0 puts.2.makes)) in
+    ((((layers, puts.2), same), puts.3), stand_above before above after checked puts.0 puts.1)
+takes_above known path old new before above after same opens (Err (refusal.Verify e)) puts =
+    let layers : ForSome known (λ tree. Ok (before ++ above) ≡ chain_opened tree path) = λ tree is.
+    opens_as (chain_opened tree path) (before ++ above) (opens tree is) puts.1.makes in
+    ((before ++ above, ((layers, puts.1), same), puts.2), puts.0)
+takes_above known path old new before above after same opens (Err (refusal.Open e)) puts =
+    let memory : OpensChain known path old new (Err OutOfMemory) = (((λ tree is. tt), tt), same) in
+    (subst (λ (x : OpenError). OpensChain known path old new (Err x)) (sym puts.1) memory, puts.0)
+takes_above known path old new before above after same opens (Err (refusal.Id e)) puts = absurd puts
+takes_above known path old new before above after same opens (Err (refusal.Read e)) puts = absurd puts
+takes_above known path old new before above after same opens (Err (refusal.File e)) puts = absurd puts
+takes_above known path old new before above after same opens (Err refusal.Walk) puts = absurd puts
+
+-- the same of layers that are there, if there are some
+pub takes_put : {A : Type 0} (known : Option Tree) (path : List ℕ) (old new : ℕ) (before after : List Layer)
+    (above : Option (Vec Layer A)) → new ≡ old
+    → ForSome known (λ tree. OpensAbove (chain_opened tree path) before (Ok above))
+    → (answer : Result ℕ Refusal) → IsSomeAnd above (λ files. PutsAbove before files.items after answer)
+    → Takes (OpensChain known path old new) before after answer
+takes_put known path old new before after None same opens answer puts = absurd puts
+takes_put known path old new before after (Some files) same opens answer puts =
+    takes_above known path old new before files.items after same opens answer puts

@@ -1,0 +1,347 @@
+//! The graph at a path, opened anew beside one that stands.
+
+ghost use Rattle.std.specs.Prelude.{◌≡◌, All, IfErr, IfOk, IfSome, IsSomeAnd, IsTrue, MatchOption};
+ghost use Rattle.std.specs.Prelude.{Ok, is_some, length, true, ℕ};
+ghost use Rattle.std.specs.Option.{ForSome};
+ghost use Rattle.std.specs.Str.{is_utf8};
+ghost use Rattle.std.specs.Str.Lines.{lines};
+ghost use Rattle.graph_format.specs.Layer.{IsOpened};
+ghost use Rattle.graph_commands.specs.OpenerAnswer.{MayOpen, MayOpenBy};
+ghost use Rattle.graph_history.specs.RightGraph.{plain_options};
+ghost use Rattle.graph_layer.specs.LayerOpening.{bytes_at};
+ghost use Rattle.graph_layer.specs.OpenAnswer.{IsAsExpected, failures_after_opening, result_map};
+ghost use Rattle.gix_commitgraph.specs.Opening.{InfoOpens, chain_opened, layer_of_line};
+ghost use Rattle.gix_commitgraph.specs.Paths.{chain_path, layer_path};
+ghost use Rattle.question_commands.specs.TakenAnew.{IsDeviceOrMemory, IsThisAnswer, OpensAbove};
+ghost use Rattle.question_commands.specs.TakenAnew.{OpensChain, PutsAbove, Takes, layers_from};
+ghost use Rattle.question_commands.specs.TakenAnew.{layers_with, lines_opened};
+
+use gix_commitgraph::opening::path::{chain_path, info_chain_path, info_file_path, layer_path};
+use gix_commitgraph::opening::{
+    OpenError, Standing, is_settled, open_chain_dir_in, open_file_in, open_in, stands_at,
+};
+use gix_commitgraph::{File, Graph, GraphError};
+use graph_commands::refusal::Refusal;
+use graph_folder::folder::{Folder, ReadError};
+use graph_folder::lines::Lines;
+use graph_history::{CheckedGraph, PushError};
+use graph_layer::opening::{open_layer, read_file};
+use std::alloc::{AllocError, Global};
+
+/// Opens the graph at the path anew, and puts it in the place of the one that stands, unless it is
+/// refused. Where its lowest layers are those of the graph that stands, these are not checked
+/// again; and where they are all of these, they are compared with their files, and stay. It answers
+/// how many commits were checked.
+///
+/// # Errors
+///
+/// `Open` where no graph was opened, and `Verify` where the check refused it. The graph is the one
+/// of before then.
+pub fn take_anew<T: Folder>(
+    alloc: Global,
+    folder: &mut T,
+    path: &str,
+    graph: &mut CheckedGraph,
+) -> Result<u32, Refusal>
+    requires { graph.old.options ≡ plain_options }
+    ensures taken { Takes (MayOpen (T.tree folder.old) path.now (T.failure_count folder.old)
+        (T.failure_count folder.new)) graph.old.layers graph.new.layers result }
+    ensures options { graph.new.options ≡ plain_options }
+    ensures tree { T.tree folder.new ≡ T.tree folder.old }
+{
+    let Ok(standing) = stands_at(alloc, folder, path) else {
+        return Err(Refusal::Open(OpenError::OutOfMemory));
+    };
+    match standing {
+        Standing::ChainDir => take_chain(alloc, folder, path, graph),
+        Standing::InfoDir => take_info(alloc, folder, path, graph),
+        Standing::File | Standing::Nothing => {
+            let opened = open_in(alloc, folder, path);
+            take_opened(alloc, opened, graph)
+        }
+    }
+}
+
+/// Takes the graph of an info folder.
+fn take_info<T: Folder>(
+    alloc: Global,
+    folder: &mut T,
+    path: &str,
+    graph: &mut CheckedGraph,
+) -> Result<u32, Refusal>
+    requires { graph.old.options ≡ plain_options }
+    ensures taken { Takes (MayOpenBy (T.tree folder.old) (λ tree. InfoOpens tree path.now
+        (T.failure_count folder.old) (T.failure_count folder.new)) (T.failure_count folder.old)
+        (T.failure_count folder.new)) graph.old.layers graph.new.layers result }
+    ensures options { graph.new.options ≡ plain_options }
+    ensures tree { T.tree folder.new ≡ T.tree folder.old }
+{
+    let Ok(file) = info_file_path(alloc, path) else {
+        return Err(Refusal::Open(OpenError::OutOfMemory));
+    };
+    let opened = open_file_in(alloc, folder, file.as_str());
+    if is_settled(&opened) {
+        return take_opened(alloc, opened, graph);
+    }
+    let Ok(chain) = info_chain_path(alloc, path) else {
+        return Err(Refusal::Open(OpenError::OutOfMemory));
+    };
+    take_chain(alloc, folder, chain.as_str(), graph)
+}
+
+/// Takes the graph of a chain folder.
+fn take_chain<T: Folder>(
+    alloc: Global,
+    folder: &mut T,
+    path: &str,
+    graph: &mut CheckedGraph,
+) -> Result<u32, Refusal>
+    requires { graph.old.options ≡ plain_options }
+    ensures taken { Takes (OpensChain (T.tree folder.old) path.now (T.failure_count folder.old)
+        (T.failure_count folder.new)) graph.old.layers graph.new.layers result }
+    ensures options { graph.new.options ≡ plain_options }
+    ensures tree { T.tree folder.new ≡ T.tree folder.old }
+{
+    let above = open_above(alloc, folder, path, graph.as_checked().graph().layers())?;
+    if let Some(answer) = put_above(alloc, above, graph) {
+        return answer;
+    }
+    let opened = open_chain_dir_in(alloc, folder, path);
+    take_opened(alloc, opened, graph)
+}
+
+/// Puts these layers on top, if there are some, and answers what came of it. It answers nothing
+/// where all layers are to be opened anew, also where they make no graph with those below.
+fn put_above(
+    alloc: Global,
+    above: Option<Vec<File>>,
+    graph: &mut CheckedGraph,
+) -> Option<Result<u32, Refusal>>
+    requires { graph.old.options ≡ plain_options }
+    ensures put { MatchOption result (graph.new.layers ≡ graph.old.layers)
+        (λ answer. IsSomeAnd above (λ files.
+        PutsAbove graph.old.layers files.items graph.new.layers answer)) }
+    ensures options { graph.new.options ≡ plain_options }
+{
+    match graph.push_all(alloc, above?) {
+        Ok(checked) => Some(Ok(checked)),
+        Err(PushError::Check(error)) => Some(Err(Refusal::Verify(error))),
+        Err(PushError::Graph(GraphError::OutOfMemory)) => {
+            Some(Err(Refusal::Open(OpenError::OutOfMemory)))
+        }
+        Err(PushError::Graph(_)) => None,
+    }
+}
+
+/// Takes a graph that was opened.
+fn take_opened(
+    alloc: Global,
+    opened: Result<Graph, OpenError>,
+    graph: &mut CheckedGraph,
+) -> Result<u32, Refusal>
+    requires { graph.old.options ≡ plain_options }
+    ensures taken { Takes (IsThisAnswer opened) graph.old.layers graph.new.layers result }
+    ensures options { graph.new.options ≡ plain_options }
+{
+    let taken = graph.as_checked().reload(alloc, opened?)?;
+    *graph = taken.graph;
+    Ok(taken.checked)
+}
+
+/// The layers of a chain folder above some that stand, if these are its lowest, with the same bytes
+/// and the same paths.
+fn open_above<T: Folder>(
+    alloc: Global,
+    folder: &mut T,
+    path: &str,
+    standing: &[File],
+) -> Result<Option<Vec<File>>, OpenError>
+    requires { All IsOpened standing.now }
+    ensures opens { ForSome (T.tree folder.old) (λ tree.
+        OpensAbove (chain_opened tree path.now) standing.now result) }
+    ensures tree { T.tree folder.new ≡ T.tree folder.old }
+    ensures failures { T.failure_count folder.new
+        ≡ failures_after_opening result (T.failure_count folder.old) }
+{
+    let text = read_chain(alloc, folder, path)?;
+    open_lines_above(alloc, folder, path, text.as_slice(), standing)
+}
+
+/// The bytes of the chain file in the folder.
+fn read_chain<T: Folder>(alloc: Global, folder: &mut T, path: &str) -> Result<Vec<u8>, OpenError>
+    ensures opens { ForSome (T.tree folder.old)
+        (λ tree. IsAsExpected (result_map (λ text. text.items) result)
+        (bytes_at tree (chain_path path.now))) }
+    ensures tree { T.tree folder.new ≡ T.tree folder.old }
+    ensures failures { T.failure_count folder.new
+        ≡ failures_after_opening result (T.failure_count folder.old) }
+{
+    let chain = chain_path(alloc, path)?;
+    read_file(alloc, folder, chain.as_str())
+}
+
+/// The layers that the lines of a chain name above some that stand, if these are the lowest. Names
+/// are compared before any bytes.
+fn open_lines_above<T: Folder>(
+    alloc: Global,
+    folder: &mut T,
+    path: &str,
+    text: &[u8],
+    standing: &[File],
+) -> Result<Option<Vec<File>>, OpenError>
+    requires { All IsOpened standing.now }
+    ensures opens { ForSome (T.tree folder.old) (λ tree.
+        OpensAbove (lines_opened tree path.now (lines text.now)) standing.now result) }
+    ensures tree { T.tree folder.new ≡ T.tree folder.old }
+    ensures failures { T.failure_count folder.new
+        ≡ failures_after_opening result (T.failure_count folder.old) }
+{
+    if !are_named(alloc, path, Lines::new(text), standing)? {
+        return Ok(None);
+    }
+    let mut lines = Lines::new(text);
+    if !are_lowest(alloc, folder, path, &mut lines, standing)? {
+        return Ok(None);
+    }
+    Ok(Some(open_rest(alloc, folder, path, standing, lines)?))
+}
+
+/// Whether the first lines of a chain name these layers.
+fn are_named(
+    alloc: Global,
+    path: &str,
+    lines: Lines<'_>,
+    standing: &[File],
+) -> Result<bool, AllocError> {
+    let mut lines = lines;
+    for file in standing {
+        let Some(line) = lines.next() else {
+            return Ok(false);
+        };
+        if !is_name_of(alloc, path, line, file)? {
+            return Ok(false);
+        }
+    }
+    Ok(true)
+}
+
+/// Whether the first lines of a chain name these layers, and their files have the same bytes. Those
+/// lines are gone over then.
+fn are_lowest<T: Folder>(
+    alloc: Global,
+    folder: &mut T,
+    path: &str,
+    lines: &mut Lines<'_>,
+    standing: &[File],
+) -> Result<bool, OpenError>
+    requires { All IsOpened standing.now }
+    ensures lowest { ForSome (T.tree folder.old) (λ tree. IfOk result (λ lowest. IsTrue lowest
+        → layers_from tree path.now 0 lines.old
+        ≡ layers_with standing.now tree path.now (length standing.now) lines.new)) }
+    ensures errors { IfErr result IsDeviceOrMemory }
+    ensures tree { T.tree folder.new ≡ T.tree folder.old }
+    ensures failures { T.failure_count folder.new
+        ≡ failures_after_opening result (T.failure_count folder.old) }
+{
+    for file in standing {
+        let Some(line) = lines.next() else {
+            return Ok(false);
+        };
+        if !is_file_of(alloc, folder, path, line, file)? {
+            return Ok(false);
+        }
+    }
+    Ok(true)
+}
+
+/// Whether a line of a chain names this layer, and its file has the same bytes.
+fn is_file_of<T: Folder>(
+    alloc: Global,
+    folder: &mut T,
+    path: &str,
+    line: &[u8],
+    file: &File,
+) -> Result<bool, OpenError>
+    requires { IsOpened file.now }
+    ensures same { ForSome (T.tree folder.old) (λ tree. IfOk result (λ same. IsTrue same
+        → (i : ℕ) → Ok file.now ≡ layer_of_line tree path.now i line.now)) }
+    ensures errors { IfErr result IsDeviceOrMemory }
+    ensures tree { T.tree folder.new ≡ T.tree folder.old }
+    ensures failures { T.failure_count folder.new
+        ≡ failures_after_opening result (T.failure_count folder.old) }
+{
+    if !is_name_of(alloc, path, line, file)? {
+        return Ok(false);
+    }
+    match folder.has_bytes(alloc, file.path(), file.bytes()) {
+        Ok(same) => Ok(same),
+        Err(ReadError::NotOpened) => Ok(false),
+        Err(ReadError::Device) => Err(OpenError::Device),
+        Err(ReadError::OutOfMemory) => Err(OpenError::OutOfMemory),
+    }
+}
+
+/// Whether a line of a chain names this layer.
+fn is_name_of(alloc: Global, path: &str, line: &[u8], file: &File) -> Result<bool, AllocError>
+    ensures text { IfOk result (λ named. IsTrue named → is_utf8 line.now ≡ true) }
+    ensures path { IfOk result (λ named. IsTrue named
+        → file.now.path ≡ layer_path path.now line.now) }
+{
+    let Some(name) = text_of(line) else {
+        return Ok(false);
+    };
+    let at = layer_path(alloc, path, name)?;
+    Ok(at.as_str() == file.path())
+}
+
+/// The layers that the lines name which are left behind those of the layers that stand.
+fn open_rest<T: Folder>(
+    alloc: Global,
+    folder: &mut T,
+    path: &str,
+    standing: &[File],
+    lines: Lines<'_>,
+) -> Result<Vec<File>, OpenError>
+    ensures opens { ForSome (T.tree folder.old) (λ tree.
+        IsAsExpected (result_map (λ files. files.items) result)
+        (layers_from tree path.now (length standing.now) lines.entry)) }
+    ensures tree { T.tree folder.new ≡ T.tree folder.old }
+    ensures failures { T.failure_count folder.new
+        ≡ failures_after_opening result (T.failure_count folder.old) }
+{
+    let mut files = Vec::new(alloc);
+    for line in lines {
+        let layer = standing.len() + files.len();
+        files.push(open_line(alloc, folder, path, layer, line)?)?;
+    }
+    Ok(files)
+}
+
+/// The layer that a line of a chain names.
+fn open_line<T: Folder>(
+    alloc: Global,
+    folder: &mut T,
+    path: &str,
+    layer: usize,
+    line: &[u8],
+) -> Result<File, OpenError>
+    ensures opens { ForSome (T.tree folder.old) (λ tree.
+        IsAsExpected result (layer_of_line tree path.now layer line.now)) }
+    ensures tree { T.tree folder.new ≡ T.tree folder.old }
+    ensures failures { T.failure_count folder.new
+        ≡ failures_after_opening result (T.failure_count folder.old) }
+{
+    let Some(name) = text_of(line) else {
+        return Err(OpenError::ChainNotText { line: layer });
+    };
+    let path = layer_path(alloc, path, name)?;
+    open_layer(alloc, folder, layer, path)
+}
+
+/// The bytes as text, if they are UTF-8.
+fn text_of(bytes: &[u8]) -> Option<&str>
+    ensures variant { is_some result ≡ is_utf8 bytes.now }
+    ensures value { IfSome result (λ text. text.now ≡ bytes.now) }
+{
+    str::from_utf8(bytes).ok()
+}
